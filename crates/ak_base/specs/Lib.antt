@@ -1,0 +1,4 @@
+pub mod Names
+pub mod Columns
+pub mod Reviews
+pub mod Rows

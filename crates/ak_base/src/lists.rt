@@ -1,0 +1,59 @@
+ghost use Rattle.std.specs.Prelude.{◌≡◌, [], ◌∷◌, ◌++◌, OnOk, OnErr};
+
+use crate::Memory;
+use std::alloc::Global;
+use std::marker::Model;
+
+/// A list of the collection's values, seen as the list of them.
+#[derive(Debug, Drop)]
+pub struct List<T> {
+    elements: Vec<T>,
+}
+
+impl<T> Model for List<T> {
+    ghost use Rattle.std.specs.Prelude.{List as Sequence};
+
+    ghost Value = { Sequence T };
+
+    ghost view = { λ list. list.elements.items };
+}
+
+impl<T> List<T> {
+    pub fn new(alloc: Global) -> List<T>
+        ensures { result ≡ [] }
+    {
+        List {
+            elements: Vec::new(alloc),
+        }
+    }
+
+    /// The list of these items, in their order.
+    pub fn of(items: Vec<T>) -> List<T>
+        ensures { result ≡ items.items }
+    {
+        List { elements: items }
+    }
+
+    pub fn into_vec(self) -> Vec<T>
+        ensures { result.items ≡ self }
+    {
+        let List { elements } = self;
+        elements
+    }
+
+    pub fn as_slice(&self) -> &[T]
+        ensures { result.now ≡ self.now }
+    {
+        self.elements.as_slice()
+    }
+}
+
+impl<T: Drop> List<T> {
+    pub fn push(&mut self, item: T) -> Result<(), Memory>
+        ensures ok { OnOk result (self.new ≡ self.old ++ item ∷ []) }
+        ensures err { OnErr result (self.new ≡ self.old) }
+    {
+        self.elements.push(item)?;
+        Ok(())
+    }
+}

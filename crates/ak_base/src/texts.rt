@@ -1,0 +1,58 @@
+ghost use Rattle.std.specs.Prelude.{◌≡◌, IfOk};
+
+use crate::Memory;
+use std::alloc::Global;
+use std::marker::Model;
+
+/// A text of the collection, seen as its UTF-8 bytes.
+#[derive(Debug, Drop)]
+pub struct Text {
+    inner: String,
+}
+
+impl Model for Text {
+    ghost use Rattle.std.specs.Prelude.{ℕ, List};
+    ghost use Rattle.std.specs.String.{string_bytes};
+
+    ghost Value = { List ℕ };
+
+    ghost view = { λ text. string_bytes text.inner };
+}
+
+impl Text {
+    pub fn of(alloc: Global, text: &str) -> Result<Text, Memory>
+        ensures { IfOk result (λ made. made ≡ text.now) }
+    {
+        let inner = String::from_str(alloc, text)?;
+        Ok(Text { inner })
+    }
+
+    pub fn as_str(&self) -> &str
+        ensures { result.now ≡ self.now }
+    {
+        self.inner.as_str()
+    }
+
+    /// An equal text of its own.
+    pub fn copy(&self) -> Result<Text, Memory>
+        ensures { IfOk result (λ made. made ≡ self.now) }
+    {
+        let inner = self.inner.clone()?;
+        Ok(Text { inner })
+    }
+}
+
+impl PartialEq for Text {
+    ghost use Rattle.std.specs.Prelude.{◌==◌};
+    ghost use Rattle.std.specs.Cmp.Lexicographic.{pointwise};
+    ghost use Rattle.std.proofs.Common.{rules};
+    ghost use Rattle.std.specs.Cmp.Rules.{comparing};
+
+    ghost eq = { pointwise ◌==◌ };
+
+    ghost laws = { Prim.search (comparing, rules) };
+
+    fn eq(&self, other: &Text) -> bool {
+        self.inner.as_str() == other.inner.as_str()
+    }
+}

@@ -1,0 +1,54 @@
+-- The lines of an input, each with its place in the limits of a line and of an input.
+use Rattle.std.specs.Prelude.{◌≡◌, ℕ, Bool, ◌==◌, nat_lt, if◌then◌else◌, List, [], ◌∷◌, ◌++◌, length, take, map, Option, Some, None, ⊤}
+use Rattle.std.specs.List.{count_by}
+use Rattle.std.specs.Option.{option_map}
+use Rattle.ak_io.specs.declared.lines.TheConstants.{LINE_LIMIT}
+use Rattle.ak_io.specs.declared.lines.Taken.{Taken}
+use Rattle.ak_io.specs.declared.lines.Taken.TheVariants.{Line, Long, Past}
+
+abbrev pub is_line_feed : ℕ → Bool
+is_line_feed byte = byte == 10
+
+-- the lines with a byte in front of the first
+abbrev pub begun_with : ℕ → List (List ℕ) → List (List ℕ)
+begun_with byte [] = (byte ∷ []) ∷ []
+begun_with byte (line ∷ lines) = (byte ∷ line) ∷ lines
+
+-- the lines of a text, without their line feeds; the last may lack its own
+abbrev pub lines_of : List ℕ → List (List ℕ)
+lines_of [] = []
+lines_of (byte ∷ bytes) = if is_line_feed byte then [] ∷ lines_of bytes else begun_with byte (lines_of bytes)
+
+-- those of them that a line feed ends
+abbrev pub ended_lines : List ℕ → List (List ℕ)
+ended_lines bytes = take (count_by is_line_feed bytes) (lines_of bytes)
+
+-- a line as it is taken
+abbrev pub taken : List ℕ → Taken
+taken line = if nat_lt LINE_LIMIT (length line) then Long else Line line
+
+-- the lines of an input that may hold `room` bytes. Of a longer one: the lines that end within them, and then the
+-- line that holds the first byte past them.
+abbrev pub lines_within : ℕ → List ℕ → List Taken
+lines_within room bytes =
+    if nat_lt room (length bytes) then map taken (ended_lines (take room bytes)) ++ Past ∷ []
+    else map taken (lines_of bytes)
+
+-- a reader of lines: the bytes that it read from its source and has not taken yet, how many bytes the input may
+-- hold from them on, and how many lines were taken
+pub record Reading : Type 0 where
+  pub ahead : List ℕ
+  pub room : ℕ
+  pub number : ℕ
+
+-- the lines that are still to be taken, where the source tells what is left
+abbrev pub lines_left : Reading → Option (List ℕ) → Option (List Taken)
+lines_left reading left = option_map (λ bytes. lines_within reading.room (reading.ahead ++ bytes)) left
+
+-- of the lines that were to be taken, where they are told, one was taken, or there was none. The line past the
+-- input's limit is the last
+abbrev pub Takes : Option (List Taken) → Option (List Taken) → Option Taken → Type 0
+Takes None new got = ⊤
+Takes (Some lines) new None = lines ≡ []
+Takes (Some lines) new (Some Past) = lines ≡ Past ∷ []
+Takes (Some lines) new (Some line) = (rest : List Taken) × (new ≡ Some rest) × (lines ≡ line ∷ rest)

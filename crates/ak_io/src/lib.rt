@@ -1,0 +1,9 @@
+// The ends to the outside: where bytes come from and where they go, each with its meaning and its count
+// of faults; and the lines of an input, for every program that takes commands line by line.
+#![tactic(auto)]
+
+mod lines;
+mod traits;
+
+pub use lines::{INPUT_LIMIT, LINE_LIMIT, Taken};
+pub use traits::{Failed, Sink, Source};

@@ -1,0 +1,19 @@
+-- A collection's rows as a finite map from names to rows.
+use Rattle.std.specs.Prelude.{ℤ, Bool, ◌&&◌, ◌==◌, int_lt, List, map, filter}
+use Rattle.std.specs.FinMap.{FinMap, entries}
+use Rattle.ak_base.specs.Names.{name_cmp, table_place}
+use Rattle.ak_base.specs.declared.names.Name.{Name}
+use Rattle.ak_base.specs.declared.names.Table.{Table}
+use Rattle.ak_base.specs.declared.rows.Row.{Row}
+
+-- the rows of a collection, each under its name
+abbrev pub Rows : Type 0
+Rows = FinMap name_cmp Row
+
+-- a name of this table with an id over `past`
+abbrev pub is_past : Table → ℤ → Name → Bool
+is_past table past name = (table_place name.table == table_place table) && int_lt past name.id
+
+-- the rows of a table with ids over `past`, by ascending id
+abbrev pub rows_past : Table → ℤ → Rows → List Row
+rows_past table past rows = map (λ entry. entry.1) (filter (λ entry. is_past table past entry.0) (entries rows))

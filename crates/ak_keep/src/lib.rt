@@ -1,0 +1,6 @@
+// The keeper of a collection: a finite map from names to rows.
+#![tactic(auto)]
+
+mod memory_keepers;
+
+pub use memory_keepers::MemoryKeeper;
