@@ -2,6 +2,7 @@
 #![tactic(auto)]
 
 mod columns;
+mod decimals;
 mod errors;
 mod lists;
 mod names;
@@ -10,6 +11,7 @@ mod rows;
 mod texts;
 
 pub use columns::{LAST_ID, LAST_USN};
+pub use decimals::read_number;
 pub use errors::{Memory, RowFault};
 pub use lists::List;
 pub use names::{Name, Table};
