@@ -4,6 +4,8 @@
 
 mod lines;
 mod traits;
+mod writes;
 
 pub use lines::{INPUT_LIMIT, LINE_LIMIT, Taken};
 pub use traits::{Failed, Sink, Source};
+pub use writes::{PrintFault, print_line, write_all};
