@@ -3,7 +3,11 @@
 #![tactic(auto)]
 
 mod lines;
+mod memory;
 mod traits;
+mod writes;
 
 pub use lines::{INPUT_LIMIT, LINE_LIMIT, Taken};
+pub use memory::{MemorySink, MemorySource};
 pub use traits::{Failed, Sink, Source};
+pub use writes::{PrintFault, print_line, write_all};

@@ -1,0 +1,210 @@
+ghost use Rattle.std.specs.Prelude.{◌≡◌, ℕ, ◌<◌, min, Option, List, [], length, take, IfOk, Some};
+ghost use Rattle.std.specs.Io.{ReadsAtMost, WritesAtMost};
+ghost use Rattle.std.specs.Io.KnownBytes.{ReadConsumes, WriteAppends};
+ghost use Rattle.std.specs.Result.{result_ok};
+ghost use Rattle.ak_io.specs.Causes.{HasCause, Rose};
+ghost use Rattle.ak_io.specs.Ends.{one_more, is_named, gives, after_read, takes, after_write};
+
+use crate::traits::{Failed, Sink, Source};
+use ak_base::{List, Memory};
+use std::alloc::Global;
+use std::marker::Model;
+
+// The calls that an end in memory got, which of them fail, and how many failed.
+#[derive(Debug, Drop)]
+struct Calls {
+    count: u64,
+    fails: Vec<u64>,
+    faults: u64,
+}
+
+impl Calls {
+    fn new(fails: List<u64>) -> Calls
+        ensures { (result.count ≡ 0) × (result.fails.items ≡ fails) × (result.faults ≡ 0) }
+    {
+        let fails = fails.into_vec();
+        Calls {
+            count: 0,
+            fails,
+            faults: 0,
+        }
+    }
+
+    // Counts a call, and answers whether it is to fail.
+    fn is_next_named(&mut self) -> bool
+        ensures named { result ≡ is_named self.old.count self.old.fails.items }
+        ensures count { self.new.count ≡ one_more self.old.count }
+        ensures fails { self.new.fails ≡ self.old.fails }
+        ensures faults { self.new.faults ≡ self.old.faults }
+    {
+        let named = self.fails.as_slice().contains(&self.count);
+        self.count = self.count.saturating_add(1);
+        named
+    }
+
+    fn count_fault(&mut self)
+        ensures count { self.new.count ≡ self.old.count }
+        ensures fails { self.new.fails ≡ self.old.fails }
+        ensures faults { self.new.faults ≡ one_more self.old.faults }
+    {
+        self.faults = self.faults.saturating_add(1);
+    }
+}
+
+// Copies what fits to the front of `into`, and answers how many bytes that are.
+fn copy_front(from: &[u8], into: &mut [u8]) -> usize
+    ensures count { result ≡ min (length from.now) (length into.old) }
+    ensures front { take result into.new ≡ take result from.now }
+    ensures ended { result ≡ 0 → 0 < length into.new → from.now ≡ [] }
+{
+    let count = from.len().min(into.len());
+    into[..count].copy_from_slice(&from[..count]);
+    count
+}
+
+/// A source of bytes in memory, of which the reads named fail.
+#[derive(Debug, Drop)]
+pub struct MemorySource {
+    bytes: Vec<u8>,
+    taken: usize,
+    calls: Calls,
+}
+
+impl Model for MemorySource {
+    ghost use Rattle.std.specs.Prelude.{◌≤◌, length, drop};
+    ghost use Rattle.ak_io.specs.Ends.{SourceState};
+
+    ghost Value = { SourceState };
+
+    ghost view = { λ source. record {
+      left = drop source.taken source.bytes.items;
+      calls = source.calls.count;
+      fails = source.calls.fails.items;
+      fault_count = source.calls.faults;
+    } };
+
+    ghost invariant = { λ source. source.taken ≤ length source.bytes.items };
+}
+
+impl MemorySource {
+    /// A source of these bytes. The reads whose numbers are in `fails` fail, counted from 0.
+    pub fn new(bytes: List<u8>, fails: List<u64>) -> MemorySource
+        ensures { result ≡ record { left = bytes; calls = 0; fails = fails; fault_count = 0 } }
+    {
+        let bytes = bytes.into_vec();
+        MemorySource {
+            bytes,
+            taken: 0,
+            calls: Calls::new(fails),
+        }
+    }
+}
+
+impl Source for MemorySource {
+    ghost left = { λ source. Some source.left };
+
+    ghost fault_count = { λ source. source.fault_count };
+
+    fn faults(&self) -> u64 {
+        self.calls.faults
+    }
+
+    fn read(&mut self, into: &mut [u8]) -> Result<usize, Failed>
+        ensures bound { ReadsAtMost result into.new }
+        ensures bytes { ReadConsumes (Some self.old.left) (Some self.new.left) result into.new }
+        ensures cause { HasCause self.old.fault_count self.new.fault_count result }
+
+        // No other call fails, and each gives all that fits.
+        ensures only { result_ok result ≡ gives self.old (length into.old) }
+        ensures state { self.new ≡ after_read self.old (length into.old) }
+    {
+        if self.calls.is_next_named() {
+            self.calls.count_fault();
+            return Err(Failed);
+        }
+        let count = copy_front(&self.bytes.as_slice()[self.taken..], into);
+        self.taken += count;
+        Ok(count)
+    }
+}
+
+/// A sink into memory that was taken when it was made, of which the writes named fail.
+#[derive(Debug, Drop)]
+pub struct MemorySink {
+    bytes: Vec<u8>,
+    room: usize,
+    calls: Calls,
+}
+
+impl Model for MemorySink {
+    ghost use Rattle.std.specs.Prelude.{◌≤◌, ◌+◌, vec_len, vec_capacity};
+    ghost use Rattle.ak_io.specs.Ends.{SinkState};
+
+    ghost Value = { SinkState };
+
+    ghost view = { λ sink. record {
+      written = sink.bytes.items;
+      room = sink.room;
+      calls = sink.calls.count;
+      fails = sink.calls.fails.items;
+      fault_count = sink.calls.faults;
+    } };
+
+    ghost invariant = { λ sink. vec_len sink.bytes + sink.room ≤ vec_capacity sink.bytes };
+}
+
+impl MemorySink {
+    /// A sink for so many bytes. The writes whose numbers are in `fails` fail, counted from 0.
+    pub fn new(alloc: Global, room: u64, fails: List<u64>) -> Result<MemorySink, Memory>
+        ensures { IfOk result (λ sink. sink ≡ record { written = []; room = room; calls = 0; fails = fails; fault_count = 0 }) }
+    {
+        let room = room as usize;
+        let bytes = Vec::with_capacity(alloc, room)?;
+        Ok(MemorySink {
+            bytes,
+            room,
+            calls: Calls::new(fails),
+        })
+    }
+
+    /// The bytes that were written.
+    pub fn bytes(&self) -> &[u8]
+        ensures { result.now ≡ self.now.written }
+    {
+        self.bytes.as_slice()
+    }
+}
+
+impl Sink for MemorySink {
+    ghost written = { λ sink. Some sink.written };
+
+    ghost fault_count = { λ sink. sink.fault_count };
+
+    fn faults(&self) -> u64 {
+        self.calls.faults
+    }
+
+    fn write(&mut self, from: &[u8]) -> Result<usize, Failed>
+        ensures bound { WritesAtMost result from.now }
+        ensures bytes { WriteAppends (Some self.old.written) (Some self.new.written) result from.now }
+        ensures cause { HasCause self.old.fault_count self.new.fault_count result }
+        ensures stuck { IfOk result (λ n. n ≡ 0 → 0 < length from.now → Rose self.old.fault_count self.new.fault_count) }
+
+        // No other call fails, and each takes all that fits.
+        ensures only { result_ok result ≡ takes self.old (length from.now) }
+        ensures state { self.new ≡ after_write self.old from.now }
+    {
+        let named = self.calls.is_next_named();
+        if named || (!from.is_empty() && self.room == 0) {
+            self.calls.count_fault();
+            return Err(Failed);
+        }
+        let count = self.room.min(from.len());
+        self.room -= count;
+        match self.bytes.extend_from_slice(&from[..count]) {
+            Ok(()) => Ok(count),
+            // The room was taken when the sink was made.
+            Err(_) => unreachable!(),
+        }
+    }
+}
