@@ -1,1 +1,3 @@
 pub mod Collections
+pub mod Entries
+pub mod Pages

@@ -1,0 +1,22 @@
+use Rattle.std.proofs.Common.{◌≡◌, take, subst, ap, ◌∙◌, w64}
+use Rattle.std.proofs.lemmas.Int.{to_z-of_z}
+use Rattle.std.specs.BTreeMap.Range.{entries_between}
+use Rattle.std.specs.declared.ops.Bound.TheVariants.{Excluded, Unbounded}
+use Rattle.ak_base.specs.Names.{name_cmp}
+use Rattle.ak_keep.specs.Collections.{StandsUnderNames, rows_past}
+use Rattle.ak_keep.specs.Pages.{first_run, page_of_entries, page_whole, page_rest}
+use Rattle.ak_keep.proofs.memory_keepers.MemoryKeeper.page.Goals as goal
+
+paged : (c : goal.In_ok-page) → c.in_ok-page.page ≡ take c.args.limit (rows_past c.args.table c.args.past c.args.self.now)
+paged c =
+    page_of_entries c.args.table c.args.past c.args.limit c.self.inside.rows.entries c.in_ok-page.page c.page_of.ensures.ordered
+    (subst (λ id. c.in_ok-page.page ≡ take c.args.limit (first_run c.args.table (entries_between name_cmp (Excluded (record { table = c.args.table; id = id })) Unbounded c.self.inside.rows.entries)))
+    (to_z-of_z w64 c.args.past c.ranges.past) c.in_ok-page.ensures.rows)
+    ∙ ap (λ m. take c.args.limit (rows_past c.args.table c.args.past m)) c.self.view_is
+
+pub returns : goal.returns
+returns c = record {
+  rows = paged c;
+  whole = λ short. page_whole c.args.table c.args.past c.args.self.now c.in_ok-page.page c.args.limit (paged c) short;
+  rest = page_rest c.args.table c.args.past c.args.self.now c.in_ok-page.page c.args.limit (subst StandsUnderNames c.self.view_is c.self.invariant) (paged c);
+}

@@ -1,0 +1,137 @@
+-- A keeper's entries, as the finite map of them.
+use Rattle.std.specs.Prelude.{◌≡◌, Bool, true, false, T, not, ◌&&◌, Option, Some, None, is_some, List, [], ◌∷◌, ◌++◌, cond, length}
+use Rattle.std.proofs.Common.{refl, sym, ap, subst, ◌∙◌, arith}
+use Rattle.std.specs.BTreeMap.{is_at}
+use Rattle.std.specs.Cmp.{eq_by_cmp_equiv}
+use Rattle.std.specs.FinMap.{find, put, get, insert, empty, entries, entries_sorted, from_entries, is_sorted, get-entries, get-insert, get-from_entries, entries-insert, len-entries, len-empty, same_map}
+use Rattle.std.specs.FinMap.Entries.{by_order, below_all, same_entries}
+use Rattle.std.specs.List.{AllByRecursion}
+use Rattle.std.specs.List.Sorted.{IsStrictlySortedBy}
+use Rattle.std.specs.Map.{lookup, keys_of}
+use Rattle.std.specs.Option.{option_or, unwrap_or}
+use Rattle.std.specs.Ordering.{eq_by_cmp, is_eq, is_lt}
+use Rattle.std.specs.declared.cmp.Ordering.TheVariants.{Less, Equal, Greater}
+use Rattle.ak_base.specs.Names.{name_cmp, names_total, names_exact}
+use Rattle.ak_base.specs.Rows.{name_of}
+use Rattle.ak_base.specs.declared.names.Name.{Name}
+use Rattle.ak_base.specs.declared.rows.Row.{Row}
+use Rattle.ak_keep.specs.Collections.{Rows, StandsUnderNames, filled}
+
+-- the row that stands under a name
+abbrev pub row_at : List (Name × Row) → Name → Option Row
+row_at es name = lookup (is_at (name_cmp name)) es
+
+find-row_at : (es : List (Name × Row)) (q : Name) → find name_cmp q es ≡ row_at es q
+find-row_at [] q = refl
+find-row_at (e ∷ es) q = ap (cond (is_at (name_cmp q) e.0) (Some e.1)) (find-row_at es q)
+
+-- what the map that the entries make has under a name
+pub get-row_at : (es : List (Name × Row)) (q : Name) → get (from_entries {R = name_cmp} es) q ≡ row_at es q
+get-row_at es q = get-from_entries names_total es q ∙ find-row_at es q
+
+-- entries that differ under one name make maps that differ there
+pub one_put : (es fs : List (Name × Row)) (name : Name) (row : Row) → ((q : Name) → row_at fs q ≡ cond (is_at (name_cmp name) q) (Some row) (row_at es q)) → from_entries {R = name_cmp} fs ≡ insert (from_entries es) name row
+one_put es fs name row h = same_map names_total names_exact _ _ (λ q.
+    get-row_at fs q ∙ h q ∙ ap (λ b. cond b (Some row) (row_at es q)) ((eq_by_cmp_equiv names_total).symm name q)
+    ∙ sym (get-insert names_total (from_entries es) name row q ∙ ap (cond (is_at (name_cmp q) name) (Some row)) (get-row_at es q)))
+
+-- what the first entries have, and where they have nothing, what the second have
+abbrev pub IsFilled : List (Name × Row) → List (Name × Row) → List (Name × Row) → Type 0
+IsFilled es fs made = (q : Name) → row_at made q ≡ option_or (row_at es q) (row_at fs q)
+
+find-append_or : (q : Name) (es fs : List (Name × Row)) → find name_cmp q (es ++ fs) ≡ option_or (find name_cmp q es) (find name_cmp q fs)
+find-append_or q [] fs = refl
+find-append_or q (e ∷ es) fs =
+    ap (cond (eq_by_cmp name_cmp q e.0) (Some e.1)) (find-append_or q es fs)
+    ∙ elim (eq_by_cmp name_cmp q e.0) as (λ b. cond b (Some e.1) (option_or (find name_cmp q es) (find name_cmp q fs)) ≡ option_or (cond b (Some e.1) (find name_cmp q es)) (find name_cmp q fs)) [ true ↦ refl | false ↦ refl ]
+
+-- what one collection filled from another has under a name
+pub get-filled : (a b : Rows) (q : Name) → get (filled a b) q ≡ option_or (get a q) (get b q)
+get-filled a b q =
+    get-from_entries names_total (entries a ++ entries b) q ∙ find-append_or q (entries a) (entries b)
+    ∙ sym (ap (λ o. option_or o (get b q)) (get-entries a q) ∙ ap (option_or (find name_cmp q (entries a))) (get-entries b q))
+
+pub filled_by : (es fs made : List (Name × Row)) → IsFilled es fs made → from_entries {R = name_cmp} made ≡ filled (from_entries es) (from_entries fs)
+filled_by es fs made h = same_map names_total names_exact _ _ (λ q.
+    get-row_at made q ∙ h q
+    ∙ sym (get-filled (from_entries es) (from_entries fs) q ∙ ap (λ o. option_or o (get (from_entries {R = name_cmp} fs) q)) (get-row_at es q) ∙ ap (option_or (row_at es q)) (get-row_at fs q)))
+
+-- entries that fill nothing are the same map
+pub filled_from_none : (es made : List (Name × Row)) → IsFilled [] es made → from_entries {R = name_cmp} made ≡ from_entries es
+filled_from_none es made h = same_map names_total names_exact _ _ (λ q. get-row_at made q ∙ h q ∙ sym (get-row_at es q))
+
+-- a row under its own name
+abbrev pub IsNamed : Name × Row → Type 0
+IsNamed entry = name_of entry.1 ≡ entry.0
+
+named-put : (row : Row) (es : List (Name × Row)) → AllByRecursion IsNamed es → AllByRecursion IsNamed (put name_cmp (name_of row) row es)
+named-put row [] h = (refl, tt)
+named-put row (e ∷ es) h =
+    elim (name_cmp (name_of row) e.0) as (λ r. name_cmp (name_of row) e.0 ≡ r → AllByRecursion IsNamed (by_order r ((name_of row, row) ∷ e ∷ es) ((e.0, row) ∷ es) (e ∷ put name_cmp (name_of row) row es))) [
+      | Less ↦ λ is. (refl, h)
+      | Equal ↦ λ is. (names_exact _ _ is, h.1)
+      | Greater ↦ λ is. (h.0, named-put row es h.1)
+    ] refl
+
+pub named-insert : (rows : Rows) (row : Row) → StandsUnderNames rows → StandsUnderNames (insert rows (name_of row) row)
+named-insert rows row h = subst (AllByRecursion IsNamed) (sym (entries-insert names_total rows (name_of row) row)) (named-put row (entries rows) h)
+
+named-none : (es : List (Name × Row)) → length es ≡ 0 → AllByRecursion IsNamed es
+named-none [] is = tt
+named-none (e ∷ es) is = absurd (omega arith)
+
+pub named-empty : StandsUnderNames empty
+named-empty = named-none (entries empty) (sym (len-entries empty) ∙ len-empty name_cmp Row)
+
+named-from_entries : (es : List (Name × Row)) → AllByRecursion IsNamed es → StandsUnderNames (from_entries es)
+named-from_entries [] h = named-empty
+named-from_entries (e ∷ es) h =
+    subst (λ (name : Name). StandsUnderNames (insert (from_entries es) name e.1)) h.0 (named-insert (from_entries es) e.1 (named-from_entries es h.1))
+
+named-append : (es fs : List (Name × Row)) → AllByRecursion IsNamed es → AllByRecursion IsNamed fs → AllByRecursion IsNamed (es ++ fs)
+named-append [] fs g h = h
+named-append (e ∷ es) fs g h = (g.0, named-append es fs g.1 h)
+
+pub named-filled : (a b : Rows) → StandsUnderNames a → StandsUnderNames b → StandsUnderNames (filled a b)
+named-filled a b g h = named-from_entries (entries a ++ entries b) (named-append (entries a) (entries b) g h)
+
+none_some : (row : Row) → None ≡ Some row → ⊥
+none_some row is = subst (λ (o : Option Row). T (not (is_some o))) is tt
+
+same_some : (x y : Row) → Some x ≡ Some y → x ≡ y
+same_some x y is = ap (λ o. unwrap_or o x) is
+
+named-find : (q : Name) (row : Row) (es : List (Name × Row)) → AllByRecursion IsNamed es → find name_cmp q es ≡ Some row → name_of row ≡ q
+named-find q row [] h is =
+    absurd (none_some row is)
+named-find q row (e ∷ es) h is =
+    elim (name_cmp q e.0) as (λ r. name_cmp q e.0 ≡ r → cond (is_eq r) (Some e.1) (find name_cmp q es) ≡ Some row → name_of row ≡ q) [
+      | Less ↦ λ t is. named-find q row es h.1 is
+      | Equal ↦ λ t is. ap name_of (sym (same_some e.1 row is)) ∙ h.0 ∙ sym (names_exact _ _ t)
+      | Greater ↦ λ t is. named-find q row es h.1 is
+    ] refl is
+
+-- the row found under a name bears it
+pub named-get : (rows : Rows) (q : Name) (row : Row) → StandsUnderNames rows → get rows q ≡ Some row → name_of row ≡ q
+named-get rows q row h is = named-find q row (entries rows) h (sym (get-entries rows q) ∙ is)
+
+-- a map that equals one with rows under their names has them so
+pub named-same : (m n : Rows) → m ≡ n → StandsUnderNames n → StandsUnderNames m
+named-same m n is h = subst StandsUnderNames (sym is) h
+
+-- entries in the order of their names are those of their map
+true_is : (b : Bool) → T b → b ≡ true
+true_is true h = refl
+true_is false h = absurd h
+
+below_all-from : (x : Name) (es : List (Name × Row)) → AllByRecursion (λ y. name_cmp x y ≡ Less) (keys_of es) → T (below_all name_cmp x es)
+below_all-from x [] h = tt
+below_all-from x (e ∷ es) h = subst (λ r. T (is_lt r && below_all name_cmp x es)) (sym h.0) (below_all-from x es h.1)
+
+pub is_sorted-from : (es : List (Name × Row)) → IsStrictlySortedBy name_cmp (keys_of es) → T (is_sorted name_cmp es)
+unfolding IsStrictlySortedBy
+is_sorted-from [] h = tt
+is_sorted-from (e ∷ es) h = subst (λ b. T (b && is_sorted name_cmp es)) (sym (true_is _ (below_all-from e.0 es h.0))) (is_sorted-from es h.1)
+
+pub entries-from_entries : (es : List (Name × Row)) → IsStrictlySortedBy name_cmp (keys_of es) → entries (from_entries {R = name_cmp} es) ≡ es
+entries-from_entries es h = same_entries name_cmp names_total names_exact _ es (entries_sorted (from_entries es)) (is_sorted-from es h) (λ q. sym (get-entries (from_entries es) q) ∙ get-from_entries names_total es q)

@@ -1,0 +1,262 @@
+-- A page of a table: a run of the entries, and what comes behind it.
+use Rattle.std.specs.Prelude.{◌≡◌, ℕ, suc, ℤ, ◌-◌, ◌<◌, ◌≤◌, Bool, true, false, T, cond, if◌then◌else◌, ◌&&◌, ◌==◌, int_lt, List, [], ◌∷◌, ◌++◌, map, filter, length, take, drop, get_or, min}
+use Rattle.std.proofs.Common.{refl, sym, ap, subst, ◌∙◌, arith, length-append, append_assoc}
+use Rattle.std.proofs.lemmas.Bool.{ne_eqb}
+use Rattle.std.proofs.lemmas.List.{append-nil, length-take, take-append-drop, take_all}
+use Rattle.std.proofs.Math.Seq.{take-nil}
+use Rattle.std.specs.BTreeMap.Range.{entries_between}
+use Rattle.std.specs.Cmp.{ranked, unsigned_Decides, int_cmp_total, tied_itself}
+use Rattle.std.specs.FinMap.{entries, entries_sorted, from_entries, is_sorted}
+use Rattle.std.specs.FinMap.Entries.{below_all}
+use Rattle.std.specs.List.{AllByRecursion}
+use Rattle.std.specs.List.Sorted.{IsStrictlySortedBy}
+use Rattle.std.specs.Map.{keys_of}
+use Rattle.std.specs.Ordering.{nat_cmp, int_cmp, is_lt, ordering_then}
+use Rattle.std.specs.declared.cmp.Ordering.{Ordering}
+use Rattle.std.specs.declared.cmp.Ordering.TheVariants.{Less, Equal, Greater}
+use Rattle.std.specs.declared.ops.Bound.TheVariants.{Excluded, Unbounded}
+use Rattle.ak_base.specs.Names.{name_cmp, table_place}
+use Rattle.ak_base.specs.Rows.{name_of}
+use Rattle.ak_base.specs.declared.names.Name.{Name}
+use Rattle.ak_base.specs.declared.names.Table.{Table}
+use Rattle.ak_base.specs.declared.rows.Row.{Row}
+use Rattle.ak_keep.specs.Entries.{is_sorted-from, entries-from_entries}
+use Rattle.ak_keep.specs.Collections.{Rows, StandsUnderNames, is_past, rows_past, last_id}
+
+-- the rows of a table up to the first entry of another
+abbrev pub first_run : Table → List (Name × Row) → List Row
+first_run table [] = []
+first_run table (entry ∷ es) = if table_place entry.0.table == table_place table then entry.1 ∷ first_run table es else []
+
+-- the rows of a table among entries, with ids over `past`
+abbrev pub picked : Table → ℤ → List (Name × Row) → List Row
+picked table past es = map (λ (entry : Name × Row). entry.1) (filter (λ (entry : Name × Row). is_past table past entry.0) es)
+
+-- ---- a page as it is filled: it is full, its table ends, or it goes on
+pub page_full : (limit : ℕ) (page run all : List Row) → page ++ take (limit - length page) run ≡ all → length page ≡ limit → page ≡ all
+page_full limit page run all is full =
+    let none : 0 ≡ limit - length page = omega (arith, full) in
+    sym (append-nil page) ∙ ap (λ n. page ++ take n run) none ∙ is
+
+pub page_ends : (table : Table) (limit : ℕ) (page all : List Row) (entry : Name × Row) (es : List (Name × Row)) → page ++ take (limit - length page) (first_run table (entry ∷ es)) ≡ all → (table_place entry.0.table == table_place table) ≡ false → page ≡ all
+page_ends table limit page all entry es is other =
+    sym (append-nil page) ∙ ap (λ ys. page ++ ys) (sym (take-nil (limit - length page)))
+    ∙ ap (λ b. page ++ take (limit - length page) (cond b (entry.1 ∷ first_run table es) [])) (sym other) ∙ is
+
+pub page_goes_on : (table : Table) (limit : ℕ) (page all : List Row) (entry : Name × Row) (es : List (Name × Row)) → page ++ take (limit - length page) (first_run table (entry ∷ es)) ≡ all → (table_place entry.0.table == table_place table) ≡ true → length page < limit
+    → (page ++ entry.1 ∷ []) ++ take (limit - length (page ++ entry.1 ∷ [])) (first_run table es) ≡ all
+page_goes_on table limit page all entry es is same room =
+    let n = limit - length (page ++ entry.1 ∷ []) in
+    let more : suc n ≡ limit - length page = omega (arith, length-append page (entry.1 ∷ []), room) in
+    append_assoc page (entry.1 ∷ []) (take n (first_run table es))
+    ∙ ap (λ m. page ++ take m (entry.1 ∷ first_run table es)) more
+    ∙ ap (λ b. page ++ take (limit - length page) (cond b (entry.1 ∷ first_run table es) [])) (sym same) ∙ is
+
+-- ---- numbers and names
+both_first : (a b : Bool) → T (a && b) → T a
+both_first true b h = tt
+both_first false b h = h
+
+both_second : (a b : Bool) → T (a && b) → T b
+both_second true b h = h
+both_second false b h = absurd h
+
+and_first : (a b : Bool) → (a && b) ≡ true → a ≡ true
+and_first true b is = refl
+and_first false b is = is
+
+and_second : (a b : Bool) → (a && b) ≡ true → b ≡ true
+and_second true b is = is
+and_second false b is = absurd (subst T (sym is) tt)
+
+and_false : (a b : Bool) → b ≡ false → (a && b) ≡ false
+and_false true b is = is
+and_false false b is = refl
+
+no_first : (row : Row) (rows : List Row) → [] ≡ row ∷ rows → ⊥
+no_first row rows is = let e : 0 ≡ suc (length rows) = ap length is in omega (arith, e)
+
+same_first : {x y : Row} {xs ys : List Row} → x ∷ xs ≡ y ∷ ys → x ≡ y
+same_first {x = x} is = ap (λ zs. get_or zs 0 x) is
+
+same_rest : {x y : Row} {xs ys : List Row} → x ∷ xs ≡ y ∷ ys → xs ≡ ys
+same_rest is = ap (drop 1) is
+
+apart : (m n : ℕ) → n < m → (m == n) ≡ false
+apart m n h = ne_eqb m n (λ is. omega (arith, is, h))
+
+less_than : (a b : ℤ) → int_cmp a b ≡ Less → int_lt a b ≡ true
+less_than a b =
+    elim (int_lt a b) as (λ t. cond t Less (cond (int_lt b a) Greater Equal) ≡ Less → t ≡ true) [
+      | true ↦ λ _. refl
+      | false ↦ elim (int_lt b a) as (λ t. cond t Greater Equal ≡ Less → false ≡ true) [
+        | true ↦ λ is. absurd (subst (λ r. T (is_lt r)) (sym is) tt)
+        | false ↦ λ is. absurd (subst (λ r. T (is_lt r)) (sym is) tt)
+      ]
+    ]
+
+compared_less : (a b : ℤ) → int_lt a b ≡ true → int_cmp a b ≡ Less
+compared_less a b is = ap (λ t. cond t Less (cond (int_lt b a) Greater Equal)) is
+
+int_chain : (a b c : ℤ) → int_lt a b ≡ true → int_lt b c ≡ true → int_lt a c ≡ true
+int_chain a b c h k = less_than a c (int_cmp_total.trans a b c (compared_less a b h) (compared_less b c k))
+
+not_below_itself : (a : ℤ) → int_lt a a ≡ false
+not_below_itself a =
+    elim (int_lt a a) as (λ t. int_lt a a ≡ t → t ≡ false) [
+      | true ↦ λ is. absurd (subst (λ r. T (is_lt r)) (sym (compared_less a a is) ∙ tied_itself int_cmp_total a) tt)
+      | false ↦ λ _. refl
+    ] refl
+
+is_less : (r : Ordering) → T (is_lt r) → r ≡ Less
+is_less Less h = refl
+is_less Equal h = absurd h
+is_less Greater h = absurd h
+
+-- a later name has a later table, or the same
+tables_rise : (x y : Name) → T (is_lt (name_cmp x y)) → table_place x.table ≤ table_place y.table
+tables_rise x y =
+    let p = table_place x.table in
+    let q = table_place y.table in
+    elim (nat_cmp p q) as (λ r. nat_cmp p q ≡ r → T (is_lt (ordering_then r (int_cmp x.id y.id))) → p ≤ q) [
+      | Less ↦ λ is _. let h : p < q = ranked p q Less (sym is) in omega (arith, h)
+      | Equal ↦ λ is _. let h : p ≡ q = ranked p q Equal (sym is) in omega (arith, h)
+      | Greater ↦ λ is h. absurd h
+    ] refl
+
+-- within a table, a later name has a later id
+ids_rise : (table : Table) (x y : Name) → T (is_lt (name_cmp x y)) → (table_place x.table == table_place table) ≡ true → (table_place y.table == table_place table) ≡ true → int_lt x.id y.id ≡ true
+ids_rise table x y below same also =
+    let p = table_place x.table in
+    let q = table_place y.table in
+    let equal : p ≡ q = (unsigned_Decides p (table_place table)).0 same ∙ sym ((unsigned_Decides q (table_place table)).0 also) in
+    elim (nat_cmp p q) as (λ r. nat_cmp p q ≡ r → T (is_lt (ordering_then r (int_cmp x.id y.id))) → int_lt x.id y.id ≡ true) [
+      | Less ↦ λ is _. let h : p < q = ranked p q Less (sym is) in absurd (omega (arith, h, equal))
+      | Equal ↦ λ is h. less_than x.id y.id (is_less _ h)
+      | Greater ↦ λ is h. absurd h
+    ] refl below
+
+-- none of a table comes after a name of a later one
+none_later : (table : Table) (past : ℤ) (x : Name) (es : List (Name × Row)) → table_place table < table_place x.table → T (below_all name_cmp x es) → picked table past es ≡ []
+none_later table past x [] later h = refl
+none_later table past x (e ∷ es) later h =
+    let rise = tables_rise x e.0 (both_first _ _ h) in
+    subst (λ b. map (λ (entry : Name × Row). entry.1) (cond (b && int_lt past e.0.id) (e ∷ filter (λ (entry : Name × Row). is_past table past entry.0) es) (filter (λ (entry : Name × Row). is_past table past entry.0) es)) ≡ [])
+    (sym (apart (table_place e.0.table) (table_place table) (omega (arith, rise, later))))
+    (none_later table past x es later (both_second _ _ h))
+
+pub run-picked : (table : Table) (past : ℤ) (es : List (Name × Row)) → T (is_sorted name_cmp es)
+    → first_run table (entries_between name_cmp (Excluded (record { table = table; id = past })) Unbounded es) ≡ picked table past es
+run-picked table past [] h = refl
+run-picked table past (e ∷ es) h =
+    let t = table_place table in
+    let p = table_place e.0.table in
+    let between = entries_between name_cmp (Excluded (record { table = table; id = past })) Unbounded es in
+    let passing = filter (λ (entry : Name × Row). is_past table past entry.0) es in
+    let picks : first_run table between ≡ map (λ (entry : Name × Row). entry.1) passing = run-picked table past es (both_second _ _ h) in
+    elim (nat_cmp t p) as (λ r. nat_cmp t p ≡ r
+    → first_run table (cond (is_lt (ordering_then r (int_cmp past e.0.id)) && true) (e ∷ between) between)
+    ≡ map (λ (entry : Name × Row). entry.1) (cond ((p == t) && int_lt past e.0.id) (e ∷ passing) passing)) [
+      | Less ↦ λ is.
+          let later : t < p = ranked t p Less (sym is) in
+          subst (λ b. cond b (e.1 ∷ first_run table between) [] ≡ map (λ (entry : Name × Row). entry.1) (cond (b && int_lt past e.0.id) (e ∷ passing) passing))
+          (sym (apart p t later)) (sym (none_later table past e.0 es later (both_first _ _ h)))
+      | Equal ↦ λ is.
+          let same : (p == t) ≡ true = (unsigned_Decides p t).1 (sym (ranked t p Equal (sym is))) in
+          elim (int_lt past e.0.id) as (λ b. first_run table (cond (is_lt (cond b Less (cond (int_lt e.0.id past) Greater Equal)) && true) (e ∷ between) between)
+          ≡ map (λ (entry : Name × Row). entry.1) (cond ((p == t) && b) (e ∷ passing) passing)) [
+            | true ↦ subst (λ b. cond b (e.1 ∷ first_run table between) [] ≡ map (λ (entry : Name × Row). entry.1) (cond (b && true) (e ∷ passing) passing)) (sym same) (ap (λ ys. e.1 ∷ ys) picks)
+            | false ↦ elim (int_lt e.0.id past) as (λ b. first_run table (cond (is_lt (cond b Greater Equal) && true) (e ∷ between) between)
+                ≡ map (λ (entry : Name × Row). entry.1) (cond ((p == t) && false) (e ∷ passing) passing)) [
+                  | true ↦ subst (λ b. first_run table between ≡ map (λ (entry : Name × Row). entry.1) (cond (b && false) (e ∷ passing) passing)) (sym same) picks
+                  | false ↦ subst (λ b. first_run table between ≡ map (λ (entry : Name × Row). entry.1) (cond (b && false) (e ∷ passing) passing)) (sym same) picks
+                ]
+          ]
+      | Greater ↦ λ is.
+          let earlier : p < t = ranked t p Greater (sym is) in
+          subst (λ b. first_run table between ≡ map (λ (entry : Name × Row). entry.1) (cond (b && int_lt past e.0.id) (e ∷ passing) passing))
+          (sym (ne_eqb p t (λ is. omega (arith, is, earlier)))) picks
+    ] refl
+
+-- the page that a keeper's entries give
+pub page_of_entries : (table : Table) (past : ℤ) (limit : ℕ) (es : List (Name × Row)) (page : List Row) → IsStrictlySortedBy name_cmp (keys_of es)
+    → page ≡ take limit (first_run table (entries_between name_cmp (Excluded (record { table = table; id = past })) Unbounded es)) → page ≡ take limit (rows_past table past (from_entries es))
+page_of_entries table past limit es page ordered is =
+    is ∙ ap (take limit) (run-picked table past es (is_sorted-from es ordered) ∙ ap (picked table past) (sym (entries-from_entries es ordered)))
+
+-- ---- what comes behind a page
+-- behind a row of the table, what is past its id is what is past any lower id
+same_picks : (table : Table) (past : ℤ) (x : Name) (es : List (Name × Row)) → T (below_all name_cmp x es) → (table_place x.table == table_place table) ≡ true → int_lt past x.id ≡ true → picked table x.id es ≡ picked table past es
+same_picks table past x [] h same over = refl
+same_picks table past x (e ∷ es) h same over =
+    let rest = same_picks table past x es (both_second _ _ h) same over in
+    let low = filter (λ (entry : Name × Row). is_past table past entry.0) es in
+    let high = filter (λ (entry : Name × Row). is_past table x.id entry.0) es in
+    elim (table_place e.0.table == table_place table) as (λ b. (table_place e.0.table == table_place table) ≡ b
+    → map (λ (entry : Name × Row). entry.1) (cond (b && int_lt x.id e.0.id) (e ∷ high) high) ≡ map (λ (entry : Name × Row). entry.1) (cond (b && int_lt past e.0.id) (e ∷ low) low)) [
+      | true ↦ λ also.
+          let rise : int_lt x.id e.0.id ≡ true = ids_rise table x e.0 (both_first _ _ h) same also in
+          let over_too : int_lt past e.0.id ≡ true = int_chain past x.id e.0.id over rise in
+          subst (λ b. map (λ (entry : Name × Row). entry.1) (cond b (e ∷ high) high) ≡ map (λ (entry : Name × Row). entry.1) (cond (int_lt past e.0.id) (e ∷ low) low)) (sym rise)
+          (subst (λ b. e.1 ∷ picked table x.id es ≡ map (λ (entry : Name × Row). entry.1) (cond b (e ∷ low) low)) (sym over_too) (ap (λ ys. e.1 ∷ ys) rest))
+      | false ↦ λ other. rest
+    ] refl
+
+-- the first of the rows past an id has an id past it
+first_is_past : (table : Table) (past : ℤ) (es : List (Name × Row)) (row : Row) (rows : List Row) → AllByRecursion (λ entry. name_of entry.1 ≡ entry.0) es
+    → picked table past es ≡ row ∷ rows → is_past table past (name_of row) ≡ true
+first_is_past table past [] row rows named is = absurd (no_first row rows is)
+first_is_past table past (e ∷ es) row rows named is =
+    elim (is_past table past e.0) as (λ b. is_past table past e.0 ≡ b
+    → map (λ (entry : Name × Row). entry.1) (cond b (e ∷ filter (λ (entry : Name × Row). is_past table past entry.0) es) (filter (λ (entry : Name × Row). is_past table past entry.0) es)) ≡ row ∷ rows → is_past table past (name_of row) ≡ true) [
+      | true ↦ λ passes is. ap (is_past table past) (ap name_of (sym (same_first is)) ∙ named.0) ∙ passes
+      | false ↦ λ fails is. first_is_past table past es row rows named.1 is
+    ] refl is
+
+past_both : (b : Bool) (past mid id : ℤ) → int_lt past mid ≡ true → (b && int_lt past id) ≡ false → (b && int_lt mid id) ≡ false
+past_both false past mid id over is = refl
+past_both true past mid id over is =
+    elim (int_lt mid id) as (λ t. int_lt mid id ≡ t → t ≡ false) [
+      | true ↦ λ more. sym (int_chain past mid id over more) ∙ is
+      | false ↦ λ _. refl
+    ] refl
+
+-- what follows the first of the rows past an id is what is past the first's own
+first_and_rest : (table : Table) (past : ℤ) (es : List (Name × Row)) (row : Row) (rows : List Row) → T (is_sorted name_cmp es) → AllByRecursion (λ entry. name_of entry.1 ≡ entry.0) es
+    → picked table past es ≡ row ∷ rows → picked table (name_of row).id es ≡ rows
+first_and_rest table past [] row rows sorted named is = absurd (no_first row rows is)
+first_and_rest table past (e ∷ es) row rows sorted named is =
+    let low = filter (λ (entry : Name × Row). is_past table past entry.0) es in
+    let high = filter (λ (entry : Name × Row). is_past table (name_of row).id entry.0) es in
+    elim (is_past table past e.0) as (λ b. is_past table past e.0 ≡ b
+    → map (λ (entry : Name × Row). entry.1) (cond b (e ∷ low) low) ≡ row ∷ rows → picked table (name_of row).id (e ∷ es) ≡ rows) [
+      | true ↦ λ passes is.
+          let name : name_of row ≡ e.0 = ap name_of (sym (same_first is)) ∙ named.0 in
+          subst (λ (n : Name). picked table n.id (e ∷ es) ≡ rows) (sym name)
+          (subst (λ b. map (λ (entry : Name × Row). entry.1) (cond b (e ∷ filter (λ (entry : Name × Row). is_past table e.0.id entry.0) es) (filter (λ (entry : Name × Row). is_past table e.0.id entry.0) es)) ≡ rows)
+          (sym (and_false _ _ (not_below_itself e.0.id)))
+          (same_picks table past e.0 es (both_first _ _ sorted) (and_first _ _ passes) (and_second _ _ passes) ∙ same_rest is))
+      | false ↦ λ fails is.
+          let over : int_lt past (name_of row).id ≡ true = and_second _ _ (first_is_past table past es row rows named.1 is) in
+          subst (λ b. map (λ (entry : Name × Row). entry.1) (cond b (e ∷ high) high) ≡ rows)
+          (sym (past_both _ past (name_of row).id e.0.id over fails))
+          (first_and_rest table past es row rows (both_second _ _ sorted) named.1 is)
+    ] refl is
+
+-- the rows past an id are any first part of them, and then what is past the last of the part
+pub rows_past-append : (table : Table) (past : ℤ) (rows : Rows) (front rest : List Row) → StandsUnderNames rows → rows_past table past rows ≡ front ++ rest → rest ≡ rows_past table (last_id past front) rows
+rows_past-append table past rows [] rest named is = sym is
+rows_past-append table past rows (row ∷ front) rest named is =
+    rows_past-append table (name_of row).id rows front rest named (first_and_rest table past (entries rows) row (front ++ rest) (entries_sorted rows) named is)
+
+-- a page that is not full is all that is past the id
+pub page_whole : (table : Table) (past : ℤ) (rows : Rows) (page : List Row) (limit : ℕ) → page ≡ take limit (rows_past table past rows) → length page < limit → rows_past table past rows ≡ page
+page_whole table past rows page limit is short =
+    let few : min limit (length (rows_past table past rows)) < limit = subst (λ n. n < limit) (ap length is ∙ length-take limit (rows_past table past rows)) short in
+    sym (is ∙ take_all limit (rows_past table past rows) (omega (arith, few)))
+
+-- behind any page comes what is past its last row
+pub page_rest : (table : Table) (past : ℤ) (rows : Rows) (page : List Row) (limit : ℕ) → StandsUnderNames rows → page ≡ take limit (rows_past table past rows) → rows_past table past rows ≡ page ++ rows_past table (last_id past page) rows
+page_rest table past rows page limit named is =
+    let parts : rows_past table past rows ≡ page ++ drop limit (rows_past table past rows) = sym (take-append-drop limit (rows_past table past rows)) ∙ ap (λ ys. ys ++ drop limit (rows_past table past rows)) (sym is) in
+    parts ∙ ap (λ ys. page ++ ys) (rows_past-append table past rows page (drop limit (rows_past table past rows)) named parts)
