@@ -1,6 +1,7 @@
 -- What an edit does to one side of a sync: new reviews under the least free ids, and a later moment.
-use Rattle.std.specs.Prelude.{◌≡◌, ℕ, zero, suc, ◌+◌, ◌-◌, ◌==◌, max, nat_le, pos, negsuc, Bool, is_none, if◌then◌else◌, List, [], ◌∷◌, Option, Some, None}
+use Rattle.std.specs.Prelude.{◌≡◌, ℕ, zero, suc, ◌+◌, ◌-◌, ◌<◌, ◌==◌, max, nat_le, pos, negsuc, Bool, is_none, if◌then◌else◌, List, [], ◌∷◌, Option, Some, None}
 use Rattle.std.specs.FinMap.{get, insert}
+use Rattle.std.specs.List.{AllByRecursion}
 use Rattle.std.specs.Option.{option_map, option_and_then}
 use Rattle.ak_base.specs.declared.names.Name.{Name}
 use Rattle.ak_base.specs.declared.names.Table.TheVariants as tables
@@ -17,13 +18,22 @@ review_name id = record { table = tables.Review; id = pos id }
 abbrev pub is_free : Rows → ℕ → Bool
 is_free held id = is_none (get held (review_name id))
 
+-- the id alone where it is free
+abbrev pub only_free : Rows → ℕ → List ℕ
+only_free held id = if is_free held id then id ∷ [] else []
+
 -- the first `count` free ones of the `left` ids from `id` on, if there are so many
 unfoldable pub free_ids : ℕ → ℕ → ℕ → Rows → Option (List ℕ)
-free_ids zero id count held = if count == 0 then Some [] else None
-free_ids (suc left) id count held =
-    if count == 0 then Some []
-    else if is_free held id then option_map (λ ids. id ∷ ids) (free_ids left (id + 1) (count - 1) held)
-    else free_ids left (id + 1) count held
+free_ids zero id zero held = Some []
+free_ids zero id (suc count) held = None
+free_ids (suc left) id zero held = Some []
+free_ids (suc left) id (suc count) held =
+    if is_free held id then option_map (λ ids. id ∷ ids) (free_ids left (id + 1) count held)
+    else free_ids left (id + 1) (suc count) held
+
+-- each id is below the end
+abbrev pub AllBelow : ℕ → List ℕ → Type 0
+AllBelow end ids = AllByRecursion (λ id. id < end) ids
 
 -- a review that was not sent yet, with zeros where nothing else is said
 abbrev pub new_review : ℕ → ℕ → ℕ → Row

@@ -1,5 +1,6 @@
-ghost use Rattle.std.specs.Prelude.{◌≡◌, ◌+◌, ◌≤◌, ◌<◌, ◌∷◌, length, IfOk, OnOk};
-ghost use Rattle.ak_cli.specs.Sides.{is_free, free_ids, review_name, new_review, with_reviews, raised};
+ghost use Rattle.std.specs.Prelude.{◌≡◌, ◌-◌, ◌++◌, ◌≤◌, ◌<◌, IfOk, OnOk, IfSome, OnSome, IfNone};
+ghost use Rattle.std.specs.Option.{option_map};
+ghost use Rattle.ak_cli.specs.Sides.{is_free, only_free, free_ids, review_name, new_review, with_reviews, raised, reviewed, AllBelow};
 
 use ak_base::{Memory, Name, Review, Row, Table};
 use ak_keep::MemoryKeeper;
@@ -16,6 +17,98 @@ pub(crate) const LAST_MOMENT: u64 = 4_294_967_295_999;
 pub(crate) struct Side {
     pub(crate) reviews: MemoryKeeper,
     pub(crate) moment: u64,
+}
+
+impl Side {
+    /// An equal side of its own.
+    pub(crate) fn copy(&self) -> Result<Side, Memory>
+        ensures { IfOk result (λ made. made ≡ self.now) }
+    {
+        let reviews = self.reviews.copy()?;
+        Ok(Side {
+            reviews,
+            moment: self.moment,
+        })
+    }
+
+    /// Adds reviews of a card, each under the least free id from the clock's moment on, as one edit.
+    /// None, with the side as it was, where there are not so many free ids, or the moment is the last.
+    pub(crate) fn review(
+        &mut self,
+        alloc: Global,
+        at: u64,
+        card: u64,
+        ease: u64,
+        count: u64,
+    ) -> Result<Option<()>, Memory>
+        requires card { card < IDS_END }
+        requires ease { ease ≤ 4 }
+        ensures done { IfOk result (λ done. OnSome done (reviewed at card ease count self.old ≡ Some self.new)) }
+        ensures ended { IfOk result (λ done. IfNone done (reviewed at card ease count self.old ≡ None)) }
+    {
+        let Some(ids) = free_ids(alloc, &self.reviews, at, count)? else {
+            return Ok(None);
+        };
+        let Some(moment) = raised(at, self.moment) else {
+            return Ok(None);
+        };
+        put_reviews(&mut self.reviews, ids.as_slice(), card, ease)?;
+        self.moment = moment;
+        Ok(Some(()))
+    }
+}
+
+/// The first `count` free ids from `from` on, if there are so many.
+fn free_ids(
+    alloc: Global,
+    held: &MemoryKeeper,
+    from: u64,
+    count: u64,
+) -> Result<Option<Vec<u64>>, Memory>
+    ensures ids { IfOk result (λ ids. option_map (λ ids. ids.items) ids ≡ free_ids (IDS_END - from) from count held.now) }
+    ensures range { IfOk result (λ ids. IfSome ids (λ ids. AllBelow IDS_END ids.items)) }
+{
+    let mut ids = Vec::new(alloc);
+    for id in from..IDS_END {
+        if ids.len() as u64 == count {
+            return Ok(Some(ids));
+        }
+        push_free(&mut ids, held, id)?;
+    }
+    if ids.len() as u64 == count {
+        return Ok(Some(ids));
+    }
+    Ok(None)
+}
+
+fn push_free(ids: &mut Vec<u64>, held: &MemoryKeeper, id: u64) -> Result<(), Memory>
+    requires { id < IDS_END }
+    ensures { OnOk result (ids.new.items ≡ ids.old.items ++ only_free held.now id) }
+{
+    if is_free(held, id)? {
+        ids.push(id)?;
+    }
+    Ok(())
+}
+
+fn is_free(held: &MemoryKeeper, id: u64) -> Result<bool, Memory>
+    requires { id < IDS_END }
+    ensures { IfOk result (λ free. free ≡ is_free held.now id) }
+{
+    let row = held.get(review_name(id))?;
+    Ok(row.is_none())
+}
+
+fn put_reviews(held: &mut MemoryKeeper, ids: &[u64], card: u64, ease: u64) -> Result<(), Memory>
+    requires ids { AllBelow IDS_END ids.now }
+    requires card { card < IDS_END }
+    requires ease { ease ≤ 4 }
+    ensures { OnOk result (held.new ≡ with_reviews ids.now card ease held.old) }
+{
+    for id in ids {
+        held.put(new_review(*id, card, ease))?;
+    }
+    Ok(())
 }
 
 fn review_name(id: u64) -> Name

@@ -1,0 +1,2 @@
+pub mod DeviceLists
+pub mod FreeIds
