@@ -1,5 +1,5 @@
 -- A collection's rows as a finite map from names to rows.
-use Rattle.std.specs.Prelude.{◌≡◌, ℤ, Bool, ◌&&◌, ◌==◌, int_lt, List, [], ◌∷◌, ◌++◌, map, filter}
+use Rattle.std.specs.Prelude.{◌≡◌, ℤ, Bool, ◌&&◌, ◌==◌, int_lt, List, [], ◌∷◌, ◌++◌, map, filter, IsTrue, ⊤}
 use Rattle.std.specs.FinMap.{FinMap, entries, from_entries}
 use Rattle.std.specs.List.{AllByRecursion}
 use Rattle.ak_base.specs.Names.{name_cmp, table_place}
@@ -32,3 +32,8 @@ rows_past table past rows = map (λ entry. entry.1) (filter (λ entry. is_past t
 abbrev pub last_id : ℤ → List Row → ℤ
 last_id past [] = past
 last_id past (row ∷ rows) = last_id (name_of row).id rows
+
+-- rows of a table by ascending id, from over `past` on
+abbrev pub AscendsPast : Table → ℤ → List Row → Type 0
+AscendsPast table past [] = ⊤
+AscendsPast table past (row ∷ rows) = IsTrue (is_past table past (name_of row)) × AscendsPast table (name_of row).id rows

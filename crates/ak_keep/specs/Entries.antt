@@ -2,20 +2,34 @@
 use Rattle.std.specs.Prelude.{◌≡◌, Bool, true, false, T, not, ◌&&◌, Option, Some, None, is_some, List, [], ◌∷◌, ◌++◌, cond, length}
 use Rattle.std.proofs.Common.{refl, sym, ap, subst, ◌∙◌, arith}
 use Rattle.std.specs.BTreeMap.{is_at}
-use Rattle.std.specs.Cmp.{eq_by_cmp_equiv}
+use Rattle.std.specs.Cmp.{eq_by_cmp_equiv, tied_itself}
 use Rattle.std.specs.FinMap.{find, put, get, insert, empty, entries, entries_sorted, from_entries, is_sorted, get-entries, get-insert, get-from_entries, entries-insert, len-entries, len-empty, same_map}
 use Rattle.std.specs.FinMap.Entries.{by_order, below_all, same_entries}
 use Rattle.std.specs.List.{AllByRecursion}
 use Rattle.std.specs.List.Sorted.{IsStrictlySortedBy}
 use Rattle.std.specs.Map.{lookup, keys_of}
 use Rattle.std.specs.Option.{option_or, unwrap_or}
-use Rattle.std.specs.Ordering.{eq_by_cmp, is_eq, is_lt}
+use Rattle.std.specs.Ordering.{eq_by_cmp, is_eq, is_lt, ordering_reverse}
+use Rattle.std.specs.declared.cmp.Ordering.{Ordering}
 use Rattle.std.specs.declared.cmp.Ordering.TheVariants.{Less, Equal, Greater}
 use Rattle.ak_base.specs.Names.{name_cmp, names_total, names_exact}
 use Rattle.ak_base.specs.Rows.{name_of}
 use Rattle.ak_base.specs.declared.names.Name.{Name}
 use Rattle.ak_base.specs.declared.rows.Row.{Row}
 use Rattle.ak_keep.specs.Collections.{Rows, StandsUnderNames, filled}
+
+pub both_first : (a b : Bool) → T (a && b) → T a
+both_first true b h = tt
+both_first false b h = h
+
+pub both_second : (a b : Bool) → T (a && b) → T b
+both_second true b h = h
+both_second false b h = absurd h
+
+pub is_less : (r : Ordering) → T (is_lt r) → r ≡ Less
+is_less Less h = refl
+is_less Equal h = absurd h
+is_less Greater h = absurd h
 
 -- the row that stands under a name
 abbrev pub row_at : List (Name × Row) → Name → Option Row
@@ -135,3 +149,41 @@ is_sorted-from (e ∷ es) h = subst (λ b. T (b && is_sorted name_cmp es)) (sym 
 
 pub entries-from_entries : (es : List (Name × Row)) → IsStrictlySortedBy name_cmp (keys_of es) → entries (from_entries {R = name_cmp} es) ≡ es
 entries-from_entries es h = same_entries name_cmp names_total names_exact _ es (entries_sorted (from_entries es)) (is_sorted-from es h) (λ q. sym (get-entries (from_entries es) q) ∙ get-from_entries names_total es q)
+
+-- ---- each entry is what stands under its name
+greater : (x y : Name) → T (is_lt (name_cmp x y)) → eq_by_cmp name_cmp y x ≡ false
+greater x y h =
+    ap is_eq (names_total.antisymm y x)
+    ∙ elim (name_cmp x y) as (λ r. T (is_lt r) → is_eq (ordering_reverse r) ≡ false) [ Less ↦ λ _. refl | Equal ↦ λ k. absurd k | Greater ↦ λ k. absurd k ] h
+
+found_behind : (e : Name × Row) (fs es : List (Name × Row)) → T (below_all name_cmp e.0 es) → AllByRecursion (λ f. find name_cmp f.0 fs ≡ Some f.1) es → AllByRecursion (λ f. find name_cmp f.0 (e ∷ fs) ≡ Some f.1) es
+found_behind e fs [] h k = tt
+found_behind e fs (f ∷ es) h k =
+    (ap (λ b. cond b (Some e.1) (find name_cmp f.0 fs)) (greater e.0 f.0 (both_first _ _ h)) ∙ k.0, found_behind e fs es (both_second _ _ h) k.1)
+
+found : (es : List (Name × Row)) → T (is_sorted name_cmp es) → AllByRecursion (λ f. find name_cmp f.0 es ≡ Some f.1) es
+found [] h = tt
+found (e ∷ es) h =
+    (ap (λ r. cond (is_eq r) (Some e.1) (find name_cmp e.0 es)) (tied_itself names_total e.0), found_behind e es es (both_first _ _ h) (found es (both_second _ _ h)))
+
+got : (rows : Rows) (es : List (Name × Row)) → AllByRecursion (λ f. find name_cmp f.0 (entries rows) ≡ Some f.1) es → AllByRecursion (λ f. get rows f.0 ≡ Some f.1) es
+got rows [] h = tt
+got rows (e ∷ es) h = (get-entries rows e.0 ∙ h.0, got rows es h.1)
+
+pub entries_found : (rows : Rows) → AllByRecursion (λ entry. get rows entry.0 ≡ Some entry.1) (entries rows)
+entries_found rows = got rows (entries rows) (found (entries rows) (entries_sorted rows))
+
+-- nothing stands under a name below all
+pub none_below : (q : Name) (es : List (Name × Row)) → T (below_all name_cmp q es) → find name_cmp q es ≡ None
+none_below q [] h = refl
+none_below q (e ∷ es) h =
+    elim (name_cmp q e.0) as (λ r. T (is_lt r) → cond (is_eq r) (Some e.1) (find name_cmp q es) ≡ None) [
+      | Less ↦ λ _. none_below q es (both_second _ _ h)
+      | Equal ↦ λ k. absurd k
+      | Greater ↦ λ k. absurd k
+    ] (both_first _ _ h)
+
+pub below_more : (x y : Name) (es : List (Name × Row)) → name_cmp x y ≡ Less → T (below_all name_cmp y es) → T (below_all name_cmp x es)
+below_more x y [] less h = tt
+below_more x y (e ∷ es) less h =
+    subst (λ r. T (is_lt r && below_all name_cmp x es)) (sym (names_total.trans x y e.0 less (is_less _ (both_first _ _ h)))) (below_more x y es less (both_second _ _ h))

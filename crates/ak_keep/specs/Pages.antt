@@ -12,7 +12,6 @@ use Rattle.std.specs.List.{AllByRecursion}
 use Rattle.std.specs.List.Sorted.{IsStrictlySortedBy}
 use Rattle.std.specs.Map.{keys_of}
 use Rattle.std.specs.Ordering.{nat_cmp, int_cmp, is_lt, ordering_then}
-use Rattle.std.specs.declared.cmp.Ordering.{Ordering}
 use Rattle.std.specs.declared.cmp.Ordering.TheVariants.{Less, Equal, Greater}
 use Rattle.std.specs.declared.ops.Bound.TheVariants.{Excluded, Unbounded}
 use Rattle.ak_base.specs.Names.{name_cmp, table_place}
@@ -20,8 +19,8 @@ use Rattle.ak_base.specs.Rows.{name_of}
 use Rattle.ak_base.specs.declared.names.Name.{Name}
 use Rattle.ak_base.specs.declared.names.Table.{Table}
 use Rattle.ak_base.specs.declared.rows.Row.{Row}
-use Rattle.ak_keep.specs.Entries.{is_sorted-from, entries-from_entries}
-use Rattle.ak_keep.specs.Collections.{Rows, StandsUnderNames, is_past, rows_past, last_id}
+use Rattle.ak_keep.specs.Entries.{both_first, both_second, is_less, is_sorted-from, entries-from_entries}
+use Rattle.ak_keep.specs.Collections.{Rows, AscendsPast, StandsUnderNames, is_past, rows_past, last_id}
 
 -- the rows of a table up to the first entry of another
 abbrev pub first_run : Table → List (Name × Row) → List Row
@@ -53,14 +52,6 @@ page_goes_on table limit page all entry es is same room =
     ∙ ap (λ b. page ++ take (limit - length page) (cond b (entry.1 ∷ first_run table es) [])) (sym same) ∙ is
 
 -- ---- numbers and names
-both_first : (a b : Bool) → T (a && b) → T a
-both_first true b h = tt
-both_first false b h = h
-
-both_second : (a b : Bool) → T (a && b) → T b
-both_second true b h = h
-both_second false b h = absurd h
-
 and_first : (a b : Bool) → (a && b) ≡ true → a ≡ true
 and_first true b is = refl
 and_first false b is = is
@@ -85,6 +76,9 @@ same_rest is = ap (drop 1) is
 apart : (m n : ℕ) → n < m → (m == n) ≡ false
 apart m n h = ne_eqb m n (λ is. omega (arith, is, h))
 
+apart_too : (m n : ℕ) → m < n → (m == n) ≡ false
+apart_too m n h = ne_eqb m n (λ is. omega (arith, is, h))
+
 less_than : (a b : ℤ) → int_cmp a b ≡ Less → int_lt a b ≡ true
 less_than a b =
     elim (int_lt a b) as (λ t. cond t Less (cond (int_lt b a) Greater Equal) ≡ Less → t ≡ true) [
@@ -107,11 +101,6 @@ not_below_itself a =
       | true ↦ λ is. absurd (subst (λ r. T (is_lt r)) (sym (compared_less a a is) ∙ tied_itself int_cmp_total a) tt)
       | false ↦ λ _. refl
     ] refl
-
-is_less : (r : Ordering) → T (is_lt r) → r ≡ Less
-is_less Less h = refl
-is_less Equal h = absurd h
-is_less Greater h = absurd h
 
 -- a later name has a later table, or the same
 tables_rise : (x y : Name) → T (is_lt (name_cmp x y)) → table_place x.table ≤ table_place y.table
@@ -136,13 +125,16 @@ ids_rise table x y below same also =
       | Greater ↦ λ is h. absurd h
     ] refl below
 
+rises : {k m n : ℕ} → k < m → m ≤ n → k < n
+rises h r = omega (arith, h, r)
+
 -- none of a table comes after a name of a later one
 none_later : (table : Table) (past : ℤ) (x : Name) (es : List (Name × Row)) → table_place table < table_place x.table → T (below_all name_cmp x es) → picked table past es ≡ []
 none_later table past x [] later h = refl
 none_later table past x (e ∷ es) later h =
     let rise = tables_rise x e.0 (both_first _ _ h) in
     subst (λ b. map (λ (entry : Name × Row). entry.1) (cond (b && int_lt past e.0.id) (e ∷ filter (λ (entry : Name × Row). is_past table past entry.0) es) (filter (λ (entry : Name × Row). is_past table past entry.0) es)) ≡ [])
-    (sym (apart (table_place e.0.table) (table_place table) (omega (arith, rise, later))))
+    (sym (apart (table_place e.0.table) (table_place table) (rises later rise)))
     (none_later table past x es later (both_second _ _ h))
 
 pub run-picked : (table : Table) (past : ℤ) (es : List (Name × Row)) → T (is_sorted name_cmp es)
@@ -175,7 +167,7 @@ run-picked table past (e ∷ es) h =
       | Greater ↦ λ is.
           let earlier : p < t = ranked t p Greater (sym is) in
           subst (λ b. first_run table between ≡ map (λ (entry : Name × Row). entry.1) (cond (b && int_lt past e.0.id) (e ∷ passing) passing))
-          (sym (ne_eqb p t (λ is. omega (arith, is, earlier)))) picks
+          (sym (apart_too p t earlier)) picks
     ] refl
 
 -- the page that a keeper's entries give
@@ -248,6 +240,19 @@ pub rows_past-append : (table : Table) (past : ℤ) (rows : Rows) (front rest : 
 rows_past-append table past rows [] rest named is = sym is
 rows_past-append table past rows (row ∷ front) rest named is =
     rows_past-append table (name_of row).id rows front rest named (first_and_rest table past (entries rows) row (front ++ rest) (entries_sorted rows) named is)
+
+-- they ascend, and so does any first part of them
+pub rows_past-ascend : (table : Table) (past : ℤ) (rows : Rows) (front rest : List Row) → StandsUnderNames rows → rows_past table past rows ≡ front ++ rest → AscendsPast table past front
+rows_past-ascend table past rows [] rest named is = tt
+rows_past-ascend table past rows (row ∷ front) rest named is = (
+  first_is_past table past (entries rows) row (front ++ rest) named is,
+  rows_past-ascend table (name_of row).id rows front rest named (first_and_rest table past (entries rows) row (front ++ rest) (entries_sorted rows) named is),
+)
+
+pub page_ascends : (table : Table) (past : ℤ) (rows : Rows) (page : List Row) (limit : ℕ) → StandsUnderNames rows → page ≡ take limit (rows_past table past rows) → AscendsPast table past page
+page_ascends table past rows page limit named is =
+    rows_past-ascend table past rows page (drop limit (rows_past table past rows)) named
+    (sym (take-append-drop limit (rows_past table past rows)) ∙ ap (λ ys. ys ++ drop limit (rows_past table past rows)) (sym is))
 
 -- a page that is not full is all that is past the id
 pub page_whole : (table : Table) (past : ℤ) (rows : Rows) (page : List Row) (limit : ℕ) → page ≡ take limit (rows_past table past rows) → length page < limit → rows_past table past rows ≡ page

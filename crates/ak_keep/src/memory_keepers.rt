@@ -1,12 +1,13 @@
 ghost use Rattle.std.specs.Prelude.{◌≡◌, ◌<◌, ◌≤◌, ◌++◌, length, take, IfOk, IfSome, OnOk, OnErr};
 ghost use Rattle.std.specs.FinMap as map;
 ghost use Rattle.ak_base.specs.Rows.{name_of};
-ghost use Rattle.ak_keep.specs.Collections.{filled, rows_past, last_id};
+ghost use Rattle.ak_keep.specs.Collections.{AscendsPast, filled, rows_past, last_id};
 
 use crate::entries::{copy_rows, fill_rows, page_of};
 use ak_base::{List, Memory, Name, Row, Table};
 use std::alloc::Global;
 use std::collections::BTreeMap;
+use std::collections::btree_map::Iter;
 use std::marker::Model;
 
 /// A collection kept in memory, seen as the finite map from names to rows.
@@ -75,6 +76,8 @@ impl MemoryKeeper {
         requires high { limit ≤ 1000 }
         ensures rows { IfOk result (λ page. page ≡ take limit (rows_past table past self.now)) }
 
+        ensures ascends { IfOk result (λ page. AscendsPast table past page) }
+
         // A page that is not full is the rest of the table, and behind each page comes what is past
         // its last row.
         ensures whole { IfOk result (λ page. length page < limit → rows_past table past self.now ≡ page) }
@@ -83,6 +86,13 @@ impl MemoryKeeper {
         let before = Name { table, id: past };
         let page = page_of(self.alloc, &self.rows, &before, limit)?;
         Ok(page)
+    }
+
+    /// All rows with their names, by ascending name.
+    pub fn entries(&self) -> Iter<'_, Name, Row>
+        ensures { result ≡ map.entries self.now }
+    {
+        self.rows.iter()
     }
 
     /// Puts in the rows of `from` under names that are not held.

@@ -4,7 +4,7 @@ use Rattle.std.specs.BTreeMap.Range.{entries_between}
 use Rattle.std.specs.declared.ops.Bound.TheVariants.{Excluded, Unbounded}
 use Rattle.ak_base.specs.Names.{name_cmp}
 use Rattle.ak_keep.specs.Collections.{StandsUnderNames, rows_past}
-use Rattle.ak_keep.specs.Pages.{first_run, page_of_entries, page_whole, page_rest}
+use Rattle.ak_keep.specs.Pages.{first_run, page_of_entries, page_ascends, page_whole, page_rest}
 use Rattle.ak_keep.proofs.memory_keepers.MemoryKeeper.page.Goals as goal
 
 paged : (c : goal.In_ok-page) → c.in_ok-page.page ≡ take c.args.limit (rows_past c.args.table c.args.past c.args.self.now)
@@ -14,9 +14,14 @@ paged c =
     (to_z-of_z w64 c.args.past c.ranges.past) c.in_ok-page.ensures.rows)
     ∙ ap (λ m. take c.args.limit (rows_past c.args.table c.args.past m)) c.self.view_is
 
+named : (c : goal.In_ok-page) → StandsUnderNames c.args.self.now
+named c = subst StandsUnderNames c.self.view_is c.self.invariant
+
 pub returns : goal.returns
-returns c = record {
-  rows = paged c;
-  whole = λ short. page_whole c.args.table c.args.past c.args.self.now c.in_ok-page.page c.args.limit (paged c) short;
-  rest = page_rest c.args.table c.args.past c.args.self.now c.in_ok-page.page c.args.limit (subst StandsUnderNames c.self.view_is c.self.invariant) (paged c);
-}
+returns c =
+    record {
+      rows = paged c;
+      ascends = page_ascends c.args.table c.args.past c.args.self.now c.in_ok-page.page c.args.limit (named c) (paged c);
+      whole = λ short. page_whole c.args.table c.args.past c.args.self.now c.in_ok-page.page c.args.limit (paged c) short;
+      rest = page_rest c.args.table c.args.past c.args.self.now c.in_ok-page.page c.args.limit (named c) (paged c);
+    }
