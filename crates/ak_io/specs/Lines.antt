@@ -1,8 +1,8 @@
 -- The lines of an input, each with its place in the limits of a line and of an input.
-use Rattle.std.specs.Prelude.{◌≡◌, ℕ, Bool, ◌==◌, nat_lt, if◌then◌else◌, List, [], ◌∷◌, ◌++◌, length, take, map, Option, Some, None, ⊤}
-use Rattle.std.specs.List.{count_by}
+use Rattle.std.specs.Prelude.{◌≡◌, ℕ, ◌+◌, ◌-◌, ◌^◌, ◌<◌, ◌≤◌, min, Bool, ◌==◌, nat_lt, if◌then◌else◌, List, [], ◌∷◌, ◌++◌, length, take, map, Option, Some, None, ⊤}
+use Rattle.std.specs.List.{count_by, list_any}
 use Rattle.std.specs.Option.{option_map}
-use Rattle.ak_io.specs.declared.lines.TheConstants.{LINE_LIMIT}
+use Rattle.ak_io.specs.declared.lines.TheConstants.{INPUT_LIMIT, LINE_LIMIT}
 use Rattle.ak_io.specs.declared.lines.Taken.{Taken}
 use Rattle.ak_io.specs.declared.lines.Taken.TheVariants.{Line, Long, Past}
 
@@ -52,3 +52,31 @@ Takes None new got = ⊤
 Takes (Some lines) new None = lines ≡ []
 Takes (Some lines) new (Some Past) = lines ≡ Past ∷ []
 Takes (Some lines) new (Some line) = (rest : List Taken) × (new ≡ Some rest) × (lines ≡ line ∷ rest)
+
+-- ---- the same, from the front of the bytes
+
+-- whether there is a line feed
+abbrev pub has_feed : List ℕ → Bool
+has_feed bytes = list_any is_line_feed bytes
+
+-- the bytes before the first line feed, or all
+abbrev pub first_line : List ℕ → List ℕ
+first_line [] = []
+first_line (byte ∷ bytes) = if is_line_feed byte then [] else byte ∷ first_line bytes
+
+-- the bytes behind the first line feed
+abbrev pub behind : List ℕ → List ℕ
+behind [] = []
+behind (byte ∷ bytes) = if is_line_feed byte then bytes else behind bytes
+
+-- how many bytes the first line has, its line feed with it
+abbrev pub first_size : List ℕ → ℕ
+first_size [] = 0
+first_size (byte ∷ bytes) = if is_line_feed byte then 1 else first_size bytes + 1
+
+-- what a reader did to its number and its room: a line that was taken is counted, and its bytes are gone from the
+-- room; the line past the input's limit leaves no room
+abbrev pub Counts : Reading → Reading → Option Taken → Type 0
+Counts old new None = (new.number ≡ old.number) × (new.room ≡ old.room)
+Counts old new (Some Past) = (new.number ≡ min (old.number + 1) (2 ^ 64 - 1)) × (new.room ≡ 0)
+Counts old new (Some line) = (new.number ≡ old.number + 1) × (new.number ≤ INPUT_LIMIT) × (new.room < old.room)
