@@ -1,2 +1,3 @@
 pub mod DeviceLists
 pub mod FreeIds
+pub mod Printing
