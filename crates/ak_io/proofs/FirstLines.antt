@@ -116,6 +116,23 @@ pub size_above_none : (x : ℕ) (xs : List ℕ) → 0 < first_size (x ∷ xs)
 size_above_none x xs =
     elim (is_line_feed x) as (λ t. 0 < (if t then 1 else first_size xs + 1)) [ true ↦ omega arith | false ↦ omega arith ]
 
+-- what the two sizes of the first line tell
+pub ended_by_size : (xs : List ℕ) → length (first_line xs) < first_size xs → has_feed xs ≡ true
+ended_by_size xs h =
+    elim (has_feed xs) as (λ t. has_feed xs ≡ t → t ≡ true)
+    [ true ↦ λ e. refl | false ↦ λ e. let whole = unended xs e in absurd (omega (arith, ap length whole.line, whole.size)) ] refl
+
+pub unended_by_size : (xs : List ℕ) → first_size xs ≤ length (first_line xs) → has_feed xs ≡ false
+unended_by_size xs h =
+    elim (has_feed xs) as (λ t. has_feed xs ≡ t → t ≡ false)
+    [ true ↦ λ e. absurd (omega (arith, size_of_ended xs e)) | false ↦ λ e. refl ] refl
+
+pub line_le_size : (xs : List ℕ) → length (first_line xs) ≤ first_size xs
+line_le_size [] = omega arith
+line_le_size (x ∷ xs) =
+    elim (is_line_feed x) as (λ t. length (if t then [] else x ∷ first_line xs) ≤ (if t then 1 else first_size xs + 1))
+    [ true ↦ omega arith | false ↦ omega (arith, line_le_size xs) ]
+
 -- ---- the lines of the whole text, and those that a line feed ends
 
 lines_joined : (xs ys : List ℕ) → has_feed xs ≡ false → lines_of (xs ++ 10 ∷ ys) ≡ xs ∷ lines_of ys
@@ -213,3 +230,16 @@ lines_from_front room x xs =
     elim (nat_lt room (first_size (x ∷ xs))) as (λ t. nat_lt room (first_size (x ∷ xs)) ≡ t
     → lines_within room (x ∷ xs) ≡ (if t then Past ∷ [] else taken (first_line (x ∷ xs)) ∷ lines_within (room - first_size (x ∷ xs)) (behind (x ∷ xs))))
     [ true ↦ λ e. past_within room (x ∷ xs) (ltb-true _ _ e) | false ↦ λ e. first_within room x xs (ltb-false _ _ e) ] refl
+
+-- what follows makes the first line no shorter
+pub size_joined_le : (xs ys : List ℕ) → first_size xs ≤ first_size (xs ++ ys)
+size_joined_le [] ys = omega arith
+size_joined_le (x ∷ xs) ys =
+    elim (is_line_feed x) as (λ t. (if t then 1 else first_size xs + 1) ≤ (if t then 1 else first_size (xs ++ ys) + 1))
+    [ true ↦ omega arith | false ↦ omega (arith, size_joined_le xs ys) ]
+
+-- the first line of any bytes is within the input
+pub within_first : (room : ℕ) (bytes : List ℕ) → 0 < first_size bytes → first_size bytes ≤ room
+    → lines_within room bytes ≡ taken (first_line bytes) ∷ lines_within (room - first_size bytes) (behind bytes)
+within_first room [] above fits = absurd (omega arith)
+within_first room (x ∷ xs) above fits = first_within room x xs fits

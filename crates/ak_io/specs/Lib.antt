@@ -2,4 +2,5 @@ pub mod Causes
 pub mod Ends
 pub mod Lines
 pub mod Prints
+pub mod Reads
 pub mod Scripts

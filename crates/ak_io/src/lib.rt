@@ -4,10 +4,13 @@
 
 mod lines;
 mod memory;
+mod readers;
 mod traits;
+mod windows;
 mod writes;
 
 pub use lines::{INPUT_LIMIT, LINE_LIMIT, Taken};
 pub use memory::{MemorySink, MemorySource};
+pub use readers::{LineReader, ReadFault};
 pub use traits::{Failed, Sink, Source};
 pub use writes::{PrintFault, print_line, write_all};

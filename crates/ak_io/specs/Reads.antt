@@ -1,0 +1,45 @@
+-- Why a line was not read, and what the steps of reading one do.
+use Rattle.std.specs.Prelude.{◌≡◌, ℕ, ◌+◌, ◌<◌, ◌≤◌, true, false, if◌then◌else◌, List, [], ◌++◌, length, Result, Option, Some, None, ⊤}
+use Rattle.std.specs.Option.{option_map}
+use Rattle.std.specs.Result.{IsErrOf}
+use Rattle.ak_io.specs.Causes.{Rose}
+use Rattle.ak_io.specs.Lines.{lines_within, has_feed, behind, first_size}
+use Rattle.ak_io.specs.declared.lines.Taken.{Taken}
+use Rattle.ak_io.specs.declared.lines.Taken.TheVariants.{Line, Long, Past}
+use Rattle.ak_io.specs.declared.readers.Part.{Part}
+use Rattle.ak_io.specs.declared.readers.Piece.{Piece}
+use Rattle.ak_io.specs.declared.readers.Piece.TheVariants as pieces
+use Rattle.ak_io.specs.declared.readers.ReadFault.{ReadFault}
+use Rattle.ak_io.specs.declared.readers.ReadFault.TheVariants.{Failed}
+
+-- the count never falls, and it rose where the source refused
+pub record ReadCause {T : Type 0} (before now : ℕ) (result : Result T ReadFault) : Type 0 where
+  pub later : before ≤ now
+  pub failed : IsErrOf result Failed → Rose before now
+
+-- what is kept of a line, as it is taken
+abbrev pub as_taken : Part → Taken
+as_taken part = if part.is_long then Long else Line part.bytes.items
+
+-- a step took what is ahead of the first line, with its line feed or all, and this is the room that is left; or the
+-- first line does not fit the room
+abbrev pub TakesPiece : List ℕ → List ℕ → ℕ → Piece → Type 0
+TakesPiece old new room (pieces.Ended left) = (has_feed old ≡ true) × (new ≡ behind old) × (first_size old + left ≡ room)
+TakesPiece old new room (pieces.More left) = (has_feed old ≡ false) × (new ≡ []) × (length old + left ≡ room)
+TakesPiece old new room pieces.Past = room < first_size old
+
+-- whether a step took something
+abbrev pub IsTaken : Piece → Type 0
+IsTaken (pieces.Ended left) = ⊤
+IsTaken (pieces.More left) = ⊤
+IsTaken pieces.Past = ⊥
+
+-- the lines of the bytes ahead and then those left, where they are told
+abbrev pub lines_ahead : ℕ → List ℕ → Option (List ℕ) → Option (List Taken)
+lines_ahead room ahead left = option_map (λ bytes. lines_within room (ahead ++ bytes)) left
+
+-- the room after a line was read
+abbrev pub Spends : ℕ → ℕ → Option Taken → Type 0
+Spends room left None = left ≡ room
+Spends room left (Some Past) = left ≡ 0
+Spends room left (Some line) = left < room

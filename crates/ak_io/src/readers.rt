@@ -1,0 +1,212 @@
+ghost use Rattle.std.specs.Prelude.{◌≡◌, ℕ, ◌<◌, [], ◌++◌, List, length, IfOk, OnOk, IfNone, None, Some};
+ghost use Rattle.std.specs.Io.KnownBytes.{IsAtEnd};
+ghost use Rattle.ak_io.specs.Lines.{first_line, first_size, taken, lines_left, Takes, Counts};
+ghost use Rattle.ak_io.specs.Reads.{ReadCause, as_taken, TakesPiece, IsTaken, lines_ahead, Spends};
+
+use crate::lines::{INPUT_LIMIT, LINE_LIMIT, Taken};
+use crate::traits::{Failed, Source};
+use crate::windows::Window;
+use ak_base::{List, Memory};
+use std::alloc::Global;
+use std::marker::Model;
+
+/// Why a line was not read.
+#[derive(Clone, Copy, Debug, PartialEq, Eq)]
+pub enum ReadFault {
+    /// The source refused. What was read of the line is lost.
+    Failed,
+    /// The memory for the line was refused. What was read of the line is lost.
+    Memory,
+}
+
+impl From<Failed> for ReadFault {
+    ghost use Rattle.ak_io.specs.declared.readers.ReadFault.TheVariants as faults;
+
+    ghost from_gives = { λ failed fault. fault ≡ faults.Failed };
+
+    fn from(_failed: Failed) -> ReadFault {
+        ReadFault::Failed
+    }
+}
+
+impl From<Memory> for ReadFault {
+    ghost use Rattle.ak_io.specs.declared.readers.ReadFault.TheVariants as faults;
+
+    ghost from_gives = { λ memory fault. fault ≡ faults.Memory };
+
+    fn from(_memory: Memory) -> ReadFault {
+        ReadFault::Memory
+    }
+}
+
+// What is kept of a line that is being read: its bytes so far, or only that they are too many.
+#[derive(Debug, Drop)]
+struct Part {
+    bytes: Vec<u8>,
+    is_long: bool,
+}
+
+impl Part {
+    fn new(alloc: Global) -> Part
+        ensures { as_taken result ≡ taken [] }
+    {
+        Part {
+            bytes: Vec::new(alloc),
+            is_long: false,
+        }
+    }
+
+    fn append(&mut self, piece: &[u8]) -> Result<(), Memory>
+        ensures { OnOk result ((line : List ℕ) → as_taken self.old ≡ taken line → as_taken self.new ≡ taken (line ++ piece.now)) }
+    {
+        if self.is_long {
+            return Ok(());
+        }
+        if self.bytes.as_slice().len() + piece.len() > LINE_LIMIT as usize {
+            self.is_long = true;
+            return Ok(());
+        }
+        self.bytes.extend_from_slice(piece)?;
+        Ok(())
+    }
+
+    fn into_taken(self) -> Taken
+        ensures { result ≡ as_taken self }
+    {
+        if self.is_long {
+            return Taken::Long;
+        }
+        Taken::Line(List::of(self.bytes))
+    }
+}
+
+// What a step over the bytes ahead found of a line, and the room that it left.
+enum Piece {
+    // The rest of the line, with its line feed.
+    Ended(u64),
+    // A part of the line: all that was ahead.
+    More(u64),
+    // More bytes than there is room for.
+    Past,
+}
+
+// How many bytes the first line has, without its line feed and with it.
+fn first_piece(bytes: &[u8]) -> (usize, usize)
+    ensures line { result.0 ≡ length (first_line bytes.now) }
+    ensures size { result.1 ≡ first_size bytes.now }
+{
+    for (place, byte) in bytes.iter().enumerate() {
+        if *byte == b'\n' {
+            return (place, place + 1);
+        }
+    }
+    (bytes.len(), bytes.len())
+}
+
+fn take_piece(window: &mut Window, room: u64, line: &mut Part) -> Result<Piece, Memory>
+    ensures piece { IfOk result (λ piece. TakesPiece window.old window.new room piece) }
+    ensures line { IfOk result (λ piece. IsTaken piece → (done : List ℕ) → as_taken line.old ≡ taken done → as_taken line.new ≡ taken (done ++ first_line window.old)) }
+{
+    let ahead = window.bytes();
+    let (length, size) = first_piece(ahead);
+    if room < size as u64 {
+        return Ok(Piece::Past);
+    }
+    line.append(&ahead[..length])?;
+    window.drop_front(size);
+    let left = room - size as u64;
+    if length < size {
+        return Ok(Piece::Ended(left));
+    }
+    Ok(Piece::More(left))
+}
+
+// Reads the next line of an input that may hold `room` bytes from here on, and answers it with the room
+// behind it.
+fn read_line<I: Source>(
+    alloc: Global,
+    window: &mut Window,
+    room: u64,
+    input: &mut I,
+) -> Result<(Option<Taken>, u64), ReadFault>
+    ensures told { IfOk result (λ step. Takes (lines_ahead room window.old (I.left input.old)) (lines_ahead step.1 window.new (I.left input.new)) step.0) }
+    ensures ended { IfOk result (λ step. IfNone step.0 (IsAtEnd (I.left input.new))) }
+    ensures room { IfOk result (λ step. Spends room step.1 step.0) }
+    ensures cause { ReadCause (I.fault_count input.old) (I.fault_count input.new) result }
+{
+    let mut line = Part::new(alloc);
+    let mut left = room;
+    loop {
+        if !window.fill(input)? {
+            if left == room {
+                return Ok((None, room));
+            }
+            return Ok((Some(line.into_taken()), left));
+        }
+        match take_piece(window, left, &mut line)? {
+            Piece::Ended(rest) => return Ok((Some(line.into_taken()), rest)),
+            Piece::More(rest) => left = rest,
+            Piece::Past => return Ok((Some(Taken::Past), 0)),
+        }
+    }
+}
+
+/// A reader of the lines of one input. It keeps a line of at most [`LINE_LIMIT`] bytes and what one read
+/// gave, however long a line is.
+#[derive(Debug, Drop)]
+pub struct LineReader {
+    alloc: Global,
+    window: Window,
+    room: u64,
+    number: u64,
+}
+
+impl Model for LineReader {
+    ghost use Rattle.std.specs.Prelude.{◌+◌, ◌<◌, ◌≤◌};
+    ghost use Rattle.ak_io.specs.declared.lines.TheConstants.{INPUT_LIMIT};
+    ghost use Rattle.ak_io.specs.Lines.{Reading};
+
+    ghost Value = { Reading };
+
+    ghost view = { λ reader. record { ahead = reader.window; room = reader.room; number = reader.number } };
+
+    ghost invariant = { λ reader. 0 < reader.room → reader.number + reader.room ≤ INPUT_LIMIT };
+}
+
+impl LineReader {
+    pub fn new(alloc: Global) -> Result<LineReader, Memory>
+        ensures { IfOk result (λ reader. reader ≡ record { ahead = []; room = INPUT_LIMIT; number = 0 }) }
+    {
+        let window = Window::new(alloc)?;
+        Ok(LineReader {
+            alloc,
+            window,
+            room: INPUT_LIMIT,
+            number: 0,
+        })
+    }
+
+    /// How many lines were taken: the number of the last one, counted from 1.
+    pub fn number(&self) -> u64
+        ensures { result ≡ self.now.number }
+    {
+        self.number
+    }
+
+    /// Takes the next line, or answers that there is none. A line past a limit is read no further than the
+    /// read that showed it; a line that is too long is read to its end. After a fault or the line past
+    /// the input's limit, what follows is of no use.
+    pub fn next<I: Source>(&mut self, input: &mut I) -> Result<Option<Taken>, ReadFault>
+        ensures told { IfOk result (λ got. Takes (lines_left self.old (I.left input.old)) (lines_left self.new (I.left input.new)) got) }
+        ensures ended { IfOk result (λ got. IfNone got (IsAtEnd (I.left input.new))) }
+        ensures counts { IfOk result (λ got. Counts self.old self.new got) }
+        ensures cause { ReadCause (I.fault_count input.old) (I.fault_count input.new) result }
+    {
+        let (got, room) = read_line(self.alloc, &mut self.window, self.room, input)?;
+        if got.is_some() {
+            self.number = self.number.saturating_add(1);
+            self.room = room;
+        }
+        Ok(got)
+    }
+}
