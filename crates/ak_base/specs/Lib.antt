@@ -1,4 +1,7 @@
 pub mod Names
 pub mod Columns
 pub mod Reviews
+pub mod Cards
+pub mod OptionGroups
+pub mod Days
 pub mod Rows
