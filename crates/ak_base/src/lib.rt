@@ -1,20 +1,28 @@
 // The values of a collection: its rows, their names and order, and which of them are in range.
 #![tactic(auto)]
 
+mod cards;
 mod columns;
+mod days;
 mod decimals;
 mod errors;
 mod lists;
 mod names;
+mod option_groups;
+mod rests;
 mod reviews;
 mod rows;
 mod texts;
 
-pub use columns::{LAST_ID, LAST_USN};
+pub use cards::Card;
+pub use columns::{LAST_ID, LAST_STAMP, LAST_USN};
+pub use days::{DAY_SECONDS, Day};
 pub use decimals::read_number;
 pub use errors::{Memory, RowFault};
 pub use lists::List;
 pub use names::{Name, Table};
+pub use option_groups::Options;
+pub use rests::Rest;
 pub use reviews::Review;
 pub use rows::Row;
 pub use texts::Text;

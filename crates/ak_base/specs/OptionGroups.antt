@@ -1,0 +1,61 @@
+-- The ranges of an option group's columns.
+use Rattle.std.specs.Prelude.{ℕ, ℤ, pos, negsuc, Option, List, [], ◌∷◌, ◌++◌, length, None}
+use Rattle.std.specs.Option.{option_or}
+use Rattle.ak_base.specs.Columns.{id_fault, stamp_fault, code_fault, long_fault}
+use Rattle.ak_base.specs.declared.columns.TheConstants.{LAST_USN}
+use Rattle.ak_base.specs.declared.errors.RowFault.{RowFault}
+use Rattle.ak_base.specs.declared.option_groups.Options.{Options}
+
+-- the fault of the first step that is no number of minutes from 1 to 1,000,000
+abbrev pub bad_step : ℕ → List ℤ → Option RowFault
+bad_step column [] = None
+bad_step column (step ∷ steps) = option_or (code_fault column step (pos 1) (pos 1_000_000)) (bad_step column steps)
+
+-- at most 50 steps
+abbrev pub steps_fault : ℕ → List ℤ → Option RowFault
+steps_fault column steps = option_or (long_fault column (length steps) 50) (bad_step column steps)
+
+-- what the group is called, when it was changed, and what serves every card
+unfoldable pub general_faults : Options → List (Option RowFault)
+general_faults o =
+    id_fault o.id
+    ∷ stamp_fault o.stamp
+    ∷ code_fault 2 o.usn (negsuc 0) LAST_USN
+    ∷ long_fault 3 (length o.name) 512
+    ∷ code_fault 4 o.max_taken (pos 0) (pos 86_400)
+    ∷ []
+
+-- what serves new cards
+unfoldable pub new_faults : Options → List (Option RowFault)
+new_faults o =
+    steps_fault 5 o.new_steps
+    ∷ code_fault 6 o.grad_ivl (pos 1) (pos 100_000)
+    ∷ code_fault 7 o.easy_ivl (pos 1) (pos 100_000)
+    ∷ code_fault 8 o.initial_factor (pos 1_300) (pos 100_000)
+    ∷ code_fault 9 o.new_per_day (pos 0) (pos 999_999)
+    ∷ []
+
+-- what serves reviews
+unfoldable pub review_faults : Options → List (Option RowFault)
+review_faults o =
+    code_fault 11 o.rev_per_day (pos 0) (pos 999_999)
+    ∷ code_fault 12 o.ease4 (pos 1) (pos 100_000)
+    ∷ code_fault 13 o.ivl_fct (pos 1) (pos 100_000)
+    ∷ code_fault 14 o.max_ivl (pos 1) (pos 100_000)
+    ∷ code_fault 15 o.hard_factor (pos 1) (pos 100_000)
+    ∷ []
+
+-- what serves cards that were forgotten, and the rest
+unfoldable pub lapse_faults : Options → List (Option RowFault)
+lapse_faults o =
+    steps_fault 17 o.lapse_steps
+    ∷ code_fault 18 o.mult (pos 0) (pos 1_000)
+    ∷ code_fault 19 o.min_int (pos 1) (pos 100_000)
+    ∷ code_fault 20 o.leech_fails (pos 0) (pos 999_999)
+    ∷ code_fault 21 o.leech_action (pos 0) (pos 1)
+    ∷ long_fault 22 (length o.rest) 262_144
+    ∷ []
+
+-- the fault of each column, in the order of the fields; a truth value has none
+abbrev pub options_faults : Options → List (Option RowFault)
+options_faults o = general_faults o ++ (new_faults o ++ (review_faults o ++ lapse_faults o))

@@ -1,0 +1,197 @@
+ghost use Rattle.std.specs.Prelude.{◌≡◌};
+ghost use Rattle.ak_base.specs.Columns.{first_fault};
+ghost use Rattle.ak_base.specs.OptionGroups.{options_faults, general_faults, new_faults, review_faults, lapse_faults, bad_step, steps_fault};
+
+use crate::columns::{LAST_USN, code_fault, first_fault, id_fault, long_fault, stamp_fault};
+use crate::{List, Rest, RowFault, Text};
+
+/// How the cards of a deck are scheduled: one of Anki's option groups.
+#[derive(Debug, Drop)]
+pub struct Options {
+    /// When the group was made, in milliseconds.
+    pub id: i64,
+    /// When it was changed last, in seconds.
+    pub stamp: i64,
+    /// The update sequence number, -1 for a group that was not sent yet.
+    pub usn: i64,
+    pub name: Text,
+    /// The longest time of an answer that counts, in seconds.
+    pub max_taken: i64,
+    /// The steps of a new card, in minutes.
+    pub new_steps: List<i64>,
+    /// The days after the last step.
+    pub grad_ivl: i64,
+    /// The days after Easy.
+    pub easy_ivl: i64,
+    /// The factor of a card that was learned, in permille.
+    pub initial_factor: i64,
+    pub new_per_day: i64,
+    pub new_bury: bool,
+    pub rev_per_day: i64,
+    /// What Easy multiplies the days by besides the factor, in permille.
+    pub ease4: i64,
+    /// What every review multiplies the days by, in permille.
+    pub ivl_fct: i64,
+    /// The most days after a review.
+    pub max_ivl: i64,
+    /// What Hard multiplies the days by in place of the factor, in permille.
+    pub hard_factor: i64,
+    pub rev_bury: bool,
+    /// The steps of a card that was forgotten, in minutes.
+    pub lapse_steps: List<i64>,
+    /// What is left of the days of a card that was forgotten, in permille.
+    pub mult: i64,
+    /// The fewest days of a card that was forgotten.
+    pub min_int: i64,
+    /// At how many lapses a card is a leech, or 0 for never.
+    pub leech_fails: i64,
+    /// 0 where a leech is suspended, else 1.
+    pub leech_action: i64,
+    pub rest: Rest,
+}
+
+/// The fault of the first step that is no number of minutes from 1 to 1,000,000.
+fn bad_step(column: u8, steps: &[i64]) -> Option<RowFault>
+    ensures { result ≡ bad_step column steps.now }
+{
+    for step in steps {
+        if let Some(fault) = code_fault(column, *step, 1, 1_000_000) {
+            return Some(fault);
+        }
+    }
+    None
+}
+
+/// The fault of a column of steps, if there is one.
+fn steps_fault(column: u8, steps: &[i64]) -> Option<RowFault>
+    ensures { result ≡ steps_fault column steps.now }
+{
+    match long_fault(column, steps.len() as u64, 50) {
+        Some(fault) => Some(fault),
+        None => bad_step(column, steps),
+    }
+}
+
+impl Options {
+    /// What the group is called, when it was changed, and what serves every card.
+    #[tactic(auto, unfolding(crate::specs::OptionGroups::general_faults))]
+    fn check_general(&self) -> Result<(), RowFault>
+        ensures { result ≡ first_fault (general_faults self.now) }
+    {
+        first_fault(&[
+            id_fault(self.id),
+            stamp_fault(self.stamp),
+            code_fault(2, self.usn, -1, LAST_USN),
+            long_fault(3, self.name.as_str().len() as u64, 512),
+            code_fault(4, self.max_taken, 0, 86_400),
+        ])
+    }
+
+    /// What serves new cards.
+    #[tactic(auto, unfolding(crate::specs::OptionGroups::new_faults))]
+    fn check_new(&self) -> Result<(), RowFault>
+        ensures { result ≡ first_fault (new_faults self.now) }
+    {
+        first_fault(&[
+            steps_fault(5, self.new_steps.as_slice()),
+            code_fault(6, self.grad_ivl, 1, 100_000),
+            code_fault(7, self.easy_ivl, 1, 100_000),
+            code_fault(8, self.initial_factor, 1_300, 100_000),
+            code_fault(9, self.new_per_day, 0, 999_999),
+        ])
+    }
+
+    /// What serves reviews.
+    #[tactic(auto, unfolding(crate::specs::OptionGroups::review_faults))]
+    fn check_reviews(&self) -> Result<(), RowFault>
+        ensures { result ≡ first_fault (review_faults self.now) }
+    {
+        first_fault(&[
+            code_fault(11, self.rev_per_day, 0, 999_999),
+            code_fault(12, self.ease4, 1, 100_000),
+            code_fault(13, self.ivl_fct, 1, 100_000),
+            code_fault(14, self.max_ivl, 1, 100_000),
+            code_fault(15, self.hard_factor, 1, 100_000),
+        ])
+    }
+
+    /// What serves cards that were forgotten, and the rest.
+    #[tactic(auto, unfolding(crate::specs::OptionGroups::lapse_faults))]
+    fn check_lapses(&self) -> Result<(), RowFault>
+        ensures { result ≡ first_fault (lapse_faults self.now) }
+    {
+        first_fault(&[
+            steps_fault(17, self.lapse_steps.as_slice()),
+            code_fault(18, self.mult, 0, 1_000),
+            code_fault(19, self.min_int, 1, 100_000),
+            code_fault(20, self.leech_fails, 0, 999_999),
+            code_fault(21, self.leech_action, 0, 1),
+            long_fault(22, self.rest.as_str().len() as u64, 262_144),
+        ])
+    }
+
+    /// The first column that is out of its range. Columns are counted in the order of the fields.
+    #[tactic(auto, using(crate::specs::Columns::fault_of_front, crate::specs::Columns::fault_behind))]
+    pub fn check(&self) -> Result<(), RowFault>
+        ensures { result ≡ first_fault (options_faults self.now) }
+    {
+        self.check_general()?;
+        self.check_new()?;
+        self.check_reviews()?;
+        self.check_lapses()
+    }
+}
+
+#[cfg(test)]
+mod tests {
+    use super::*;
+    use crate::Memory;
+    use std::alloc::Global;
+
+    /// The group that a collection opens with, with another number of new cards a day.
+    fn group(alloc: Global, new_per_day: i64) -> Result<Options, Memory> {
+        let mut new_steps = List::new(alloc);
+        new_steps.push(1)?;
+        new_steps.push(10)?;
+        let mut lapse_steps = List::new(alloc);
+        lapse_steps.push(10)?;
+        Ok(Options {
+            id: 1,
+            stamp: 0,
+            usn: -1,
+            name: Text::of(alloc, "Default")?,
+            max_taken: 60,
+            new_steps,
+            grad_ivl: 1,
+            easy_ivl: 4,
+            initial_factor: 2500,
+            new_per_day,
+            new_bury: false,
+            rev_per_day: 200,
+            ease4: 1300,
+            ivl_fct: 1000,
+            max_ivl: 36_500,
+            hard_factor: 1200,
+            rev_bury: false,
+            lapse_steps,
+            mult: 0,
+            min_int: 1,
+            leech_fails: 8,
+            leech_action: 0,
+            rest: Rest::empty(alloc)?,
+        })
+    }
+
+    #[test]
+    fn the_first_fault_has_its_column(rt: HostRuntime) -> Result<(), Memory> {
+        let good = group(rt.alloc(), 20)?;
+        assert!(rt; good.check() == Ok(()));
+        let bad = group(rt.alloc(), 1_000_000)?;
+        let fault = RowFault::BadCode {
+            column: 9,
+            value: 1_000_000,
+        };
+        assert!(rt; bad.check() == Err(fault));
+        Ok(())
+    }
+}
