@@ -7,7 +7,7 @@ use Rattle.std.specs.List.{slice_get, slice_set}
 use Rattle.ak_cli.specs.Commands.{same_text}
 use Rattle.ak_cli.specs.Devices.{side_of, with_side, IsPlaceOf}
 use Rattle.ak_cli.specs.declared.lab.sides.Side.{Side}
-use Rattle.ak_cli.specs.declared.lab.laboratories.Device.{Device}
+use Rattle.ak_cli.specs.declared.lab.devices.Device.{Device}
 use native.Mathlib.Omega.{arith}
 
 set_at : (devices : List Device) (place : ℕ) (d : Device) → place < length devices → set devices place d ≡ take place devices ++ (d ∷ drop (suc place) devices)

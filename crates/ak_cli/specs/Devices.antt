@@ -1,9 +1,15 @@
 -- The devices of a lab by their names.
-use Rattle.std.specs.Prelude.{◌≡◌, ℕ, ◌<◌, if◌then◌else◌, List, [], ◌∷◌, length, Option, Some, None}
-use Rattle.std.specs.List.{slice_get, slice_set}
+use Rattle.std.specs.Prelude.{◌≡◌, ℕ, Bool, not, ◌<◌, ◌&&◌, nat_lt, nat_le, if◌then◌else◌, List, [], ◌∷◌, length, Option, Some, None, codes}
+use Rattle.std.specs.Char.{is_ascii_alphanumeric}
+use Rattle.std.specs.List.{list_all, slice_get, slice_set}
 use Rattle.ak_cli.specs.Commands.{same_text}
 use Rattle.ak_cli.specs.declared.lab.sides.Side.{Side}
-use Rattle.ak_cli.specs.declared.lab.laboratories.Device.{Device}
+use Rattle.ak_cli.specs.declared.lab.devices.Device.{Device}
+
+-- 1 to 16 ASCII letters or digits, and not the server's name
+abbrev pub is_device_name : List ℕ → Bool
+is_device_name name =
+    nat_lt 0 (length name) && nat_le (length name) 16 && list_all is_ascii_alphanumeric name && not (same_text name (codes "server"))
 
 -- the side of the device of a name
 abbrev pub side_of : List ℕ → List Device → Option Side
@@ -22,10 +28,3 @@ pub record IsPlaceOf (name : List ℕ) (devices : List Device) (place : ℕ) : T
   pub held : (device : Device) → slice_get devices place ≡ Some device → side_of name devices ≡ Some device.side
   pub set : (device : Device) (side : Side) → slice_get devices place ≡ Some device
       → with_side name side devices ≡ slice_set devices place (record device { side = side })
-
-abbrev pub set_one : Option Device → ℕ → List Device → ℕ → List Device
-set_one None place devices m = devices
-set_one (Some d) place devices m = slice_set devices place (record d { side = record d.side { moment = m } })
-
-abbrev pub set_moment : List Device → ℕ → ℕ → List Device
-set_moment devices place moment = set_one (slice_get devices place) place devices moment

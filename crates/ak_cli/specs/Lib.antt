@@ -1,4 +1,5 @@
 pub mod Commands
 pub mod Devices
 pub mod Sides
+pub mod Syncs
 pub mod Tables

@@ -1,7 +1,7 @@
 use Rattle.std.proofs.Common.{◌≡◌, true, arith}
 use Rattle.ak_cli.specs.Commands.{same_text}
 use Rattle.ak_cli.proofs.DeviceLists.{found}
-use Rattle.ak_cli.proofs.lab.laboratories.place_of.Goals as goal
+use Rattle.ak_cli.proofs.lab.devices.place_of.Goals as goal
 
 pub returns-then-eq : goal.returns-then-eq
 returns-then-eq c =

@@ -1,7 +1,7 @@
 use Rattle.std.proofs.Common.{◌≡◌, ◌++◌, take, drop}
 use Rattle.ak_cli.specs.Devices.{side_of, with_side}
 use Rattle.ak_cli.specs.declared.lab.sides.Side.{Side}
-use Rattle.ak_cli.proofs.lab.laboratories.place_of.Given as goal
+use Rattle.ak_cli.proofs.lab.devices.place_of.Given as goal
 
 -- no device so far has the name
 abbrev pub invariant-loop-place : goal.invariant-loop-place
