@@ -1,3 +1,4 @@
 pub mod DeviceLists
 pub mod FreeIds
 pub mod Printing
+pub mod Stops

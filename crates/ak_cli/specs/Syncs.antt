@@ -8,19 +8,22 @@ use Rattle.ak_cli.specs.declared.lab.sides.Side.{Side}
 use Rattle.ak_cli.specs.declared.lab.syncs.SyncEnd.{SyncEnd}
 use Rattle.ak_cli.specs.declared.lab.syncs.SyncEnd.TheVariants.{Tie, NoChanges, MomentsEnd, Finished}
 
--- both sides hold the reviews of both, with one moment over both and not before the clock's
-abbrev pub joined : Side → Side → Option ℕ → SyncEnd × Side × Side
-joined device server None = (MomentsEnd, device, server)
-joined device server (Some moment) =
-    (Finished, record { reviews = union device.reviews server.reviews; moment = moment }, record { reviews = union server.reviews device.reviews; moment = moment })
+-- a side with the reviews of both, at a moment
+abbrev pub joined_side : Side → Side → ℕ → Side
+joined_side side other moment = record { reviews = union side.reviews other.reviews; moment = moment }
 
--- a tie ends a sync, and so do equal moments
-abbrev pub unless_tied : ℕ → Side → Side → Option Name → SyncEnd × Side × Side
-unless_tied at device server (Some name) = (Tie name.id, device, server)
+-- both sides hold the reviews of both, at one moment
+abbrev pub joined : Side → Side → Option ℕ → SyncEnd
+joined device server None = MomentsEnd
+joined device server (Some moment) = Finished (joined_side device server moment) (joined_side server device moment)
+
+-- a tie ends a sync, and so do equal moments. Else the moment is the greatest of the clock's, the device's plus 1 and
+-- the server's plus 1
+abbrev pub unless_tied : ℕ → Side → Side → Option Name → SyncEnd
+unless_tied at device server (Some name) = Tie name.id
 unless_tied at device server None =
-    if device.moment == server.moment then (NoChanges, device, server)
-    else joined device server (raised at (max device.moment server.moment))
+    if device.moment == server.moment then NoChanges else joined device server (raised at (max device.moment server.moment))
 
--- how the sync ends, and the device's side and the server's behind it
-abbrev pub synced : ℕ → Side → Side → SyncEnd × Side × Side
+-- how the sync ends
+abbrev pub synced : ℕ → Side → Side → SyncEnd
 synced at device server = unless_tied at device server (first_tie device.reviews server.reviews)

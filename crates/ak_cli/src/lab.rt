@@ -1,6 +1,8 @@
 // A lab: one server and its devices, driven by a script. Nothing here knows of the program's words.
 mod commands;
 mod devices;
+mod faults;
+mod laboratories;
 mod sides;
 mod syncs;
 mod tables;

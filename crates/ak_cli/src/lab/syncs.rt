@@ -1,5 +1,5 @@
-ghost use Rattle.std.specs.Prelude.{◌≡◌, IfOk, OnErr};
-ghost use Rattle.ak_cli.specs.Syncs.{synced};
+ghost use Rattle.std.specs.Prelude.{◌≡◌, IfOk};
+ghost use Rattle.ak_cli.specs.Syncs.{joined_side, synced};
 
 use crate::lab::sides::{Side, raised};
 use ak_base::Memory;
@@ -8,20 +8,19 @@ use ak_merge::{join_into, tie_between};
 /// How a sync of two sides ends.
 #[derive(Debug, Drop)]
 pub(crate) enum SyncEnd {
-    /// Both hold a review of this id, and not the same. Neither side changes.
+    /// Both hold a review of this id, and not the same.
     Tie(i64),
     /// The two were the same already: their moments are equal.
     NoChanges,
-    /// A moment stands at its last value. Neither side changes.
+    /// A moment stands at its last value.
     MomentsEnd,
-    /// Both sides hold the reviews of both.
-    Finished,
+    /// Both sides as they are from now on: each with the reviews of both.
+    Finished { device: Side, server: Side },
 }
 
-/// Syncs a device's side with the server's, at the clock's moment. Without memory both stay as they were.
-pub(crate) fn sync_sides(at: u64, device: &mut Side, server: &mut Side) -> Result<SyncEnd, Memory>
-    ensures ok { IfOk result (λ end. (end, device.new, server.new) ≡ synced at device.old server.old) }
-    ensures err { OnErr result ((device.new ≡ device.old) × (server.new ≡ server.old)) }
+/// Syncs a device's side with the server's, at the clock's moment.
+pub(crate) fn sync_sides(at: u64, device: &Side, server: &Side) -> Result<SyncEnd, Memory>
+    ensures { IfOk result (λ end. end ≡ synced at device.now server.now) }
 {
     if let Some(name) = tie_between(&device.reviews, &server.reviews)? {
         return Ok(SyncEnd::Tie(name.id));
@@ -32,11 +31,17 @@ pub(crate) fn sync_sides(at: u64, device: &mut Side, server: &mut Side) -> Resul
     let Some(moment) = raised(at, device.moment.max(server.moment)) else {
         return Ok(SyncEnd::MomentsEnd);
     };
-    let mut joined = device.reviews.copy()?;
-    join_into(&mut joined, &server.reviews)?;
-    join_into(&mut server.reviews, &device.reviews)?;
-    device.reviews = joined;
-    device.moment = moment;
-    server.moment = moment;
-    Ok(SyncEnd::Finished)
+    Ok(SyncEnd::Finished {
+        device: joined_side(device, server, moment)?,
+        server: joined_side(server, device, moment)?,
+    })
+}
+
+/// A side with the reviews of both, at a moment.
+fn joined_side(side: &Side, other: &Side, moment: u64) -> Result<Side, Memory>
+    ensures { IfOk result (λ joined. joined ≡ joined_side side.now other.now moment) }
+{
+    let mut reviews = side.reviews.copy()?;
+    join_into(&mut reviews, &other.reviews)?;
+    Ok(Side { reviews, moment })
 }

@@ -1,0 +1,16 @@
+-- A lab's run: from the bytes of a script to the lines that it prints and the line that it is refused at.
+use Rattle.std.specs.Prelude.{ℕ, List, []}
+use Rattle.std.specs.FinMap.{empty}
+use Rattle.ak_io.specs.Lines.{lines_within}
+use Rattle.ak_io.specs.Scripts.{Run, run_of}
+use Rattle.ak_io.specs.declared.lines.TheConstants.{INPUT_LIMIT}
+use Rattle.ak_cli.specs.Labs.{LabState, lab_step}
+use Rattle.ak_cli.specs.declared.lab.laboratories.TheConstants.{OPENING_MOMENT}
+
+-- the clock and the server stand at the first moment; there are no reviews and no devices
+abbrev pub opening_lab : LabState
+opening_lab = record { clock = OPENING_MOMENT; server = record { reviews = empty; moment = OPENING_MOMENT }; devices = [] }
+
+-- the run of the script's lines from there
+abbrev pub lab_run : List ℕ → Run
+lab_run script = run_of lab_step 1 opening_lab (lines_within INPUT_LIMIT script)
