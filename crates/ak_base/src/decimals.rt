@@ -1,11 +1,12 @@
-ghost use Rattle.std.specs.Prelude.{◌≡◌};
+ghost use Rattle.std.specs.Prelude.{◌≡◌, ◌≤◌, IfSome};
 ghost use Rattle.std.specs.Str.{all_ascii_digits};
 ghost use Rattle.ak_base.specs.Decimals.{is_decimal, at_most, number_of};
 
 /// Reads a whole number as it is written in decimal digits, without sign or leading zero. None for any
 /// other text, and for a number over `most`.
 pub fn read_number(text: &str, most: u64) -> Option<u64>
-    ensures { result ≡ number_of most text.now }
+    ensures number { result ≡ number_of most text.now }
+    ensures within { IfSome result (λ number. number ≤ most) }
 {
     if !is_decimal(text.as_bytes()) {
         return None;
@@ -17,7 +18,8 @@ pub fn read_number(text: &str, most: u64) -> Option<u64>
 }
 
 fn at_most(number: u64, most: u64) -> Option<u64>
-    ensures { result ≡ at_most most number }
+    ensures number { result ≡ at_most most number }
+    ensures within { IfSome result (λ number. number ≤ most) }
 {
     if number <= most { Some(number) } else { None }
 }

@@ -1,5 +1,5 @@
 -- The lines of a lab script by their form.
-use Rattle.std.specs.Prelude.{ℕ, Bool, false, true, not, ◌&&◌, ◌||◌, ◌==◌, nat_lt, if◌then◌else◌, List, [], ◌∷◌, Option, Some, None, codes}
+use Rattle.std.specs.Prelude.{ℕ, Bool, false, true, not, ◌&&◌, ◌||◌, ◌==◌, ◌<◌, ◌≤◌, ⊤, nat_lt, if◌then◌else◌, List, [], ◌∷◌, Option, Some, None, codes}
 use Rattle.std.specs.Cmp.Lexicographic.{pointwise}
 use Rattle.std.specs.List.{slice_split}
 use Rattle.std.specs.Option.{option_and_then, option_map}
@@ -47,3 +47,8 @@ command_of (word ∷ name ∷ []) = pair_command word name
 command_of (word ∷ side ∷ table ∷ []) = show_command word side table
 command_of (word ∷ device ∷ card ∷ ease ∷ count ∷ []) = review_command word device card ease count
 command_of _ = None
+
+-- the numbers of a form are in the ranges of a review's columns
+abbrev pub IsInRange : Command → Type 0
+IsInRange (Review device card ease count) = (card < 9_007_199_254_740_992) × (ease ≤ 4)
+IsInRange command = ⊤

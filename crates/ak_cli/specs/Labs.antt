@@ -88,11 +88,15 @@ abbrev pub is_skipped : List ℕ → Bool
 is_skipped [] = true
 is_skipped (byte ∷ bytes) = byte == 35
 
+-- the bytes of a line: what is no text has no form
+abbrev pub line_step : LabState → List ℕ → Step LabState
+line_step lab bytes =
+    if not (is_utf8 bytes) then bad_line
+    else if is_skipped bytes then Goes [] lab
+    else obeyed lab (command_of (words_of bytes))
+
 -- any line
 abbrev pub lab_step : LabState → Taken → Step LabState
 lab_step lab Past = Refused (codes "long input")
 lab_step lab Long = bad_line
-lab_step lab (Line bytes) =
-    if not (is_utf8 bytes) then bad_line
-    else if is_skipped bytes then Goes [] lab
-    else obeyed lab (command_of (words_of bytes))
+lab_step lab (Line bytes) = line_step lab bytes

@@ -1,6 +1,6 @@
-ghost use Rattle.std.specs.Prelude.{◌≡◌, ◌==◌, IfOk, map};
+ghost use Rattle.std.specs.Prelude.{◌≡◌, ◌≤◌, IfOk, IfSome, map};
 ghost use Rattle.std.specs.List.{slice_split};
-ghost use Rattle.ak_cli.specs.Commands.{words_of, command_of, pair_command, show_command, counted, review_command};
+ghost use Rattle.ak_cli.specs.Commands.{words_of, command_of, pair_command, show_command, counted, review_command, IsInRange};
 
 use ak_base::{Memory, Text, read_number};
 use std::alloc::Global;
@@ -33,7 +33,8 @@ fn words_of<'a>(alloc: Global, line: &'a str) -> Result<Vec<&'a str>, Memory>
 
 /// Reads a line by its form; whether what it names is there is not asked. None where it has no form.
 pub(crate) fn read_command(alloc: Global, line: &str) -> Result<Option<Command>, Memory>
-    ensures { IfOk result (λ command. command ≡ command_of (words_of line.now)) }
+    ensures form { IfOk result (λ command. command ≡ command_of (words_of line.now)) }
+    ensures range { IfOk result (λ command. IfSome command IsInRange) }
 {
     let words = words_of(alloc, line)?;
     match words.as_slice() {
@@ -45,7 +46,8 @@ pub(crate) fn read_command(alloc: Global, line: &str) -> Result<Option<Command>,
 }
 
 fn pair_command(alloc: Global, word: &str, name: &str) -> Result<Option<Command>, Memory>
-    ensures { IfOk result (λ command. command ≡ pair_command word.now name.now) }
+    ensures form { IfOk result (λ command. command ≡ pair_command word.now name.now) }
+    ensures range { IfOk result (λ command. IfSome command IsInRange) }
 {
     if name.is_empty() {
         return Ok(None);
@@ -60,7 +62,8 @@ fn pair_command(alloc: Global, word: &str, name: &str) -> Result<Option<Command>
 }
 
 fn show_command(alloc: Global, word: &str, side: &str, table: &str) -> Result<Option<Command>, Memory>
-    ensures { IfOk result (λ command. command ≡ show_command word.now side.now table.now) }
+    ensures form { IfOk result (λ command. command ≡ show_command word.now side.now table.now) }
+    ensures range { IfOk result (λ command. IfSome command IsInRange) }
 {
     if side.is_empty() {
         return Ok(None);
@@ -73,7 +76,8 @@ fn show_command(alloc: Global, word: &str, side: &str, table: &str) -> Result<Op
 
 /// A number from 1 to `most`.
 fn counted(most: u64, text: &str) -> Option<u64>
-    ensures { result ≡ counted most text.now }
+    ensures number { result ≡ counted most text.now }
+    ensures within { IfSome result (λ number. number ≤ most) }
 {
     let number = read_number(text, most)?;
     if number == 0 {
@@ -90,7 +94,8 @@ fn review_command(
     ease: &str,
     count: &str,
 ) -> Result<Option<Command>, Memory>
-    ensures { IfOk result (λ command. command ≡ review_command word.now device.now card.now ease.now count.now) }
+    ensures form { IfOk result (λ command. command ≡ review_command word.now device.now card.now ease.now count.now) }
+    ensures range { IfOk result (λ command. IfSome command IsInRange) }
 {
     if device.is_empty() || word != "review" {
         return Ok(None);

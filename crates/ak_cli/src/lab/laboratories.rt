@@ -1,19 +1,22 @@
-ghost use Rattle.std.specs.Prelude.{◌≡◌, ◌<◌, ◌≤◌, [], ◌∷◌, ◌++◌, IfOk, IfErr, OnOk, OnErr, codes, string_bytes};
+ghost use Rattle.std.specs.Prelude.{◌≡◌, ◌<◌, ◌≤◌, [], ◌∷◌, ◌++◌, IfOk, IfSome, IfErr, OnOk, OnErr, codes, string_bytes, is_some};
 ghost use Rattle.std.specs.Fmt.{signed_decimal};
 ghost use Rattle.std.specs.Io.KnownBytes.{Appends};
+ghost use Rattle.std.specs.Str.{is_utf8};
 ghost use Rattle.ak_io.specs.Prints.{PrintCause};
 ghost use Rattle.ak_io.specs.Scripts.{Goes, AppendsPart, written_lines};
-ghost use Rattle.ak_cli.specs.Labs.{state_of, device_step, review_step, sync_step, sync_line, show_step};
+ghost use Rattle.ak_cli.specs.Commands.{IsInRange};
+ghost use Rattle.ak_cli.specs.Labs.{state_of, device_step, review_step, sync_step, sync_line, show_step, obeyed, is_skipped, line_step, lab_step};
 ghost use Rattle.ak_cli.specs.LabRun.{opening_lab};
 ghost use Rattle.ak_cli.specs.Steps.{IsRefusal, RefusesBy, Went, Stopped, LineCause};
 
+use crate::lab::commands::{Command, read_command};
 use crate::lab::devices::{Device, is_device_name, place_of};
 use crate::lab::faults::{LineFault, refusal};
 use crate::lab::sides::{IDS_END, Side};
 use crate::lab::syncs::{SyncEnd, sync_sides};
 use crate::lab::tables::print_reviews;
 use ak_base::{Memory, Text};
-use ak_io::{PrintFault, Sink, print_line};
+use ak_io::{PrintFault, Sink, Taken, print_line};
 use ak_keep::MemoryKeeper;
 use std::alloc::Global;
 
@@ -45,6 +48,55 @@ impl Lab {
                 moment: OPENING_MOMENT,
             },
             devices: Vec::new(alloc),
+        }
+    }
+
+    /// Does what a line says, and prints what it prints.
+    pub(crate) fn act<O: Sink>(&mut self, line: Taken, out: &mut O) -> Result<(), LineFault>
+        ensures ok { OnOk result (Went (lab_step (state_of self.old) line) (state_of self.new) (O.written out.old) (O.written out.new)) }
+        ensures err { IfErr result (λ fault. Stopped (lab_step (state_of self.old) line) fault (O.written out.old) (O.written out.new)) }
+        ensures cause { LineCause (O.fault_count out.old) (O.fault_count out.new) result }
+    {
+        match line {
+            Taken::Past => Err(refusal(self.alloc, "long input")),
+            Taken::Long => Err(refusal(self.alloc, "bad line")),
+            Taken::Line(bytes) => self.act_on(bytes.as_slice(), out),
+        }
+    }
+
+    fn act_on<O: Sink>(&mut self, bytes: &[u8], out: &mut O) -> Result<(), LineFault>
+        ensures ok { OnOk result (Went (line_step (state_of self.old) bytes.now) (state_of self.new) (O.written out.old) (O.written out.new)) }
+        ensures err { IfErr result (λ fault. Stopped (line_step (state_of self.old) bytes.now) fault (O.written out.old) (O.written out.new)) }
+        ensures cause { LineCause (O.fault_count out.old) (O.fault_count out.new) result }
+    {
+        let Some(line) = text_of(bytes) else {
+            return Err(refusal(self.alloc, "bad line"));
+        };
+        if is_skipped(bytes) {
+            return Ok(());
+        }
+        match read_command(self.alloc, line)? {
+            Some(command) => self.obey(command, out),
+            None => Err(refusal(self.alloc, "bad line")),
+        }
+    }
+
+    fn obey<O: Sink>(&mut self, command: Command, out: &mut O) -> Result<(), LineFault>
+        requires { IsInRange command }
+        ensures ok { OnOk result (Went (obeyed (state_of self.old) (Some command)) (state_of self.new) (O.written out.old) (O.written out.new)) }
+        ensures err { IfErr result (λ fault. Stopped (obeyed (state_of self.old) (Some command)) fault (O.written out.old) (O.written out.new)) }
+        ensures cause { LineCause (O.fault_count out.old) (O.fault_count out.new) result }
+    {
+        match command {
+            Command::Device(name) => self.add_device(name),
+            Command::Review {
+                device,
+                card,
+                ease,
+                count,
+            } => self.review(&device, card, ease, count),
+            Command::Sync(name) => self.sync(&name, out),
+            Command::ShowReviews(name) => self.show(&name, out),
         }
     }
 
@@ -146,6 +198,26 @@ impl Lab {
         };
         print_reviews(self.alloc, out, &self.devices[place].side.reviews)?;
         Ok(())
+    }
+}
+
+/// The text of the bytes, if they are UTF-8.
+fn text_of(bytes: &[u8]) -> Option<&str>
+    ensures text { IfSome result (λ text. text.now ≡ bytes.now) }
+    ensures utf8 { is_some result ≡ is_utf8 bytes.now }
+{
+    match str::from_utf8(bytes) {
+        Ok(text) => Some(text),
+        Err(_) => None,
+    }
+}
+
+fn is_skipped(bytes: &[u8]) -> bool
+    ensures { result ≡ is_skipped bytes.now }
+{
+    match bytes {
+        [] => true,
+        [first, ..] => *first == b'#',
     }
 }
 

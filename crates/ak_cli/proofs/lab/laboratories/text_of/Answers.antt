@@ -1,0 +1,14 @@
+use Rattle.std.proofs.Common.{◌≡◌, Bool, true, false, sym, refl}
+use Rattle.std.proofs.lemmas.Str.{IsUtf8-from_is_utf8, is_utf8-from_IsUtf8}
+use Rattle.std.specs.Str.{is_utf8}
+use Rattle.ak_cli.proofs.lab.laboratories.text_of.Goals as goal
+
+never : (b : Bool) → (b ≡ true → ⊥) → false ≡ b
+never true h = absurd (h refl)
+never false h = refl
+
+pub returns-in-Ok-clause-utf8 : goal.returns-in-Ok-clause-utf8
+returns-in-Ok-clause-utf8 c = sym (is_utf8-from_IsUtf8 _ c.in-Ok.ensures.cases.1)
+
+pub returns-in-Err-clause-utf8 : goal.returns-in-Err-clause-utf8
+returns-in-Err-clause-utf8 c = never (is_utf8 c.args.bytes.now) (λ e. c.in-Err.ensures.cases.0 (IsUtf8-from_is_utf8 _ e))
