@@ -6,6 +6,8 @@ mod lines;
 mod memory;
 mod readers;
 mod streams;
+#[cfg(test)]
+mod tests;
 mod traits;
 mod windows;
 mod writes;
