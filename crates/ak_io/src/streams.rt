@@ -1,6 +1,7 @@
-ghost use Rattle.std.specs.Prelude.{◌≡◌, ◌<◌, ◌≤◌, false, length, take, IfOk, OnErr};
+ghost use Rattle.std.specs.Prelude.{◌≡◌, ◌<◌, ◌≤◌, false, length, take, IfOk, OnOk, OnErr};
 ghost use Rattle.std.specs.Io.{ReadsAtMost};
 ghost use Rattle.std.specs.Io.KnownBytes.{ReadConsumes, Appends, Keeps};
+ghost use Rattle.ak_io.specs.Causes.{HasCause};
 
 use crate::traits::{Failed, Sink, Source};
 use std::io::{Error, ErrorKind, Read, Write};
@@ -41,7 +42,14 @@ impl<R: Read> Source for StdSource<R> {
         self.faults
     }
 
-    fn read(&mut self, into: &mut [u8]) -> Result<usize, Failed> {
+    fn read(&mut self, into: &mut [u8]) -> Result<usize, Failed>
+        ensures bound { ReadsAtMost result into.new }
+        ensures bytes { ReadConsumes (R.remaining self.old.0) (R.remaining self.new.0) result into.new }
+        ensures cause { HasCause self.old.1 self.new.1 result }
+
+        // A fault is counted only where it is answered.
+        ensures calm { OnOk result (self.new.1 ≡ self.old.1) }
+    {
         match read_retrying(&mut self.inner, into) {
             Ok(count) => return Ok(count),
             Err(_) => {
