@@ -17,6 +17,12 @@ takes_line line lines rest got is first =
     (elim (nat_lt LINE_LIMIT (length line)) as (λ t. lines ≡ (if t then Long else Line line) ∷ rest → Takes (Some lines) (Some rest) (Some (if t then Long else Line line)))
     [ true ↦ λ e. (rest, refl, e) | false ↦ λ e. (rest, refl, e) ] first)
 
+-- what was taken is the first of what was still to be taken
+pub takes_first : (lines : List Taken) (new : Option (List Taken)) (line : Taken) → Takes (Some lines) new (Some line) → (rest : List Taken) × (lines ≡ line ∷ rest)
+takes_first lines new (Line bytes) (rest, left, first) = (rest, first)
+takes_first lines new Long (rest, left, first) = (rest, first)
+takes_first lines new Past first = ([], first)
+
 -- a line that is taken leaves less room
 pub spends_line : (line : List ℕ) (room left : ℕ) (got : Taken) → got ≡ taken line → left < room → Spends room left (Some got)
 spends_line line room left got is less =

@@ -5,6 +5,9 @@
 mod lines;
 mod memory;
 mod readers;
+mod streams;
+#[cfg(test)]
+mod tests;
 mod traits;
 mod windows;
 mod writes;
@@ -12,5 +15,6 @@ mod writes;
 pub use lines::{INPUT_LIMIT, LINE_LIMIT, Taken};
 pub use memory::{MemorySink, MemorySource};
 pub use readers::{LineReader, ReadFault};
+pub use streams::{StdSink, StdSource};
 pub use traits::{Failed, Sink, Source};
 pub use writes::{PrintFault, print_line, write_all};

@@ -193,9 +193,9 @@ impl LineReader {
         self.number
     }
 
-    /// Takes the next line, or answers that there is none. A line past a limit is read no further than the
-    /// read that showed it; a line that is too long is read to its end. After a fault or the line past
-    /// the input's limit, what follows is of no use.
+    /// Takes the next line, or answers that there is none. A line of too many bytes is read to its end; the
+    /// line past the input's limit is not read on, once a byte past it was read. After that line, or a
+    /// fault, what further calls answer is of no use.
     pub fn next<I: Source>(&mut self, input: &mut I) -> Result<Option<Taken>, ReadFault>
         ensures told { IfOk result (λ got. Takes (lines_left self.old (I.left input.old)) (lines_left self.new (I.left input.new)) got) }
         ensures ended { IfOk result (λ got. IfNone got (IsAtEnd (I.left input.new))) }
