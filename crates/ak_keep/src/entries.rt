@@ -42,7 +42,7 @@ fn push_copy(page: &mut List<Row>, row: &Row) -> Result<(), Memory>
     page.push(copy)
 }
 
-// The loop never overwrites a row, since the names are all different.
+// To fill an empty map copies it.
 pub(crate) fn copy_rows(
     alloc: Global,
     rows: &BTreeMap<Name, Row>,
@@ -54,7 +54,7 @@ pub(crate) fn copy_rows(
     Ok(made)
 }
 
-// Puts in what is not held.
+// Puts in what is not held. It never overwrites a row, so it needs no fact on the names of `from`.
 pub(crate) fn fill_rows(
     into: &mut BTreeMap<Name, Row>,
     from: &BTreeMap<Name, Row>,

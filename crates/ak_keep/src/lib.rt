@@ -3,5 +3,7 @@
 
 mod entries;
 mod memory_keepers;
+#[cfg(test)]
+mod tests;
 
 pub use memory_keepers::MemoryKeeper;

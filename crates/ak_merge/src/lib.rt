@@ -3,6 +3,8 @@
 
 mod joins;
 mod laws;
+#[cfg(test)]
+mod tests;
 mod ties;
 
 pub use joins::join_into;
