@@ -1,7 +1,8 @@
 -- A lab's run: from the bytes of a script to the lines that it prints and the line that it is refused at.
-use Rattle.std.specs.Prelude.{ℕ, List, []}
+use Rattle.std.specs.Prelude.{ℕ, ◌+◌, List, [], Option}
 use Rattle.std.specs.FinMap.{empty}
-use Rattle.ak_io.specs.Lines.{lines_within}
+use Rattle.std.specs.Option.{option_map}
+use Rattle.ak_io.specs.Lines.{Reading, lines_within, lines_left}
 use Rattle.ak_io.specs.Scripts.{Run, run_of}
 use Rattle.ak_io.specs.declared.lines.TheConstants.{INPUT_LIMIT}
 use Rattle.ak_cli.specs.Labs.{LabState, lab_step}
@@ -14,3 +15,7 @@ opening_lab = record { clock = OPENING_MOMENT; server = record { reviews = empty
 -- the run of the script's lines from there
 abbrev pub lab_run : List ℕ → Run
 lab_run script = run_of lab_step 1 opening_lab (lines_within INPUT_LIMIT script)
+
+-- the run that is still to come, where the source tells what is left
+abbrev pub run_left : LabState → Reading → Option (List ℕ) → Option Run
+run_left lab reading left = option_map (run_of lab_step (reading.number + 1) lab) (lines_left reading left)

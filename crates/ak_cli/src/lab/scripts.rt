@@ -1,0 +1,101 @@
+ghost use Rattle.std.specs.Prelude.{◌≡◌, ◌≢◌, ◌≤◌, ◌<◌, true, false, IfSome, IfOk, IfErr, string_bytes};
+ghost use Rattle.std.specs.Io.KnownBytes.{IsAtEnd};
+ghost use Rattle.ak_io.specs.Causes.{Rose};
+ghost use Rattle.ak_io.specs.Scripts.{refusal_line};
+ghost use Rattle.ak_io.specs.declared.lines.TheConstants.{INPUT_LIMIT};
+ghost use Rattle.ak_cli.specs.LabRun.{lab_run, run_left};
+ghost use Rattle.ak_cli.specs.Labs.{state_of};
+ghost use Rattle.ak_cli.specs.Scripts.{RunsTo, EndCause, LineEndCause, AfterLine, refused_run};
+ghost use Rattle.ak_cli.specs.declared.lab.scripts.ScriptEnd.TheVariants as ends;
+
+use crate::lab::faults::LineFault;
+use crate::lab::laboratories::Lab;
+use ak_base::{Memory, Text};
+use ak_io::{LineReader, PrintFault, ReadFault, Sink, Source, print_line};
+use std::alloc::Global;
+
+/// How a script ends.
+#[derive(Clone, Copy, Debug, PartialEq, Eq)]
+pub(crate) enum ScriptEnd {
+    /// The input was read to its end.
+    Done,
+    /// A line was refused, and its text printed.
+    Refused,
+    ReadFailed,
+    WriteFailed,
+    Memory,
+}
+
+/// Runs the lines of a lab script one by one, until the input ends or a line is refused.
+pub(crate) fn run_script<I: Source, O: Sink>(alloc: Global, input: &mut I, out: &mut O) -> ScriptEnd
+    ensures told { IfSome (I.left input.old) (λ script. RunsTo result (lab_run script) (O.written out.old) (O.written out.new)) }
+    ensures ended { result ≡ ends.Done → IsAtEnd (I.left input.new) }
+    ensures cause { EndCause result (I.fault_count input.old) (I.fault_count input.new) (O.fault_count out.old) (O.fault_count out.new) }
+{
+    let mut reader = match LineReader::new(alloc) {
+        Ok(reader) => reader,
+        Err(Memory) => return ScriptEnd::Memory,
+    };
+    let mut lab = Lab::new(alloc);
+    'lines: loop {
+        match run_line(alloc, &mut lab, &mut reader, input, out) {
+            Ok(true) => {}
+            Ok(false) => return ScriptEnd::Done,
+            Err(end) => return end,
+        }
+    }
+}
+
+/// Runs the next line. False where there is none, and the input was read to its end.
+fn run_line<I: Source, O: Sink>(
+    alloc: Global,
+    lab: &mut Lab,
+    reader: &mut LineReader,
+    input: &mut I,
+    out: &mut O,
+) -> Result<bool, ScriptEnd>
+    requires { reader.old.number ≤ INPUT_LIMIT }
+    ensures goes { IfOk result (AfterLine (run_left (state_of lab.old) reader.old (I.left input.old)) (run_left (state_of lab.new) reader.new (I.left input.new)) (O.written out.old) (O.written out.new)) }
+    ensures counts { result ≡ Ok true → (reader.new.number ≤ INPUT_LIMIT) × (reader.new.room < reader.old.room) }
+    ensures ended { result ≡ Ok false → IsAtEnd (I.left input.new) }
+    ensures ends { IfErr result (λ end. IfSome (run_left (state_of lab.old) reader.old (I.left input.old)) (λ run. RunsTo end run (O.written out.old) (O.written out.new))) }
+    ensures cause { LineEndCause result (I.fault_count input.old) (I.fault_count input.new) (O.fault_count out.old) (O.fault_count out.new) }
+{
+    let line = match reader.next(input) {
+        Ok(Some(line)) => line,
+        Ok(None) => return Ok(false),
+        Err(ReadFault::Failed) => return Err(ScriptEnd::ReadFailed),
+        Err(ReadFault::Memory) => return Err(ScriptEnd::Memory),
+    };
+    match lab.act(line, out) {
+        Ok(()) => Ok(true),
+        Err(LineFault::Refused(text)) => Err(refuse(alloc, reader.number(), &text, out)),
+        Err(LineFault::Failed) => Err(ScriptEnd::WriteFailed),
+        Err(LineFault::Memory) => Err(ScriptEnd::Memory),
+    }
+}
+
+/// Prints the text of the refused line.
+fn refuse<O: Sink>(alloc: Global, number: u64, text: &Text, out: &mut O) -> ScriptEnd
+    ensures printed { RunsTo result (refused_run number text.now) (O.written out.old) (O.written out.new) }
+    ensures later { O.fault_count out.old ≤ O.fault_count out.new }
+    ensures cause { result ≡ ends.WriteFailed → Rose (O.fault_count out.old) (O.fault_count out.new) }
+    ensures which { result ≢ ends.ReadFailed }
+{
+    let line = match refusal_line(alloc, number, text.as_str()) {
+        Ok(line) => line,
+        Err(Memory) => return ScriptEnd::Memory,
+    };
+    match print_line(alloc, out, line.as_bytes()) {
+        Ok(()) => ScriptEnd::Refused,
+        Err(PrintFault::Failed) => ScriptEnd::WriteFailed,
+        Err(PrintFault::Memory) => ScriptEnd::Memory,
+    }
+}
+
+fn refusal_line(alloc: Global, number: u64, text: &str) -> Result<String, Memory>
+    ensures { IfOk result (λ line. string_bytes line ≡ refusal_line (number, text.now)) }
+{
+    let line = format!(in alloc; "line {number}: {text}")?;
+    Ok(line)
+}
