@@ -1,5 +1,5 @@
 -- How the run of a script ends, and what is written of it by then.
-use Rattle.std.specs.Prelude.{◌≡◌, ℕ, ◌≤◌, Bool, true, false, List, [], Option, Some, None, Result, Ok, Err, IsSome, IfSome, ⊤}
+use Rattle.std.specs.Prelude.{◌≡◌, ◌≢◌, ℕ, ◌≤◌, Bool, true, false, List, [], Option, Some, None, Result, Ok, Err, IsSome, IfSome, ⊤}
 use Rattle.std.specs.Io.KnownBytes.{Appends}
 use Rattle.ak_io.specs.Causes.{Rose}
 use Rattle.ak_io.specs.Scripts.{Run, output_of, AppendsPart, Reached}
@@ -36,9 +36,10 @@ pub record EndCause (end : ScriptEnd) (reads reads' writes writes' : ℕ) : Type
   pub read : end ≡ ends.ReadFailed → Rose reads reads'
   pub written : end ≡ ends.WriteFailed → Rose writes writes'
 
--- the same, where a line may have gone
+-- the same, where a line may have gone; an end that is no line's end is not answered as a fault
 pub record LineEndCause (result : Result Bool ScriptEnd) (reads reads' writes writes' : ℕ) : Type 0 where
   pub reads_later : reads ≤ reads'
   pub writes_later : writes ≤ writes'
+  pub not_done : result ≢ Err ends.Done
   pub read : result ≡ Err ends.ReadFailed → Rose reads reads'
   pub written : result ≡ Err ends.WriteFailed → Rose writes writes'

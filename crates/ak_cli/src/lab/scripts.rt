@@ -80,7 +80,8 @@ fn refuse<O: Sink>(alloc: Global, number: u64, text: &Text, out: &mut O) -> Scri
     ensures printed { RunsTo result (refused_run number text.now) (O.written out.old) (O.written out.new) }
     ensures later { O.fault_count out.old ≤ O.fault_count out.new }
     ensures cause { result ≡ ends.WriteFailed → Rose (O.fault_count out.old) (O.fault_count out.new) }
-    ensures which { result ≢ ends.ReadFailed }
+    ensures not_read { result ≢ ends.ReadFailed }
+    ensures not_done { result ≢ ends.Done }
 {
     let line = match refusal_line(alloc, number, text.as_str()) {
         Ok(line) => line,

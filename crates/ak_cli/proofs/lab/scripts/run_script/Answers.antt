@@ -1,0 +1,28 @@
+use Rattle.std.proofs.Common.{◌≡◌, ◌≤◌, Ok, ap, arith}
+use Rattle.ak_io.specs.declared.lines.TheConstants.{INPUT_LIMIT}
+use Rattle.ak_cli.proofs.Runs.{begins_run, continues, finishes}
+use Rattle.ak_cli.specs.declared.lab.scripts.ScriptEnd.TheVariants as ends
+use Rattle.ak_cli.proofs.lab.scripts.run_script.Goals as goal
+
+pub lines-init : goal.lines-init
+lines-init g c = record {
+  so_far = begins_run _ _ _ _ c.new-lab.ensures c.in-Ok.ensures;
+  number = rw c.in-Ok.ensures (omega arith);
+  reads_later = omega arith;
+  writes_later = omega arith;
+}
+
+pub lines-preserved : goal.lines-preserved
+lines-preserved g c = record {
+  so_far = continues _ _ _ _ _ _ c.lines.invariant.so_far (rw c.in-Ok-true.field-0-test at c.in-Ok-true.ensures.goes);
+  number = (c.in-Ok-true.ensures.counts (ap Ok c.in-Ok-true.field-0-test)).0;
+  reads_later = omega (arith, c.lines.invariant.reads_later, c.in-Ok-true.ensures.cause.reads_later);
+  writes_later = omega (arith, c.lines.invariant.writes_later, c.in-Ok-true.ensures.cause.writes_later);
+}
+
+pub returns-in-Ok-false-clause-told : goal.returns-in-Ok-false-clause-told
+returns-in-Ok-false-clause-told g c =
+    finishes ends.Done _ _ _ _ (g.O.Sink.written c.run_line.new.out) c.lines.invariant.so_far (rw c.in-Ok-false.field-0-test at c.in-Ok-false.ensures.goes)
+
+pub returns-in-Err-run_line-clause-told : goal.returns-in-Err-run_line-clause-told
+returns-in-Err-run_line-clause-told g c = finishes _ _ _ _ _ _ c.lines.invariant.so_far c.in-Err-run_line.ensures.ends
