@@ -1,4 +1,5 @@
 pub mod DeviceLists
+pub mod Endings
 pub mod FreeIds
 pub mod Printing
 pub mod Runs

@@ -2,6 +2,7 @@ pub mod Commands
 pub mod Devices
 pub mod LabRun
 pub mod Labs
+pub mod Programs
 pub mod Scripts
 pub mod Sides
 pub mod Steps

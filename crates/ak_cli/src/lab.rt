@@ -3,7 +3,7 @@ mod commands;
 mod devices;
 mod faults;
 mod laboratories;
-mod scripts;
+pub(crate) mod scripts;
 mod sides;
 mod syncs;
 mod tables;

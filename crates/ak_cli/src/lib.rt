@@ -2,3 +2,8 @@
 #![tactic(auto)]
 
 mod lab;
+mod programs;
+mod statuses;
+
+pub use programs::run;
+pub use statuses::{DONE, NO_MEMORY, READ_FAILED, REFUSED, USAGE, WRITE_FAILED};

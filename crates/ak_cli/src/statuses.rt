@@ -1,0 +1,34 @@
+ghost use Rattle.std.specs.Prelude.{◌≡◌};
+ghost use Rattle.ak_cli.specs.Programs.{status_of};
+
+use crate::lab::scripts::ScriptEnd;
+
+/// The work is done: the input was read to its end.
+pub const DONE: u8 = 0;
+
+/// The words name no command.
+pub const USAGE: u8 = 2;
+
+/// A line of the input breaks a named rule; the last line that was printed names it.
+pub const REFUSED: u8 = 3;
+
+/// The input failed.
+pub const READ_FAILED: u8 = 4;
+
+/// The output failed.
+pub const WRITE_FAILED: u8 = 5;
+
+/// Memory was wanting.
+pub const NO_MEMORY: u8 = 8;
+
+pub(crate) fn status_of(end: ScriptEnd) -> u8
+    ensures { result ≡ status_of end }
+{
+    match end {
+        ScriptEnd::Done => DONE,
+        ScriptEnd::Refused => REFUSED,
+        ScriptEnd::ReadFailed => READ_FAILED,
+        ScriptEnd::WriteFailed => WRITE_FAILED,
+        ScriptEnd::Memory => NO_MEMORY,
+    }
+}
