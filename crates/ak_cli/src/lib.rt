@@ -5,5 +5,8 @@ mod lab;
 mod programs;
 mod statuses;
 
+#[cfg(test)]
+mod tests;
+
 pub use programs::run;
 pub use statuses::{DONE, NO_MEMORY, READ_FAILED, REFUSED, USAGE, WRITE_FAILED};
