@@ -2,8 +2,7 @@
 use Rattle.std.specs.Prelude.{◌≡◌, ℕ, suc, ℤ, ◌-◌, ◌<◌, ◌≤◌, Bool, true, false, T, cond, if◌then◌else◌, ◌&&◌, ◌==◌, int_lt, List, [], ◌∷◌, ◌++◌, map, filter, length, take, drop, get_or, min}
 use Rattle.std.proofs.Common.{refl, sym, ap, subst, ◌∙◌, arith, length-append, append_assoc}
 use Rattle.std.proofs.lemmas.Bool.{ne_eqb}
-use Rattle.std.proofs.lemmas.List.{append-nil, length-take, take-append-drop, take_all}
-use Rattle.std.proofs.Math.Seq.{take-nil}
+use Rattle.std.proofs.lemmas.List.{length-take, take-append-drop, take_all}
 use Rattle.std.specs.BTreeMap.Range.{entries_between}
 use Rattle.std.specs.Cmp.{ranked, unsigned_Decides, int_cmp_total, tied_itself}
 use Rattle.std.specs.FinMap.{entries, entries_sorted, from_entries, is_sorted}
@@ -31,17 +30,7 @@ first_run table (entry ∷ es) = if table_place entry.0.table == table_place tab
 abbrev pub picked : Table → ℤ → List (Name × Row) → List Row
 picked table past es = map (λ (entry : Name × Row). entry.1) (filter (λ (entry : Name × Row). is_past table past entry.0) es)
 
--- ---- a page as it is filled: it is full, its table ends, or it goes on
-pub page_full : (limit : ℕ) (page run all : List Row) → page ++ take (limit - length page) run ≡ all → length page ≡ limit → page ≡ all
-page_full limit page run all is full =
-    let none : 0 ≡ limit - length page = omega (arith, full) in
-    sym (append-nil page) ∙ ap (λ n. page ++ take n run) none ∙ is
-
-pub page_ends : (table : Table) (limit : ℕ) (page all : List Row) (entry : Name × Row) (es : List (Name × Row)) → page ++ take (limit - length page) (first_run table (entry ∷ es)) ≡ all → (table_place entry.0.table == table_place table) ≡ false → page ≡ all
-page_ends table limit page all entry es is other =
-    sym (append-nil page) ∙ ap (λ ys. page ++ ys) (sym (take-nil (limit - length page)))
-    ∙ ap (λ b. page ++ take (limit - length page) (cond b (entry.1 ∷ first_run table es) [])) (sym other) ∙ is
-
+-- a page that has room takes the next row of the table
 pub page_goes_on : (table : Table) (limit : ℕ) (page all : List Row) (entry : Name × Row) (es : List (Name × Row)) → page ++ take (limit - length page) (first_run table (entry ∷ es)) ≡ all → (table_place entry.0.table == table_place table) ≡ true → length page < limit
     → (page ++ entry.1 ∷ []) ++ take (limit - length (page ++ entry.1 ∷ [])) (first_run table es) ≡ all
 page_goes_on table limit page all entry es is same room =
