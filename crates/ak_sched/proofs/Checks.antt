@@ -35,6 +35,9 @@ columns_in_range c h =
         due_high = code_high _ _ _ _ kept.1.1.0;
     }
 
+at_least_one : (z : ℤ) → pos 1 ≤ℤ z → pos 0 ≤ℤ z
+at_least_one z h = omega (arith, ints)
+
 pub options_in_range : (o : Options) → IsOk (first_fault (options_faults o)) → AreOptions o
 unfolding general_faults new_faults rev_faults lapse_faults
 options_in_range o h =
@@ -54,6 +57,7 @@ options_in_range o h =
         ease4 = natural_le _ _ (code_high _ _ _ _ reviews.1.0);
         ivl_fct = natural_le _ _ (code_high _ _ _ _ reviews.1.1.0);
         max_ivl = natural_le _ _ (code_high _ _ _ _ reviews.1.1.1.0);
+        max_sign = at_least_one o.max_ivl (code_low _ _ _ _ reviews.1.1.1.0);
         hard_factor = natural_le _ _ (code_high _ _ _ _ reviews.1.1.1.1.0);
         lapse_steps = steps_in_range _ _ lapses.0;
         mult = natural_le _ _ (code_high _ _ _ _ lapses.1.0);

@@ -1,6 +1,8 @@
+pub mod Buttons
 pub mod Checks
 pub mod Days
 pub mod Faults
 pub mod Forgotten
 pub mod Leeches
 pub mod Numbers
+pub mod Unique

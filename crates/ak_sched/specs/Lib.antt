@@ -6,3 +6,4 @@ pub mod Lapses
 pub mod Lessons
 pub mod Answers
 pub mod Ranges
+pub mod Laws

@@ -24,6 +24,7 @@ pub record AreOptions (o : Options) : Type 0 where
   pub ease4 : natural o.ease4 ≤ 100_000
   pub ivl_fct : natural o.ivl_fct ≤ 100_000
   pub max_ivl : natural o.max_ivl ≤ 100_000
+  pub max_sign : pos 0 ≤ℤ o.max_ivl
   pub hard_factor : natural o.hard_factor ≤ 100_000
   pub lapse_steps : AreSteps o.lapse_steps
   pub mult : natural o.mult ≤ 1_000
