@@ -1,5 +1,5 @@
 -- The order of the buttons.
-use Rattle.std.proofs.Common.{◌≡◌, ℕ, ℤ, pos, ◌+◌, ◌<◌, ◌≤◌, ◌<ℤ◌, min, max, ◌⊎◌, inl, inr, IsOk, refl, sym, subst, ap, ◌∙◌, arith}
+use Rattle.std.proofs.Common.{◌≡◌, ℕ, ℤ, pos, ◌+◌, ◌<◌, ◌<ℤ◌, min, max, ◌⊎◌, inl, inr, IsOk, sym, subst, ap, ◌∙◌, arith}
 use Rattle.std.proofs.lemmas.Int.{ints}
 use Rattle.std.proofs.lemmas.Bool.{cases_lt}
 use Rattle.ak_base.specs.Columns.{first_fault}
@@ -8,9 +8,9 @@ use Rattle.ak_base.specs.declared.cards.Card.{Card}
 use Rattle.ak_base.specs.declared.days.Day.{Day}
 use Rattle.ak_base.specs.declared.option_groups.Options.{Options}
 use Rattle.ak_sched.specs.Naturals.{natural}
-use Rattle.ak_sched.specs.Intervals.{IsHard, IsGood, IsEasy, limited, bounded_factor}
-use Rattle.ak_sched.specs.Lessons.{IsReviewed, IsTurn}
-use Rattle.ak_sched.specs.Answers.{button_of, kind_of, card_after, IsStanding, IsAnswer}
+use Rattle.ak_sched.specs.Intervals.{IsHard, IsGood, IsEasy, limited}
+use Rattle.ak_sched.specs.Lessons.{IsTurn}
+use Rattle.ak_sched.specs.Answers.{button_of, kind_of, IsAnswer}
 use Rattle.ak_sched.specs.declared.answers.Answered.{Answered}
 use Rattle.ak_sched.specs.declared.standings.Kind.{Kind}
 use Rattle.ak_sched.specs.declared.standings.Kind.TheVariants.{Review}
@@ -46,31 +46,31 @@ turn_of_review c o button day word taken id new told h review =
     subst P kind h.turn
 
 pub good_above_hard :
-  (c : Card) (o : Options) (day : Day) (word taken : ℕ) (id : ℤ) (new other : Card) (told again : Answered) →
-  IsOk (first_fault (options_faults o)) → c.kind ≡ pos 2 →
-  IsAnswer c o 2 day word taken id new told → IsAnswer c o 3 day word taken id other again →
-  (new.ivl <ℤ other.ivl) ⊎ (other.ivl ≡ o.max_ivl)
+    (c : Card) (o : Options) (day : Day) (word taken : ℕ) (id : ℤ) (new other : Card) (told again : Answered) →
+    IsOk (first_fault (options_faults o)) → c.kind ≡ pos 2 →
+    IsAnswer c o 2 day word taken id new told → IsAnswer c o 3 day word taken id other again →
+    (new.ivl <ℤ other.ivl) ⊎ (other.ivl ≡ o.max_ivl)
 good_above_hard c o day word taken id new other told again good review h k =
     let same = one_standing c o day h.standing k.standing h.stands k.stands in
     let first = turn_of_review c o 2 day word taken id new told h review in
     let second = turn_of_review c o 3 day word taken id other again k review in
     let P : Standing → Type 0 = λ s. IsHard o word s first.days in
     as_columns o first.days second.days new.ivl other.ivl good
-        (ap (λ (x : Card). x.ivl) h.card ∙ ap (λ (x : Outcome). pos x.ivl) first.is)
-        (ap (λ (x : Card). x.ivl) k.card ∙ ap (λ (x : Outcome). pos x.ivl) second.is)
-        (good_over_hard o word k.standing first.days second.days (subst P same first.are) second.are)
+    (ap (λ (x : Card). x.ivl) h.card ∙ ap (λ (x : Outcome). pos x.ivl) first.is)
+    (ap (λ (x : Card). x.ivl) k.card ∙ ap (λ (x : Outcome). pos x.ivl) second.is)
+    (good_over_hard o word k.standing first.days second.days (subst P same first.are) second.are)
 
 pub easy_above_good :
-  (c : Card) (o : Options) (day : Day) (word taken : ℕ) (id : ℤ) (new other : Card) (told again : Answered) →
-  IsOk (first_fault (options_faults o)) → c.kind ≡ pos 2 →
-  IsAnswer c o 3 day word taken id new told → IsAnswer c o 4 day word taken id other again →
-  (new.ivl <ℤ other.ivl) ⊎ (other.ivl ≡ o.max_ivl)
+    (c : Card) (o : Options) (day : Day) (word taken : ℕ) (id : ℤ) (new other : Card) (told again : Answered) →
+    IsOk (first_fault (options_faults o)) → c.kind ≡ pos 2 →
+    IsAnswer c o 3 day word taken id new told → IsAnswer c o 4 day word taken id other again →
+    (new.ivl <ℤ other.ivl) ⊎ (other.ivl ≡ o.max_ivl)
 easy_above_good c o day word taken id new other told again good review h k =
     let same = one_standing c o day h.standing k.standing h.stands k.stands in
     let first = turn_of_review c o 3 day word taken id new told h review in
     let second = turn_of_review c o 4 day word taken id other again k review in
     let P : Standing → Type 0 = λ s. IsGood o word s first.days in
     as_columns o first.days second.days new.ivl other.ivl good
-        (ap (λ (x : Card). x.ivl) h.card ∙ ap (λ (x : Outcome). pos x.ivl) first.is)
-        (ap (λ (x : Card). x.ivl) k.card ∙ ap (λ (x : Outcome). pos x.ivl) second.is)
-        (easy_over_good o word k.standing first.days second.days (subst P same first.are) second.are)
+    (ap (λ (x : Card). x.ivl) h.card ∙ ap (λ (x : Outcome). pos x.ivl) first.is)
+    (ap (λ (x : Card). x.ivl) k.card ∙ ap (λ (x : Outcome). pos x.ivl) second.is)
+    (easy_over_good o word k.standing first.days second.days (subst P same first.are) second.are)

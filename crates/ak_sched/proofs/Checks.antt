@@ -26,13 +26,13 @@ unfolding schedule_faults
 columns_in_range c h =
     let kept = all_free (schedule_faults c) (front_free (schedule_faults c) (mark_faults c) (rest_free (place_faults c) _ h)) in
     record {
-        left = natural_le _ _ (code_high _ _ _ _ kept.1.1.1.1.1.1.1.0);
-        ivl = natural_le _ _ (code_high _ _ _ _ kept.1.1.1.0);
-        factor = natural_le _ _ (code_high _ _ _ _ kept.1.1.1.1.0);
-        factor_sign = code_low _ _ _ _ kept.1.1.1.1.0;
-        lapses = natural_le _ _ (code_high _ _ _ _ kept.1.1.1.1.1.1.0);
-        due_low = code_low _ _ _ _ kept.1.1.0;
-        due_high = code_high _ _ _ _ kept.1.1.0;
+      left = natural_le _ _ (code_high _ _ _ _ kept.1.1.1.1.1.1.1.0);
+      ivl = natural_le _ _ (code_high _ _ _ _ kept.1.1.1.0);
+      factor = natural_le _ _ (code_high _ _ _ _ kept.1.1.1.1.0);
+      factor_sign = code_low _ _ _ _ kept.1.1.1.1.0;
+      lapses = natural_le _ _ (code_high _ _ _ _ kept.1.1.1.1.1.1.0);
+      due_low = code_low _ _ _ _ kept.1.1.0;
+      due_high = code_high _ _ _ _ kept.1.1.0;
     }
 
 at_least_one : (z : ℤ) → pos 1 ≤ℤ z → pos 0 ≤ℤ z
@@ -48,34 +48,52 @@ options_in_range o h =
     let reviews = all_free (rev_faults o) (front_free (rev_faults o) _ last) in
     let lapses = all_free (lapse_faults o) (rest_free (rev_faults o) _ last) in
     record {
-        max_taken = natural_le _ _ (code_high _ _ _ _ general.1.1.1.1.0);
-        new_steps = steps_in_range _ _ new.0;
-        grad_ivl = natural_le _ _ (code_high _ _ _ _ new.1.0);
-        easy_ivl = natural_le _ _ (code_high _ _ _ _ new.1.1.0);
-        initial_low = le_natural _ _ (code_low _ _ _ _ new.1.1.1.0);
-        initial_high = natural_le _ _ (code_high _ _ _ _ new.1.1.1.0);
-        ease4 = natural_le _ _ (code_high _ _ _ _ reviews.1.0);
-        ivl_fct = natural_le _ _ (code_high _ _ _ _ reviews.1.1.0);
-        max_ivl = natural_le _ _ (code_high _ _ _ _ reviews.1.1.1.0);
-        max_sign = at_least_one o.max_ivl (code_low _ _ _ _ reviews.1.1.1.0);
-        hard_factor = natural_le _ _ (code_high _ _ _ _ reviews.1.1.1.1.0);
-        lapse_steps = steps_in_range _ _ lapses.0;
-        mult = natural_le _ _ (code_high _ _ _ _ lapses.1.0);
-        min_int = natural_le _ _ (code_high _ _ _ _ lapses.1.1.0);
+      max_taken = natural_le _ _ (code_high _ _ _ _ general.1.1.1.1.0);
+      new_steps = steps_in_range _ _ new.0;
+      grad_ivl = natural_le _ _ (code_high _ _ _ _ new.1.0);
+      easy_ivl = natural_le _ _ (code_high _ _ _ _ new.1.1.0);
+      initial_low = le_natural _ _ (code_low _ _ _ _ new.1.1.1.0);
+      initial_high = natural_le _ _ (code_high _ _ _ _ new.1.1.1.0);
+      ease4 = natural_le _ _ (code_high _ _ _ _ reviews.1.0);
+      ivl_fct = natural_le _ _ (code_high _ _ _ _ reviews.1.1.0);
+      max_ivl = natural_le _ _ (code_high _ _ _ _ reviews.1.1.1.0);
+      max_sign = at_least_one o.max_ivl (code_low _ _ _ _ reviews.1.1.1.0);
+      hard_factor = natural_le _ _ (code_high _ _ _ _ reviews.1.1.1.1.0);
+      lapse_steps = steps_in_range _ _ lapses.0;
+      mult = natural_le _ _ (code_high _ _ _ _ lapses.1.0);
+      min_int = natural_le _ _ (code_high _ _ _ _ lapses.1.1.0);
     }
 
 -- a row of the review log whose ids are in range passes the check
 pub row_is_good : (r : LogRow) → IsLogged r → id_fault r.id ≡ None → id_fault r.cid ≡ None → IsOk (first_fault (review_faults r))
 row_is_good r h id cid = good_if_free (review_faults r) (
-    id, (cid, (
-        code_free 2 r.usn (negsuc 0) (pos 2_147_483_647) (omega (arith, ints, h.usn)) (omega (arith, ints, h.usn)), (
-        code_free 3 r.ease (pos 0) (pos 4) h.ease_low h.ease_high, (
-        code_free 4 r.ivl (negsuc 999_999_999) (pos 1_000_000) (omega (arith, ints, h.ivl_low)) h.ivl_high, (
-        code_free 5 r.last_ivl (negsuc 999_999_999) (pos 1_000_000) (omega (arith, ints, h.last_low)) h.last_high, (
-        code_free 6 r.factor (pos 0) (pos 100_000) h.factor_low h.factor_high, (
-        code_free 7 r.time (pos 0) (pos 4_294_967_295) h.time_low (omega (arith, ints, h.time_high)), (
-        code_free 8 r.kind (pos 0) (pos 3) h.kind_low h.kind_high, tt
-    )))))))))
+  id,
+  (
+    cid,
+    (
+      code_free 2 r.usn (negsuc 0) (pos 2_147_483_647) (omega (arith, ints, h.usn)) (omega (arith, ints, h.usn)),
+      (
+        code_free 3 r.ease (pos 0) (pos 4) h.ease_low h.ease_high,
+        (
+          code_free 4 r.ivl (negsuc 999_999_999) (pos 1_000_000) (omega (arith, ints, h.ivl_low)) h.ivl_high,
+          (
+            code_free 5 r.last_ivl (negsuc 999_999_999) (pos 1_000_000) (omega (arith, ints, h.last_low)) h.last_high,
+            (
+              code_free 6 r.factor (pos 0) (pos 100_000) h.factor_low h.factor_high,
+              (
+                code_free 7 r.time (pos 0) (pos 4_294_967_295) h.time_low (omega (arith, ints, h.time_high)),
+                (
+                  code_free 8 r.kind (pos 0) (pos 3) h.kind_low h.kind_high,
+                  tt,
+                ),
+              ),
+            ),
+          ),
+        ),
+      ),
+    ),
+  ),
+)
 
 pub kind_low : (k : Kind) → pos 0 ≤ℤ kind_code k
 kind_low Learning = omega (arith, ints)
@@ -116,15 +134,30 @@ card_is_good c day word s out h today made =
     let place = front_free (place_faults c) _ h in
     let marks = rest_free (schedule_faults c) _ (rest_free (place_faults c) _ h) in
     both_free (place_faults new) _ place (both_free (schedule_faults new) (mark_faults new) (good_if_free (schedule_faults new) (
-        code_free 6 (kind_code out.kind) (pos 0) (pos 3) (kind_low out.kind) (kind_high out.kind), (
-        code_free 7 (queue_after day out.suspended out.delay) (negsuc 2) (pos 3) (queue_low day out.suspended out.delay) (queue_high day out.suspended out.delay), (
-        code_free 8 (due_after day word out.ivl out.delay) (negsuc 2_147_483_647) (pos 1_099_511_627_776) (due_low day word out.ivl out.delay today) (due_high day word out.ivl out.delay today made.ivl made.delay), (
-        code_free 9 (pos out.ivl) (pos 0) (pos 1_000_000) (omega (arith, ints)) (omega (arith, ints, made.ivl)), (
-        code_free 10 (pos out.factor) (pos 0) (pos 100_000) (omega (arith, ints)) (omega (arith, ints, made.factor)), (
-        code_free 11 (pos (next_count (natural c.reps))) (pos 0) (pos 2_147_483_647) (omega (arith, ints)) (omega (arith, ints)), (
-        code_free 12 (pos out.lapses) (pos 0) (pos 2_147_483_647) (omega (arith, ints)) (omega (arith, ints, made.lapses)), (
-        code_free 13 (pos out.left) (pos 0) (pos 999_999) (omega (arith, ints)) (omega (arith, ints, made.left)), tt
-    ))))))))) marks)
+      code_free 6 (kind_code out.kind) (pos 0) (pos 3) (kind_low out.kind) (kind_high out.kind),
+      (
+        code_free 7 (queue_after day out.suspended out.delay) (negsuc 2) (pos 3) (queue_low day out.suspended out.delay) (queue_high day out.suspended out.delay),
+        (
+          code_free 8 (due_after day word out.ivl out.delay) (negsuc 2_147_483_647) (pos 1_099_511_627_776) (due_low day word out.ivl out.delay today) (due_high day word out.ivl out.delay today made.ivl made.delay),
+          (
+            code_free 9 (pos out.ivl) (pos 0) (pos 1_000_000) (omega (arith, ints)) (omega (arith, ints, made.ivl)),
+            (
+              code_free 10 (pos out.factor) (pos 0) (pos 100_000) (omega (arith, ints)) (omega (arith, ints, made.factor)),
+              (
+                code_free 11 (pos (next_count (natural c.reps))) (pos 0) (pos 2_147_483_647) (omega (arith, ints)) (omega (arith, ints)),
+                (
+                  code_free 12 (pos out.lapses) (pos 0) (pos 2_147_483_647) (omega (arith, ints)) (omega (arith, ints, made.lapses)),
+                  (
+                    code_free 13 (pos out.left) (pos 0) (pos 999_999) (omega (arith, ints)) (omega (arith, ints, made.left)),
+                    tt,
+                  ),
+                ),
+              ),
+            ),
+          ),
+        ),
+      ),
+    )) marks)
 
 pub card_id_is_good : (c : Card) → IsOk (first_fault (card_faults c)) → id_fault c.id ≡ None
 unfolding place_faults

@@ -76,6 +76,6 @@ steps_in_range column steps e =
     let short : long_fault column (length steps) 50 ≡ None = or_first _ (bad_step column steps) e in
     let good : bad_step column steps ≡ None = or_second (long_fault column (length steps) 50) _ e in
     record {
-        few = long_high column (length steps) 50 short;
-        short = λ i h. step_high column steps i good h;
+      few = long_high column (length steps) 50 short;
+      short = λ i h. step_high column steps i good h;
     }

@@ -1,17 +1,13 @@
 -- There is one answer.
-use Rattle.std.proofs.Common.{◌≡◌, ◌≢◌, ℕ, zero, suc, ℤ, pos, negsuc, ◌+◌, ◌*◌, ◌<◌, ◌≤◌, min, ◌⊎◌, inl, inr, ◌↔◌, Bool, true, false, IsTrue, List, [], ◌∷◌, length, take, Option, Some, None, refl, sym, subst, ap, ◌∙◌, arith}
-use Rattle.std.proofs.lemmas.Int.{ints}
+use Rattle.std.proofs.Common.{◌≡◌, ◌≢◌, ℕ, zero, suc, ℤ, pos, negsuc, ◌<◌, ◌≤◌, min, ◌⊎◌, inl, inr, ◌↔◌, Bool, true, false, IsTrue, List, [], ◌∷◌, refl, sym, subst, ap, ◌∙◌, arith}
 use Rattle.std.proofs.lemmas.Bool.{cases_lt, cases_Bool}
-use Rattle.std.specs.List.{sum}
 use Rattle.ak_base.specs.declared.cards.Card.{Card}
 use Rattle.ak_base.specs.declared.days.Day.{Day}
 use Rattle.ak_base.specs.declared.option_groups.Options.{Options}
-use Rattle.ak_sched.specs.Naturals.{natural, next_count}
-use Rattle.ak_sched.specs.Steps.{delays, delay_at, last_delays, counted, IsStepsToday, IsLeft}
+use Rattle.ak_sched.specs.Steps.{IsStepsToday, IsLeft}
 use Rattle.ak_sched.specs.Intervals.{IsWhole, IsHard, IsGood, IsEasy, limited}
-use Rattle.ak_sched.specs.Lapses.{IsLeech}
-use Rattle.ak_sched.specs.Lessons.{budget, steps_left, forgotten, IsRestart, IsStep, IsLapse, IsReviewed, IsTurn}
-use Rattle.ak_sched.specs.Answers.{button_of, kind_of, card_after, review_after, IsStanding, IsAnswer}
+use Rattle.ak_sched.specs.Lessons.{steps_left, IsRestart, IsStep, IsLapse, IsReviewed, IsTurn}
+use Rattle.ak_sched.specs.Answers.{button_of, card_after, review_after, IsStanding, IsAnswer}
 use Rattle.ak_sched.specs.declared.answers.Answered.{Answered}
 use Rattle.ak_sched.specs.declared.standings.Kind.{Kind}
 use Rattle.ak_sched.specs.declared.standings.Kind.TheVariants.{Learning, Relearning, Review}
@@ -113,11 +109,11 @@ one_lapse o day s a b h k =
     let acts : IsTrue b.suspended ↔ (IsTrue a.leech × (o.leech_action ≡ pos 0)) = rw (leech) k.suspended in
     let suspended = one_bit _ a.suspended b.suspended h.suspended acts in
     elim (cases_Bool a.suspended) [
-        inl e ↦
-            let one = h.when_suspended e in
-            let two = k.when_suspended (sym suspended ∙ e) in
-            cc
-        | inr e ↦ lapse_steps_are o day s a b h k leech e (sym suspended ∙ e) o.lapse_steps refl
+      | inl e ↦
+          let one = h.when_suspended e in
+          let two = k.when_suspended (sym suspended ∙ e) in
+          cc
+      | inr e ↦ lapse_steps_are o day s a b h k leech e (sym suspended ∙ e) o.lapse_steps refl
     ]
 
 -- a step is the last one, or it is not
@@ -126,8 +122,8 @@ one_of_two P n A B h first second = elim (cases_lt 1 n) [ inl l ↦ first (h.0 l
 
 one_good_turn : (ds : List ℕ) (seconds : ℕ) (s : Standing) (last a b : Outcome) → (1 < steps_left s → IsStep ds seconds s a) × (steps_left s ≤ 1 → a ≡ last) → (1 < steps_left s → IsStep ds seconds s b) × (steps_left s ≤ 1 → b ≡ last) → a ≡ b
 one_good_turn ds seconds s last a b h k = elim (cases_lt 1 (steps_left s)) [
-    inl l ↦ one_step ds seconds s a b (h.0 l) (k.0 l)
-    | inr l ↦ h.1 l ∙ sym (k.1 l)
+  | inl l ↦ one_step ds seconds s a b (h.0 l) (k.0 l)
+  | inr l ↦ h.1 l ∙ sym (k.1 l)
 ]
 
 one_turn : (kind : Kind) (button : Button) (o : Options) (day : Day) (word : ℕ) (s : Standing) (a b : Outcome) → IsTurn kind button o day word s a → IsTurn kind button o day word s b → a ≡ b
@@ -168,9 +164,9 @@ same_answered a b review leech =
     e
 
 pub one_answer :
-  (c : Card) (o : Options) (button : ℕ) (day : Day) (word taken : ℕ) (id : ℤ) (new other : Card) (told again : Answered) →
-  IsAnswer c o button day word taken id new told → IsAnswer c o button day word taken id other again →
-  (new ≡ other) × (told ≡ again)
+    (c : Card) (o : Options) (button : ℕ) (day : Day) (word taken : ℕ) (id : ℤ) (new other : Card) (told again : Answered) →
+    IsAnswer c o button day word taken id new told → IsAnswer c o button day word taken id other again →
+    (new ≡ other) × (told ≡ again)
 one_answer c o button day word taken id new other told again h k =
     let standing = one_standing c o day h.standing k.standing h.stands k.stands in
     let P : Standing → Type 0 = λ s. IsTurn s.kind (button_of button) o day word s k.outcome in

@@ -1,5 +1,5 @@
 -- What an answer makes of a card, and its row of the review log.
-use Rattle.std.specs.Prelude.{◌≡◌, ◌≢◌, ℕ, ℤ, pos, negsuc, ◌+◌, ◌-◌, ◌*◌, ◌/◌, ◌%◌, ◌+ℤ◌, ◌-ℤ◌, neg_ℤ, min, max, Bool, ◌&&◌, ◌||◌, ◌⊎◌, if◌then◌else◌, nat_eq, nat_le, nat_lt, length, Option, Some, None}
+use Rattle.std.specs.Prelude.{◌≡◌, ◌≢◌, ℕ, ℤ, pos, negsuc, ◌+◌, ◌-◌, ◌*◌, ◌/◌, ◌%◌, ◌+ℤ◌, ◌-ℤ◌, neg_ℤ, min, max, Bool, ◌&&◌, ◌||◌, if◌then◌else◌, nat_eq, nat_le, nat_lt, length, Option, Some, None}
 use Rattle.std.specs.Ordering.{int_eq}
 use Rattle.ak_base.specs.declared.cards.Card.{Card}
 use Rattle.ak_base.specs.declared.days.Day.{Day}
@@ -131,3 +131,8 @@ pub record IsAnswer (c : Card) (o : Options) (button : ℕ) (day : Day) (word : 
   pub card : new ≡ card_after c day word outcome
   pub review : answered.review ≡ review_after review_id c.id button o taken standing outcome
   pub leech : answered.leech ≡ outcome.leech
+
+-- no other answer is one
+abbrev pub IsOnlyAnswer : Card → Options → ℕ → Day → ℕ → ℕ → ℤ → Card → Answered → Type 0
+IsOnlyAnswer c o button day word taken review_id new answered =
+    (other : Card) (told : Answered) → IsAnswer c o button day word taken review_id other told → (new ≡ other) × (answered ≡ told)

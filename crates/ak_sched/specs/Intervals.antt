@@ -1,5 +1,5 @@
 -- The days to the next review, exact over permille.
-use Rattle.std.specs.Prelude.{◌≡◌, ℕ, ◌+◌, ◌-◌, ◌*◌, ◌/◌, ◌<◌, ◌≤◌, min, max, if◌then◌else◌, nat_lt}
+use Rattle.std.specs.Prelude.{◌≡◌, ℕ, ◌+◌, ◌*◌, ◌/◌, ◌<◌, ◌≤◌, min, max, if◌then◌else◌, nat_lt}
 use Rattle.ak_base.specs.declared.option_groups.Options.{Options}
 use Rattle.ak_sched.specs.Naturals.{natural}
 use Rattle.ak_sched.specs.Fuzzes.{fuzzed}

@@ -1,5 +1,5 @@
 -- What an answer does: a table by the kind of the card and the button.
-use Rattle.std.specs.Prelude.{◌≡◌, ℕ, ℤ, pos, ◌+◌, ◌-◌, ◌*◌, ◌%◌, ◌<◌, ◌≤◌, ◌-ℤ◌, min, Bool, true, false, IsTrue, List, [], length, Option, Some, None, ◌↔◌, ◌≢◌}
+use Rattle.std.specs.Prelude.{◌≡◌, ℕ, ℤ, pos, ◌+◌, ◌-◌, ◌%◌, ◌<◌, ◌≤◌, ◌-ℤ◌, min, Bool, true, false, IsTrue, List, [], length, Option, Some, None, ◌↔◌, ◌≢◌}
 use Rattle.ak_base.specs.declared.option_groups.Options.{Options}
 use Rattle.ak_base.specs.declared.days.Day.{Day}
 use Rattle.ak_sched.specs.Naturals.{natural, next_count}

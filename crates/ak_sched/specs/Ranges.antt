@@ -1,5 +1,5 @@
 -- The ranges of the numbers that an answer reads and makes.
-use Rattle.std.specs.Prelude.{◌≡◌, ℕ, ℤ, pos, negsuc, ◌<◌, ◌≤◌, ◌≤ℤ◌, List, length, get_or, Option, IfSome, ◌⊎◌}
+use Rattle.std.specs.Prelude.{◌≡◌, ℕ, ℤ, pos, negsuc, ◌<◌, ◌≤◌, ◌≤ℤ◌, List, length, get_or, IfSome, ◌⊎◌}
 use Rattle.ak_base.specs.declared.cards.Card.{Card}
 use Rattle.ak_base.specs.declared.reviews.Review.{Review as LogRow}
 use Rattle.ak_base.specs.declared.option_groups.Options.{Options}

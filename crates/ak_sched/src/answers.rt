@@ -8,7 +8,7 @@ ghost use Rattle.ak_sched.specs.Naturals.{natural};
 ghost use Rattle.ak_sched.specs.Steps.{delays, IsLeft};
 ghost use Rattle.ak_sched.specs.Lessons.{budget};
 ghost use Rattle.ak_sched.specs.Ranges.{AreColumns, AreOptions, IsInRange, IsMade, IsLogged};
-ghost use Rattle.ak_sched.specs.Answers.{can_answer, button_of, kind_of, kind_code, log_kind, logged, logged_before, card_after, review_after, IsStanding, IsAnswer};
+ghost use Rattle.ak_sched.specs.Answers.{can_answer, button_of, kind_of, kind_code, log_kind, logged, logged_before, card_after, review_after, IsStanding, IsAnswer, IsOnlyAnswer};
 
 use crate::lessons::{budget, steps_of, turn};
 use crate::naturals::{natural, next_count};
@@ -231,6 +231,7 @@ pub fn answer(
     requires button_high { button ≤ 4 }
     requires day { IsDay day }
     ensures answer { IsAnswer card.old options.now button day f taken review_id card.new result }
+    ensures only { IsOnlyAnswer card.old options.now button day f taken review_id card.new result }
     ensures card { IsOk (first_fault (card_faults card.new)) }
     ensures review { id_fault review_id ≡ None → IsOk (first_fault (review_faults result.review)) }
     ensures factor { (pos 1_300 ≤ℤ card.new.factor) ⊎ (card.new.factor ≡ card.old.factor) }
@@ -241,7 +242,9 @@ pub fn answer(
     let outcome = turn(options, day, f, standing, button_of(button));
     put(card, day, f, standing, outcome);
     Answered {
-        review: log_row(review_id, card.id, button, options, taken, standing, outcome),
+        review: log_row(
+            review_id, card.id, button, options, taken, standing, outcome,
+        ),
         leech: outcome.leech,
     }
 }

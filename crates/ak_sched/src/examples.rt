@@ -40,6 +40,8 @@ fn opening_options(alloc: Global) -> Result<Options, Memory> {
 /// A card as it is asked, the button, the second and the word of chance.
 #[derive(Clone, Copy)]
 struct Example {
+    /// when the collection was made
+    crt: i64,
     kind: i64,
     queue: i64,
     due: i64,
@@ -58,8 +60,10 @@ struct Example {
 }
 
 /// A review card on day 100, which ends at second 1700006400, and what it is then.
-fn review(due: i64, button: u8, ivl: i64, factor: i64) -> Example {
+fn review(due: i64, button: u8, days: u8, factor: i64) -> Example {
+    let ivl = days as i64;
     Example {
+        crt: 1_691_280_000,
         kind: 2,
         queue: 2,
         due,
@@ -100,9 +104,9 @@ fn as_told(example: &Example, card: &Card, answered: &Answered) -> bool {
         && answered.leech == example.leech
 }
 
-fn holds(alloc: Global, example: &Example) -> Result<bool, Memory> {
-    let options = opening_options(alloc)?;
-    let mut card = Card {
+/// The card of an example, in the collection's opening deck.
+fn card_of(alloc: Global, example: &Example) -> Result<Card, Memory> {
+    Ok(Card {
         id: 7,
         nid: 7,
         did: 1,
@@ -121,25 +125,40 @@ fn holds(alloc: Global, example: &Example) -> Result<bool, Memory> {
         odid: 0,
         flags: 0,
         extra: Text::of(alloc, "")?,
-    };
-    let day = Day {
-        now: example.now,
-        number: 100,
-        cutoff: 1_700_006_400,
-    };
-    if !can_answer(&card) {
-        return Ok(false);
+    })
+}
+
+/// Answers the card, and compares what came of it.
+fn answers_as_told(card: &mut Card, options: &Options, example: &Example) -> bool {
+    let button = example.button;
+    let now = example.now;
+    let crt = example.crt;
+    if !can_answer(card) || card.check() != Ok(()) || options.check() != Ok(()) {
+        return false;
     }
+    if button < 1 || button > 4 || now < 0 || now > 4_294_967_294 {
+        return false;
+    }
+    if crt < 0 || crt > 4_294_967_295 {
+        return false;
+    }
+    let day = Day::of(crt, now * 1000);
     let answered = answer(
-        &mut card,
-        &options,
-        example.button,
+        card,
+        options,
+        button,
         day,
         example.word,
         5000,
         1_700_000_000_001,
     );
-    Ok(as_told(example, &card, &answered))
+    as_told(example, card, &answered)
+}
+
+fn holds(alloc: Global, example: &Example) -> Result<bool, Memory> {
+    let options = opening_options(alloc)?;
+    let mut card = card_of(alloc, example)?;
+    Ok(answers_as_told(&mut card, &options, example))
 }
 
 #[test]
@@ -175,7 +194,7 @@ fn the_eighth_lapse_suspends(rt: HostRuntime) -> Result<(), Memory> {
     Ok(())
 }
 
-/// A card on its steps, 6400 seconds before the end of the day.
+/// A card on its steps on day 0, 6400 seconds before it ends.
 fn learned(
     kind: i64,
     queue: i64,
@@ -186,6 +205,7 @@ fn learned(
     log: [i64; 3],
 ) -> Example {
     Example {
+        crt: 1_699_920_000,
         kind,
         queue,
         due: 1_700_000_000,
@@ -204,7 +224,7 @@ fn learned(
 
 #[test]
 fn steps_are_taken(rt: HostRuntime) -> Result<(), Memory> {
-    let new = learned(0, 0, 0, 0, 1, [1, 3, 101, 0, 0, 0, 1002], [-60, -60, 0]);
+    let new = learned(0, 0, 0, 0, 1, [1, 3, 1, 0, 0, 0, 1002], [-60, -60, 0]);
     let examples = [
         Example {
             now: 1_700_006_370,
@@ -225,10 +245,10 @@ fn steps_are_taken(rt: HostRuntime) -> Result<(), Memory> {
             [3, 1, 1_700_000_900, 5, 2500, 0, 1001],
             [-900, -600, 2],
         ),
-        learned(3, 1, 5, 1001, 4, [2, 2, 106, 6, 2500, 0, 0], [6, -600, 2]),
+        learned(3, 1, 5, 1001, 4, [2, 2, 6, 6, 2500, 0, 0], [6, -600, 2]),
         Example {
             factor: 0,
-            ..learned(0, 0, 0, 0, 4, [2, 2, 103, 3, 2500, 0, 0], [3, -60, 0])
+            ..learned(0, 0, 0, 0, 4, [2, 2, 3, 3, 2500, 0, 0], [3, -60, 0])
         },
         Example {
             factor: 0,

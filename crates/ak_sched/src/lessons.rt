@@ -182,7 +182,15 @@ fn lapse(options: &Options, day: Day, standing: Standing) -> Outcome
     let count = count_of(steps);
     let left = left_of(steps, budget(day), count);
     let delay = Some(delay_at(steps, count));
-    forgotten(options, standing, Kind::Relearning, left, leech, false, delay)
+    forgotten(
+        options,
+        standing,
+        Kind::Relearning,
+        left,
+        leech,
+        false,
+        delay,
+    )
 }
 
 /// Again.

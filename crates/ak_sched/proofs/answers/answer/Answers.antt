@@ -3,6 +3,7 @@ use Rattle.ak_base.specs.Columns.{first_fault, id_fault}
 use Rattle.ak_base.specs.Cards.{card_faults}
 use Rattle.ak_base.specs.declared.cards.Card.{Card}
 use Rattle.ak_sched.proofs.Checks.{columns_in_range, options_in_range, row_is_good, card_is_good, card_id_is_good, factor_kept}
+use Rattle.ak_sched.proofs.Unique.{one_answer}
 use Rattle.ak_sched.proofs.answers.answer.Goals as goal
 
 pub standing_of-standing-requires-clause-card : goal.standing_of-standing-requires-clause-card
@@ -17,16 +18,22 @@ turn-outcome-requires-clause-options c = options_in_range _ c.requires.options
 pub log_row-requires-clause-options : goal.log_row-requires-clause-options
 log_row-requires-clause-options c = options_in_range _ c.requires.options
 
-pub returns-clause-answer : goal.returns-clause-answer
-returns-clause-answer c = record {
-    standing = c.standing_of-standing.result;
-    outcome = c.turn-outcome.result;
-    stands = c.standing_of-standing.ensures.value;
-    turn = rw c.button_of.ensures at c.turn-outcome.ensures.value;
-    card = c.put.ensures;
-    review = search rules;
-    leech = search rules;
+answered : goal.returns-clause-answer
+answered c = record {
+  standing = c.standing_of-standing.result;
+  outcome = c.turn-outcome.result;
+  stands = c.standing_of-standing.ensures.value;
+  turn = rw c.button_of.ensures at c.turn-outcome.ensures.value;
+  card = c.put.ensures;
+  review = search rules;
+  leech = search rules;
 }
+
+pub returns-clause-answer : goal.returns-clause-answer
+returns-clause-answer c = answered c
+
+pub returns-clause-only : goal.returns-clause-only
+returns-clause-only c = λ other told h. one_answer _ _ _ _ _ _ _ _ _ _ _ (answered c) h
 
 pub returns-clause-card : goal.returns-clause-card
 returns-clause-card c =

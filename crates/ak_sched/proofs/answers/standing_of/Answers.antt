@@ -3,11 +3,11 @@ use Rattle.ak_sched.proofs.answers.standing_of.Goals as goal
 
 pub returns-clause-value : goal.returns-clause-value
 returns-clause-value c = record {
-    kind = search rules;
-    new = search rules;
-    begun = search rules;
-    ivl = search rules;
-    factor = search rules;
-    lapses = search rules;
-    late = search rules;
+  kind = search rules;
+  new = search rules;
+  begun = search rules;
+  ivl = search rules;
+  factor = search rules;
+  lapses = search rules;
+  late = search rules;
 }

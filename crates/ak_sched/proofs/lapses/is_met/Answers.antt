@@ -5,6 +5,6 @@ use Rattle.ak_sched.proofs.lapses.is_met.Goals as goal
 pub returns-then-lapses-fails : goal.returns-then-lapses-fails
 returns-then-lapses-fails c =
     rw c.max.ensures (
-        leech_by_rest c.args.lapses c.args.fails (omega arith) (omega arith),
-        rest_by_leech c.args.lapses c.args.fails,
+      leech_by_rest c.args.lapses c.args.fails (omega arith) (omega arith),
+      rest_by_leech c.args.lapses c.args.fails,
     )

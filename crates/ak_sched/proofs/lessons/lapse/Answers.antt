@@ -1,7 +1,7 @@
 use Rattle.std.proofs.Common.{arith, rules}
 use Rattle.std.proofs.lemmas.List.{nil_from_length}
 use Rattle.std.proofs.lemmas.Bool.Decides.{nat_tests}
-use Rattle.ak_sched.proofs.Forgotten.{Judged, lapse_suspended, lapse_without_steps, lapse_with_steps}
+use Rattle.ak_sched.proofs.Forgotten.{lapse_suspended, lapse_without_steps, lapse_with_steps}
 use Rattle.ak_sched.proofs.lessons.lapse.Goals as goal
 
 pub returns-then-suspends-clause-value : goal.returns-then-suspends-clause-value

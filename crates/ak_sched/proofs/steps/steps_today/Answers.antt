@@ -1,4 +1,3 @@
-use Rattle.std.proofs.Common.{arith}
 use Rattle.ak_sched.proofs.Days.{today_at}
 use Rattle.ak_sched.proofs.steps.steps_today.Goals as goal
 
