@@ -46,14 +46,14 @@ turn_of_review c o button day word taken id new told h review =
     subst P kind h.turn
 
 pub good_above_hard :
-    (c : Card) (o : Options) (day : Day) (word taken : ℕ) (id : ℤ) (new other : Card) (told again : Answered) →
+    (c : Card) (o : Options) (day : Day) (word taken longer : ℕ) (id next : ℤ) (new other : Card) (told again : Answered) →
     IsOk (first_fault (options_faults o)) → c.kind ≡ pos 2 →
-    IsAnswer c o 2 day word taken id new told → IsAnswer c o 3 day word taken id other again →
+    IsAnswer c o 2 day word taken id new told → IsAnswer c o 3 day word longer next other again →
     (new.ivl <ℤ other.ivl) ⊎ (other.ivl ≡ o.max_ivl)
-good_above_hard c o day word taken id new other told again good review h k =
+good_above_hard c o day word taken longer id next new other told again good review h k =
     let same = one_standing c o day h.standing k.standing h.stands k.stands in
     let first = turn_of_review c o 2 day word taken id new told h review in
-    let second = turn_of_review c o 3 day word taken id other again k review in
+    let second = turn_of_review c o 3 day word longer next other again k review in
     let P : Standing → Type 0 = λ s. IsHard o word s first.days in
     as_columns o first.days second.days new.ivl other.ivl good
     (ap (λ (x : Card). x.ivl) h.card ∙ ap (λ (x : Outcome). pos x.ivl) first.is)
@@ -61,14 +61,14 @@ good_above_hard c o day word taken id new other told again good review h k =
     (good_over_hard o word k.standing first.days second.days (subst P same first.are) second.are)
 
 pub easy_above_good :
-    (c : Card) (o : Options) (day : Day) (word taken : ℕ) (id : ℤ) (new other : Card) (told again : Answered) →
+    (c : Card) (o : Options) (day : Day) (word taken longer : ℕ) (id next : ℤ) (new other : Card) (told again : Answered) →
     IsOk (first_fault (options_faults o)) → c.kind ≡ pos 2 →
-    IsAnswer c o 3 day word taken id new told → IsAnswer c o 4 day word taken id other again →
+    IsAnswer c o 3 day word taken id new told → IsAnswer c o 4 day word longer next other again →
     (new.ivl <ℤ other.ivl) ⊎ (other.ivl ≡ o.max_ivl)
-easy_above_good c o day word taken id new other told again good review h k =
+easy_above_good c o day word taken longer id next new other told again good review h k =
     let same = one_standing c o day h.standing k.standing h.stands k.stands in
     let first = turn_of_review c o 3 day word taken id new told h review in
-    let second = turn_of_review c o 4 day word taken id other again k review in
+    let second = turn_of_review c o 4 day word longer next other again k review in
     let P : Standing → Type 0 = λ s. IsGood o word s first.days in
     as_columns o first.days second.days new.ivl other.ivl good
     (ap (λ (x : Card). x.ivl) h.card ∙ ap (λ (x : Outcome). pos x.ivl) first.is)

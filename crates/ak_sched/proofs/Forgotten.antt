@@ -4,7 +4,7 @@ use Rattle.ak_base.specs.declared.option_groups.Options.{Options}
 use Rattle.ak_base.specs.declared.days.Day.{Day}
 use Rattle.ak_sched.specs.Naturals.{natural, next_count}
 use Rattle.ak_sched.specs.Steps.{delays, delay_at, IsLeft}
-use Rattle.ak_sched.specs.Lapses.{IsLeech}
+use Rattle.ak_sched.specs.Leeches.{IsLeech}
 use Rattle.ak_sched.specs.Lessons.{budget, forgotten, IsLapse}
 use Rattle.ak_sched.specs.declared.standings.Kind.TheVariants.{Relearning, Review}
 use Rattle.ak_sched.specs.declared.standings.Standing.{Standing}

@@ -3,6 +3,6 @@ pub mod Checks
 pub mod Days
 pub mod Faults
 pub mod Forgotten
-pub mod Leeches
+pub mod Multiples
 pub mod Numbers
 pub mod Unique

@@ -18,7 +18,7 @@ HasOneAnswer =
 -- a review card waits longer after the button above, or as long as the options let it
 abbrev pub IsAbove : ℕ → ℕ → Type 0
 IsAbove below above =
-    (c : Card) (o : Options) (day : Day) (word taken : ℕ) (id : ℤ) (new other : Card) (told again : Answered) →
+    (c : Card) (o : Options) (day : Day) (word taken longer : ℕ) (id next : ℤ) (new other : Card) (told again : Answered) →
     IsOk (first_fault (options_faults o)) → c.kind ≡ pos 2 →
-    IsAnswer c o below day word taken id new told → IsAnswer c o above day word taken id other again →
+    IsAnswer c o below day word taken id new told → IsAnswer c o above day word longer next other again →
     (new.ivl <ℤ other.ivl) ⊎ (other.ivl ≡ o.max_ivl)

@@ -6,7 +6,7 @@ use Rattle.ak_sched.specs.Naturals.{natural, next_count}
 use Rattle.ak_sched.specs.Fuzzes.{fuzzed}
 use Rattle.ak_sched.specs.Steps.{delays, delay_at, hard_delay, IsLeft}
 use Rattle.ak_sched.specs.Intervals.{IsHard, IsGood, IsEasy, bounded_factor, lapse_ivl}
-use Rattle.ak_sched.specs.Lapses.{IsLeech}
+use Rattle.ak_sched.specs.Leeches.{IsLeech}
 use Rattle.ak_sched.specs.declared.standings.Kind.{Kind}
 use Rattle.ak_sched.specs.declared.standings.Kind.TheVariants.{Learning, Relearning, Review}
 use Rattle.ak_sched.specs.declared.standings.Button.{Button}

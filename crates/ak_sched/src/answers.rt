@@ -40,6 +40,7 @@ pub fn can_answer(card: &Card) -> bool
     )
 }
 
+/// The buttons are numbered from 1.
 fn button_of(button: u8) -> Button
     ensures { result ≡ button_of button }
 {
@@ -51,6 +52,7 @@ fn button_of(button: u8) -> Button
     }
 }
 
+/// What a card of a stored kind is, once it was shown: 0 and 1 are learned.
 fn kind_of(kind: i64) -> Kind
     ensures { result ≡ kind_of kind }
 {
@@ -61,6 +63,7 @@ fn kind_of(kind: i64) -> Kind
     }
 }
 
+/// The column `type`.
 fn kind_code(kind: Kind) -> i64
     ensures { result ≡ kind_code kind }
 {

@@ -7,7 +7,7 @@ ghost use Rattle.ak_sched.specs.Intervals.{bounded_factor};
 
 use crate::fuzzes::fuzzed;
 use crate::intervals::{bounded_factor, easy, good, hard, lapse_ivl};
-use crate::lapses::is_met;
+use crate::leeches::is_met;
 use crate::naturals::{natural, next_count};
 use crate::standings::{Button, Kind, Outcome, Standing};
 use crate::steps::{count_of, delay_at, hard_delay, left_of};

@@ -6,8 +6,8 @@ mod answers;
 mod examples;
 mod fuzzes;
 mod intervals;
-mod lapses;
 mod laws;
+mod leeches;
 mod lessons;
 mod naturals;
 mod places;
@@ -16,5 +16,5 @@ mod steps;
 
 pub use answers::{Answered, answer, can_answer};
 pub use fuzzes::fuzz_range;
-pub use lapses::is_leech;
 pub use laws::{one_answer, order_of_buttons};
+pub use leeches::is_leech;

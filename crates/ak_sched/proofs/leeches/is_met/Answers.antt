@@ -1,6 +1,6 @@
 use Rattle.std.proofs.Common.{arith}
-use Rattle.ak_sched.proofs.Leeches.{leech_by_rest, rest_by_leech}
-use Rattle.ak_sched.proofs.lapses.is_met.Goals as goal
+use Rattle.ak_sched.proofs.Multiples.{leech_by_rest, rest_by_leech}
+use Rattle.ak_sched.proofs.leeches.is_met.Goals as goal
 
 pub returns-then-lapses-fails : goal.returns-then-lapses-fails
 returns-then-lapses-fails c =

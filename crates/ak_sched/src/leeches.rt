@@ -1,6 +1,6 @@
 ghost use Rattle.std.specs.Prelude.{IsTrue, ◌↔◌};
 ghost use Rattle.ak_sched.specs.Naturals.{natural};
-ghost use Rattle.ak_sched.specs.Lapses.{IsLeech};
+ghost use Rattle.ak_sched.specs.Leeches.{IsLeech};
 
 use crate::naturals::natural;
 

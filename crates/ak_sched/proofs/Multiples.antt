@@ -4,7 +4,7 @@ use lib.Dec.{eqb}
 use Rattle.std.proofs.lemmas.Bool.Decides.{nat_tests}
 use Rattle.std.proofs.lemmas.Nat.{div-add-mod'}
 use Rattle.std.proofs.Math.Nat.{mul-mod_left}
-use Rattle.ak_sched.specs.Lapses.{IsLeech}
+use Rattle.ak_sched.specs.Leeches.{IsLeech}
 
 pub leech_by_rest : (l f : ℕ) → 0 < f → f ≤ l → IsTrue (eqb ((l - f) % max (f / 2) 1) 0) → IsLeech l f
 leech_by_rest l f some over test =
