@@ -16,13 +16,13 @@ use Rattle.ak_sched.specs.declared.standings.Button.TheVariants.{Again, Hard, Go
 use Rattle.ak_sched.specs.declared.standings.Standing.{Standing}
 use Rattle.ak_sched.specs.declared.standings.Outcome.{Outcome}
 
-fits_or_one : (P : Type 0) (i j s b : ℕ) → 1 ≤ i → (j ≡ 1) ⊎ (s ≤ b) → (i < j → b < s) → j ≤ i
-fits_or_one P i j s b one (inl e) over = omega arith
-fits_or_one P i j s b one (inr fits) over = elim (cases_lt i j) [ inl l ↦ let o : b < s = over l in omega arith | inr l ↦ l ]
+fits_or_one : (i j s b : ℕ) → 1 ≤ i → (j ≡ 1) ⊎ (s ≤ b) → (i < j → b < s) → j ≤ i
+fits_or_one i j s b one (inl e) over = omega arith
+fits_or_one i j s b one (inr fits) over = elim (cases_lt i j) [ inl l ↦ let o : b < s = over l in omega arith | inr l ↦ l ]
 
 -- the most that fit are the most that fit
 not_more : (ds : List ℕ) (seconds left i j : ℕ) → IsStepsToday ds seconds left i → IsStepsToday ds seconds left j → j ≤ i
-not_more ds seconds left i j h k = fits_or_one ℕ i j _ seconds h.one k.fits (λ l. h.most j l k.all)
+not_more ds seconds left i j h k = fits_or_one i j _ seconds h.one k.fits (λ l. h.most j l k.all)
 
 one_today : (ds : List ℕ) (seconds left i j : ℕ) → IsStepsToday ds seconds left i → IsStepsToday ds seconds left j → i ≡ j
 one_today ds seconds left i j h k =
@@ -117,9 +117,6 @@ one_lapse o day s a b h k =
     ]
 
 -- a step is the last one, or it is not
-one_of_two : (P : Type 0) (n : ℕ) (A B : Type 0) → (1 < n → A) × (n ≤ 1 → B) → (A → P) → (B → P) → P
-one_of_two P n A B h first second = elim (cases_lt 1 n) [ inl l ↦ first (h.0 l) | inr l ↦ second (h.1 l) ]
-
 one_good_turn : (ds : List ℕ) (seconds : ℕ) (s : Standing) (last a b : Outcome) → (1 < steps_left s → IsStep ds seconds s a) × (steps_left s ≤ 1 → a ≡ last) → (1 < steps_left s → IsStep ds seconds s b) × (steps_left s ≤ 1 → b ≡ last) → a ≡ b
 one_good_turn ds seconds s last a b h k = elim (cases_lt 1 (steps_left s)) [
   | inl l ↦ one_step ds seconds s a b (h.0 l) (k.0 l)

@@ -222,45 +222,50 @@ fn learned(
     }
 }
 
+/// A new card without a factor, 6400 seconds before the end of day 0.
+fn begun(button: u8, after: [i64; 7], log: [i64; 3]) -> Example {
+    Example {
+        factor: 0,
+        ..learned(0, 0, 0, 0, button, after, log)
+    }
+}
+
 #[test]
-fn steps_are_taken(rt: HostRuntime) -> Result<(), Memory> {
-    let new = learned(0, 0, 0, 0, 1, [1, 3, 1, 0, 0, 0, 1002], [-60, -60, 0]);
+fn new_cards_begin_their_steps(rt: HostRuntime) -> Result<(), Memory> {
+    let again = begun(1, [1, 3, 1, 0, 0, 0, 1002], [-60, -60, 0]);
     let examples = [
         Example {
             now: 1_700_006_370,
-            ..new
+            ..again
         },
         Example {
             now: 1_700_006_339,
             word: 14,
             after: [1, 1, 1_700_006_399, 0, 0, 0, 1002],
-            ..new
+            ..again
         },
-        learned(
-            3,
-            1,
-            5,
-            1001,
-            2,
-            [3, 1, 1_700_000_900, 5, 2500, 0, 1001],
-            [-900, -600, 2],
-        ),
+        begun(3, [1, 1, 1_700_000_600, 0, 0, 0, 1001], [-600, -60, 0]),
+        begun(4, [2, 2, 3, 3, 2500, 0, 0], [3, -60, 0]),
+    ];
+    for example in &examples {
+        let good = holds(rt.alloc(), example)?;
+        assert!(rt; good);
+    }
+    Ok(())
+}
+
+#[test]
+fn steps_lead_to_days_and_back(rt: HostRuntime) -> Result<(), Memory> {
+    let hard = [3, 1, 1_700_000_900, 5, 2500, 0, 1001];
+    let lapse = [3, 1, 1_700_000_600, 1, 2300, 1, 1001];
+    let examples = [
+        learned(3, 1, 5, 1001, 2, hard, [-900, -600, 2]),
         learned(3, 1, 5, 1001, 4, [2, 2, 6, 6, 2500, 0, 0], [6, -600, 2]),
+        learned(1, 1, 0, 1001, 3, [2, 2, 1, 1, 2500, 0, 0], [1, -600, 0]),
         Example {
-            factor: 0,
-            ..learned(0, 0, 0, 0, 4, [2, 2, 3, 3, 2500, 0, 0], [3, -60, 0])
-        },
-        Example {
-            factor: 0,
-            ..learned(
-                0,
-                0,
-                0,
-                0,
-                3,
-                [1, 1, 1_700_000_600, 0, 0, 0, 1001],
-                [-600, -60, 0],
-            )
+            after: lapse,
+            log: [-600, 10, 1],
+            ..review(100, 1, 1, 2300)
         },
     ];
     for example in &examples {
