@@ -36,8 +36,8 @@ new_faults o =
     ∷ []
 
 -- what serves reviews
-unfoldable pub review_faults : Options → List (Option RowFault)
-review_faults o =
+unfoldable pub rev_faults : Options → List (Option RowFault)
+rev_faults o =
     code_fault 11 o.rev_per_day (pos 0) (pos 999_999)
     ∷ code_fault 12 o.ease4 (pos 1) (pos 100_000)
     ∷ code_fault 13 o.ivl_fct (pos 1) (pos 100_000)
@@ -58,4 +58,4 @@ lapse_faults o =
 
 -- the fault of each column, in the order of the fields; a truth value has none
 abbrev pub options_faults : Options → List (Option RowFault)
-options_faults o = general_faults o ++ (new_faults o ++ (review_faults o ++ lapse_faults o))
+options_faults o = general_faults o ++ (new_faults o ++ (rev_faults o ++ lapse_faults o))

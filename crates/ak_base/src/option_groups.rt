@@ -1,6 +1,6 @@
 ghost use Rattle.std.specs.Prelude.{◌≡◌};
 ghost use Rattle.ak_base.specs.Columns.{first_fault};
-ghost use Rattle.ak_base.specs.OptionGroups.{options_faults, general_faults, new_faults, review_faults, lapse_faults, bad_step, steps_fault};
+ghost use Rattle.ak_base.specs.OptionGroups.{options_faults, general_faults, new_faults, rev_faults, lapse_faults, bad_step, steps_fault};
 
 use crate::columns::{LAST_USN, code_fault, first_fault, id_fault, long_fault, stamp_fault};
 use crate::{List, Rest, RowFault, Text};
@@ -102,9 +102,9 @@ impl Options {
     }
 
     /// What serves reviews.
-    #[tactic(auto, unfolding(crate::specs::OptionGroups::review_faults))]
+    #[tactic(auto, unfolding(crate::specs::OptionGroups::rev_faults))]
     fn check_reviews(&self) -> Result<(), RowFault>
-        ensures { result ≡ first_fault (review_faults self.now) }
+        ensures { result ≡ first_fault (rev_faults self.now) }
     {
         first_fault(&[
             code_fault(11, self.rev_per_day, 0, 999_999),

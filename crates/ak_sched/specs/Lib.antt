@@ -1,0 +1,9 @@
+pub mod Naturals
+pub mod Fuzzes
+pub mod Steps
+pub mod Intervals
+pub mod Leeches
+pub mod Lessons
+pub mod Answers
+pub mod Ranges
+pub mod Laws
