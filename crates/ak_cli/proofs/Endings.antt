@@ -4,9 +4,9 @@ use Rattle.ak_io.proofs.Scripts.{part_of_whole}
 use Rattle.ak_io.specs.Scripts.{Run, output_of}
 use Rattle.ak_cli.specs.LabRun.{lab_run}
 use Rattle.ak_cli.specs.Programs.{Prints, status_of}
-use Rattle.ak_cli.specs.Scripts.{RunsTo}
-use Rattle.ak_cli.specs.declared.lab.scripts.ScriptEnd.{ScriptEnd}
-use Rattle.ak_cli.specs.declared.lab.scripts.ScriptEnd.TheVariants as ends
+use Rattle.ak_io.specs.Endings.{RunsTo}
+use Rattle.ak_io.specs.declared.endings.ScriptEnd.{ScriptEnd}
+use Rattle.ak_io.specs.declared.endings.ScriptEnd.TheVariants as ends
 
 prints : (end : ScriptEnd) (run : Run) (old new : Option (List ℕ)) → RunsTo end run old new → Prints (status_of end) run old new
 prints ends.Done run old new (none, written) = record {

@@ -3,7 +3,8 @@ use Rattle.std.proofs.Common.{◌≡◌, ℕ, List, Option, sym, subst}
 use Rattle.ak_io.specs.Scripts.{Step, Goes, AppendsPart, written_lines}
 use Rattle.ak_io.specs.declared.writes.PrintFault.{PrintFault}
 use Rattle.ak_io.specs.declared.writes.PrintFault.TheVariants as prints
-use Rattle.ak_cli.specs.Steps.{IsOfPrint, Stopped, step_text}
+use Rattle.ak_io.specs.Endings.{step_text}
+use Rattle.ak_cli.specs.Steps.{IsOfPrint, Stopped}
 use Rattle.ak_cli.specs.declared.lab.faults.LineFault.{LineFault}
 use Rattle.ak_cli.specs.declared.lab.faults.LineFault.TheVariants as faults
 

@@ -3,7 +3,6 @@ pub mod Devices
 pub mod LabRun
 pub mod Labs
 pub mod Programs
-pub mod Scripts
 pub mod Sides
 pub mod Steps
 pub mod Syncs

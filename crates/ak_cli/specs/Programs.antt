@@ -5,8 +5,8 @@ use Rattle.std.specs.Prelude.{String, string_bytes}
 use Rattle.std.specs.declared.alloc.Global.{Global}
 use Rattle.ak_io.specs.Scripts.{Run, output_of, AppendsPart}
 use Rattle.ak_cli.specs.Commands.{same_text}
-use Rattle.ak_cli.specs.declared.lab.scripts.ScriptEnd.{ScriptEnd}
-use Rattle.ak_cli.specs.declared.lab.scripts.ScriptEnd.TheVariants as ends
+use Rattle.ak_io.specs.declared.endings.ScriptEnd.{ScriptEnd}
+use Rattle.ak_io.specs.declared.endings.ScriptEnd.TheVariants as ends
 use Rattle.ak_cli.specs.declared.statuses.TheConstants.{DONE, REFUSED, READ_FAILED, WRITE_FAILED, NO_MEMORY}
 
 -- the words are the one word `lab`

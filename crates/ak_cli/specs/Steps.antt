@@ -3,6 +3,7 @@ use Rattle.std.specs.Prelude.{◌≡◌, ℕ, ◌≤◌, List, [], Option, Resul
 use Rattle.std.specs.Io.KnownBytes.{Appends, Keeps}
 use Rattle.std.specs.Result.{IsErrOf}
 use Rattle.ak_io.specs.Causes.{Rose}
+use Rattle.ak_io.specs.Endings.{step_text}
 use Rattle.ak_io.specs.Scripts.{Step, Goes, Refused, AppendsPart, written_lines}
 use Rattle.ak_io.specs.declared.writes.PrintFault.{PrintFault}
 use Rattle.ak_io.specs.declared.writes.PrintFault.TheVariants as prints
@@ -25,11 +26,6 @@ abbrev pub RefusesBy : {S : Type 0} → Step S → LineFault → Type 0
 RefusesBy step (faults.Refused text) = step ≡ Refused text
 RefusesBy step faults.Failed = ⊥
 RefusesBy step faults.Memory = ⊤
-
--- the bytes of what a step prints
-abbrev pub step_text : {S : Type 0} → Step S → List ℕ
-step_text (Goes printed next) = written_lines printed
-step_text (Refused text) = []
 
 -- the line went as its step says: its lines are printed, and the state is the next
 abbrev pub Went : {S : Type 0} → Step S → S → Option (List ℕ) → Option (List ℕ) → Type 0

@@ -1,7 +1,7 @@
 -- What a sync of a device with the server comes to.
 use Rattle.std.specs.Prelude.{ℕ, max, ◌==◌, if◌then◌else◌, Option, Some, None}
 use Rattle.ak_base.specs.declared.names.Name.{Name}
-use Rattle.ak_merge.specs.Join.{union}
+use Rattle.ak_keep.specs.Collections.{union}
 use Rattle.ak_merge.specs.Ties.{first_tie}
 use Rattle.ak_cli.specs.Sides.{raised}
 use Rattle.ak_cli.specs.declared.lab.sides.Side.{Side}

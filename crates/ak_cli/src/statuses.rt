@@ -1,7 +1,7 @@
 ghost use Rattle.std.specs.Prelude.{◌≡◌};
 ghost use Rattle.ak_cli.specs.Programs.{status_of};
 
-use crate::lab::scripts::ScriptEnd;
+use ak_io::ScriptEnd;
 
 /// The work is done: the input was read to its end.
 pub const DONE: u8 = 0;

@@ -12,12 +12,13 @@ const FIRST_SYNC: &str = "device A\ndevice B\nreview A 5 3 1\nsync A\nsync B\nsh
 
 const FIRST_SYNC_PRINTED: &str = "sync A: finished\nsync B: finished\n[1700000000000,5,0,3,0,0,0,0,0]\n[1700000000000,5,0,3,0,0,0,0,0]\n[1700000000000,5,0,3,0,0,0,0,0]\n";
 
+#[derive(Drop)]
 struct Ends {
     source: MemorySource,
     sink: MemorySink,
 }
 
-fn ends(alloc: Global, script: &str, failing_reads: &[u64], room: u64) -> Result<Ends, Fail> {
+fn open_ends(alloc: Global, script: &str, failing_reads: &[u64], room: u64) -> Result<Ends, Fail> {
     let bytes = Vec::from_slice(alloc, script.as_bytes())?;
     let fails = Vec::from_slice(alloc, failing_reads)?;
     Ok(Ends {
@@ -35,7 +36,7 @@ fn words(alloc: Global, word: &str) -> Result<Vec<String>, Fail> {
 /// The status of the lab over the script, where it prints this.
 fn lab(rt: &(impl Abort + AllocGlobal), script: &str, printed: &str) -> Result<u8, Fail> {
     let alloc = rt.alloc();
-    let mut ends = ends(alloc, script, &[], ROOM)?;
+    let mut ends = open_ends(alloc, script, &[], ROOM)?;
     let words = words(alloc, "lab")?;
     let status = run(alloc, words.as_slice(), &mut ends.source, &mut ends.sink);
     assert_eq!(rt; ends.sink.bytes(), printed.as_bytes(), "{script}");
@@ -70,7 +71,7 @@ fn unequal_reviews_of_one_id_are_a_tie(rt: HostRuntime) -> Result<(), Fail> {
 }
 
 #[test]
-fn the_lines_of_a_page_go_on_from_page_to_page(rt: HostRuntime) -> Result<(), Fail> {
+fn new_reviews_take_the_next_free_ids(rt: HostRuntime) -> Result<(), Fail> {
     let script = "device A\nreview A 5 3 2\nsync A\nreview A 6 4 1\nshow A reviews\nshow server reviews\n";
     let printed = "sync A: finished\n[1700000000000,5,0,3,0,0,0,0,0]\n[1700000000001,5,0,3,0,0,0,0,0]\n[1700000000002,6,0,4,0,0,0,0,0]\n[1700000000000,5,0,3,0,0,0,0,0]\n[1700000000001,5,0,3,0,0,0,0,0]\n";
     assert_eq!(rt; lab(&rt, script, printed)?, DONE);
@@ -125,17 +126,17 @@ fn a_failing_input_or_output_ends_the_run(rt: HostRuntime) -> Result<(), Fail> {
     let alloc = rt.alloc();
     let words = words(alloc, "lab")?;
 
-    let mut ends_early = ends(alloc, FIRST_SYNC, &[1], ROOM)?;
+    let mut ends_early = open_ends(alloc, FIRST_SYNC, &[1], ROOM)?;
     let status = run(alloc, words.as_slice(), &mut ends_early.source, &mut ends_early.sink);
     assert_eq!(rt; status, READ_FAILED);
     assert_eq!(rt; ends_early.sink.bytes(), FIRST_SYNC_PRINTED.as_bytes());
 
-    let mut has_little_room = ends(alloc, FIRST_SYNC, &[], 20)?;
+    let mut has_little_room = open_ends(alloc, FIRST_SYNC, &[], 20)?;
     let status = run(alloc, words.as_slice(), &mut has_little_room.source, &mut has_little_room.sink);
     assert_eq!(rt; status, WRITE_FAILED);
     assert_eq!(rt; has_little_room.sink.bytes(), b"sync A: finished\nsyn".as_slice());
 
-    let mut has_no_room = ends(alloc, "frobnicate", &[], 0)?;
+    let mut has_no_room = open_ends(alloc, "frobnicate", &[], 0)?;
     let status = run(alloc, words.as_slice(), &mut has_no_room.source, &mut has_no_room.sink);
     assert_eq!(rt; status, WRITE_FAILED);
     Ok(())
@@ -145,12 +146,12 @@ fn a_failing_input_or_output_ends_the_run(rt: HostRuntime) -> Result<(), Fail> {
 fn other_words_are_usage(rt: HostRuntime) -> Result<(), Fail> {
     let alloc = rt.alloc();
     let words = words(alloc, "labs")?;
-    let mut unknown = ends(alloc, FIRST_SYNC, &[], ROOM)?;
+    let mut unknown = open_ends(alloc, FIRST_SYNC, &[], ROOM)?;
     let status = run(alloc, words.as_slice(), &mut unknown.source, &mut unknown.sink);
     assert_eq!(rt; status, USAGE);
     assert_eq!(rt; unknown.sink.bytes(), b"usage\n".as_slice());
 
-    let mut missing = ends(alloc, FIRST_SYNC, &[], ROOM)?;
+    let mut missing = open_ends(alloc, FIRST_SYNC, &[], ROOM)?;
     let status = run(alloc, &[], &mut missing.source, &mut missing.sink);
     assert_eq!(rt; status, USAGE);
     Ok(())

@@ -1,3 +1,4 @@
 pub mod FirstLines
 pub mod Readings
 pub mod Scripts
+pub mod Runs

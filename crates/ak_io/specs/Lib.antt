@@ -4,3 +4,4 @@ pub mod Lines
 pub mod Prints
 pub mod Reads
 pub mod Scripts
+pub mod Endings

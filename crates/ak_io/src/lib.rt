@@ -2,6 +2,7 @@
 // of faults; and the lines of an input, for every program that takes commands line by line.
 #![tactic(auto)]
 
+mod endings;
 mod lines;
 mod memory;
 mod readers;
@@ -12,6 +13,7 @@ mod traits;
 mod windows;
 mod writes;
 
+pub use endings::{ScriptEnd, print_refusal};
 pub use lines::{INPUT_LIMIT, LINE_LIMIT, Taken};
 pub use memory::{MemorySink, MemorySource};
 pub use readers::{LineReader, ReadFault};

@@ -16,9 +16,9 @@ Rows = FinMap name_cmp Row
 abbrev pub StandsUnderNames : Rows → Type 0
 StandsUnderNames rows = AllByRecursion (λ entry. name_of entry.1 ≡ entry.0) (entries rows)
 
--- the rows of a, and those of b under names that a doesn't hold
-abbrev pub filled : Rows → Rows → Rows
-filled a b = from_entries (entries a ++ entries b)
+-- the rows of both, and under a name that both hold the row of the first
+abbrev pub union : Rows → Rows → Rows
+union a b = from_entries (entries a ++ entries b)
 
 -- a name of this table with an id over `past`
 abbrev pub is_past : Table → ℤ → Name → Bool

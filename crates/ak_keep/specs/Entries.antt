@@ -16,7 +16,7 @@ use Rattle.ak_base.specs.Names.{name_cmp, names_total, names_exact}
 use Rattle.ak_base.specs.Rows.{name_of}
 use Rattle.ak_base.specs.declared.names.Name.{Name}
 use Rattle.ak_base.specs.declared.rows.Row.{Row}
-use Rattle.ak_keep.specs.Collections.{Rows, StandsUnderNames, filled}
+use Rattle.ak_keep.specs.Collections.{Rows, StandsUnderNames, union}
 
 pub both_first : (a b : Bool) → T (a && b) → T a
 both_first true b h = tt
@@ -59,16 +59,16 @@ find-append_or q (e ∷ es) fs =
     ap (cond (eq_by_cmp name_cmp q e.0) (Some e.1)) (find-append_or q es fs)
     ∙ elim (eq_by_cmp name_cmp q e.0) as (λ b. cond b (Some e.1) (option_or (find name_cmp q es) (find name_cmp q fs)) ≡ option_or (cond b (Some e.1) (find name_cmp q es)) (find name_cmp q fs)) [ true ↦ refl | false ↦ refl ]
 
--- what one collection filled from another has under a name
-pub get-filled : (a b : Rows) (q : Name) → get (filled a b) q ≡ option_or (get a q) (get b q)
-get-filled a b q =
+-- what a union has under a name
+pub get-union : (a b : Rows) (q : Name) → get (union a b) q ≡ option_or (get a q) (get b q)
+get-union a b q =
     get-from_entries names_total (entries a ++ entries b) q ∙ find-append_or q (entries a) (entries b)
     ∙ sym (ap (λ o. option_or o (get b q)) (get-entries a q) ∙ ap (option_or (find name_cmp q (entries a))) (get-entries b q))
 
-pub filled_by : (es fs made : List (Name × Row)) → IsFilled es fs made → from_entries {R = name_cmp} made ≡ filled (from_entries es) (from_entries fs)
+pub filled_by : (es fs made : List (Name × Row)) → IsFilled es fs made → from_entries {R = name_cmp} made ≡ union (from_entries es) (from_entries fs)
 filled_by es fs made h = same_map names_total names_exact _ _ (λ q.
     get-row_at made q ∙ h q
-    ∙ sym (get-filled (from_entries es) (from_entries fs) q ∙ ap (λ o. option_or o (get (from_entries {R = name_cmp} fs) q)) (get-row_at es q) ∙ ap (option_or (row_at es q)) (get-row_at fs q)))
+    ∙ sym (get-union (from_entries es) (from_entries fs) q ∙ ap (λ o. option_or o (get (from_entries {R = name_cmp} fs) q)) (get-row_at es q) ∙ ap (option_or (row_at es q)) (get-row_at fs q)))
 
 -- entries that fill nothing are the same map
 pub filled_from_none : (es made : List (Name × Row)) → IsFilled [] es made → from_entries {R = name_cmp} made ≡ from_entries es
@@ -106,8 +106,8 @@ named-append : (es fs : List (Name × Row)) → AllByRecursion IsNamed es → Al
 named-append [] fs g h = h
 named-append (e ∷ es) fs g h = (g.0, named-append es fs g.1 h)
 
-pub named-filled : (a b : Rows) → StandsUnderNames a → StandsUnderNames b → StandsUnderNames (filled a b)
-named-filled a b g h = named-from_entries (entries a ++ entries b) (named-append (entries a) (entries b) g h)
+pub named-union : (a b : Rows) → StandsUnderNames a → StandsUnderNames b → StandsUnderNames (union a b)
+named-union a b g h = named-from_entries (entries a ++ entries b) (named-append (entries a) (entries b) g h)
 
 none_some : (row : Row) → None ≡ Some row → ⊥
 none_some row is = subst (λ (o : Option Row). T (not (is_some o))) is tt

@@ -1,7 +1,7 @@
 ghost use Rattle.std.specs.Prelude.{◌≡◌, ◌<◌, ◌≤◌, ◌++◌, length, take, IfOk, IfSome, OnOk, OnErr};
 ghost use Rattle.std.specs.FinMap as map;
 ghost use Rattle.ak_base.specs.Rows.{name_of};
-ghost use Rattle.ak_keep.specs.Collections.{AscendsPast, filled, rows_past, last_id};
+ghost use Rattle.ak_keep.specs.Collections.{AscendsPast, union, rows_past, last_id};
 
 use crate::entries::{copy_rows, fill_rows, page_of};
 use ak_base::{List, Memory, Name, Row, Table};
@@ -97,7 +97,7 @@ impl MemoryKeeper {
 
     /// Puts in the rows of `from` under names that are not held.
     pub fn fill(&mut self, from: &MemoryKeeper) -> Result<(), Memory>
-        ensures ok { OnOk result (self.new ≡ filled self.old from.now) }
+        ensures ok { OnOk result (self.new ≡ union self.old from.now) }
         ensures err { OnErr result (self.new ≡ self.old) }
     {
         let joined = self.filled(from)?;
@@ -107,7 +107,7 @@ impl MemoryKeeper {
 
     // The rows of both, and under a name that both hold the row of `self`.
     fn filled(&self, from: &MemoryKeeper) -> Result<MemoryKeeper, Memory>
-        ensures { IfOk result (λ made. made ≡ filled self.now from.now) }
+        ensures { IfOk result (λ made. made ≡ union self.now from.now) }
     {
         let mut rows = copy_rows(self.alloc, &self.rows)?;
         fill_rows(&mut rows, &from.rows)?;

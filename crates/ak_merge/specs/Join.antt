@@ -7,13 +7,9 @@ use Rattle.std.specs.Option.{option_or}
 use Rattle.ak_base.specs.declared.names.Name.{Name}
 use Rattle.ak_base.specs.declared.rows.Row.{Row}
 use Rattle.ak_base.specs.declared.rows.Row.TheVariants as rows
-use Rattle.ak_keep.specs.Collections.{Rows}
-use Rattle.ak_keep.specs.Entries.{get-filled}
+use Rattle.ak_keep.specs.Collections.{Rows, union}
+use Rattle.ak_keep.specs.Entries.{get-union}
 use Rattle.ak_merge.specs.Ties.{same_but_usn, AreApart}
-
--- the rows of both, and under a name that both hold the row of the first
-abbrev pub union : Rows → Rows → Rows
-union a b = from_entries (entries a ++ entries b)
 
 -- j holds a name exactly where a or b does, with the row that it has there, update sequence numbers aside
 pub record IsJoin (a b j : Rows) : Type 0 where
@@ -31,10 +27,6 @@ same_held (Some x) (Some y) = same_but_usn x y
 -- the two hold the same names, with the same rows, update sequence numbers aside
 abbrev pub AreSame : Rows → Rows → Type 0
 AreSame a b = (name : Name) → IsTrue (same_held (get a name) (get b name))
-
--- what a union has under a name
-pub get-union : (a b : Rows) (name : Name) → get (union a b) name ≡ option_or (get a name) (get b name)
-get-union a b name = get-filled a b name
 
 pub same-itself : (x : Row) → IsTrue (same_but_usn x x)
 same-itself (rows.Review a) =

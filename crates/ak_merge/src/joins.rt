@@ -1,5 +1,6 @@
 ghost use Rattle.std.specs.Prelude.{◌≡◌, OnOk, OnErr};
-ghost use Rattle.ak_merge.specs.Join.{union, IsJoin};
+ghost use Rattle.ak_keep.specs.Collections.{union};
+ghost use Rattle.ak_merge.specs.Join.{IsJoin};
 ghost use Rattle.ak_merge.specs.Ties.{AreApart};
 
 use ak_base::Memory;

@@ -1,5 +1,5 @@
-ghost use Rattle.ak_keep.specs.Collections.{Rows};
-ghost use Rattle.ak_merge.specs.Join.{union, IsJoin, AreSame};
+ghost use Rattle.ak_keep.specs.Collections.{Rows, union};
+ghost use Rattle.ak_merge.specs.Join.{IsJoin, AreSame};
 ghost use Rattle.ak_merge.specs.Ties.{AreApart};
 
 /// Where two collections are apart, their union is their join.

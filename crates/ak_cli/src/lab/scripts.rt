@@ -1,30 +1,16 @@
-ghost use Rattle.std.specs.Prelude.{◌≡◌, ◌≢◌, ◌≤◌, ◌<◌, true, false, IfSome, IfOk, IfErr, string_bytes};
+ghost use Rattle.std.specs.Prelude.{◌≡◌, ◌≤◌, ◌<◌, true, false, IfSome, IfOk, IfErr};
 ghost use Rattle.std.specs.Io.KnownBytes.{IsAtEnd};
-ghost use Rattle.ak_io.specs.Causes.{Rose};
-ghost use Rattle.ak_io.specs.Scripts.{refusal_line};
+ghost use Rattle.ak_io.specs.Endings.{RunsTo, EndCause, LineEndCause, AfterLine};
+ghost use Rattle.ak_io.specs.declared.endings.ScriptEnd.TheVariants as ends;
 ghost use Rattle.ak_io.specs.declared.lines.TheConstants.{INPUT_LIMIT};
 ghost use Rattle.ak_cli.specs.LabRun.{lab_run, run_left};
 ghost use Rattle.ak_cli.specs.Labs.{state_of};
-ghost use Rattle.ak_cli.specs.Scripts.{RunsTo, EndCause, LineEndCause, AfterLine, refused_run};
-ghost use Rattle.ak_cli.specs.declared.lab.scripts.ScriptEnd.TheVariants as ends;
 
 use crate::lab::faults::LineFault;
 use crate::lab::laboratories::Lab;
-use ak_base::{Memory, Text};
-use ak_io::{LineReader, PrintFault, ReadFault, Sink, Source, print_line};
+use ak_base::Memory;
+use ak_io::{LineReader, ReadFault, ScriptEnd, Sink, Source, print_refusal};
 use std::alloc::Global;
-
-/// How a script ends.
-#[derive(Clone, Copy, Debug, PartialEq, Eq)]
-pub(crate) enum ScriptEnd {
-    /// The input was read to its end.
-    Done,
-    /// A line was refused, and its text printed.
-    Refused,
-    ReadFailed,
-    WriteFailed,
-    Memory,
-}
 
 /// Runs the lines of a lab script one by one, until the input ends or a line is refused.
 pub(crate) fn run_script<I: Source, O: Sink>(alloc: Global, input: &mut I, out: &mut O) -> ScriptEnd
@@ -69,34 +55,8 @@ fn run_line<I: Source, O: Sink>(
     };
     match lab.act(line, out) {
         Ok(()) => Ok(true),
-        Err(LineFault::Refused(text)) => Err(refuse(alloc, reader.number(), &text, out)),
+        Err(LineFault::Refused(text)) => Err(print_refusal(alloc, reader.number(), &text, out)),
         Err(LineFault::Failed) => Err(ScriptEnd::WriteFailed),
         Err(LineFault::Memory) => Err(ScriptEnd::Memory),
     }
-}
-
-/// Prints the text of the refused line.
-fn refuse<O: Sink>(alloc: Global, number: u64, text: &Text, out: &mut O) -> ScriptEnd
-    ensures printed { RunsTo result (refused_run number text.now) (O.written out.old) (O.written out.new) }
-    ensures later { O.fault_count out.old ≤ O.fault_count out.new }
-    ensures cause { result ≡ ends.WriteFailed → Rose (O.fault_count out.old) (O.fault_count out.new) }
-    ensures not_read { result ≢ ends.ReadFailed }
-    ensures not_done { result ≢ ends.Done }
-{
-    let line = match refusal_line(alloc, number, text.as_str()) {
-        Ok(line) => line,
-        Err(Memory) => return ScriptEnd::Memory,
-    };
-    match print_line(alloc, out, line.as_bytes()) {
-        Ok(()) => ScriptEnd::Refused,
-        Err(PrintFault::Failed) => ScriptEnd::WriteFailed,
-        Err(PrintFault::Memory) => ScriptEnd::Memory,
-    }
-}
-
-fn refusal_line(alloc: Global, number: u64, text: &str) -> Result<String, Memory>
-    ensures { IfOk result (λ line. string_bytes line ≡ refusal_line (number, text.now)) }
-{
-    let line = format!(in alloc; "line {number}: {text}")?;
-    Ok(line)
 }

@@ -1,8 +1,7 @@
 use Rattle.std.proofs.Common.{◌≡◌, ◌+◌, ◌∙◌, subst}
 use Rattle.ak_io.proofs.Readings.{counted}
-use Rattle.ak_cli.proofs.Runs.{stopped_run, refused_line}
+use Rattle.ak_io.proofs.Runs.{stopped_run, refused_line}
 use Rattle.ak_cli.specs.Labs.{lab_step}
-use Rattle.ak_cli.specs.Scripts.{RunsTo, refused_run}
 use Rattle.ak_cli.proofs.lab.scripts.run_line.Goals as goal
 
 pub returns-in-Err-Refused-clause-ends : goal.returns-in-Err-Refused-clause-ends
@@ -12,7 +11,7 @@ returns-in-Err-Refused-clause-ends g c =
     let stopped = rw c.in-Err-Refused.field-0-is at c.in-Err-Refused.ensures.err in
     refused_line lab_step _ _ _ c.in-Ok-Some.line _ _ c.in-Err-Refused.text _ _ _
     (rw c.in-Ok-Some.field-0-is at c.in-Ok-Some.ensures.told) stopped.0 stopped.1
-    (rw line at c.refuse.ensures.printed)
+    (rw line at c.print_refusal.ensures.printed)
 
 pub returns-in-Err-Failed-act-clause-ends : goal.returns-in-Err-Failed-act-clause-ends
 returns-in-Err-Failed-act-clause-ends g c =

@@ -1,7 +1,8 @@
 use Rattle.std.proofs.Common.{◌≡◌, ◌≤◌, Ok, ap, arith}
+use Rattle.ak_io.proofs.Runs.{continues, finishes}
+use Rattle.ak_io.specs.declared.endings.ScriptEnd.TheVariants as ends
 use Rattle.ak_io.specs.declared.lines.TheConstants.{INPUT_LIMIT}
-use Rattle.ak_cli.proofs.Runs.{begins_run, continues, finishes}
-use Rattle.ak_cli.specs.declared.lab.scripts.ScriptEnd.TheVariants as ends
+use Rattle.ak_cli.proofs.Runs.{begins_run, of_script}
 use Rattle.ak_cli.proofs.lab.scripts.run_script.Goals as goal
 
 pub lines-init : goal.lines-init
@@ -22,7 +23,8 @@ lines-preserved g c = record {
 
 pub returns-in-Ok-false-clause-told : goal.returns-in-Ok-false-clause-told
 returns-in-Ok-false-clause-told g c =
-    finishes ends.Done _ _ _ _ (g.O.Sink.written c.run_line.new.out) c.lines.invariant.so_far (rw c.in-Ok-false.field-0-test at c.in-Ok-false.ensures.goes)
+    of_script ends.Done _ _ _ (finishes ends.Done _ _ _ _ (g.O.Sink.written c.run_line.new.out) c.lines.invariant.so_far (rw c.in-Ok-false.field-0-test at c.in-Ok-false.ensures.goes))
 
 pub returns-in-Err-run_line-clause-told : goal.returns-in-Err-run_line-clause-told
-returns-in-Err-run_line-clause-told g c = finishes _ _ _ _ _ _ c.lines.invariant.so_far c.in-Err-run_line.ensures.ends
+returns-in-Err-run_line-clause-told g c =
+    of_script _ _ _ _ (finishes _ _ _ _ _ _ c.lines.invariant.so_far c.in-Err-run_line.ensures.ends)

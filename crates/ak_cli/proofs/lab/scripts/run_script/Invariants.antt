@@ -1,9 +1,9 @@
 use Rattle.std.proofs.Common.{◌≤◌}
 use Rattle.std.specs.Option.{option_map}
+use Rattle.ak_io.specs.Endings.{SoFar}
 use Rattle.ak_io.specs.declared.lines.TheConstants.{INPUT_LIMIT}
 use Rattle.ak_cli.specs.LabRun.{lab_run, run_left}
 use Rattle.ak_cli.specs.Labs.{state_of}
-use Rattle.ak_cli.specs.Scripts.{SoFar}
 use Rattle.ak_cli.proofs.lab.scripts.run_script.Given as goal
 
 -- the lines so far are printed, and the rest of the run is still to come

@@ -1,10 +1,15 @@
 -- How the run of a script ends, and what is written of it by then.
-use Rattle.std.specs.Prelude.{◌≡◌, ◌≢◌, ℕ, ◌≤◌, Bool, true, false, List, [], Option, Some, None, Result, Ok, Err, IsSome, IfSome, ⊤}
+use Rattle.std.specs.Prelude.{◌≡◌, ◌≢◌, ℕ, ◌≤◌, Bool, true, false, List, [], Option, Some, None, Result, Err, IsSome, IfSome, ⊤}
 use Rattle.std.specs.Io.KnownBytes.{Appends}
 use Rattle.ak_io.specs.Causes.{Rose}
-use Rattle.ak_io.specs.Scripts.{Run, output_of, AppendsPart, Reached}
-use Rattle.ak_cli.specs.declared.lab.scripts.ScriptEnd.{ScriptEnd}
-use Rattle.ak_cli.specs.declared.lab.scripts.ScriptEnd.TheVariants as ends
+use Rattle.ak_io.specs.Scripts.{Step, Goes, Refused, Run, output_of, written_lines, AppendsPart, Reached}
+use Rattle.ak_io.specs.declared.endings.ScriptEnd.{ScriptEnd}
+use Rattle.ak_io.specs.declared.endings.ScriptEnd.TheVariants as ends
+
+-- the bytes of what a step prints
+abbrev pub step_text : {S : Type 0} → Step S → List ℕ
+step_text (Goes printed next) = written_lines printed
+step_text (Refused text) = []
 
 -- where the script ends or a line is refused, all that the run prints is written; else a part of it
 abbrev pub RunsTo : ScriptEnd → Run → Option (List ℕ) → Option (List ℕ) → Type 0

@@ -1,0 +1,48 @@
+ghost use Rattle.std.specs.Prelude.{◌≡◌, ◌≢◌, ◌≤◌, IfOk, string_bytes};
+ghost use Rattle.ak_io.specs.Causes.{Rose};
+ghost use Rattle.ak_io.specs.Endings.{RunsTo, refused_run};
+ghost use Rattle.ak_io.specs.Scripts.{refusal_line};
+ghost use Rattle.ak_io.specs.declared.endings.ScriptEnd.TheVariants as ends;
+
+use crate::traits::Sink;
+use crate::writes::{PrintFault, print_line};
+use ak_base::{Memory, Text};
+use std::alloc::Global;
+
+/// How a script ends.
+#[derive(Clone, Copy, Debug, PartialEq, Eq)]
+pub enum ScriptEnd {
+    /// The input was read to its end.
+    Done,
+    /// A line was refused, and its text printed.
+    Refused,
+    ReadFailed,
+    WriteFailed,
+    Memory,
+}
+
+/// Prints the text of a refused line, behind the line's number: the last line of a run that is refused.
+pub fn print_refusal<O: Sink>(alloc: Global, number: u64, text: &Text, out: &mut O) -> ScriptEnd
+    ensures printed { RunsTo result (refused_run number text.now) (O.written out.old) (O.written out.new) }
+    ensures later { O.fault_count out.old ≤ O.fault_count out.new }
+    ensures cause { result ≡ ends.WriteFailed → Rose (O.fault_count out.old) (O.fault_count out.new) }
+    ensures not_read { result ≢ ends.ReadFailed }
+    ensures not_done { result ≢ ends.Done }
+{
+    let line = match refusal_line(alloc, number, text.as_str()) {
+        Ok(line) => line,
+        Err(Memory) => return ScriptEnd::Memory,
+    };
+    match print_line(alloc, out, line.as_bytes()) {
+        Ok(()) => ScriptEnd::Refused,
+        Err(PrintFault::Failed) => ScriptEnd::WriteFailed,
+        Err(PrintFault::Memory) => ScriptEnd::Memory,
+    }
+}
+
+fn refusal_line(alloc: Global, number: u64, text: &str) -> Result<String, Memory>
+    ensures { IfOk result (λ line. string_bytes line ≡ refusal_line (number, text.now)) }
+{
+    let line = format!(in alloc; "line {number}: {text}")?;
+    Ok(line)
+}
