@@ -1,5 +1,5 @@
 -- The status of a script's end says what was written.
-use Rattle.std.proofs.Common.{◌≡◌, ℕ, List, Option, Some, None, IfSome, IsSome, inl, inr, refl, sym, subst, arith}
+use Rattle.std.proofs.Common.{ℕ, List, Option, Some, None, IfSome, IsSome, inl, inr, refl, subst, arith}
 use Rattle.ak_io.proofs.Scripts.{part_of_whole}
 use Rattle.ak_io.specs.Scripts.{Run, output_of}
 use Rattle.ak_cli.specs.LabRun.{lab_run}

@@ -1,5 +1,5 @@
 -- Looking for free ids, one id after another.
-use Rattle.std.proofs.Common.{◌≡◌, ℕ, zero, suc, ◌+◌, ◌-◌, ◌<◌, ◌≤◌, ◌==◌, Bool, true, false, List, [], ◌∷◌, ◌++◌, Option, Some, None, refl, sym, ap, subst, ◌∙◌, append_assoc, append-nil, length, length-append, cond, arith}
+use Rattle.std.proofs.Common.{◌≡◌, ℕ, zero, suc, ◌+◌, ◌-◌, ◌<◌, ◌≤◌, true, false, List, [], ◌∷◌, ◌++◌, Option, Some, None, refl, sym, ap, subst, append_assoc, append-nil, length, length-append, cond, arith}
 use Rattle.std.specs.Option.{option_map}
 use Rattle.ak_keep.specs.Collections.{Rows}
 use Rattle.ak_cli.specs.Sides.{is_free, only_free, free_ids, AllBelow}
@@ -17,15 +17,15 @@ one_more : (ids : List ℕ) (left id wanted : ℕ) (held : Rows) →
 unfolding free_ids
 one_more ids left id wanted held =
     elim (is_free held id) as (λ free.
-      option_map (λ more. (ids ++ cond free (id ∷ []) []) ++ more) (free_ids left (id + 1) (suc wanted - length (cond free (id ∷ []) [])) held)
-      ≡ option_map (λ more. ids ++ more) (cond free (option_map (λ ids. id ∷ ids) (free_ids left (id + 1) wanted held)) (free_ids left (id + 1) (suc wanted) held))) [
+    option_map (λ more. (ids ++ cond free (id ∷ []) []) ++ more) (free_ids left (id + 1) (suc wanted - length (cond free (id ∷ []) [])) held)
+    ≡ option_map (λ more. ids ++ more) (cond free (option_map (λ ids. id ∷ ids) (free_ids left (id + 1) wanted held)) (free_ids left (id + 1) (suc wanted) held))) [
       | true ↦ let e : suc wanted - 1 ≡ wanted = omega arith in rw e (joined (free_ids left (id + 1) wanted held))
       | false ↦ let e : suc wanted - 0 ≡ suc wanted = omega arith in rw (e, append-nil) refl
     ]
   where
-  joined : (more : Option (List ℕ)) → option_map (λ more. (ids ++ id ∷ []) ++ more) more ≡ option_map (λ more. ids ++ more) (option_map (λ ids. id ∷ ids) more)
-  joined None = refl
-  joined (Some rest) = ap Some (append_assoc ids (id ∷ []) rest)
+    joined : (more : Option (List ℕ)) → option_map (λ more. (ids ++ id ∷ []) ++ more) more ≡ option_map (λ more. ids ++ more) (option_map (λ ids. id ∷ ids) more)
+    joined None = refl
+    joined (Some rest) = ap Some (append_assoc ids (id ∷ []) rest)
 
 -- the step of a walk from id to id
 pub goes_on : (end id count more : ℕ) (ids new : List ℕ) (held : Rows) → id < end → count - length ids ≡ suc more → new ≡ ids ++ only_free held id →
@@ -58,9 +58,9 @@ found_few end id count ids held over few =
     let left : end - id ≡ 0 = omega arith in
     rw left (none_left (count - length ids) (omega arith))
   where
-  none_left : (wanted : ℕ) → 0 < wanted → option_map (λ more. ids ++ more) (free_ids 0 id wanted held) ≡ None
-  none_left zero h = absurd (omega arith)
-  none_left (suc wanted) h = refl
+    none_left : (wanted : ℕ) → 0 < wanted → option_map (λ more. ids ++ more) (free_ids 0 id wanted held) ≡ None
+    none_left zero h = absurd (omega arith)
+    none_left (suc wanted) h = refl
 
 below_free_all : (end : ℕ) (ids : List ℕ) (id : ℕ) (held : Rows) → AllBelow end ids → id < end → AllBelow end (ids ++ only_free held id)
 below_free_all end [] id held h lt = elim (is_free held id) as (λ free. AllBelow end (cond free (id ∷ []) [])) [ true ↦ (lt, tt) | false ↦ tt ]

@@ -1,9 +1,9 @@
 -- Rows printed one after another, and page after page.
-use Rattle.std.proofs.Common.{◌≡◌, ℕ, suc, ◌+◌, ◌<◌, List, [], ◌∷◌, ◌++◌, map, length, drop, get_or, Option, Result, sym, ap, ◌∙◌, subst, append_assoc, drop-cons, add-one, refl, OnErr, Ok, Err}
+use Rattle.std.proofs.Common.{◌≡◌, ℕ, ◌+◌, ◌<◌, List, [], ◌∷◌, ◌++◌, map, length, drop, get_or, Option, Result, ap, ◌∙◌, subst, drop-cons, add-one, refl, OnErr, Ok, Err}
 use Rattle.std.proofs.lemmas.List.{map-append}
 use Rattle.std.specs.Io.KnownBytes.{Appends}
 use Rattle.ak_base.specs.declared.rows.Row.{Row}
-use Rattle.ak_io.proofs.Scripts.{goes_on, stops, written_lines_append, written_line}
+use Rattle.ak_io.proofs.Scripts.{goes_on, stops, written_lines_append}
 use Rattle.ak_io.specs.Scripts.{Reached, AppendsPart, written_lines}
 use Rattle.ak_cli.specs.Tables.{row_text}
 

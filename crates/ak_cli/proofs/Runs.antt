@@ -4,7 +4,7 @@ use Rattle.std.specs.Option.{option_map}
 use Rattle.ak_io.proofs.Scripts.{begins}
 use Rattle.ak_io.specs.Endings.{RunsTo, SoFar}
 use Rattle.ak_io.specs.Lines.{Reading}
-use Rattle.ak_io.specs.Scripts.{Run, output_of}
+use Rattle.ak_io.specs.Scripts.{output_of}
 use Rattle.ak_io.specs.declared.endings.ScriptEnd.{ScriptEnd}
 use Rattle.ak_io.specs.declared.lines.TheConstants.{INPUT_LIMIT}
 use Rattle.ak_cli.specs.LabRun.{opening_lab, lab_run, run_left}
@@ -15,9 +15,9 @@ pub begins_run : (script : Option (List ℕ)) (lab : LabState) (reading : Readin
     → SoFar (option_map lab_run script) (run_left lab reading script) w w
 begins_run script lab reading w opens starts = rw (opens, starts) (whole script)
   where
-  whole : (script : Option (List ℕ)) → SoFar (option_map lab_run script) (run_left opening_lab (record { ahead = []; room = INPUT_LIMIT; number = 0 }) script) w w
-  whole None = tt
-  whole (Some script) = (begins w (output_of (lab_run script)), refl)
+    whole : (script : Option (List ℕ)) → SoFar (option_map lab_run script) (run_left opening_lab (record { ahead = []; room = INPUT_LIMIT; number = 0 }) script) w w
+    whole None = tt
+    whole (Some script) = (begins w (output_of (lab_run script)), refl)
 
 -- what is said of the script's run, where the script is told
 pub of_script : (end : ScriptEnd) (script old new : Option (List ℕ)) → IfSome (option_map lab_run script) (λ run. RunsTo end run old new)

@@ -1,5 +1,5 @@
 -- The lines of a lab script by their form.
-use Rattle.std.specs.Prelude.{ℕ, Bool, false, true, not, ◌&&◌, ◌||◌, ◌==◌, ◌<◌, ◌≤◌, ⊤, nat_lt, if◌then◌else◌, List, [], ◌∷◌, Option, Some, None, codes}
+use Rattle.std.specs.Prelude.{ℕ, Bool, ◌&&◌, ◌==◌, ◌<◌, ◌≤◌, ⊤, if◌then◌else◌, List, [], ◌∷◌, Option, Some, None, codes}
 use Rattle.std.specs.Cmp.Lexicographic.{pointwise}
 use Rattle.std.specs.List.{slice_split}
 use Rattle.std.specs.Option.{option_and_then, option_map}
@@ -38,7 +38,7 @@ review_command word [] card ease count = None
 review_command word (byte ∷ bytes) card ease count =
     if same_text word (codes "review")
     then option_and_then (λ card. option_and_then (λ ease. option_map (λ count. Review (byte ∷ bytes) card ease count)
-        (counted 100_000 count)) (counted 4 ease)) (counted 9_007_199_254_740_991 card)
+    (counted 100_000 count)) (counted 4 ease)) (counted 9_007_199_254_740_991 card)
     else None
 
 -- the line's form, if it has one

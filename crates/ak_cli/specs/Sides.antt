@@ -1,5 +1,5 @@
 -- What an edit does to one side of a sync: new reviews under the least free ids, and a later moment.
-use Rattle.std.specs.Prelude.{◌≡◌, ℕ, zero, suc, ◌+◌, ◌-◌, ◌<◌, ◌==◌, max, nat_le, pos, negsuc, Bool, is_none, if◌then◌else◌, List, [], ◌∷◌, Option, Some, None}
+use Rattle.std.specs.Prelude.{ℕ, zero, suc, ◌+◌, ◌-◌, ◌<◌, max, nat_le, pos, negsuc, Bool, is_none, if◌then◌else◌, List, [], ◌∷◌, Option, Some, None}
 use Rattle.std.specs.FinMap.{get, insert}
 use Rattle.std.specs.List.{AllByRecursion}
 use Rattle.std.specs.Option.{option_map, option_and_then}
@@ -38,8 +38,16 @@ AllBelow end ids = AllByRecursion (λ id. id < end) ids
 -- a review that was not sent yet, with zeros where nothing else is said
 abbrev pub new_review : ℕ → ℕ → ℕ → Row
 new_review id card ease = rows.Review (record {
-    id = pos id; cid = pos card; usn = negsuc 0; ease = pos ease; ivl = pos 0; last_ivl = pos 0; factor = pos 0; time = pos 0; kind = pos 0
-  })
+  id = pos id;
+  cid = pos card;
+  usn = negsuc 0;
+  ease = pos ease;
+  ivl = pos 0;
+  last_ivl = pos 0;
+  factor = pos 0;
+  time = pos 0;
+  kind = pos 0;
+})
 
 -- the rows with a new review under each of the ids
 abbrev pub with_reviews : List ℕ → ℕ → ℕ → Rows → Rows
@@ -54,4 +62,4 @@ raised at moment = if nat_le LAST_MOMENT moment then None else Some (max at (mom
 abbrev pub reviewed : ℕ → ℕ → ℕ → ℕ → Side → Option Side
 reviewed at card ease count side =
     option_and_then (λ ids. option_map (λ moment. record { reviews = with_reviews ids card ease side.reviews; moment = moment })
-        (raised at side.moment)) (free_ids (IDS_END - at) at count side.reviews)
+    (raised at side.moment)) (free_ids (IDS_END - at) at count side.reviews)

@@ -1,5 +1,5 @@
 -- The rows of a table as the lab shows them.
-use Rattle.std.specs.Prelude.{ℕ, pos, map, List, [], ◌∷◌, ◌++◌, codes}
+use Rattle.std.specs.Prelude.{ℕ, pos, map, List, ◌++◌, codes}
 use Rattle.std.specs.Fmt.{signed_decimal}
 use Rattle.ak_base.specs.declared.names.Table.TheVariants as tables
 use Rattle.ak_base.specs.declared.reviews.Review.{Review}

@@ -4,7 +4,6 @@
 mod lab;
 mod programs;
 mod statuses;
-
 #[cfg(test)]
 mod tests;
 

@@ -6,7 +6,7 @@ ghost use Rattle.ak_cli.specs.LabRun.{lab_run};
 ghost use Rattle.ak_cli.specs.Programs.{is_lab, usage_line, Prints};
 
 use crate::lab::scripts::run_script;
-use crate::statuses::{DONE, READ_FAILED, REFUSED, USAGE, WRITE_FAILED, NO_MEMORY, status_of};
+use crate::statuses::{DONE, NO_MEMORY, READ_FAILED, REFUSED, USAGE, WRITE_FAILED, status_of};
 use ak_io::{Failed, Sink, Source, write_all};
 use std::alloc::Global;
 

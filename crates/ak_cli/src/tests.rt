@@ -8,9 +8,11 @@ use std::test::Fail;
 
 const ROOM: u64 = 4096;
 
-const FIRST_SYNC: &str = "device A\ndevice B\nreview A 5 3 1\nsync A\nsync B\nshow A reviews\nshow B reviews\nshow server reviews\n";
+const FIRST_SYNC: &str =
+    "device A\ndevice B\nreview A 5 3 1\nsync A\nsync B\nshow A reviews\nshow B reviews\nshow server reviews\n";
 
-const FIRST_SYNC_PRINTED: &str = "sync A: finished\nsync B: finished\n[1700000000000,5,0,3,0,0,0,0,0]\n[1700000000000,5,0,3,0,0,0,0,0]\n[1700000000000,5,0,3,0,0,0,0,0]\n";
+const FIRST_SYNC_PRINTED: &str =
+    "sync A: finished\nsync B: finished\n[1700000000000,5,0,3,0,0,0,0,0]\n[1700000000000,5,0,3,0,0,0,0,0]\n[1700000000000,5,0,3,0,0,0,0,0]\n";
 
 #[derive(Drop)]
 struct Ends {
@@ -58,7 +60,10 @@ fn one_review_reaches_the_server_and_the_other_device(rt: HostRuntime) -> Result
 #[test]
 fn a_second_sync_has_no_changes(rt: HostRuntime) -> Result<(), Fail> {
     let script = "device A\nreview A 5 3 1\nsync A\nsync A";
-    assert_eq!(rt; lab(&rt, script, "sync A: finished\nsync A: no changes\n")?, DONE);
+    assert_eq!(rt;
+        lab(&rt, script, "sync A: finished\nsync A: no changes\n")?,
+        DONE
+    );
     Ok(())
 }
 
@@ -72,8 +77,10 @@ fn unequal_reviews_of_one_id_are_a_tie(rt: HostRuntime) -> Result<(), Fail> {
 
 #[test]
 fn new_reviews_take_the_next_free_ids(rt: HostRuntime) -> Result<(), Fail> {
-    let script = "device A\nreview A 5 3 2\nsync A\nreview A 6 4 1\nshow A reviews\nshow server reviews\n";
-    let printed = "sync A: finished\n[1700000000000,5,0,3,0,0,0,0,0]\n[1700000000001,5,0,3,0,0,0,0,0]\n[1700000000002,6,0,4,0,0,0,0,0]\n[1700000000000,5,0,3,0,0,0,0,0]\n[1700000000001,5,0,3,0,0,0,0,0]\n";
+    let script =
+        "device A\nreview A 5 3 2\nsync A\nreview A 6 4 1\nshow A reviews\nshow server reviews\n";
+    let printed =
+        "sync A: finished\n[1700000000000,5,0,3,0,0,0,0,0]\n[1700000000001,5,0,3,0,0,0,0,0]\n[1700000000002,6,0,4,0,0,0,0,0]\n[1700000000000,5,0,3,0,0,0,0,0]\n[1700000000001,5,0,3,0,0,0,0,0]\n";
     assert_eq!(rt; lab(&rt, script, printed)?, DONE);
     Ok(())
 }
@@ -127,17 +134,35 @@ fn a_failing_input_or_output_ends_the_run(rt: HostRuntime) -> Result<(), Fail> {
     let words = words(alloc, "lab")?;
 
     let mut ends_early = open_ends(alloc, FIRST_SYNC, &[1], ROOM)?;
-    let status = run(alloc, words.as_slice(), &mut ends_early.source, &mut ends_early.sink);
+    let status = run(
+        alloc,
+        words.as_slice(),
+        &mut ends_early.source,
+        &mut ends_early.sink,
+    );
     assert_eq!(rt; status, READ_FAILED);
     assert_eq!(rt; ends_early.sink.bytes(), FIRST_SYNC_PRINTED.as_bytes());
 
     let mut has_little_room = open_ends(alloc, FIRST_SYNC, &[], 20)?;
-    let status = run(alloc, words.as_slice(), &mut has_little_room.source, &mut has_little_room.sink);
+    let status = run(
+        alloc,
+        words.as_slice(),
+        &mut has_little_room.source,
+        &mut has_little_room.sink,
+    );
     assert_eq!(rt; status, WRITE_FAILED);
-    assert_eq!(rt; has_little_room.sink.bytes(), b"sync A: finished\nsyn".as_slice());
+    assert_eq!(rt;
+        has_little_room.sink.bytes(),
+        b"sync A: finished\nsyn".as_slice()
+    );
 
     let mut has_no_room = open_ends(alloc, "frobnicate", &[], 0)?;
-    let status = run(alloc, words.as_slice(), &mut has_no_room.source, &mut has_no_room.sink);
+    let status = run(
+        alloc,
+        words.as_slice(),
+        &mut has_no_room.source,
+        &mut has_no_room.sink,
+    );
     assert_eq!(rt; status, WRITE_FAILED);
     Ok(())
 }
@@ -147,7 +172,12 @@ fn other_words_are_usage(rt: HostRuntime) -> Result<(), Fail> {
     let alloc = rt.alloc();
     let words = words(alloc, "labs")?;
     let mut unknown = open_ends(alloc, FIRST_SYNC, &[], ROOM)?;
-    let status = run(alloc, words.as_slice(), &mut unknown.source, &mut unknown.sink);
+    let status = run(
+        alloc,
+        words.as_slice(),
+        &mut unknown.source,
+        &mut unknown.sink,
+    );
     assert_eq!(rt; status, USAGE);
     assert_eq!(rt; unknown.sink.bytes(), b"usage\n".as_slice());
 

@@ -75,8 +75,8 @@ refused_first : {S : Type 0} (step : S → Taken → Step S) (number : ℕ) (sta
     → step state line ≡ Refused text → run_of step number state (line ∷ lines) ≡ refused_run number text
 refused_first {S} step number state line lines text refused =
     ap (λ (outcome : Step S). by_step outcome
-      (λ printed next. printed_before printed (run_of step (number + 1) next lines))
-      (λ text. record { printed = []; refusal = Some (number, text) })) refused
+    (λ printed next. printed_before printed (run_of step (number + 1) next lines))
+    (λ text. record { printed = []; refusal = Some (number, text) })) refused
 
 pub refused_line : {S : Type 0} (step : S → Taken → Step S) (end : ScriptEnd) (number : ℕ) (state : S) (line : Taken) (old new : Option (List Taken)) (text : List ℕ) (w0 w1 w2 : Option (List ℕ))
     → Takes old new (Some line) → step state line ≡ Refused text → Keeps w0 w1 → RunsTo end (refused_run number text) w1 w2

@@ -1,8 +1,8 @@
 -- The join of two collections of reviews.
-use Rattle.std.specs.Prelude.{◌≡◌, Bool, true, false, ◌||◌, ◌&&◌, ◌++◌, IsTrue, IfSome, Option, Some, None, is_some, ℤ}
+use Rattle.std.specs.Prelude.{◌≡◌, Bool, true, false, ◌||◌, ◌&&◌, IsTrue, IfSome, Option, Some, None, is_some, ℤ}
 use Rattle.std.proofs.Common.{refl, sym, ap, subst, ◌∙◌}
 use Rattle.std.specs.Cmp.{int_eq_equiv}
-use Rattle.std.specs.FinMap.{get, entries, from_entries}
+use Rattle.std.specs.FinMap.{get}
 use Rattle.std.specs.Option.{option_or}
 use Rattle.ak_base.specs.declared.names.Name.{Name}
 use Rattle.ak_base.specs.declared.rows.Row.{Row}

@@ -61,7 +61,12 @@ fn pair_command(alloc: Global, word: &str, name: &str) -> Result<Option<Command>
     Ok(None)
 }
 
-fn show_command(alloc: Global, word: &str, side: &str, table: &str) -> Result<Option<Command>, Memory>
+fn show_command(
+    alloc: Global,
+    word: &str,
+    side: &str,
+    table: &str,
+) -> Result<Option<Command>, Memory>
     ensures form { IfOk result (λ command. command ≡ show_command word.now side.now table.now) }
     ensures range { IfOk result (λ command. IfSome command IsInRange) }
 {
@@ -110,5 +115,10 @@ fn review_command(
         return Ok(None);
     };
     let device = Text::of(alloc, device)?;
-    Ok(Some(Command::Review { device, card, ease, count }))
+    Ok(Some(Command::Review {
+        device,
+        card,
+        ease,
+        count,
+    }))
 }

@@ -91,7 +91,17 @@ fn row_text(alloc: Global, row: &Row) -> Result<String, Memory>
 fn review_text(alloc: Global, review: &Review) -> Result<String, Memory>
     ensures { IfOk result (λ text. string_bytes text ≡ review_text review.now) }
 {
-    let Review { id, cid, ease, ivl, last_ivl, factor, time, kind, .. } = review;
+    let Review {
+        id,
+        cid,
+        ease,
+        ivl,
+        last_ivl,
+        factor,
+        time,
+        kind,
+        ..
+    } = review;
     let text = format!(in alloc; "[{id},{cid},0,{ease},{ivl},{last_ivl},{factor},{time},{kind}]")?;
     Ok(text)
 }

@@ -1,7 +1,6 @@
-use Rattle.std.proofs.Common.{◌≡◌, ◌≤◌, Ok, ap, arith}
+use Rattle.std.proofs.Common.{Ok, ap, arith}
 use Rattle.ak_io.proofs.Runs.{continues, finishes}
 use Rattle.ak_io.specs.declared.endings.ScriptEnd.TheVariants as ends
-use Rattle.ak_io.specs.declared.lines.TheConstants.{INPUT_LIMIT}
 use Rattle.ak_cli.proofs.Runs.{begins_run, of_script}
 use Rattle.ak_cli.proofs.lab.scripts.run_script.Goals as goal
 

@@ -1,4 +1,4 @@
-use Rattle.std.proofs.Common.{◌≡◌, ◌-◌, ◌≤◌, ◌++◌, ◌∙◌, sym, length, vec_len, subst, arith}
+use Rattle.std.proofs.Common.{◌-◌, ◌∙◌, sym, length, arith}
 use Rattle.ak_cli.specs.declared.lab.sides.TheConstants.{IDS_END}
 use Rattle.ak_cli.proofs.FreeIds.{goes_on, found_all, found_few, few_more, below_free}
 use Rattle.ak_cli.proofs.lab.sides.free_ids.Goals as goal
@@ -10,7 +10,7 @@ returns-then-len-count-clause-ids c =
 pub loop-id-preserved : goal.loop-id-preserved
 loop-id-preserved c = record {
   found = goes_on IDS_END c.loop-id.id c.args.count (c.args.count - length c.loop-id.ids.items - 1) c.loop-id.ids.items _ c.args.held.now (omega arith) (omega arith) c.in_ok-push_free.ensures
-    ∙ c.loop-id.invariant.found;
+      ∙ c.loop-id.invariant.found;
   few = few_more c.args.count c.loop-id.ids.items _ c.loop-id.id c.args.held.now (omega arith) c.in_ok-push_free.ensures;
   below = below_free IDS_END c.loop-id.ids.items _ c.loop-id.id c.args.held.now c.loop-id.invariant.below (omega arith) c.in_ok-push_free.ensures;
 }

@@ -1,6 +1,4 @@
-use Rattle.std.proofs.Common.{◌≡◌, ◌++◌, ◌∙◌, ap, arith}
-use Rattle.ak_base.specs.declared.names.Table.TheVariants as tables
-use Rattle.ak_keep.specs.Collections.{rows_past, last_id}
+use Rattle.std.proofs.Common.{arith}
 use Rattle.ak_cli.proofs.Printing.{on_err, page_printed, page_stopped}
 use Rattle.ak_cli.proofs.lab.tables.print_reviews.Goals as goal
 
@@ -11,6 +9,6 @@ returns-in_err-print_rows-clause-part g c =
 pub pages-preserved : goal.pages-preserved
 pages-preserved g c = record {
   so_far = rw (c.last_name-past.ensures, c.as_slice-rows.ensures)
-    (page_printed _ _ _ _ _ _ _ c.in_ok-page.ensures.rest c.pages.invariant.so_far (rw c.as_slice-rows.ensures at c.in_ok-print_rows.ensures.ok));
+      (page_printed _ _ _ _ _ _ _ c.in_ok-page.ensures.rest c.pages.invariant.so_far (rw c.as_slice-rows.ensures at c.in_ok-print_rows.ensures.ok));
   later = omega (arith, c.in_ok-print_rows.ensures.cause.later, c.pages.invariant.later);
 }

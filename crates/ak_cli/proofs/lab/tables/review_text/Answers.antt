@@ -1,4 +1,4 @@
-use Rattle.std.proofs.Common.{◌≡◌, ◌∙◌, append_assoc}
+use Rattle.std.proofs.Common.{◌∙◌, append_assoc}
 use Rattle.ak_cli.proofs.lab.tables.review_text.Goals as goal
 
 pub returns : goal.returns
