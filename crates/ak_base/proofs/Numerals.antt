@@ -46,5 +46,5 @@ not_parsed {E} most text error small given decimal =
     let large : OkIff {T = ℕ} (Err error) ((0 < length text) × (digits_value 10 text < 2 ^ 64)) (digits_value 10 text) = parse_digits own {E = E} 64 text (Err error) given digits.0 in
     rw decimal (over most _ (above most _ small (λ fits. large (digits.1, fits))))
   where
-  above : (most value : ℕ) → most < 2 ^ 64 → (value < 2 ^ 64 → ⊥) → most < value
-  above most value small not_small = omega arith
+    above : (most value : ℕ) → most < 2 ^ 64 → (value < 2 ^ 64 → ⊥) → most < value
+    above most value small not_small = omega arith

@@ -4,5 +4,8 @@ pub mod Decimals
 pub mod Reviews
 pub mod Cards
 pub mod OptionGroups
+pub mod Notes
+pub mod Decks
+pub mod Graves
 pub mod Days
 pub mod Rows
