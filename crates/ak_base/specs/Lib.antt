@@ -5,7 +5,10 @@ pub mod Reviews
 pub mod Cards
 pub mod OptionGroups
 pub mod Notes
+pub mod NoteTypes
 pub mod Decks
 pub mod Graves
+pub mod Heads
+pub mod Keys
 pub mod Days
 pub mod Rows

@@ -1,11 +1,11 @@
-ghost use Rattle.std.specs.Prelude.{◌≡◌};
+ghost use Rattle.std.specs.Prelude.{◌≡◌, IfOk};
 ghost use Rattle.ak_base.specs.Columns.{first_fault};
 ghost use Rattle.ak_base.specs.Cards.{card_faults, place_faults, schedule_faults, mark_faults};
 
 use crate::columns::{
     LAST_USN, code_fault, first_fault, id_fault, id_or_zero_fault, long_fault, stamp_fault,
 };
-use crate::{RowFault, Text};
+use crate::{Memory, RowFault, Text};
 
 /// A card, as schema 11's `cards` keeps it: what one template makes of a note, and when it is due.
 #[derive(Debug, PartialEq, Drop)]
@@ -98,5 +98,30 @@ impl Card {
         self.check_place()?;
         self.check_schedule()?;
         self.check_marks()
+    }
+    /// An equal card of its own.
+    pub fn copy(&self) -> Result<Card, Memory>
+        ensures { IfOk result (λ made. made ≡ self.now) }
+    {
+        Ok(Card {
+            id: self.id,
+            nid: self.nid,
+            did: self.did,
+            ord: self.ord,
+            stamp: self.stamp,
+            usn: self.usn,
+            kind: self.kind,
+            queue: self.queue,
+            due: self.due,
+            ivl: self.ivl,
+            factor: self.factor,
+            reps: self.reps,
+            lapses: self.lapses,
+            left: self.left,
+            odue: self.odue,
+            odid: self.odid,
+            flags: self.flags,
+            extra: self.extra.copy()?,
+        })
     }
 }
