@@ -125,3 +125,35 @@ impl Card {
         })
     }
 }
+
+#[cfg(test)]
+mod tests {
+    use super::*;
+
+    #[test]
+    fn a_card_is_copied(rt: HostRuntime) -> Result<(), Memory> {
+        let card = Card {
+            id: 1_500_000_000_000,
+            nid: 1_500_000_000_000,
+            did: 1,
+            ord: 0,
+            stamp: 1_600_000_000,
+            usn: -1,
+            kind: 2,
+            queue: 2,
+            due: -9,
+            ivl: 100,
+            factor: 2500,
+            reps: 4,
+            lapses: 0,
+            left: 0,
+            odue: 0,
+            odid: 0,
+            flags: 0,
+            extra: Text::of(rt.alloc(), "")?,
+        };
+        assert!(rt; card.check() == Ok(()));
+        assert!(rt; card.copy()? == card);
+        Ok(())
+    }
+}

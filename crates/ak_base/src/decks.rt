@@ -96,3 +96,46 @@ impl Deck {
         })
     }
 }
+
+#[cfg(test)]
+mod tests {
+    use super::*;
+    use std::alloc::Global;
+
+    /// The deck that a collection opens with, with another count of reviews.
+    fn deck(alloc: Global, rev_today: Count) -> Result<Deck, Memory> {
+        Ok(Deck {
+            id: 1,
+            stamp: 0,
+            usn: -1,
+            name: Text::of(alloc, "Default")?,
+            options: 1,
+            filtered: false,
+            new_today: Count { day: 0, count: 0 },
+            rev_today,
+            rest: Rest::empty(alloc)?,
+        })
+    }
+
+    #[test]
+    fn counts_are_in_range(rt: HostRuntime) -> Result<(), Memory> {
+        // the day, the number, and the value that is refused
+        let cases = [
+            (-10_000_000, 2_147_483_647, None),
+            (-10_000_001, 0, Some(-10_000_001)),
+            (100_000_001, -1, Some(100_000_001)),
+            (0, -1, Some(-1)),
+            (0, 2_147_483_648, Some(2_147_483_648)),
+        ];
+        for (day, count, refused) in cases {
+            let made = deck(rt.alloc(), Count { day, count })?;
+            let wanted = match refused {
+                None => Ok(()),
+                Some(value) => Err(RowFault::BadCode { column: 7, value }),
+            };
+            assert!(rt; made.check() == wanted);
+            assert!(rt; made.copy()? == made);
+        }
+        Ok(())
+    }
+}

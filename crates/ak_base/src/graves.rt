@@ -35,3 +35,33 @@ impl Grave {
         Ok(*self)
     }
 }
+
+#[cfg(test)]
+mod tests {
+    use super::*;
+
+    #[test]
+    fn the_first_fault_is_told(rt: HostRuntime) -> Result<(), Memory> {
+        let usn_fault = RowFault::BadCode {
+            column: 0,
+            value: -2,
+        };
+        let kind_fault = RowFault::BadCode {
+            column: 2,
+            value: 3,
+        };
+        // usn, oid, kind, and what the check answers
+        let cases = [
+            (-1, 1, 2, Ok(())),
+            (-2, 0, 3, Err(usn_fault)),
+            (0, 0, 3, Err(RowFault::IdRange)),
+            (0, 1, 3, Err(kind_fault)),
+        ];
+        for (usn, oid, kind, wanted) in cases {
+            let grave = Grave { usn, oid, kind };
+            assert!(rt; grave.check() == wanted);
+            assert!(rt; grave.copy()? == grave);
+        }
+        Ok(())
+    }
+}

@@ -100,3 +100,39 @@ impl Head {
         })
     }
 }
+
+#[cfg(test)]
+mod tests {
+    use super::*;
+
+    #[test]
+    fn a_head_is_copied(rt: HostRuntime) -> Result<(), Memory> {
+        let mut tags = List::new(rt.alloc());
+        tags.push(Tag {
+            name: Text::of(rt.alloc(), "verb")?,
+            usn: -1,
+        })?;
+        let conf = Conf {
+            new_spread: 0,
+            collapse: 1200,
+            day_learn_first: false,
+            next_pos: 1,
+            last_unburied: 0,
+            rest: Rest::empty(rt.alloc())?,
+        };
+        let head = Head {
+            crt: 1_699_920_000,
+            moment: 1_700_000_000_000,
+            schema: 1_700_000_000_000,
+            usn: 0,
+            last_sync: 0,
+            conf,
+            tags,
+        };
+        let copied = head.copy()?;
+        assert_eq!(rt; copied.crt, 1_699_920_000);
+        assert_eq!(rt; copied.conf.rest.as_str(), "{}");
+        assert_eq!(rt; copied.tags.as_slice(), head.tags.as_slice());
+        Ok(())
+    }
+}

@@ -242,3 +242,74 @@ impl NoteType {
         })
     }
 }
+
+#[cfg(test)]
+mod tests {
+    use super::*;
+    use std::alloc::Global;
+
+    fn template(alloc: Global) -> Result<CardTemplate, Memory> {
+        Ok(CardTemplate {
+            name: Text::of(alloc, "Card 1")?,
+            front: Text::of(alloc, "{{Front}}")?,
+            back: Text::of(alloc, "{{Back}}")?,
+            rest: Rest::empty(alloc)?,
+        })
+    }
+
+    /// A type with so many fields and templates.
+    fn made(alloc: Global, fields: u32, templates: u32, sortf: i64) -> Result<NoteType, Memory> {
+        let mut own_fields = List::new(alloc);
+        for _ in 0..fields {
+            own_fields.push(FieldDef {
+                name: Text::of(alloc, "Front")?,
+                rest: Rest::empty(alloc)?,
+            })?;
+        }
+        let mut own_templates = List::new(alloc);
+        for _ in 0..templates {
+            own_templates.push(template(alloc)?)?;
+        }
+        Ok(NoteType {
+            id: 1,
+            stamp: 0,
+            usn: -1,
+            name: Text::of(alloc, "Basic")?,
+            cloze: false,
+            sortf,
+            fields: own_fields,
+            templates: own_templates,
+            rest: Rest::empty(alloc)?,
+        })
+    }
+
+    fn bad(column: u8, value: i64) -> Result<(), RowFault> {
+        Err(RowFault::BadCode { column, value })
+    }
+
+    fn long(column: u8, length: u64) -> Result<(), RowFault> {
+        Err(RowFault::TooLong { column, length })
+    }
+
+    #[test]
+    fn the_lists_hold_1_to_100(rt: HostRuntime) -> Result<(), Memory> {
+        // fields, templates, sortf, and what the check answers
+        let cases = [
+            (2, 1, 1, Ok(())),
+            (100, 100, 99, Ok(())),
+            (2, 1, 2, bad(5, 2)),
+            (2, 1, -1, bad(5, -1)),
+            (0, 1, 1, bad(5, 1)),
+            (0, 1, 0, bad(6, 0)),
+            (101, 0, 0, long(6, 101)),
+            (1, 0, 0, bad(7, 0)),
+            (1, 101, 0, long(7, 101)),
+        ];
+        for (fields, templates, sortf, wanted) in cases {
+            let note_type = made(rt.alloc(), fields, templates, sortf)?;
+            assert!(rt; note_type.check() == wanted);
+            assert!(rt; note_type.copy()?.check() == wanted);
+        }
+        Ok(())
+    }
+}

@@ -89,3 +89,41 @@ impl Note {
         })
     }
 }
+
+#[cfg(test)]
+mod tests {
+    use super::*;
+    use std::alloc::Global;
+
+    /// A note whose fields are these.
+    fn note(alloc: Global, flds: &str) -> Result<Note, Memory> {
+        Ok(Note {
+            id: 1_500_000_000_000,
+            guid: Text::of(alloc, "1-0000")?,
+            mid: 1,
+            stamp: 1_600_000_000,
+            usn: -1,
+            tags: Text::of(alloc, "")?,
+            flds: Text::of(alloc, flds)?,
+            sfld: Text::of(alloc, "front")?,
+            csum: 4_294_967_295,
+            flags: 0,
+            extra: Text::of(alloc, "")?,
+        })
+    }
+
+    #[test]
+    fn fields_have_at_most_65536_bytes(rt: HostRuntime) -> Result<(), Memory> {
+        let most = "x".repeat(rt.alloc(), 65_536)?;
+        let good = note(rt.alloc(), most.as_str())?;
+        assert!(rt; good.check() == Ok(()));
+        assert!(rt; good.copy()? == good);
+        let over = "x".repeat(rt.alloc(), 65_537)?;
+        let fault = RowFault::TooLong {
+            column: 6,
+            length: 65_537,
+        };
+        assert!(rt; note(rt.alloc(), over.as_str())?.check() == Err(fault));
+        Ok(())
+    }
+}

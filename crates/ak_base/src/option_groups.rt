@@ -142,7 +142,13 @@ impl Options {
     }
 
     /// The group with these texts and steps in place of its own.
-    fn with_owned(&self, name: Text, new_steps: List<i64>, lapse_steps: List<i64>, rest: Rest) -> Options
+    fn with_owned(
+        &self,
+        name: Text,
+        new_steps: List<i64>,
+        lapse_steps: List<i64>,
+        rest: Rest,
+    ) -> Options
         ensures { result ≡ record self.now { name = name; new_steps = new_steps; lapse_steps = lapse_steps; rest = rest } }
     {
         Options {
@@ -233,6 +239,7 @@ mod tests {
             value: 1_000_000,
         };
         assert!(rt; bad.check() == Err(fault));
+        assert!(rt; bad.copy()?.check() == Err(fault));
         Ok(())
     }
 }
