@@ -1,8 +1,7 @@
 -- What `parse` gives at a text of decimal digits.
-use Rattle.std.proofs.Common.{◌≡◌, ℕ, ◌^◌, ◌<◌, ◌≤◌, ◌==◌, Bool, true, false, not, ◌&&◌, cond, nat_le, List, [], ◌∷◌, length, Option, Some, None, Result, Ok, Err, refl, sym, ap, ◌∙◌, arith, rules}
+use Rattle.std.proofs.Common.{◌≡◌, ℕ, ◌^◌, ◌<◌, ◌==◌, Bool, true, false, not, ◌&&◌, List, [], ◌∷◌, length, None, Ok, Err, refl, arith, rules}
 use Rattle.std.proofs.lemmas.Grind.{common_steps}
 use Rattle.std.proofs.lemmas.Str.Parse.{IsNumeralModel, numerals_by_value, parse_digits}
-use Rattle.std.specs.Char.{is_ascii_digit}
 use Rattle.std.specs.Result.{OkIff}
 use Rattle.std.specs.Str.{all_ascii_digits}
 use Rattle.std.specs.Str.Parse.{digits_value, ParsesUnsigned}
@@ -46,5 +45,5 @@ not_parsed {E} most text error small given decimal =
     let large : OkIff {T = ℕ} (Err error) ((0 < length text) × (digits_value 10 text < 2 ^ 64)) (digits_value 10 text) = parse_digits own {E = E} 64 text (Err error) given digits.0 in
     rw decimal (over most _ (above most _ small (λ fits. large (digits.1, fits))))
   where
-  above : (most value : ℕ) → most < 2 ^ 64 → (value < 2 ^ 64 → ⊥) → most < value
-  above most value small not_small = omega arith
+    above : (most value : ℕ) → most < 2 ^ 64 → (value < 2 ^ 64 → ⊥) → most < value
+    above most value small not_small = omega arith

@@ -4,5 +4,11 @@ pub mod Decimals
 pub mod Reviews
 pub mod Cards
 pub mod OptionGroups
+pub mod Notes
+pub mod NoteTypes
+pub mod Decks
+pub mod Graves
+pub mod Heads
+pub mod Keys
 pub mod Days
 pub mod Rows

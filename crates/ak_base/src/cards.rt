@@ -1,11 +1,11 @@
-ghost use Rattle.std.specs.Prelude.{◌≡◌};
+ghost use Rattle.std.specs.Prelude.{◌≡◌, IfOk};
 ghost use Rattle.ak_base.specs.Columns.{first_fault};
 ghost use Rattle.ak_base.specs.Cards.{card_faults, place_faults, schedule_faults, mark_faults};
 
 use crate::columns::{
     LAST_USN, code_fault, first_fault, id_fault, id_or_zero_fault, long_fault, stamp_fault,
 };
-use crate::{RowFault, Text};
+use crate::{Memory, RowFault, Text};
 
 /// A card, as schema 11's `cards` keeps it: what one template makes of a note, and when it is due.
 #[derive(Debug, PartialEq, Drop)]
@@ -98,5 +98,62 @@ impl Card {
         self.check_place()?;
         self.check_schedule()?;
         self.check_marks()
+    }
+    /// An equal card of its own.
+    pub fn copy(&self) -> Result<Card, Memory>
+        ensures { IfOk result (λ made. made ≡ self.now) }
+    {
+        Ok(Card {
+            id: self.id,
+            nid: self.nid,
+            did: self.did,
+            ord: self.ord,
+            stamp: self.stamp,
+            usn: self.usn,
+            kind: self.kind,
+            queue: self.queue,
+            due: self.due,
+            ivl: self.ivl,
+            factor: self.factor,
+            reps: self.reps,
+            lapses: self.lapses,
+            left: self.left,
+            odue: self.odue,
+            odid: self.odid,
+            flags: self.flags,
+            extra: self.extra.copy()?,
+        })
+    }
+}
+
+#[cfg(test)]
+mod tests {
+    use super::*;
+
+    #[test]
+    fn a_card_is_copied(rt: HostRuntime) -> Result<(), Memory> {
+        let card = Card {
+            id: 1_500_000_000_000,
+            nid: 1_500_000_000_000,
+            did: 1,
+            ord: 0,
+            stamp: 1_600_000_000,
+            usn: -1,
+            kind: 2,
+            queue: 2,
+            due: -9,
+            ivl: 100,
+            factor: 2500,
+            reps: 4,
+            lapses: 0,
+            left: 0,
+            odue: 0,
+            odid: 0,
+            flags: 0,
+            extra: Text::of(rt.alloc(), "")?,
+        };
+        assert!(rt; card.check() == Ok(()));
+        assert!(rt; card.copy()? == card);
+        Ok(())
     }
 }

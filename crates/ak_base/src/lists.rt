@@ -1,4 +1,4 @@
-ghost use Rattle.std.specs.Prelude.{◌≡◌, [], ◌∷◌, ◌++◌, OnOk, OnErr};
+ghost use Rattle.std.specs.Prelude.{◌≡◌, [], ◌∷◌, ◌++◌, IfOk, OnOk, OnErr};
 
 use crate::Memory;
 use std::alloc::Global;
@@ -41,6 +41,11 @@ impl<T> List<T> {
         elements
     }
 
+    /// Where a list beside this one takes its memory.
+    pub(crate) fn allocator(&self) -> Global {
+        *self.elements.allocator()
+    }
+
     pub fn as_slice(&self) -> &[T]
         ensures { result.now ≡ self.now }
     {
@@ -55,5 +60,15 @@ impl<T: Drop> List<T> {
     {
         self.elements.push(item)?;
         Ok(())
+    }
+}
+
+impl<T: Copy> List<T> {
+    /// An equal list of its own.
+    pub fn copy(&self) -> Result<List<T>, Memory>
+        ensures { IfOk result (λ made. made ≡ self.now) }
+    {
+        let elements = Vec::from_slice(self.allocator(), self.as_slice())?;
+        Ok(List { elements })
     }
 }

@@ -1,9 +1,9 @@
-ghost use Rattle.std.specs.Prelude.{◌≡◌};
+ghost use Rattle.std.specs.Prelude.{◌≡◌, IfOk};
 ghost use Rattle.ak_base.specs.Columns.{first_fault};
 ghost use Rattle.ak_base.specs.OptionGroups.{options_faults, general_faults, new_faults, rev_faults, lapse_faults, bad_step, steps_fault};
 
 use crate::columns::{LAST_USN, code_fault, first_fault, id_fault, long_fault, stamp_fault};
-use crate::{List, Rest, RowFault, Text};
+use crate::{List, Memory, Rest, RowFault, Text};
 
 /// How the cards of a deck are scheduled: one of Anki's option groups.
 #[derive(Debug, Drop)]
@@ -140,12 +140,59 @@ impl Options {
         self.check_reviews()?;
         self.check_lapses()
     }
+
+    /// The group with these texts and steps in place of its own.
+    fn with_owned(
+        &self,
+        name: Text,
+        new_steps: List<i64>,
+        lapse_steps: List<i64>,
+        rest: Rest,
+    ) -> Options
+        ensures { result ≡ record self.now { name = name; new_steps = new_steps; lapse_steps = lapse_steps; rest = rest } }
+    {
+        Options {
+            id: self.id,
+            stamp: self.stamp,
+            usn: self.usn,
+            name,
+            max_taken: self.max_taken,
+            new_steps,
+            grad_ivl: self.grad_ivl,
+            easy_ivl: self.easy_ivl,
+            initial_factor: self.initial_factor,
+            new_per_day: self.new_per_day,
+            new_bury: self.new_bury,
+            rev_per_day: self.rev_per_day,
+            ease4: self.ease4,
+            ivl_fct: self.ivl_fct,
+            max_ivl: self.max_ivl,
+            hard_factor: self.hard_factor,
+            rev_bury: self.rev_bury,
+            lapse_steps,
+            mult: self.mult,
+            min_int: self.min_int,
+            leech_fails: self.leech_fails,
+            leech_action: self.leech_action,
+            rest,
+        }
+    }
+
+    /// An equal group of its own.
+    pub fn copy(&self) -> Result<Options, Memory>
+        ensures { IfOk result (λ made. made ≡ self.now) }
+    {
+        let name = self.name.copy()?;
+        let new_steps = self.new_steps.copy()?;
+        let lapse_steps = self.lapse_steps.copy()?;
+        let rest = self.rest.copy()?;
+        Ok(self.with_owned(name, new_steps, lapse_steps, rest))
+    }
 }
 
 #[cfg(test)]
 mod tests {
     use super::*;
-    use crate::Memory;
     use std::alloc::Global;
 
     /// The group that a collection opens with, with another number of new cards a day.
@@ -192,6 +239,7 @@ mod tests {
             value: 1_000_000,
         };
         assert!(rt; bad.check() == Err(fault));
+        assert!(rt; bad.copy()?.check() == Err(fault));
         Ok(())
     }
 }

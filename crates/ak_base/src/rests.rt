@@ -33,6 +33,14 @@ impl Rest {
     {
         self.text.as_str()
     }
+
+    /// An equal object of its own.
+    pub fn copy(&self) -> Result<Rest, Memory>
+        ensures { IfOk result (λ made. made ≡ self.now) }
+    {
+        let text = self.text.copy()?;
+        Ok(Rest { text })
+    }
 }
 
 impl PartialEq for Rest {

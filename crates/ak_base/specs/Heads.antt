@@ -1,0 +1,48 @@
+-- The ranges of a collection's head.
+use Rattle.std.specs.Prelude.{ℕ, ℤ, pos, negsuc, ◌≤ℤ◌, ◌≤◌, List, map, length}
+use Rattle.std.specs.List.{All}
+use Rattle.std.specs.List.Sorted.{IsStrictlySortedBy}
+use Rattle.std.specs.Cmp.Lexicographic.{slice_cmp}
+use Rattle.std.specs.Ordering.{nat_cmp}
+use Rattle.ak_base.specs.declared.columns.TheConstants.{LAST_USN, LAST_STAMP}
+use Rattle.ak_base.specs.declared.heads.Conf.{Conf}
+use Rattle.ak_base.specs.declared.heads.Tag.{Tag}
+use Rattle.ak_base.specs.declared.heads.Head.{Head}
+
+-- a whole number from the least to the most
+pub record IsWithin (least : ℤ) (most : ℤ) (number : ℤ) : Type 0 where
+  pub low : least ≤ℤ number
+  pub high : number ≤ℤ most
+
+-- the numbers of the settings are in their ranges
+pub record IsConfInRange (c : Conf) : Type 0 where
+  pub new_spread : IsWithin (pos 0) (pos 2) c.new_spread
+  pub collapse : IsWithin (pos 0) (pos 86_400) c.collapse
+  pub next_pos : IsWithin (pos 0) (pos 2_147_483_647) c.next_pos
+  pub last_unburied : IsWithin (negsuc 9_999_999) (pos 100_000_000) c.last_unburied
+
+-- a tag's name has 1 to 512 bytes, and its usn is that of a row
+pub record IsTagInRange (t : Tag) : Type 0 where
+  pub some : 1 ≤ length t.name
+  pub short : length t.name ≤ 512
+  pub usn : IsWithin (negsuc 0) LAST_USN t.usn
+
+-- the names of the tags
+abbrev pub tag_names : List Tag → List (List ℕ)
+tag_names tags = map (λ t. t.name) tags
+
+-- a moment in milliseconds
+abbrev pub IsMoment : ℤ → Type 0
+IsMoment moment = IsWithin (pos 0) (pos 4_294_967_295_999) moment
+
+-- the numbers of a head are in their ranges, and so are its settings and its tags; the tags' names are
+-- distinct and ascend by bytes
+pub record IsHeadInRange (h : Head) : Type 0 where
+  pub crt : IsWithin (pos 0) LAST_STAMP h.crt
+  pub moment : IsMoment h.moment
+  pub schema : IsMoment h.schema
+  pub usn : IsWithin (pos 0) (pos 2_147_483_646) h.usn
+  pub last_sync : IsMoment h.last_sync
+  pub conf : IsConfInRange h.conf
+  pub tags : All IsTagInRange h.tags
+  pub ascending : IsStrictlySortedBy (slice_cmp nat_cmp) (tag_names h.tags)

@@ -1,0 +1,27 @@
+-- The tree of a template, and the steps that a page takes through it from front to back.
+use Rattle.std.specs.Prelude.{ℕ, zero, suc, ◌+◌, ◌<◌, ◌≤◌, Bool, List, [], ◌∷◌, ◌++◌, ⊤}
+use Rattle.ak_template.specs.declared.steps.Step.{Step}
+use Rattle.ak_template.specs.declared.steps.Step.TheVariants.{Words, Field, Open, Close}
+
+-- the parts of a template, or of a section, in order: nothing more, or a part and those behind it. A field has
+-- its filters in the order in which they are written. A section is shown where its field is not empty, or, inverted,
+-- where it is; it has parts of its own
+pub data Tree : Type 0 where
+  End : Tree
+  Plain : List ℕ → Tree → Tree
+  Value : List (List ℕ) → List ℕ → Tree → Tree
+  Section : Bool → List ℕ → Tree → Tree → Tree
+
+-- from front to back: a section is opened, its inside stands, and it is closed by its name
+abbrev pub laid : Tree → List Step
+laid End = []
+laid (Plain words after) = Words words ∷ laid after
+laid (Value filters name after) = Field filters name ∷ laid after
+laid (Section inverted name inside after) = Open inverted name ∷ (laid inside ++ (Close name ∷ laid after))
+
+-- below that many open sections none is opened while 32 are open
+abbrev pub Nests : ℕ → Tree → Type 0
+Nests depth End = ⊤
+Nests depth (Plain words after) = Nests depth after
+Nests depth (Value filters name after) = Nests depth after
+Nests depth (Section inverted name inside after) = (depth < 32) × Nests (suc depth) inside × Nests depth after
