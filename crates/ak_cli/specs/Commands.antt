@@ -48,7 +48,7 @@ command_of (word ∷ side ∷ table ∷ []) = show_command word side table
 command_of (word ∷ device ∷ card ∷ ease ∷ count ∷ []) = review_command word device card ease count
 command_of _ = None
 
--- the numbers of a form are in the ranges of a review's columns
+-- the card and the button of a `review` line are in the ranges of a review's columns
 abbrev pub IsInRange : Command → Type 0
 IsInRange (Review device card ease count) = (card < 9_007_199_254_740_992) × (ease ≤ 4)
 IsInRange command = ⊤

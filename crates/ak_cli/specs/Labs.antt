@@ -31,7 +31,7 @@ state_of lab = record { clock = lab.clock; server = lab.server; devices = lab.de
 abbrev pub bad_line : Step LabState
 bad_line = Refused (codes "bad line")
 
--- `device <name>`: a new device with the server's collection
+-- `device <name>`: a new device with the server's reviews and moment
 abbrev pub device_step : List ℕ → LabState → Step LabState
 device_step name lab =
     if is_device_name name && not (is_some (side_of name lab.devices)) && nat_lt (length lab.devices) DEVICE_LIMIT

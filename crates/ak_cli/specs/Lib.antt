@@ -2,6 +2,7 @@ pub mod Commands
 pub mod Devices
 pub mod LabRun
 pub mod Labs
+pub mod Laws
 pub mod Programs
 pub mod Sides
 pub mod Steps

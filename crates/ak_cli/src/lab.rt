@@ -3,6 +3,7 @@ mod commands;
 mod devices;
 mod faults;
 mod laboratories;
+pub mod laws;
 pub(crate) mod scripts;
 mod sides;
 mod syncs;

@@ -7,5 +7,6 @@ mod statuses;
 #[cfg(test)]
 mod tests;
 
+pub use lab::laws::{a_finished_sync_joins, new_ids_are_the_least};
 pub use programs::run;
 pub use statuses::{DONE, NO_MEMORY, READ_FAILED, REFUSED, USAGE, WRITE_FAILED};

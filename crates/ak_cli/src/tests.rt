@@ -67,6 +67,16 @@ fn a_second_sync_has_no_changes(rt: HostRuntime) -> Result<(), Fail> {
     Ok(())
 }
 
+// A limit of comparing moments: B's second review stays on B, since B's moment came to be the server's.
+#[test]
+fn equal_moments_are_taken_for_no_changes(rt: HostRuntime) -> Result<(), Fail> {
+    let script =
+        "device A\ndevice B\nreview A 5 3 1\nsync A\nreview B 5 3 1\nreview B 6 4 1\nsync B\nshow server reviews\n";
+    let printed = "sync A: finished\nsync B: no changes\n[1700000000000,5,0,3,0,0,0,0,0]\n";
+    assert_eq!(rt; lab(&rt, script, printed)?, DONE);
+    Ok(())
+}
+
 #[test]
 fn unequal_reviews_of_one_id_are_a_tie(rt: HostRuntime) -> Result<(), Fail> {
     let script = "device A\ndevice B\nreview A 5 3 1\nreview B 5 4 1\nsync A\nsync B\n";

@@ -7,7 +7,7 @@ use std::env::Env;
 use std::process::ExitCode;
 use std::{env, io};
 
-/// The words behind the program's name.
+/// The words after the program's name.
 fn words_of(rt: &(impl Env + AllocGlobal)) -> io::Result<Vec<String>> {
     let mut words = Vec::new(rt.alloc());
     for (place, word) in env::args(rt)?.enumerate() {
@@ -18,7 +18,7 @@ fn words_of(rt: &(impl Env + AllocGlobal)) -> io::Result<Vec<String>> {
     Ok(words)
 }
 
-// Collection files and servers come later: until then both words are `-`.
+// Neither a collection's file nor a server can be named: both words are `-`.
 fn main(rt: HostRuntime) -> io::Result<ExitCode> {
     let words = words_of(&rt)?;
     let mut input = StdSource::new(rt.stdin());

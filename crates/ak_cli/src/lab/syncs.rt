@@ -10,7 +10,7 @@ use ak_merge::{join_into, tie_between};
 pub(crate) enum SyncEnd {
     /// Both hold a review of this id, and not the same.
     Tie(i64),
-    /// The two were the same already: their moments are equal.
+    /// The moments are equal, which is taken to say that nothing changed.
     NoChanges,
     /// A moment stands at its last value.
     MomentsEnd,

@@ -1,0 +1,5 @@
+use Rattle.ak_cli.specs.Laws.{least_free}
+use Rattle.ak_cli.proofs.lab.laws.new_ids_are_the_least.Goals as goal
+
+pub returns : goal.returns
+returns c = least_free
