@@ -39,7 +39,7 @@ laid_back (Section inverted name inside after) steps others h =
     ap (λ xs. grown (Open inverted name) (read_back xs)) (append_assoc (laid inside) (Close name ∷ laid after) steps)
     ∙ ap (grown (Open inverted name)) (laid_back inside (Close name ∷ (laid after ++ steps)) (after ∷ others) (ap (grown (Close name)) (laid_back after steps others h)))
 
-append_nil : {A : Type 0} (xs : List A) → xs ++ [] ≡ xs
+pub append_nil : {A : Type 0} (xs : List A) → xs ++ [] ≡ xs
 append_nil [] = refl
 append_nil (x ∷ xs) = ap (λ ys. x ∷ ys) (append_nil xs)
 

@@ -14,11 +14,11 @@ use Rattle.ak_template.specs.Grammar.{IsTemplate, fault_in, unclosed, first_faul
 use Rattle.ak_template.specs.Trees.{Tree, laid}
 use Rattle.ak_template.proofs.Grammars.{has_tree, no_fault, head_same, tail_same, some_same}
 
-behind_le : (mark xs : List ℕ) → length (behind mark xs) ≤ length xs
+pub behind_le : (mark xs : List ℕ) → length (behind mark xs) ≤ length xs
 behind_le mark [] = omega arith
 behind_le mark (b ∷ bs) = elim (begins mark (b ∷ bs)) as (λ v. length (cond v (drop (length mark) (b ∷ bs)) (behind mark bs)) ≤ length (b ∷ bs)) [ true ↦ omega (arith, length-drop (length mark) (b ∷ bs)) | false ↦ omega (arith, behind_le mark bs) ]
 
-opening_shorter : (b : ℕ) (bs : List ℕ) → length (behind (codes "{{") (b ∷ bs)) ≤ length bs
+pub opening_shorter : (b : ℕ) (bs : List ℕ) → length (behind (codes "{{") (b ∷ bs)) ≤ length bs
 opening_shorter b bs = elim (begins (codes "{{") (b ∷ bs)) as (λ v. length (cond v (drop 1 bs) (behind (codes "{{") bs)) ≤ length bs) [ true ↦ omega (arith, length-drop 1 bs) | false ↦ behind_le (codes "{{") bs ]
 
 tag_shorter : (b : ℕ) (bs : List ℕ) → length (behind_tag (b ∷ bs)) ≤ length bs
