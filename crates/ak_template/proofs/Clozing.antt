@@ -1,11 +1,11 @@
 -- The parts of a field with clozes, one by one.
-use Rattle.std.proofs.Common.{◌≡◌, ℕ, zero, suc, ◌+◌, ◌-◌, ◌*◌, ◌<◌, ◌≤◌, Bool, true, false, ◌&&◌, ◌||◌, nat_lt, cond, Option, Some, None, IfSome, IfNone, List, [], ◌∷◌, ◌++◌, length, take, drop, length-drop, append_assoc, refl, ap, sym, ◌∙◌, arith, rules}
+use Rattle.std.proofs.Common.{◌≡◌, ℕ, zero, suc, ◌+◌, ◌-◌, ◌*◌, ◌≤◌, true, false, ◌&&◌, ◌||◌, nat_lt, cond, Option, Some, None, IfSome, IfNone, List, [], ◌∷◌, ◌++◌, length, drop, length-drop, append_assoc, refl, ap, sym, ◌∙◌, arith}
 use Rattle.std.specs.Prelude.{codes, pos}
 use Rattle.std.specs.Option.{MatchOption}
 use Rattle.std.specs.Str.Pattern.{FindsTextPrefix}
 use denote.Ref.{Bor}
 use Rattle.std.proofs.lemmas.Option.{IfSome_then}
-use Rattle.ak_template.proofs.Parsing.{behind_le, opening_shorter}
+use Rattle.ak_template.proofs.Parsing.{behind_le}
 use Rattle.ak_template.proofs.Grammars.{append_nil}
 use Rattle.ak_filters.proofs.Cutting.{begins_itself, begins_with}
 use Rattle.ak_filters.specs.Cuts.{begins, has, front, behind}
@@ -37,9 +37,10 @@ number_ends number (b ∷ bs) h = ap (λ v. cond v (cond (nat_lt 0 number) (Some
 pub number_goes : (number : ℕ) (text : List ℕ) → begins (codes "::") text ≡ false → MatchOption (digit_front text) (number_at number text ≡ None) (λ found. number_at number text ≡ cond (is_number (number * 10 + found.0)) (number_at (number * 10 + found.0) found.1) None)
 number_goes number [] h = refl
 number_goes number (b ∷ bs) h =
-    elim (nat_lt 47 b && nat_lt b 58) as (λ w. MatchOption (cond w (Some (b - 48, bs)) None) (cond (begins (codes "::") (b ∷ bs)) (cond (nat_lt 0 number) (Some (number, drop 1 bs)) None) (cond w (cond (is_number (number * 10 + (b - 48))) (number_at (number * 10 + (b - 48)) bs) None) None) ≡ None) (λ (found : ℕ × List ℕ). cond (begins (codes "::") (b ∷ bs)) (cond (nat_lt 0 number) (Some (number, drop 1 bs)) None) (cond w (cond (is_number (number * 10 + (b - 48))) (number_at (number * 10 + (b - 48)) bs) None) None) ≡ cond (is_number (number * 10 + found.0)) (number_at (number * 10 + found.0) found.1) None))
-    [ true ↦ ap (λ v. cond v (cond (nat_lt 0 number) (Some (number, drop 1 bs)) None) (cond (is_number (number * 10 + (b - 48))) (number_at (number * 10 + (b - 48)) bs) None)) h
-    | false ↦ ap (λ v. cond v (cond (nat_lt 0 number) (Some (number, drop 1 bs)) None) None) h ]
+    elim (nat_lt 47 b && nat_lt b 58) as (λ w. MatchOption (cond w (Some (b - 48, bs)) None) (cond (begins (codes "::") (b ∷ bs)) (cond (nat_lt 0 number) (Some (number, drop 1 bs)) None) (cond w (cond (is_number (number * 10 + (b - 48))) (number_at (number * 10 + (b - 48)) bs) None) None) ≡ None) (λ (found : ℕ × List ℕ). cond (begins (codes "::") (b ∷ bs)) (cond (nat_lt 0 number) (Some (number, drop 1 bs)) None) (cond w (cond (is_number (number * 10 + (b - 48))) (number_at (number * 10 + (b - 48)) bs) None) None) ≡ cond (is_number (number * 10 + found.0)) (number_at (number * 10 + found.0) found.1) None)) [
+      | true ↦ ap (λ v. cond v (cond (nat_lt 0 number) (Some (number, drop 1 bs)) None) (cond (is_number (number * 10 + (b - 48))) (number_at (number * 10 + (b - 48)) bs) None)) h
+      | false ↦ ap (λ v. cond v (cond (nat_lt 0 number) (Some (number, drop 1 bs)) None) None) h
+    ]
 
 pub all_in_front : (mark xs : List ℕ) → has mark xs ≡ false → front mark xs ≡ xs
 all_in_front mark [] h = refl
@@ -48,13 +49,16 @@ all_in_front mark (b ∷ bs) h = elim (begins mark (b ∷ bs)) as (λ v. (v || h
 number_le : (number : ℕ) (text : List ℕ) → IfSome (number_at number text) (λ found. length found.1 ≤ length text)
 number_le number [] = tt
 number_le number (b ∷ bs) =
-    elim (begins (codes "::") (b ∷ bs)) as (λ v. IfSome (cond v (cond (nat_lt 0 number) (Some (number, drop 1 bs)) None) (cond (nat_lt 47 b && nat_lt b 58) (cond (is_number (number * 10 + (b - 48))) (number_at (number * 10 + (b - 48)) bs) None) None)) (λ (found : ℕ × List ℕ). length found.1 ≤ length (b ∷ bs)))
-    [ true ↦ elim (nat_lt 0 number) as (λ v. IfSome (cond v (Some (number, drop 1 bs)) None) (λ (found : ℕ × List ℕ). length found.1 ≤ length (b ∷ bs))) [ true ↦ omega (arith, length-drop 1 bs) | false ↦ tt ]
-    | false ↦ elim (nat_lt 47 b && nat_lt b 58) as (λ v. IfSome (cond v (cond (is_number (number * 10 + (b - 48))) (number_at (number * 10 + (b - 48)) bs) None) None) (λ (found : ℕ × List ℕ). length found.1 ≤ length (b ∷ bs)))
-      [ true ↦ elim (is_number (number * 10 + (b - 48))) as (λ v. IfSome (cond v (number_at (number * 10 + (b - 48)) bs) None) (λ (found : ℕ × List ℕ). length found.1 ≤ length (b ∷ bs)))
-        [ true ↦ IfSome_then (number_at (number * 10 + (b - 48)) bs) (number_le (number * 10 + (b - 48)) bs) (λ found l. omega (arith, l))
-        | false ↦ tt ]
-      | false ↦ tt ] ]
+    elim (begins (codes "::") (b ∷ bs)) as (λ v. IfSome (cond v (cond (nat_lt 0 number) (Some (number, drop 1 bs)) None) (cond (nat_lt 47 b && nat_lt b 58) (cond (is_number (number * 10 + (b - 48))) (number_at (number * 10 + (b - 48)) bs) None) None)) (λ (found : ℕ × List ℕ). length found.1 ≤ length (b ∷ bs))) [
+      | true ↦ elim (nat_lt 0 number) as (λ v. IfSome (cond v (Some (number, drop 1 bs)) None) (λ (found : ℕ × List ℕ). length found.1 ≤ length (b ∷ bs))) [ true ↦ omega (arith, length-drop 1 bs) | false ↦ tt ]
+      | false ↦ elim (nat_lt 47 b && nat_lt b 58) as (λ v. IfSome (cond v (cond (is_number (number * 10 + (b - 48))) (number_at (number * 10 + (b - 48)) bs) None) None) (λ (found : ℕ × List ℕ). length found.1 ≤ length (b ∷ bs))) [
+        | true ↦ elim (is_number (number * 10 + (b - 48))) as (λ v. IfSome (cond v (number_at (number * 10 + (b - 48)) bs) None) (λ (found : ℕ × List ℕ). length found.1 ≤ length (b ∷ bs))) [
+          | true ↦ IfSome_then (number_at (number * 10 + (b - 48)) bs) (number_le (number * 10 + (b - 48)) bs) (λ found l. omega (arith, l))
+          | false ↦ tt
+        ]
+        | false ↦ tt
+      ]
+    ]
 
 marked_le : (r : Option (ℕ × List ℕ)) (text : List ℕ) → IfSome r (λ found. length found.1 ≤ length text) → IfSome (marked r text).1 (λ rest. length rest ≤ length text)
 marked_le None text h = omega arith
@@ -80,7 +84,7 @@ enough (suc m) (suc n) [] l k = refl
 enough (suc m) (suc n) (b ∷ bs) l k =
     let after = behind (codes "{{c") (b ∷ bs) in
     ap (λ others. cond (has (codes "{{c") (b ∷ bs)) (Bare (front (codes "{{c") (b ∷ bs)) ∷ ((mark_parts after).0 ++ others)) (Bare (b ∷ bs) ∷ []))
-       (same_left m n (mark_parts after).1 (IfSome_then (mark_parts after).1 (left_le after) (λ rest r. enough m n rest (omega (arith, r, mark_shorter b bs, l)) (omega (arith, r, mark_shorter b bs, k)))))
+    (same_left m n (mark_parts after).1 (IfSome_then (mark_parts after).1 (left_le after) (λ rest r. enough m n rest (omega (arith, r, mark_shorter b bs, l)) (omega (arith, r, mark_shorter b bs, k)))))
 
 all_left : (m : ℕ) (left : Option (List ℕ)) → IfSome left (λ rest. length rest ≤ m) → left_in (parts_in m) left ≡ left_in parts left
 all_left m None h = refl

@@ -2,5 +2,5 @@ pub mod Cutting
 pub mod Grammars
 pub mod Parsing
 pub mod Clozing
-pub mod Applying
 pub mod ShownTrees
+pub mod Walking

@@ -1,5 +1,5 @@
 -- The clozes of a field: `{{cN::text}}` and `{{cN::text::hint}}`.
-use Rattle.std.specs.Prelude.{ℕ, zero, suc, ◌+◌, ◌-◌, ◌*◌, ◌==◌, ◌&&◌, nat_lt, Bool, true, false, ◌||◌, if◌then◌else◌, List, [], ◌∷◌, ◌++◌, length, drop, Option, Some, None, codes, ℤ, pos}
+use Rattle.std.specs.Prelude.{ℕ, zero, suc, ◌+◌, ◌-◌, ◌*◌, ◌==◌, ◌&&◌, nat_lt, Bool, false, ◌||◌, if◌then◌else◌, List, [], ◌∷◌, ◌++◌, length, drop, Option, Some, None, codes, ℤ, pos}
 use Rattle.std.specs.Ordering.{int_eq}
 use Rattle.ak_template.specs.declared.clozes.Part.{Part}
 use Rattle.ak_template.specs.declared.clozes.Part.TheVariants.{Bare, Gap}
@@ -41,7 +41,7 @@ abbrev pub parts_in : ℕ → List ℕ → List Part
 parts_in zero text = Bare text ∷ []
 parts_in (suc more) text =
     if has (codes "{{c") text then
-        Bare (front (codes "{{c") text) ∷ ((mark_parts (behind (codes "{{c") text)).0 ++ left_in (parts_in more) (mark_parts (behind (codes "{{c") text)).1)
+    Bare (front (codes "{{c") text) ∷ ((mark_parts (behind (codes "{{c") text)).0 ++ left_in (parts_in more) (mark_parts (behind (codes "{{c") text)).1)
     else Bare text ∷ []
 
 abbrev pub parts : List ℕ → List Part

@@ -96,7 +96,11 @@ fn add_gap(parts: &mut Vec<Part>, alloc: Global, number: u32, inside: &str) -> R
 }
 
 // What a `{{c` begins, by what stands behind it; and what is left to be read.
-fn add_marked<'a>(parts: &mut Vec<Part>, alloc: Global, text: &'a str) -> Result<Option<&'a str>, Memory>
+fn add_marked<'a>(
+    parts: &mut Vec<Part>,
+    alloc: Global,
+    text: &'a str,
+) -> Result<Option<&'a str>, Memory>
     ensures parts { OnOk result (parts.new.items ≡ parts.old.items ++ (mark_parts text.now).0) }
     ensures left { IfOk result (λ left. MatchOption left ((mark_parts text.now).1 ≡ None) (λ rest. (mark_parts text.now).1 ≡ Some rest.now)) }
     ensures shorter { IfOk result (λ left. IfSome left (λ rest. length rest.now ≤ length text.now)) }
@@ -173,7 +177,13 @@ fn hint_of(inside: &str) -> &str
     }
 }
 
-fn push_gap(made: &mut String, back: bool, card: i64, number: i64, inside: &str) -> Result<(), Memory>
+fn push_gap(
+    made: &mut String,
+    back: bool,
+    card: i64,
+    number: i64,
+    inside: &str,
+) -> Result<(), Memory>
     ensures { OnOk result (string_bytes made.new ≡ string_bytes made.old ++ gap_text back card number inside.now) }
 {
     if number == card {

@@ -15,7 +15,7 @@ mod tests;
 mod trims;
 
 pub use ak_filters::strip;
-pub use clozes::cloze_numbers;
+pub use clozes::{cloze_numbers, show_clozes};
 pub use faces::{Face, PageFault, Pair};
 pub use faults::TemplateFault;
 pub use parses::parse;

@@ -1,4 +1,4 @@
-use Rattle.std.proofs.Common.{arith, rules, ap, get_or}
+use Rattle.std.proofs.Common.{arith, ap, get_or}
 use Rattle.std.proofs.lemmas.Str.{IsCharBoundary-after_ascii}
 use Rattle.ak_template.proofs.clozes.digit_at.Goals as goal
 

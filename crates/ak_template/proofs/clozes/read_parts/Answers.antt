@@ -1,4 +1,4 @@
-use Rattle.std.proofs.Common.{arith, rules}
+use Rattle.std.proofs.Common.{rules}
 use Rattle.ak_template.specs.Clozes.{parts}
 use Rattle.ak_template.proofs.Clozing.{parts_some}
 use Rattle.ak_template.proofs.clozes.read_parts.Goals as goal

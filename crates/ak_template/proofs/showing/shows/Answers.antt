@@ -1,4 +1,3 @@
-use Rattle.std.proofs.Common.{◌≡◌}
 use Rattle.ak_template.proofs.ShownTrees.{shows_tree}
 use Rattle.ak_template.proofs.showing.shows.Goals as goal
 
