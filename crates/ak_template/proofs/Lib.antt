@@ -4,3 +4,4 @@ pub mod Parsing
 pub mod Clozing
 pub mod ShownTrees
 pub mod Walking
+pub mod Applying

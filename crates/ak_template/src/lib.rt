@@ -6,6 +6,7 @@ mod clozes;
 mod faces;
 mod faults;
 mod laws;
+mod pages;
 mod parses;
 mod showing;
 mod steps;
