@@ -1,12 +1,12 @@
 -- What stands around a sign, a space and a tag.
-use Rattle.std.proofs.Common.{◌≡◌, ℕ, zero, suc, ◌+◌, ◌-◌, ◌<◌, ◌≤◌, Bool, true, false, ◌&&◌, ◌||◌, ◌==◌, cond, Option, Some, None, IfSome, IfNone, List, [], ◌∷◌, ◌++◌, length, take, drop, append_assoc, refl, ap, sym, ◌∙◌, arith, rules}
+use Rattle.std.proofs.Common.{◌≡◌, ℕ, ◌+◌, ◌-◌, ◌<◌, true, false, ◌&&◌, ◌||◌, ◌==◌, cond, Option, Some, None, IfSome, IfNone, List, [], ◌∷◌, ◌++◌, length, take, drop, refl, ap, sym, ◌∙◌, arith}
 use Rattle.std.specs.Prelude.{codes}
 use Rattle.std.proofs.Math.Logic.{◌≢◌}
 use Rattle.std.proofs.lemmas.Str.Pattern.{strip_prefix_char, strip_suffix_char}
 use Rattle.std.specs.Option.{MatchOption}
 use Rattle.std.specs.Str.Pattern.{FindsCharPrefix, FindsCharSuffix}
 use denote.Ref.{Bor}
-use Rattle.ak_filters.specs.Cuts.{begins, has, front, behind}
+use Rattle.ak_filters.specs.Cuts.{begins, has, behind}
 use Rattle.ak_template.specs.Pieces.{has_tag, without_front, without_back, joined}
 
 pub not_sign : (c : ℕ) (xs : List ℕ) → ((rest : List ℕ) → xs ≢ c ∷ rest) → begins (c ∷ []) xs ≡ false
@@ -51,4 +51,3 @@ no_space xs (Some x) h = tt
 pub one_space : (xs : List ℕ) (r : Option (Bor (List ℕ))) → MatchOption r (FindsCharSuffix 32 xs None) (λ x. (n : ℕ) × FindsCharSuffix 32 xs (Some n) × (x.now ≡ take (length xs - n) xs) × (length x.now + n ≡ length xs)) → IfSome r (λ x. without_back xs ≡ without_back x.now)
 one_space xs None h = tt
 one_space xs (Some x) h = back_shorter xs x.now (strip_suffix_char 32 xs (Some x) h (omega arith))
-

@@ -1,7 +1,5 @@
 -- A text has a tree exactly where its pieces have no fault, and then one alone.
-use Rattle.std.proofs.Common.{◌≡◌, ℕ, zero, suc, ◌+◌, ◌-◌, ◌<◌, ◌≤◌, Bool, true, false, ◌==◌, nat_lt, cond, Option, Some, None, List, [], ◌∷◌, ◌++◌, length, map, drop, get_or, append_assoc, refl, ap, sym, ◌∙◌, arith, rules}
-use Rattle.std.specs.Prelude.{⊤}
-use Rattle.std.specs.List.{slice_get}
+use Rattle.std.proofs.Common.{◌≡◌, ℕ, suc, ◌-◌, ◌<◌, Bool, true, false, ◌==◌, nat_lt, cond, Option, Some, None, List, [], ◌∷◌, ◌++◌, length, map, drop, get_or, append_assoc, refl, ap, sym, ◌∙◌, arith}
 use Rattle.std.specs.Option.{option_map, option_or}
 use Rattle.std.specs.Cmp.Lexicographic.{pointwise}
 use Rattle.std.proofs.lemmas.List.{map-append}
@@ -14,7 +12,7 @@ use Rattle.ak_template.specs.declared.faults.TemplateFault.TheVariants as faults
 use Rattle.ak_template.specs.declared.builders.Opened.{Opened}
 use Rattle.ak_template.specs.Pieces.{Piece, pieces}
 use Rattle.ak_template.specs.Trees.{Tree, End, Plain, Value, Section, laid, Nests}
-use Rattle.ak_template.specs.Grammar.{IsTemplate, closes, fault_at, opened, outside, unclosed, fault_in, first_fault}
+use Rattle.ak_template.specs.Grammar.{IsTemplate, unclosed, fault_in, first_fault}
 
 -- ---- one tree: it is read back from its steps
 
@@ -39,7 +37,7 @@ laid_back (Section inverted name inside after) steps others h =
     ap (λ xs. grown (Open inverted name) (read_back xs)) (append_assoc (laid inside) (Close name ∷ laid after) steps)
     ∙ ap (grown (Open inverted name)) (laid_back inside (Close name ∷ (laid after ++ steps)) (after ∷ others) (ap (grown (Close name)) (laid_back after steps others h)))
 
-append_nil : {A : Type 0} (xs : List A) → xs ++ [] ≡ xs
+pub append_nil : {A : Type 0} (xs : List A) → xs ++ [] ≡ xs
 append_nil [] = refl
 append_nil (x ∷ xs) = ap (λ ys. x ∷ ys) (append_nil xs)
 
@@ -88,9 +86,13 @@ fill_part (section ∷ sections) steps step make lays nests h = (make h.0, h.1, 
 fill_section : (sections : List Opened) (inverted : Bool) (name : List ℕ) (inside : Tree) (steps rest : List (Option Step)) → length sections < 32 → Nests (suc (length sections)) inside → steps ≡ map Some (laid inside) ++ (Some (Close name) ∷ rest) → Fills sections rest → Fills sections (Some (Open inverted name) ∷ steps)
 fill_section [] inverted name inside steps rest few n e h =
     (Section inverted name inside h.0, (few, n, h.1), ap (λ xs. Some (Open inverted name) ∷ xs) (e ∙ ap (λ xs. map Some (laid inside) ++ (Some (Close name) ∷ xs)) h.2 ∙ sym (map-append Some (laid inside) (Close name ∷ laid h.0))))
-fill_section (section ∷ sections) inverted name inside steps rest few n e h =
-    (Section inverted name inside h.0, h.1, (few, n, h.2),
-     ap (λ xs. Some (Open inverted name) ∷ xs) (e ∙ ap (λ xs. map Some (laid inside) ++ (Some (Close name) ∷ xs)) h.3 ∙ sym (append_assoc (map Some (laid inside)) (Some (Close name) ∷ map Some (laid h.0)) (Some (Close section.name) ∷ h.1)) ∙ ap (λ xs. xs ++ (Some (Close section.name) ∷ h.1)) (sym (map-append Some (laid inside) (Close name ∷ laid h.0)))), h.4)
+fill_section (section ∷ sections) inverted name inside steps rest few n e h = (
+  Section inverted name inside h.0,
+  h.1,
+  (few, n, h.2),
+  ap (λ xs. Some (Open inverted name) ∷ xs) (e ∙ ap (λ xs. map Some (laid inside) ++ (Some (Close name) ∷ xs)) h.3 ∙ sym (append_assoc (map Some (laid inside)) (Some (Close name) ∷ map Some (laid h.0)) (Some (Close section.name) ∷ h.1)) ∙ ap (λ xs. xs ++ (Some (Close section.name) ∷ h.1)) (sym (map-append Some (laid inside) (Close name ∷ laid h.0)))),
+  h.4,
+)
 
 neither_fault : (one other : Option TemplateFault) → option_or one other ≡ None → (one ≡ None) × (other ≡ None)
 neither_fault None other h = (refl, h)
@@ -150,11 +152,13 @@ closing after sections name place [] rest n e later = grind (arith, e)
 closing after sections name place (p ∷ ps) rest n e later =
     let head = head_same p.1 (Some (Close name)) (map (λ (piece : Piece). piece.1) ps) (map Some (laid after) ++ rest) e in
     let tail = tail_same p.1 (Some (Close name)) (map (λ (piece : Piece). piece.1) ps) (map Some (laid after) ++ rest) e in
-    let found = later ps tail in
-    (found.0, found.1,
-     ap (λ s. fault_in (record { place = place; name = name } ∷ sections) ((p.0, s) ∷ ps)) head
-     ∙ ap (λ v. option_or (cond v None (Some (faults.WrongClose p.0))) (fault_in sections ps)) (names_equal name)
-     ∙ found.2)
+    let found = later ps tail in (
+      found.0,
+      found.1,
+      ap (λ s. fault_in (record { place = place; name = name } ∷ sections) ((p.0, s) ∷ ps)) head
+          ∙ ap (λ v. option_or (cond v None (Some (faults.WrongClose p.0))) (fault_in sections ps)) (names_equal name)
+          ∙ found.2,
+    )
 
 -- behind a tree the faults are those of the pieces that are left
 pub passes : (tree : Tree) (sections : List Opened) (ps : List Piece) (rest : List (Option Step)) → Nests (length sections) tree → map (λ (piece : Piece). piece.1) ps ≡ map Some (laid tree) ++ rest → (qs : List Piece) × (map (λ (piece : Piece). piece.1) qs ≡ rest) × (fault_in sections ps ≡ fault_in sections qs)
@@ -172,15 +176,17 @@ passes (Section inverted name inside after) sections (p ∷ ps) rest n e =
     let within = record { place = p.0; name = name } ∷ sections in
     let behind = Some (Close name) ∷ (map Some (laid after) ++ rest) in
     let split : map Some (laid inside ++ (Close name ∷ laid after)) ++ rest ≡ map Some (laid inside) ++ behind =
-        ap (λ xs. xs ++ rest) (map-append Some (laid inside) (Close name ∷ laid after)) ∙ append_assoc (map Some (laid inside)) (Some (Close name) ∷ map Some (laid after)) rest in
+    ap (λ xs. xs ++ rest) (map-append Some (laid inside) (Close name ∷ laid after)) ∙ append_assoc (map Some (laid inside)) (Some (Close name) ∷ map Some (laid after)) rest in
     let head = head_same p.1 (Some (Open inverted name)) (map (λ (piece : Piece). piece.1) ps) (map Some (laid inside ++ (Close name ∷ laid after)) ++ rest) e in
     let tail = tail_same p.1 (Some (Open inverted name)) (map (λ (piece : Piece). piece.1) ps) (map Some (laid inside ++ (Close name ∷ laid after)) ++ rest) e in
     let inner = passes inside within ps behind n.1 (tail ∙ split) in
-    let closed = closing after sections name p.0 inner.0 rest n.2 inner.1 (λ qs h. passes after sections qs rest n.2 h) in
-    (closed.0, closed.1,
-     ap (λ s. fault_in sections ((p.0, s) ∷ ps)) head
-     ∙ ap (λ v. option_or (cond v None (Some (faults.TooDeep p.0))) (fault_in within ps)) (lt-ltb (length sections) 32 n.0)
-     ∙ inner.2 ∙ closed.2)
+    let closed = closing after sections name p.0 inner.0 rest n.2 inner.1 (λ qs h. passes after sections qs rest n.2 h) in (
+      closed.0,
+      closed.1,
+      ap (λ s. fault_in sections ((p.0, s) ∷ ps)) head
+          ∙ ap (λ v. option_or (cond v None (Some (faults.TooDeep p.0))) (fault_in within ps)) (lt-ltb (length sections) 32 n.0)
+          ∙ inner.2 ∙ closed.2,
+    )
 
 none_left : (ps : List Piece) → map (λ (piece : Piece). piece.1) ps ≡ [] → ps ≡ []
 none_left [] h = refl

@@ -1,3 +1,6 @@
 pub mod Cutting
 pub mod Grammars
 pub mod Parsing
+pub mod Clozing
+pub mod ShownTrees
+pub mod Walking

@@ -1,24 +1,22 @@
 -- The pieces of a text, tag by tag.
-use Rattle.std.proofs.Common.{◌≡◌, ℕ, zero, suc, ◌+◌, ◌-◌, ◌<◌, ◌≤◌, Bool, true, false, ◌||◌, cond, Option, Some, None, List, [], ◌∷◌, ◌++◌, length, drop, length-drop, append_assoc, refl, ap, sym, ◌∙◌, arith, rules}
+use Rattle.std.proofs.Common.{◌≡◌, ℕ, zero, suc, ◌+◌, ◌-◌, ◌≤◌, true, false, cond, Some, None, List, [], ◌∷◌, ◌++◌, length, drop, length-drop, refl, ap, sym, ◌∙◌, arith}
 use Rattle.std.specs.Prelude.{codes}
-use Rattle.std.specs.Option.{option_or}
-use Rattle.ak_filters.specs.Cuts.{begins, has, front, behind}
+use Rattle.ak_filters.specs.Cuts.{begins, behind}
 use Rattle.ak_template.specs.declared.faults.TemplateFault.{TemplateFault}
-use Rattle.ak_template.specs.declared.builders.Opened.{Opened}
 use Rattle.ak_template.specs.declared.steps.Step.{Step}
-use Rattle.ak_template.specs.Pieces.{Piece, has_tag, before_tag, inside_tag, behind_tag, pieces_in, pieces, words_at, words_step, steps_in, tag_of, trimmed}
+use Rattle.ak_template.specs.Pieces.{Piece, has_tag, before_tag, inside_tag, behind_tag, pieces_in, pieces, words_at, steps_in, tag_of, trimmed}
 use Rattle.std.proofs.Common.{Result, Ok, Err, IfOk, IfErr, OnOk, ◌⊎◌, map}
 use Rattle.ak_template.specs.declared.faults.TemplateFault.TheVariants as faults
 use Rattle.ak_template.specs.declared.steps.Template.{Template}
-use Rattle.ak_template.specs.Grammar.{IsTemplate, fault_in, unclosed, first_fault}
+use Rattle.ak_template.specs.Grammar.{IsTemplate, first_fault}
 use Rattle.ak_template.specs.Trees.{Tree, laid}
 use Rattle.ak_template.proofs.Grammars.{has_tree, no_fault, head_same, tail_same, some_same}
 
-behind_le : (mark xs : List ℕ) → length (behind mark xs) ≤ length xs
+pub behind_le : (mark xs : List ℕ) → length (behind mark xs) ≤ length xs
 behind_le mark [] = omega arith
 behind_le mark (b ∷ bs) = elim (begins mark (b ∷ bs)) as (λ v. length (cond v (drop (length mark) (b ∷ bs)) (behind mark bs)) ≤ length (b ∷ bs)) [ true ↦ omega (arith, length-drop (length mark) (b ∷ bs)) | false ↦ omega (arith, behind_le mark bs) ]
 
-opening_shorter : (b : ℕ) (bs : List ℕ) → length (behind (codes "{{") (b ∷ bs)) ≤ length bs
+pub opening_shorter : (b : ℕ) (bs : List ℕ) → length (behind (codes "{{") (b ∷ bs)) ≤ length bs
 opening_shorter b bs = elim (begins (codes "{{") (b ∷ bs)) as (λ v. length (cond v (drop 1 bs) (behind (codes "{{") bs)) ≤ length bs) [ true ↦ omega (arith, length-drop 1 bs) | false ↦ behind_le (codes "{{") bs ]
 
 tag_shorter : (b : ℕ) (bs : List ℕ) → length (behind_tag (b ∷ bs)) ≤ length bs
@@ -33,7 +31,7 @@ enough (suc m) zero size (b ∷ bs) l k = absurd (omega (arith, k))
 enough (suc m) (suc n) size [] l k = refl
 enough (suc m) (suc n) size (b ∷ bs) l k =
     ap (λ others. cond (has_tag (b ∷ bs)) (words_at (size - length (b ∷ bs)) (before_tag (b ∷ bs)) ++ ((size - length (b ∷ bs) + length (before_tag (b ∷ bs)), tag_of (trimmed (inside_tag (b ∷ bs)))) ∷ others)) (words_at (size - length (b ∷ bs)) (b ∷ bs)))
-       (enough m n size (behind_tag (b ∷ bs)) (omega (arith, tag_shorter b bs, l)) (omega (arith, tag_shorter b bs, k)))
+    (enough m n size (behind_tag (b ∷ bs)) (omega (arith, tag_shorter b bs, l)) (omega (arith, tag_shorter b bs, k)))
 
 pub pieces_step : (size : ℕ) (text : List ℕ) → has_tag text ≡ true → pieces_in (length text) size text ≡ words_at (size - length text) (before_tag text) ++ ((size - length text + length (before_tag text), tag_of (trimmed (inside_tag text))) ∷ pieces_in (length (behind_tag text)) size (behind_tag text))
 pieces_step size [] h = grind (arith, h)

@@ -1,3 +1,5 @@
+pub mod Clozes
 pub mod Grammar
 pub mod Pieces
 pub mod Trees
+pub mod Pages

@@ -1,5 +1,5 @@
 -- The pieces that a text is cut into: plain words and tags, each with its place.
-use Rattle.std.specs.Prelude.{ℕ, zero, suc, ◌+◌, ◌-◌, ◌==◌, ◌&&◌, ◌||◌, Bool, true, false, if◌then◌else◌, List, [], ◌∷◌, ◌++◌, length, drop, Option, Some, None, codes}
+use Rattle.std.specs.Prelude.{ℕ, zero, suc, ◌+◌, ◌-◌, ◌==◌, Bool, true, false, if◌then◌else◌, List, [], ◌∷◌, ◌++◌, length, drop, Option, Some, None, codes}
 use Rattle.ak_filters.specs.Cuts.{begins, has, front, behind}
 use Rattle.ak_template.specs.declared.steps.Step.{Step}
 use Rattle.ak_template.specs.declared.steps.Step.TheVariants.{Words, Field, Open, Close}
@@ -41,7 +41,7 @@ named tag name = if length name == 0 then None else Some (tag name)
 abbrev pub field_tag : List ℕ → Option Step
 field_tag inside =
     if has (codes ":") inside then
-        (if length (front (codes ":") inside) == 0 then None else named (Field (front (codes ":") inside ∷ [])) (behind (codes ":") inside))
+    (if length (front (codes ":") inside) == 0 then None else named (Field (front (codes ":") inside ∷ [])) (behind (codes ":") inside))
     else named (Field []) inside
 
 -- the tag of an inside; none, where the inside or its name is empty
@@ -64,8 +64,8 @@ abbrev pub pieces_in : ℕ → ℕ → List ℕ → List Piece
 pieces_in zero size text = words_at (size - length text) text
 pieces_in (suc more) size text =
     if has_tag text then
-        words_at (size - length text) (before_tag text)
-        ++ ((size - length text + length (before_tag text), tag_of (trimmed (inside_tag text))) ∷ pieces_in more size (behind_tag text))
+    words_at (size - length text) (before_tag text)
+    ++ ((size - length text + length (before_tag text), tag_of (trimmed (inside_tag text))) ∷ pieces_in more size (behind_tag text))
     else words_at (size - length text) text
 
 abbrev pub pieces : List ℕ → List Piece

@@ -104,7 +104,11 @@ impl Builder {
     }
 }
 
-fn open_section(sections: &mut VecDeque<Opened>, place: u64, name: &Text) -> Result<(), TemplateFault>
+fn open_section(
+    sections: &mut VecDeque<Opened>,
+    place: u64,
+    name: &Text,
+) -> Result<(), TemplateFault>
     ensures few { OnOk result (nat_lt (length sections.old.items) 32 ≡ true) }
     ensures ok { OnOk result (sections.new.items ≡ record { place = place; name = name.now } ∷ sections.old.items) }
     ensures fault { IfErr result (λ fault. (fault ≡ faults.Memory) ⊎ ((nat_lt (length sections.old.items) 32 ≡ false) × (fault ≡ faults.TooDeep place))) }
@@ -117,7 +121,11 @@ fn open_section(sections: &mut VecDeque<Opened>, place: u64, name: &Text) -> Res
     Ok(())
 }
 
-fn close_section(sections: &mut VecDeque<Opened>, place: u64, name: &str) -> Result<(), TemplateFault>
+fn close_section(
+    sections: &mut VecDeque<Opened>,
+    place: u64,
+    name: &str,
+) -> Result<(), TemplateFault>
     ensures closes { OnOk result (closes sections.old.items name.now ≡ true) }
     ensures ok { OnOk result (sections.new.items ≡ outside sections.old.items) }
     ensures fault { IfErr result (λ fault. (closes sections.old.items name.now ≡ false) × (fault ≡ faults.WrongClose place)) }

@@ -2,9 +2,12 @@
 #![tactic(auto)]
 
 mod builders;
+mod clozes;
+mod faces;
 mod faults;
 mod laws;
 mod parses;
+mod showing;
 mod steps;
 mod tags;
 #[cfg(test)]
@@ -12,6 +15,9 @@ mod tests;
 mod trims;
 
 pub use ak_filters::strip;
+pub use clozes::{cloze_numbers, show_clozes};
+pub use faces::{Face, PageFault, Pair};
 pub use faults::TemplateFault;
 pub use parses::parse;
+pub use showing::shows;
 pub use steps::{Step, Template};

@@ -41,7 +41,13 @@ fn read_template(alloc: Global, text: &str) -> Result<Template, TemplateFault>
 }
 
 // The words before a tag, and the tag.
-fn add_next(builder: &mut Builder, alloc: Global, before: &str, place: u64, inside: &str) -> Result<(), TemplateFault>
+fn add_next(
+    builder: &mut Builder,
+    alloc: Global,
+    before: &str,
+    place: u64,
+    inside: &str,
+) -> Result<(), TemplateFault>
     ensures faults { OnOk result ((front : ℕ) (others : List Piece) → fault_in builder.old.sections.items (words_at front before.now ++ ((place, tag_of (trimmed inside.now)) ∷ others)) ≡ fault_in builder.new.sections.items others) }
     ensures steps { OnOk result ((front : ℕ) (others : List Piece) → builder.old.steps.items ++ steps_in (words_at front before.now ++ ((place, tag_of (trimmed inside.now)) ∷ others)) ≡ builder.new.steps.items ++ steps_in others) }
     ensures fault { IfErr result (λ fault. (fault ≡ faults.Memory) ⊎ ((front : ℕ) (others : List Piece) → fault_in builder.old.sections.items (words_at front before.now ++ ((place, tag_of (trimmed inside.now)) ∷ others)) ≡ Some fault)) }
