@@ -1,5 +1,5 @@
 -- In a type that passes its check the place `sortf` is that of a field.
-use Rattle.std.proofs.Common.{◌≡◌, ℕ, ◌-◌, ◌<◌, ℤ, pos, ◌≤ℤ◌, ◌<ℤ◌, List, [], ◌∷◌, ◌++◌, length, refl, arith}
+use Rattle.std.proofs.Common.{◌≤◌, ◌≡◌, ℕ, ◌-◌, ◌<◌, ℤ, pos, ◌≤ℤ◌, ◌<ℤ◌, List, [], ◌∷◌, ◌++◌, length, refl, arith}
 use Rattle.std.proofs.lemmas.Int.{ints}
 use Rattle.std.specs.Prelude.{Option, Some, None, Ok}
 use Rattle.std.specs.Option.{option_or}
@@ -60,3 +60,17 @@ sortf_high n e =
     let high = place_high 5 n.sortf (length n.fields) (sortf_good n (form_good n e)) in
     let some = some_entry 6 (length n.fields) (good_left _ _ (fields_good n (form_good n e))) in
     omega (arith, ints)
+
+templates_good : (n : NoteType) → first_fault (form_faults n) ≡ Ok tt → templates_fault n.templates ≡ None
+unfolding form_faults
+templates_good n e =
+    let others : first_fault (fields_fault n.fields ∷ templates_fault n.templates ∷ long_fault 8 (length n.rest) 262_144 ∷ []) ≡ Ok tt = good_after (place_fault 5 n.sortf (length n.fields)) _ e in
+    let last : first_fault (templates_fault n.templates ∷ long_fault 8 (length n.rest) 262_144 ∷ []) ≡ Ok tt = good_after (fields_fault n.fields) _ others in
+    good_first (templates_fault n.templates) (long_fault 8 (length n.rest) 262_144 ∷ []) last
+
+few_entries : (column entries : ℕ) → entries_fault column entries ≡ None → entries ≤ 100
+unfolding entries_fault long_fault
+few_entries column entries e = grind arith
+
+pub templates_few : (n : NoteType) → first_fault (note_type_faults n) ≡ Ok tt → length n.templates ≤ 100
+templates_few n e = few_entries 7 (length n.templates) (good_left _ _ (templates_good n (form_good n e)))

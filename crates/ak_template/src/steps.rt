@@ -1,3 +1,5 @@
+ghost use Rattle.std.specs.Prelude.{◌≡◌};
+
 use ak_base::{List, Text};
 
 /// One step through a template, from front to back.
@@ -15,4 +17,13 @@ pub enum Step {
 #[derive(Debug, Drop)]
 pub struct Template {
     pub(crate) steps: List<Step>,
+}
+
+impl Template {
+    /// Its steps, from front to back.
+    pub fn steps(&self) -> &[Step]
+        ensures { result.now ≡ self.now.steps }
+    {
+        self.steps.as_slice()
+    }
 }
