@@ -1,4 +1,4 @@
-use Rattle.std.proofs.Common.{◌≡◌, ap, arith, length}
+use Rattle.std.proofs.Common.{ap, arith, length}
 use Rattle.ak_cardgen.proofs.Places.{templates_few}
 use Rattle.ak_cardgen.proofs.ords.ords_of.Goals as goal
 

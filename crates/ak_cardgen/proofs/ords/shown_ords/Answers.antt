@@ -1,4 +1,4 @@
-use Rattle.std.proofs.Common.{◌≡◌, subst, arith, refl, sym, ap, ◌∙◌, List, ℕ}
+use Rattle.std.proofs.Common.{subst, arith, sym, ap, ◌∙◌, List, ℕ}
 use Rattle.ak_cardgen.proofs.Generating.{shown_end, shown_step, none_step}
 use Rattle.ak_template.specs.Grammar.{IsTemplate, first_fault}
 use Rattle.ak_cardgen.proofs.ords.shown_ords.Goals as goal
