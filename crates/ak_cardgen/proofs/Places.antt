@@ -49,8 +49,8 @@ sortf_good n e = good_first _ _ e
 fields_good : (n : NoteType) → first_fault (form_faults n) ≡ Ok tt → fields_fault n.fields ≡ None
 unfolding form_faults
 fields_good n e =
-    let others : first_fault (fields_fault n.fields ∷ templates_fault n.templates ∷ long_fault 8 (length n.rest) 262_144 ∷ []) ≡ Ok tt = good_after (place_fault 5 n.sortf (length n.fields)) _ e in
-    good_first (fields_fault n.fields) (templates_fault n.templates ∷ long_fault 8 (length n.rest) 262_144 ∷ []) others
+    let others : first_fault (fields_fault n.fields ∷ templates_fault n.templates ∷ long_fault 8 (length n.rest.text) 262_144 ∷ []) ≡ Ok tt = good_after (place_fault 5 n.sortf (length n.fields)) _ e in
+    good_first (fields_fault n.fields) (templates_fault n.templates ∷ long_fault 8 (length n.rest.text) 262_144 ∷ []) others
 
 pub sortf_low : (n : NoteType) → first_fault (note_type_faults n) ≡ Ok tt → pos 0 ≤ℤ n.sortf
 sortf_low n e = place_low 5 n.sortf (length n.fields) (sortf_good n (form_good n e))
@@ -64,9 +64,9 @@ sortf_high n e =
 templates_good : (n : NoteType) → first_fault (form_faults n) ≡ Ok tt → templates_fault n.templates ≡ None
 unfolding form_faults
 templates_good n e =
-    let others : first_fault (fields_fault n.fields ∷ templates_fault n.templates ∷ long_fault 8 (length n.rest) 262_144 ∷ []) ≡ Ok tt = good_after (place_fault 5 n.sortf (length n.fields)) _ e in
-    let last : first_fault (templates_fault n.templates ∷ long_fault 8 (length n.rest) 262_144 ∷ []) ≡ Ok tt = good_after (fields_fault n.fields) _ others in
-    good_first (templates_fault n.templates) (long_fault 8 (length n.rest) 262_144 ∷ []) last
+    let others : first_fault (fields_fault n.fields ∷ templates_fault n.templates ∷ long_fault 8 (length n.rest.text) 262_144 ∷ []) ≡ Ok tt = good_after (place_fault 5 n.sortf (length n.fields)) _ e in
+    let last : first_fault (templates_fault n.templates ∷ long_fault 8 (length n.rest.text) 262_144 ∷ []) ≡ Ok tt = good_after (fields_fault n.fields) _ others in
+    good_first (templates_fault n.templates) (long_fault 8 (length n.rest.text) 262_144 ∷ []) last
 
 few_entries : (column entries : ℕ) → entries_fault column entries ≡ None → entries ≤ 100
 unfolding entries_fault long_fault

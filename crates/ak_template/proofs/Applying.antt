@@ -1,13 +1,12 @@
 -- A filter is applied at the place where its name first stands.
-use Rattle.std.proofs.Common.{◌≡◌, ℕ, zero, suc, ◌+◌, ◌-◌, ◌<◌, ◌≤◌, ◌==◌, Bool, true, false, cond, Result, Ok, Err, List, [], ◌∷◌, ◌++◌, length, map, get_or, refl, ap, sym, ◌∙◌, arith, rules}
+use Rattle.std.proofs.Common.{◌≡◌, ℕ, zero, suc, ◌+◌, ◌<◌, ◌≤◌, ◌==◌, true, false, cond, Result, Ok, Err, List, [], ◌∷◌, length, map, get_or, refl, ap, sym, ◌∙◌, arith}
 use Rattle.std.proofs.Common.{IfOk, OnOk, OnErr}
 use Rattle.ak_base.specs.declared.errors.Memory.{Memory}
 use Rattle.std.specs.Prelude.{⊤}
 use Rattle.std.specs.List.{slice_set}
 use Rattle.std.specs.Cmp.Lexicographic.{pointwise}
 use Rattle.ak_filters.specs.Meanings.{Meaning, filtered, turned}
-use Rattle.ak_template.specs.declared.faces.PageFault.{PageFault}
-use Rattle.ak_template.specs.declared.faces.PageFault.TheVariants.{NoField, NoFilter}
+use Rattle.ak_template.specs.declared.faces.PageFault.TheVariants.{NoFilter}
 use Rattle.ak_template.specs.Pages.{Page, filter_text, applied_at, behind_filter}
 
 -- the filters in front of a place have other names
@@ -19,11 +18,6 @@ Leads (suc place) name (filter ∷ filters) = (pointwise ◌==◌ filter.name na
 pub leads_none : (name : List ℕ) (filters : List Meaning) → Leads 0 name filters
 leads_none name [] = tt
 leads_none name (filter ∷ filters) = tt
-
-pub leads_on : (place : ℕ) (name : List ℕ) (filters : List Meaning) (d : Meaning) → Leads place name filters → place < length filters → pointwise ◌==◌ (get_or filters place d).name name ≡ false → Leads (suc place) name filters
-leads_on place name [] d h l e = tt
-leads_on zero name (filter ∷ filters) d h l e = (e, leads_none name filters)
-leads_on (suc place) name (filter ∷ filters) d h l e = (h.0, leads_on place name filters d h.1 (omega arith) e)
 
 -- at the end no filter has the name
 pub none_named : (place : ℕ) (name text : List ℕ) (filters : List Meaning) → Leads place name filters → length filters ≤ place → filter_text name text filters ≡ (Err (NoFilter name), filters)

@@ -59,7 +59,7 @@ tail_same x y xs ys h = ap (drop 1) h
 pub some_same : {A : Type 0} (x y : A) → Some x ≡ Some y → x ≡ y
 some_same x y h = grind (arith, h)
 
-somes_once : (xs ys : List Step) → map Some xs ≡ map Some ys → xs ≡ ys
+pub somes_once : (xs ys : List Step) → map Some xs ≡ map Some ys → xs ≡ ys
 somes_once [] [] h = refl
 somes_once [] (y ∷ ys) h = grind (arith, h)
 somes_once (x ∷ xs) [] h = grind (arith, h)
@@ -102,7 +102,7 @@ test_passed : (v : Bool) (fault : TemplateFault) → cond v None (Some fault) �
 test_passed true fault h = refl
 test_passed false fault h = grind (arith, h)
 
-same_names : (xs ys : List ℕ) → pointwise ◌==◌ xs ys ≡ true → xs ≡ ys
+pub same_names : (xs ys : List ℕ) → pointwise ◌==◌ xs ys ≡ true → xs ≡ ys
 same_names [] [] h = refl
 same_names [] (y ∷ ys) h = grind (arith, h)
 same_names (x ∷ xs) [] h = grind (arith, h)
@@ -140,7 +140,7 @@ has_tree text h = let found = fills [] (pieces text) h in (found.0, record { pie
 
 -- ---- a text with a tree has no fault
 
-names_equal : (xs : List ℕ) → pointwise ◌==◌ xs xs ≡ true
+pub names_equal : (xs : List ℕ) → pointwise ◌==◌ xs xs ≡ true
 names_equal [] = refl
 names_equal (x ∷ xs) = grind (arith, names_equal xs)
 

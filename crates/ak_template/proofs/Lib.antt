@@ -5,3 +5,6 @@ pub mod Clozing
 pub mod ShownTrees
 pub mod Walking
 pub mod Applying
+pub mod Writing
+pub mod Running
+pub mod Counting

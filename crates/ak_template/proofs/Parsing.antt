@@ -19,7 +19,7 @@ behind_le mark (b ∷ bs) = elim (begins mark (b ∷ bs)) as (λ v. length (cond
 pub opening_shorter : (b : ℕ) (bs : List ℕ) → length (behind (codes "{{") (b ∷ bs)) ≤ length bs
 opening_shorter b bs = elim (begins (codes "{{") (b ∷ bs)) as (λ v. length (cond v (drop 1 bs) (behind (codes "{{") bs)) ≤ length bs) [ true ↦ omega (arith, length-drop 1 bs) | false ↦ behind_le (codes "{{") bs ]
 
-tag_shorter : (b : ℕ) (bs : List ℕ) → length (behind_tag (b ∷ bs)) ≤ length bs
+pub tag_shorter : (b : ℕ) (bs : List ℕ) → length (behind_tag (b ∷ bs)) ≤ length bs
 tag_shorter b bs = omega (arith, opening_shorter b bs, behind_le (codes "}}") (behind (codes "{{") (b ∷ bs)))
 
 enough : (m n size : ℕ) (text : List ℕ) → length text ≤ m → length text ≤ n → pieces_in m size text ≡ pieces_in n size text

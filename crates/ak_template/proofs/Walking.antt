@@ -8,7 +8,7 @@ use Rattle.ak_template.specs.Trees.{Tree, End, Plain, Value, Section, laid}
 use Rattle.ak_template.specs.Pages.{Page, prefixed, followed, page, walk, field_text, field_value, section_page, open_page, hidden_section, is_shown}
 use Rattle.ak_template.proofs.Grammars.{append_nil}
 
-prefixed_nil : (p : Page) → prefixed [] p ≡ p
+pub prefixed_nil : (p : Page) → prefixed [] p ≡ p
 prefixed_nil (Ok text, filters) = refl
 prefixed_nil (Err fault, filters) = refl
 
@@ -16,7 +16,7 @@ prefixed_twice : (one other : List ℕ) (p : Page) → prefixed one (prefixed ot
 prefixed_twice one other (Ok text, filters) = ap {B = Page} (λ xs. (Ok xs, filters)) (sym (append_assoc one other text))
 prefixed_twice one other (Err fault, filters) = refl
 
-prefixed_followed : (text : List ℕ) (p : Page) (next : List Meaning → Page) → prefixed text (followed p next) ≡ followed (prefixed text p) next
+pub prefixed_followed : (text : List ℕ) (p : Page) (next : List Meaning → Page) → prefixed text (followed p next) ≡ followed (prefixed text p) next
 prefixed_followed text (Ok more, filters) next = prefixed_twice text more (next filters)
 prefixed_followed text (Err fault, filters) next = refl
 

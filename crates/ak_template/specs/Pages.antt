@@ -1,5 +1,5 @@
 -- The page that a template makes of a note's fields, and what stands of a card.
-use Rattle.std.specs.Prelude.{ℕ, zero, suc, ◌==◌, Bool, false, not, ◌&&◌, ◌||◌, if◌then◌else◌, List, [], ◌∷◌, ◌++◌, map, Option, Some, None, is_some, Result, Ok, Err, codes}
+use Rattle.std.specs.Prelude.{◌≡◌, ⊤, ℕ, zero, suc, ◌==◌, Bool, false, not, ◌&&◌, ◌||◌, if◌then◌else◌, List, [], ◌∷◌, ◌++◌, map, count_by, Option, Some, None, is_some, Result, Ok, Err, codes}
 use Rattle.std.specs.Option.{unwrap_or}
 use Rattle.std.specs.Cmp.Lexicographic.{pointwise}
 use Rattle.ak_filters.specs.Meanings.{Meaning, Form, filtered, turned}
@@ -70,9 +70,11 @@ one_text face name text filters =
     if pointwise ◌==◌ name (codes "cloze") then (Ok (clozed (is_some face.front) face.number text), filters)
     else filter_text name text filters
 
+-- from right to left: the filter next to the field's name is applied to its text, and each other one to what the
+-- filter on its right made
 abbrev pub tag_text : Face → List (List ℕ) → List ℕ → List Meaning → Page
 tag_text face [] text filters = (Ok text, filters)
-tag_text face (name ∷ names) text filters = passed (one_text face name text filters) (tag_text face names)
+tag_text face (name ∷ names) text filters = passed (tag_text face names text filters) (one_text face name)
 
 -- a missing field comes before a missing filter
 abbrev pub value_text : Option (List ℕ) → Face → List (List ℕ) → List ℕ → List Meaning → Page
@@ -97,6 +99,44 @@ page face (Section inverted name inside after) filters =
 -- what a filter keeps
 abbrev pub kinds : List Meaning → List (List ℕ × Form)
 kinds filters = map (λ (filter : Meaning). (filter.name, filter.form)) filters
+
+-- a filter after it was applied that many times
+abbrev pub turned_by : ℕ → Meaning → Meaning
+turned_by zero filter = filter
+turned_by (suc times) filter = turned_by times (turned filter)
+
+-- the filters run on from the first to the second list: each was applied some number of times
+abbrev pub RunOn : List Meaning → List Meaning → Type 0
+RunOn [] [] = ⊤
+RunOn [] (later ∷ laters) = ⊥
+RunOn (filter ∷ filters) [] = ⊥
+RunOn (filter ∷ filters) (later ∷ laters) = ((times : ℕ) × (later ≡ turned_by times filter)) × RunOn filters laters
+
+-- ---- how often a page applies a filter
+
+-- the filters of a tag, in the order in which they are applied. `cloze` is none of the list
+abbrev pub tag_filters : List (List ℕ) → List (List ℕ)
+tag_filters [] = []
+tag_filters (name ∷ names) = tag_filters names ++ (if pointwise ◌==◌ name (codes "cloze") then [] else name ∷ [])
+
+abbrev pub section_filters : Option (List ℕ) → Bool → List (List ℕ) → List (List ℕ)
+section_filters None inverted names = []
+section_filters (Some value) inverted names = if is_shown inverted value then names else []
+
+-- those of the tags that are shown, left to right
+abbrev pub shown_filters : Face → Tree → List (List ℕ)
+shown_filters face End = []
+shown_filters face (Plain words after) = shown_filters face after
+shown_filters face (Value names name after) = tag_filters names ++ shown_filters face after
+shown_filters face (Section inverted name inside after) = section_filters (field_value face name) inverted (shown_filters face inside) ++ shown_filters face after
+
+-- the filter of a name, which is the first of that name
+abbrev pub filter_named : List ℕ → List Meaning → Option Meaning
+filter_named name [] = None
+filter_named name (filter ∷ filters) = if pointwise ◌==◌ filter.name name then Some filter else filter_named name filters
+
+abbrev pub occurrences : List ℕ → List (List ℕ) → ℕ
+occurrences name names = count_by (λ (other : List ℕ). pointwise ◌==◌ other name) names
 
 -- ---- the same, step by step. The number is how many sections are open from the outermost hidden one on
 

@@ -1,5 +1,5 @@
 -- The tree of a template, and the steps that a page takes through it from front to back.
-use Rattle.std.specs.Prelude.{ℕ, suc, ◌<◌, Bool, List, [], ◌∷◌, ◌++◌, ⊤}
+use Rattle.std.specs.Prelude.{ℕ, suc, ◌<◌, Bool, if◌then◌else◌, List, [], ◌∷◌, ◌++◌, codes, ⊤}
 use Rattle.ak_template.specs.declared.steps.Step.{Step}
 use Rattle.ak_template.specs.declared.steps.Step.TheVariants.{Words, Field, Open, Close}
 
@@ -25,3 +25,25 @@ Nests depth End = ⊤
 Nests depth (Plain words after) = Nests depth after
 Nests depth (Value filters name after) = Nests depth after
 Nests depth (Section inverted name inside after) = (depth < 32) × Nests (suc depth) inside × Nests depth after
+
+-- ---- a tree written out
+
+-- a tag with that inside. The spaces belong to no inside, and part its end from the braces: an inside may end in `}`
+abbrev pub tagged : List ℕ → List ℕ
+tagged inside = codes "{{ " ++ (inside ++ codes " }}")
+
+abbrev pub field_inside : List (List ℕ) → List ℕ → List ℕ
+field_inside [] name = name
+field_inside (filter ∷ filters) name = filter ++ (codes ":" ++ field_inside filters name)
+
+abbrev pub open_inside : Bool → List ℕ → List ℕ
+open_inside inverted name = (if inverted then codes "^" else codes "#") ++ name
+
+abbrev pub close_inside : List ℕ → List ℕ
+close_inside name = codes "/" ++ name
+
+abbrev pub written : Tree → List ℕ
+written End = []
+written (Plain words after) = words ++ written after
+written (Value filters name after) = tagged (field_inside filters name) ++ written after
+written (Section inverted name inside after) = tagged (open_inside inverted name) ++ (written inside ++ (tagged (close_inside name) ++ written after))

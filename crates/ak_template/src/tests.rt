@@ -1,5 +1,8 @@
-use crate::{Face, Pair, TemplateFault, cloze_numbers, parse, show_clozes, shows};
+use crate::{
+    Face, PageFault, Pair, TemplateFault, cloze_numbers, parse, render, show_clozes, shows,
+};
 use ak_base::{List, Memory, Text};
+use ak_filters::{FieldFilter, HintFilter, TextFilter};
 use std::alloc::Global;
 
 fn fault_of(alloc: Global, text: &str) -> Option<TemplateFault> {
@@ -115,5 +118,151 @@ fn a_front_shows_what_is_not_empty(rt: HostRuntime) -> Result<(), Memory> {
         let shown = shows_of(alloc, text, front, back)?;
         assert!(rt; shown == *wanted);
     }
+    Ok(())
+}
+
+#[test]
+fn sections_nest_32_deep(rt: HostRuntime) -> Result<(), Memory> {
+    let alloc = rt.alloc();
+    let mut text = String::new(alloc);
+    for _ in 0..32 {
+        text.push_str("{{^A}}")?;
+    }
+    assert!(rt; fault_of(alloc, &text) == Some(TemplateFault::Unclosed(0)));
+    text.push_str("{{#A}}")?;
+    assert!(rt; fault_of(alloc, &text) == Some(TemplateFault::TooDeep(192)));
+    Ok(())
+}
+
+/// A filter of the caller's own.
+#[derive(Debug, Drop)]
+struct LoudFilter {
+    alloc: Global,
+    turn: u64,
+}
+
+impl FieldFilter for LoudFilter {
+    ghost use Rattle.std.specs.Prelude.{codes};
+    ghost use Rattle.ak_filters.specs.Meanings.{Meaning, Wrap};
+
+    ghost meaning = { λ filter. record { name = codes "loud"; form = Wrap (codes "<b>") (codes "</b>"); turn = filter.turn } };
+
+    fn name(&self) -> &str {
+        "loud"
+    }
+
+    fn apply(&mut self, text: &str) -> Result<Text, Memory> {
+        let made = format!(in self.alloc; "<b>{text}</b>")?;
+        let made = Text::of(self.alloc, &made)?;
+        self.turn = self.turn.saturating_add(1);
+        Ok(made)
+    }
+}
+
+// A page, or why there is none.
+fn told(alloc: Global, page: Result<Text, PageFault>) -> Result<Text, Memory> {
+    match page {
+        Ok(made) => Ok(made),
+        Err(PageFault::NoField(name)) => {
+            let name = name.as_str();
+            let line = format!(in alloc; "no field {name}")?;
+            Text::of(alloc, &line)
+        }
+        Err(PageFault::NoFilter(name)) => {
+            let name = name.as_str();
+            let line = format!(in alloc; "no filter {name}")?;
+            Text::of(alloc, &line)
+        }
+        Err(PageFault::Memory) => Err(Memory),
+    }
+}
+
+fn page_of(
+    alloc: Global,
+    filters: &mut Vec<Box<dyn FieldFilter>>,
+    text: &str,
+    face: &Face,
+) -> Result<Text, Memory> {
+    let template = match parse(alloc, text) {
+        Ok(template) => template,
+        Err(_) => return Err(Memory),
+    };
+    told(alloc, render(alloc, &template, face, filters))
+}
+
+#[test]
+fn pages_show_fields_through_filters(rt: HostRuntime) -> Result<(), Memory> {
+    let alloc = rt.alloc();
+    // the template, the field Back, its page, and a page of `{{hint:Front}}` behind it
+    let cases = [
+        (
+            "{{hint:Front}}{{hint:Back}}",
+            "b",
+            "<a class=hint id=hint0>a</a><a class=hint id=hint1>b</a>",
+            "<a class=hint id=hint2>a</a>",
+        ),
+        (
+            "{{#Back}}{{hint:Back}}{{/Back}}{{hint:Front}}",
+            "",
+            "<a class=hint id=hint0>a</a>",
+            "<a class=hint id=hint1>a</a>",
+        ),
+        (
+            "{{loud:Front}} {{ text:Back }}{{^Back}}x{{/Back}}{{FrontSide}}",
+            "<i>b</i>",
+            "<b>a</b> b",
+            "<a class=hint id=hint0>a</a>",
+        ),
+        (
+            "{{hint:Front}}{{hint:Nope}}{{hint:Front}}",
+            "b",
+            "no field Nope",
+            "<a class=hint id=hint1>a</a>",
+        ),
+        (
+            "{{hint:Front}}{{other:Front}}",
+            "b",
+            "no filter other",
+            "<a class=hint id=hint1>a</a>",
+        ),
+        (
+            "{{Nope}}",
+            "b",
+            "no field Nope",
+            "<a class=hint id=hint0>a</a>",
+        ),
+        (
+            "{{^Back}}{{#Nope}}{{other:Nope}}{{/Nope}}{{/Back}}{{other:Nope}}",
+            "b",
+            "no field Nope",
+            "<a class=hint id=hint0>a</a>",
+        ),
+    ];
+    for (text, back, wanted, behind) in cases.iter() {
+        let mut filters: Vec<Box<dyn FieldFilter>> = Vec::new(alloc);
+        filters.push(Box::new(alloc, TextFilter::new(alloc))?)?;
+        filters.push(Box::new(alloc, HintFilter::new(alloc))?)?;
+        filters.push(Box::new(alloc, LoudFilter { alloc, turn: 0 })?)?;
+        let face = face_of(alloc, "a", back)?;
+        let made = page_of(alloc, &mut filters, text, &face)?;
+        assert!(rt; made.as_str() == *wanted);
+        let later = page_of(alloc, &mut filters, "{{hint:Front}}", &face)?;
+        assert!(rt; later.as_str() == *behind);
+    }
+    Ok(())
+}
+
+#[test]
+fn a_cloze_is_hidden_on_the_front(rt: HostRuntime) -> Result<(), Memory> {
+    let alloc = rt.alloc();
+    let mut filters: Vec<Box<dyn FieldFilter>> = Vec::new(alloc);
+    let mut face = face_of(alloc, "{{c1::abc::letters}} and {{c2::d}}", "")?;
+    let question = page_of(alloc, &mut filters, "{{cloze:Front}}", &face)?;
+    assert!(rt; question.as_str() == "<span class=cloze>[letters]</span> and d");
+    face.front = Some(question);
+    let side = page_of(alloc, &mut filters, "{{FrontSide}}", &face)?;
+    assert!(rt; side.as_str() == "<span class=cloze>[letters]</span> and d");
+    let answer = page_of(alloc, &mut filters, "{{cloze:Front}}<br>{{Back}}", &face)?;
+    assert!(rt; answer.as_str() == "<span class=cloze>abc</span> and d<br>");
     Ok(())
 }

@@ -1,8 +1,8 @@
-use Rattle.std.proofs.Common.{inr, rules, map, refl, sym, ap, ◌∙◌, arith}
+use Rattle.std.proofs.Common.{inr, rules, refl, sym, ap, ◌∙◌}
 use Rattle.ak_template.specs.Pages.{filter_text}
 use Rattle.ak_template.proofs.Applying.{leads_none, leads_past, first_at, none_at}
-use Rattle.ak_template.specs.contracts.pages.apply_named as clauses
-use Rattle.ak_template.proofs.pages.apply_named.Goals as goal
+use Rattle.ak_template.specs.contracts.filters.apply_named as clauses
+use Rattle.ak_template.proofs.filters.apply_named.Goals as goal
 
 pub loop-place-init : goal.loop-place-init
 loop-place-init g c = (leads_none c.args.name.now _, refl)

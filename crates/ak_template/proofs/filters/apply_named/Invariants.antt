@@ -1,7 +1,7 @@
 use Rattle.std.proofs.Common.{◌≡◌, map}
-use Rattle.ak_template.specs.contracts.pages.apply_named as clauses
+use Rattle.ak_template.specs.contracts.filters.apply_named as clauses
 use Rattle.ak_template.proofs.Applying.{Leads}
-use Rattle.ak_template.proofs.pages.apply_named.Given as goal
+use Rattle.ak_template.proofs.filters.apply_named.Given as goal
 
 -- no filter in front of the place has the name
 abbrev pub invariant-loop-place : goal.invariant-loop-place
