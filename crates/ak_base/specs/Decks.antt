@@ -27,7 +27,7 @@ unfoldable pub taken_faults : Deck → List (Option RowFault)
 taken_faults d =
     count_fault 6 d.new_today
     ∷ count_fault 7 d.rev_today
-    ∷ long_fault 8 (length d.rest) 262_144
+    ∷ long_fault 8 (length d.rest.text) 262_144
     ∷ []
 
 -- the fault of each column, in the order of the fields; a truth value has none

@@ -1,5 +1,6 @@
 pub mod Names
 pub mod Columns
+pub mod Rests
 pub mod Decimals
 pub mod Reviews
 pub mod Cards
@@ -12,3 +13,4 @@ pub mod Heads
 pub mod Keys
 pub mod Days
 pub mod Rows
+pub mod Contents

@@ -19,7 +19,7 @@ entries_fault column entries = if entries == 0 then Some (BadCode column (pos 0)
 
 -- the lengths of a field's texts
 abbrev pub field_fault : FieldDef → Option RowFault
-field_fault f = option_or (long_fault 6 (length f.name) 512) (long_fault 6 (length f.rest) 262_144)
+field_fault f = option_or (long_fault 6 (length f.name) 512) (long_fault 6 (length f.rest.text) 262_144)
 
 -- the fault of the first field that has one
 abbrev pub bad_field : List FieldDef → Option RowFault
@@ -36,7 +36,7 @@ template_fault t =
     option_or (long_fault 7 (length t.name) 512)
     (option_or (long_fault 7 (length t.front) 65_536)
     (option_or (long_fault 7 (length t.back) 65_536)
-    (long_fault 7 (length t.rest) 262_144)))
+    (long_fault 7 (length t.rest.text) 262_144)))
 
 -- the fault of the first template that has one
 abbrev pub bad_template : List CardTemplate → Option RowFault
@@ -62,7 +62,7 @@ form_faults n =
     place_fault 5 n.sortf (length n.fields)
     ∷ fields_fault n.fields
     ∷ templates_fault n.templates
-    ∷ long_fault 8 (length n.rest) 262_144
+    ∷ long_fault 8 (length n.rest.text) 262_144
     ∷ []
 
 -- the fault of each column, in the order of the fields; a truth value has none

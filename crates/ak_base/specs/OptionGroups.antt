@@ -53,7 +53,7 @@ lapse_faults o =
     ∷ code_fault 19 o.min_int (pos 1) (pos 100_000)
     ∷ code_fault 20 o.leech_fails (pos 0) (pos 999_999)
     ∷ code_fault 21 o.leech_action (pos 0) (pos 1)
-    ∷ long_fault 22 (length o.rest) 262_144
+    ∷ long_fault 22 (length o.rest.text) 262_144
     ∷ []
 
 -- the fault of each column, in the order of the fields; a truth value has none

@@ -1,9 +1,7 @@
 ghost use Rattle.std.specs.Prelude.{◌≡◌, IfOk};
-ghost use Rattle.ak_base.specs.Columns.{first_fault};
-ghost use Rattle.ak_base.specs.Decks.{deck_faults, title_faults, taken_faults, count_fault};
 
 use crate::columns::{LAST_USN, code_fault, first_fault, id_fault, long_fault, stamp_fault};
-use crate::{Memory, Rest, RowFault, Text};
+use crate::{Memory, OfDeck, Rest, RowFault, Text};
 
 /// How many cards of a deck were taken on a day.
 #[derive(Clone, Copy, Debug, PartialEq, Eq)]
@@ -30,20 +28,27 @@ pub struct Deck {
     pub filtered: bool,
     pub new_today: Count,
     pub rev_today: Count,
-    pub rest: Rest,
+    pub rest: Rest<OfDeck>,
 }
 
-/// The fault of a column that holds a count, if there is one.
-fn count_fault(column: u8, count: Count) -> Option<RowFault>
-    ensures { result ≡ count_fault column count }
-{
-    match code_fault(column, count.day, -10_000_000, 100_000_000) {
-        Some(fault) => Some(fault),
-        None => code_fault(column, count.count, 0, 2_147_483_647),
+impl Count {
+    ghost use Rattle.ak_base.specs.Decks.{count_fault};
+
+    /// The fault of the count in that column, if there is one.
+    fn fault(self, column: u8) -> Option<RowFault>
+        ensures { result ≡ count_fault column self }
+    {
+        match code_fault(column, self.day, -10_000_000, 100_000_000) {
+            Some(fault) => Some(fault),
+            None => code_fault(column, self.count, 0, 2_147_483_647),
+        }
     }
 }
 
 impl Deck {
+    ghost use Rattle.ak_base.specs.Columns.{first_fault};
+    ghost use Rattle.ak_base.specs.Decks.{deck_faults, title_faults, taken_faults};
+
     /// What the deck is called, its options, and when it was changed.
     #[tactic(auto, unfolding(crate::specs::Decks::title_faults))]
     fn check_title(&self) -> Result<(), RowFault>
@@ -64,8 +69,8 @@ impl Deck {
         ensures { result ≡ first_fault (taken_faults self.now) }
     {
         first_fault(&[
-            count_fault(6, self.new_today),
-            count_fault(7, self.rev_today),
+            self.new_today.fault(6),
+            self.rev_today.fault(7),
             long_fault(8, self.rest.as_str().len() as u64, 262_144),
         ])
     }

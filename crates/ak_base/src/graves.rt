@@ -1,9 +1,9 @@
 ghost use Rattle.std.specs.Prelude.{◌≡◌, IfOk};
 ghost use Rattle.ak_base.specs.Columns.{first_fault};
-ghost use Rattle.ak_base.specs.Graves.{grave_faults};
+ghost use Rattle.ak_base.specs.Graves.{grave_faults, grave_table};
 
 use crate::columns::{LAST_USN, code_fault, first_fault, id_fault};
-use crate::{Memory, RowFault};
+use crate::{Memory, RowFault, Table};
 
 /// That a row was deleted, as schema 11's `graves` keeps it.
 #[derive(Clone, Copy, Debug, PartialEq, Eq)]
@@ -17,6 +17,19 @@ pub struct Grave {
 }
 
 impl Grave {
+    /// The table of graves that it stands in.
+    pub(crate) fn table(&self) -> Table
+        ensures { result ≡ grave_table self.now.kind }
+    {
+        if self.kind == 0 {
+            return Table::CardGrave;
+        }
+        if self.kind == 1 {
+            return Table::NoteGrave;
+        }
+        Table::DeckGrave
+    }
+
     /// The first column that is out of its range.
     pub fn check(&self) -> Result<(), RowFault>
         ensures { result ≡ first_fault (grave_faults self.now) }

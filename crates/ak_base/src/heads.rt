@@ -1,9 +1,9 @@
 ghost use Rattle.std.specs.Prelude.{◌≡◌, IfOk};
 
-use crate::{List, Memory, Rest, Text};
+use crate::{List, Memory, OfConf, Rest, Text};
 
 /// The settings of a collection: the column `conf` of schema 11's `col`.
-#[derive(Debug, Drop)]
+#[derive(Debug, PartialEq, Drop)]
 pub struct Conf {
     /// 0 where new cards come among reviews, 1 after them, 2 before them.
     pub new_spread: i64,
@@ -15,7 +15,7 @@ pub struct Conf {
     pub next_pos: i64,
     /// The day on which buried cards came back last.
     pub last_unburied: i64,
-    pub rest: Rest,
+    pub rest: Rest<OfConf>,
 }
 
 /// A tag that notes of the collection have or had.
@@ -28,7 +28,7 @@ pub struct Tag {
 }
 
 /// What a collection has besides its rows: the one row of schema 11's `col`.
-#[derive(Debug, Drop)]
+#[derive(Debug, PartialEq, Drop)]
 pub struct Head {
     /// The second at which the collection's first day begins.
     pub crt: i64,

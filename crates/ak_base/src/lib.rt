@@ -3,6 +3,7 @@
 
 mod cards;
 mod columns;
+mod contents;
 mod days;
 mod decimals;
 mod decks;
@@ -34,7 +35,7 @@ pub use names::{Name, Table};
 pub use note_types::{CardTemplate, FieldDef, NoteType};
 pub use notes::Note;
 pub use option_groups::Options;
-pub use rests::Rest;
+pub use rests::{OfConf, OfDeck, OfField, OfNoteType, OfOptions, OfTemplate, Owner, Rest};
 pub use reviews::Review;
 pub use rows::Row;
 pub use texts::Text;

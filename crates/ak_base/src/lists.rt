@@ -72,3 +72,15 @@ impl<T: Copy> List<T> {
         Ok(List { elements })
     }
 }
+
+impl<T: PartialEq> PartialEq for List<T> {
+    ghost use Rattle.std.specs.Cmp.Lexicographic.{pointwise, lists_per};
+
+    ghost eq = { pointwise T.eq };
+
+    ghost laws = { lists_per T.laws };
+
+    fn eq(&self, other: &List<T>) -> bool {
+        self.elements.as_slice() == other.elements.as_slice()
+    }
+}

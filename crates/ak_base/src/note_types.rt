@@ -1,31 +1,29 @@
 ghost use Rattle.std.specs.Prelude.{◌≡◌, IfOk};
-ghost use Rattle.ak_base.specs.Columns.{first_fault};
-ghost use Rattle.ak_base.specs.NoteTypes.{note_type_faults, title_faults, form_faults, place_fault, entries_fault, field_fault, bad_field, fields_fault, template_fault, bad_template, templates_fault};
 
 use crate::columns::{LAST_USN, code_fault, first_fault, id_fault, long_fault, stamp_fault};
-use crate::{List, Memory, Rest, RowFault, Text};
+use crate::{List, Memory, OfField, OfNoteType, OfTemplate, Rest, RowFault, Text};
 
 /// A field that each note of a type has: an object of the key `flds`.
-#[derive(Debug, Drop)]
+#[derive(Debug, PartialEq, Drop)]
 pub struct FieldDef {
     pub name: Text,
-    pub rest: Rest,
+    pub rest: Rest<OfField>,
 }
 
 /// How a card is made of a note: an object of the key `tmpls`.
-#[derive(Debug, Drop)]
+#[derive(Debug, PartialEq, Drop)]
 pub struct CardTemplate {
     pub name: Text,
     /// The question's side: the key `qfmt`.
     pub front: Text,
     /// The answer's side: the key `afmt`.
     pub back: Text,
-    pub rest: Rest,
+    pub rest: Rest<OfTemplate>,
 }
 
 /// What the notes of one kind have, and the cards that are made of them: an object of schema 11's
 /// `models`.
-#[derive(Debug, Drop)]
+#[derive(Debug, PartialEq, Drop)]
 pub struct NoteType {
     /// When the type was made, in milliseconds.
     pub id: i64,
@@ -42,36 +40,34 @@ pub struct NoteType {
     pub fields: List<FieldDef>,
     /// 1 to 100 of them.
     pub templates: List<CardTemplate>,
-    pub rest: Rest,
-}
-
-/// The fault of a place among so many entries, if there is one.
-#[tactic(auto, unfolding(crate::specs::NoteTypes::place_fault, crate::specs::Columns::code_fault))]
-fn place_fault(column: u8, place: i64, entries: u64) -> Option<RowFault>
-    ensures { result ≡ place_fault column place entries }
-{
-    let last = if entries == 0 { 0 } else { entries - 1 };
-    if place < 0 || place as u64 > last {
-        return Some(RowFault::BadCode {
-            column,
-            value: place,
-        });
-    }
-    None
-}
-
-/// The fault of a list of so many entries where the column holds 1 to 100, if there is one.
-#[tactic(auto, unfolding(crate::specs::NoteTypes::entries_fault))]
-fn entries_fault(column: u8, entries: u64) -> Option<RowFault>
-    ensures { result ≡ entries_fault column entries }
-{
-    if entries == 0 {
-        return Some(RowFault::BadCode { column, value: 0 });
-    }
-    long_fault(column, entries, 100)
+    pub rest: Rest<OfNoteType>,
 }
 
 impl FieldDef {
+    ghost use Rattle.ak_base.specs.NoteTypes.{field_fault, bad_field, fields_fault};
+
+    /// The fault of the first field that has one.
+    fn bad_field(fields: &[FieldDef]) -> Option<RowFault>
+        ensures { result ≡ bad_field fields.now }
+    {
+        for field in fields {
+            if let Some(fault) = field.fault() {
+                return Some(fault);
+            }
+        }
+        None
+    }
+
+    /// The fault of the fields, if there is one.
+    fn fields_fault(fields: &[FieldDef]) -> Option<RowFault>
+        ensures { result ≡ fields_fault fields.now }
+    {
+        match NoteType::entries_fault(6, fields.len() as u64) {
+            Some(fault) => Some(fault),
+            None => FieldDef::bad_field(fields),
+        }
+    }
+
     /// The fault of the field, if there is one.
     fn fault(&self) -> Option<RowFault>
         ensures { result ≡ field_fault self.now }
@@ -93,29 +89,31 @@ impl FieldDef {
     }
 }
 
-/// The fault of the first field that has one.
-fn bad_field(fields: &[FieldDef]) -> Option<RowFault>
-    ensures { result ≡ bad_field fields.now }
-{
-    for field in fields {
-        if let Some(fault) = field.fault() {
-            return Some(fault);
+impl CardTemplate {
+    ghost use Rattle.ak_base.specs.NoteTypes.{template_fault, bad_template, templates_fault};
+
+    /// The fault of the first template that has one.
+    fn bad_template(templates: &[CardTemplate]) -> Option<RowFault>
+        ensures { result ≡ bad_template templates.now }
+    {
+        for template in templates {
+            if let Some(fault) = template.fault() {
+                return Some(fault);
+            }
+        }
+        None
+    }
+
+    /// The fault of the templates, if there is one.
+    fn templates_fault(templates: &[CardTemplate]) -> Option<RowFault>
+        ensures { result ≡ templates_fault templates.now }
+    {
+        match NoteType::entries_fault(7, templates.len() as u64) {
+            Some(fault) => Some(fault),
+            None => CardTemplate::bad_template(templates),
         }
     }
-    None
-}
 
-/// The fault of the fields, if there is one.
-fn fields_fault(fields: &[FieldDef]) -> Option<RowFault>
-    ensures { result ≡ fields_fault fields.now }
-{
-    match entries_fault(6, fields.len() as u64) {
-        Some(fault) => Some(fault),
-        None => bad_field(fields),
-    }
-}
-
-impl CardTemplate {
     /// The fault of the template's name and front, if there is one, else that of its back and rest.
     fn fault(&self) -> Option<RowFault>
         ensures { result ≡ template_fault self.now }
@@ -145,28 +143,6 @@ impl CardTemplate {
     }
 }
 
-/// The fault of the first template that has one.
-fn bad_template(templates: &[CardTemplate]) -> Option<RowFault>
-    ensures { result ≡ bad_template templates.now }
-{
-    for template in templates {
-        if let Some(fault) = template.fault() {
-            return Some(fault);
-        }
-    }
-    None
-}
-
-/// The fault of the templates, if there is one.
-fn templates_fault(templates: &[CardTemplate]) -> Option<RowFault>
-    ensures { result ≡ templates_fault templates.now }
-{
-    match entries_fault(7, templates.len() as u64) {
-        Some(fault) => Some(fault),
-        None => bad_template(templates),
-    }
-}
-
 /// Equal fields of their own.
 fn copy_fields(fields: &List<FieldDef>) -> Result<List<FieldDef>, Memory>
     ensures { IfOk result (λ made. made ≡ fields.now) }
@@ -190,6 +166,35 @@ fn copy_templates(templates: &List<CardTemplate>) -> Result<List<CardTemplate>, 
 }
 
 impl NoteType {
+    ghost use Rattle.ak_base.specs.Columns.{first_fault};
+    ghost use Rattle.ak_base.specs.NoteTypes.{note_type_faults, title_faults, form_faults, place_fault, entries_fault};
+
+    /// The fault of a place among so many entries, if there is one.
+    #[tactic(auto, unfolding(crate::specs::NoteTypes::place_fault, crate::specs::Columns::code_fault))]
+    fn place_fault(column: u8, place: i64, entries: u64) -> Option<RowFault>
+        ensures { result ≡ place_fault column place entries }
+    {
+        let last = if entries == 0 { 0 } else { entries - 1 };
+        if place < 0 || place as u64 > last {
+            return Some(RowFault::BadCode {
+                column,
+                value: place,
+            });
+        }
+        None
+    }
+
+    /// The fault of a list of so many entries where the column holds 1 to 100, if there is one.
+    #[tactic(auto, unfolding(crate::specs::NoteTypes::entries_fault))]
+    fn entries_fault(column: u8, entries: u64) -> Option<RowFault>
+        ensures { result ≡ entries_fault column entries }
+    {
+        if entries == 0 {
+            return Some(RowFault::BadCode { column, value: 0 });
+        }
+        long_fault(column, entries, 100)
+    }
+
     /// What the type is called, and when it was changed.
     #[tactic(auto, unfolding(crate::specs::NoteTypes::title_faults))]
     fn check_title(&self) -> Result<(), RowFault>
@@ -209,9 +214,9 @@ impl NoteType {
         ensures { result ≡ first_fault (form_faults self.now) }
     {
         first_fault(&[
-            place_fault(5, self.sortf, self.fields.as_slice().len() as u64),
-            fields_fault(self.fields.as_slice()),
-            templates_fault(self.templates.as_slice()),
+            NoteType::place_fault(5, self.sortf, self.fields.as_slice().len() as u64),
+            FieldDef::fields_fault(self.fields.as_slice()),
+            CardTemplate::templates_fault(self.templates.as_slice()),
             long_fault(8, self.rest.as_str().len() as u64, 262_144),
         ])
     }

@@ -1,12 +1,10 @@
 ghost use Rattle.std.specs.Prelude.{◌≡◌, IfOk};
-ghost use Rattle.ak_base.specs.Columns.{first_fault};
-ghost use Rattle.ak_base.specs.OptionGroups.{options_faults, general_faults, new_faults, rev_faults, lapse_faults, bad_step, steps_fault};
 
 use crate::columns::{LAST_USN, code_fault, first_fault, id_fault, long_fault, stamp_fault};
-use crate::{List, Memory, Rest, RowFault, Text};
+use crate::{List, Memory, OfOptions, Rest, RowFault, Text};
 
 /// How the cards of a deck are scheduled: one of Anki's option groups.
-#[derive(Debug, Drop)]
+#[derive(Debug, PartialEq, Drop)]
 pub struct Options {
     /// When the group was made, in milliseconds.
     pub id: i64,
@@ -47,32 +45,35 @@ pub struct Options {
     pub leech_fails: i64,
     /// 0 where a leech is suspended, else 1.
     pub leech_action: i64,
-    pub rest: Rest,
-}
-
-/// The fault of the first step that is no number of minutes from 1 to 1,000,000.
-fn bad_step(column: u8, steps: &[i64]) -> Option<RowFault>
-    ensures { result ≡ bad_step column steps.now }
-{
-    for step in steps {
-        if let Some(fault) = code_fault(column, *step, 1, 1_000_000) {
-            return Some(fault);
-        }
-    }
-    None
-}
-
-/// The fault of a column of steps, if there is one.
-fn steps_fault(column: u8, steps: &[i64]) -> Option<RowFault>
-    ensures { result ≡ steps_fault column steps.now }
-{
-    match long_fault(column, steps.len() as u64, 50) {
-        Some(fault) => Some(fault),
-        None => bad_step(column, steps),
-    }
+    pub rest: Rest<OfOptions>,
 }
 
 impl Options {
+    ghost use Rattle.ak_base.specs.Columns.{first_fault};
+    ghost use Rattle.ak_base.specs.OptionGroups.{options_faults, general_faults, new_faults, rev_faults, lapse_faults, bad_step, steps_fault};
+
+    /// The fault of the first step that is no number of minutes from 1 to 1,000,000.
+    fn bad_step(column: u8, steps: &[i64]) -> Option<RowFault>
+        ensures { result ≡ bad_step column steps.now }
+    {
+        for step in steps {
+            if let Some(fault) = code_fault(column, *step, 1, 1_000_000) {
+                return Some(fault);
+            }
+        }
+        None
+    }
+
+    /// The fault of a column of steps, if there is one.
+    fn steps_fault(column: u8, steps: &[i64]) -> Option<RowFault>
+        ensures { result ≡ steps_fault column steps.now }
+    {
+        match long_fault(column, steps.len() as u64, 50) {
+            Some(fault) => Some(fault),
+            None => Options::bad_step(column, steps),
+        }
+    }
+
     /// What the group is called, when it was changed, and what serves every card.
     #[tactic(auto, unfolding(crate::specs::OptionGroups::general_faults))]
     fn check_general(&self) -> Result<(), RowFault>
@@ -93,7 +94,7 @@ impl Options {
         ensures { result ≡ first_fault (new_faults self.now) }
     {
         first_fault(&[
-            steps_fault(5, self.new_steps.as_slice()),
+            Options::steps_fault(5, self.new_steps.as_slice()),
             code_fault(6, self.grad_ivl, 1, 100_000),
             code_fault(7, self.easy_ivl, 1, 100_000),
             code_fault(8, self.initial_factor, 1_300, 100_000),
@@ -121,7 +122,7 @@ impl Options {
         ensures { result ≡ first_fault (lapse_faults self.now) }
     {
         first_fault(&[
-            steps_fault(17, self.lapse_steps.as_slice()),
+            Options::steps_fault(17, self.lapse_steps.as_slice()),
             code_fault(18, self.mult, 0, 1_000),
             code_fault(19, self.min_int, 1, 100_000),
             code_fault(20, self.leech_fails, 0, 999_999),
@@ -141,15 +142,19 @@ impl Options {
         self.check_lapses()
     }
 
-    /// The group with these texts and steps in place of its own.
-    fn with_owned(
+    /// An equal group over copies of its texts and steps.
+    fn with_copies(
         &self,
         name: Text,
         new_steps: List<i64>,
         lapse_steps: List<i64>,
-        rest: Rest,
+        rest: Rest<OfOptions>,
     ) -> Options
-        ensures { result ≡ record self.now { name = name; new_steps = new_steps; lapse_steps = lapse_steps; rest = rest } }
+        requires name { name ≡ self.now.name }
+        requires new_steps { new_steps ≡ self.now.new_steps }
+        requires lapse_steps { lapse_steps ≡ self.now.lapse_steps }
+        requires rest { rest ≡ self.now.rest }
+        ensures { result ≡ self.now }
     {
         Options {
             id: self.id,
@@ -186,7 +191,7 @@ impl Options {
         let new_steps = self.new_steps.copy()?;
         let lapse_steps = self.lapse_steps.copy()?;
         let rest = self.rest.copy()?;
-        Ok(self.with_owned(name, new_steps, lapse_steps, rest))
+        Ok(self.with_copies(name, new_steps, lapse_steps, rest))
     }
 }
 

@@ -1,4 +1,5 @@
 ghost use Rattle.std.specs.Prelude.{◌≡◌, IfOk};
+ghost use Rattle.std.specs.String.{string_bytes};
 
 use crate::Memory;
 use std::alloc::Global;
@@ -39,6 +40,14 @@ impl Text {
     {
         let inner = self.inner.clone()?;
         Ok(Text { inner })
+    }
+}
+
+impl From<String> for Text {
+    fn from(inner: String) -> Text
+        ensures { result ≡ string_bytes inner }
+    {
+        Text { inner }
     }
 }
 

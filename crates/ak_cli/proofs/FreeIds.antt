@@ -2,7 +2,7 @@
 use Rattle.std.proofs.Common.{◌≡◌, ℕ, zero, suc, ◌+◌, ◌-◌, ◌<◌, ◌≤◌, true, false, List, [], ◌∷◌, ◌++◌, Option, Some, None, refl, sym, ap, subst, append_assoc, append-nil, length, length-append, cond, arith}
 use Rattle.std.specs.Option.{option_map}
 use Rattle.ak_keep.specs.Collections.{Rows}
-use Rattle.ak_cli.specs.Sides.{is_free, only_free, free_ids, AllBelow}
+use Rattle.ak_cli.specs.NewReviews.{is_free, only_free, free_ids, AreIds, IsId}
 
 -- no more are looked for
 none_wanted : (left id : ℕ) (held : Rows) → free_ids left id 0 held ≡ Some []
@@ -62,9 +62,9 @@ found_few end id count ids held over few =
     none_left zero h = absurd (omega arith)
     none_left (suc wanted) h = refl
 
-below_free_all : (end : ℕ) (ids : List ℕ) (id : ℕ) (held : Rows) → AllBelow end ids → id < end → AllBelow end (ids ++ only_free held id)
-below_free_all end [] id held h lt = elim (is_free held id) as (λ free. AllBelow end (cond free (id ∷ []) [])) [ true ↦ (lt, tt) | false ↦ tt ]
-below_free_all end (first ∷ ids) id held h lt = (h.0, below_free_all end ids id held h.1 lt)
+ids_free_all : (ids : List ℕ) (id : ℕ) (held : Rows) → AreIds ids → IsId id → AreIds (ids ++ only_free held id)
+ids_free_all [] id held h one = elim (is_free held id) as (λ free. AreIds (cond free (id ∷ []) [])) [ true ↦ (one, tt) | false ↦ tt ]
+ids_free_all (first ∷ ids) id held h one = (h.0, ids_free_all ids id held h.1 one)
 
-pub below_free : (end : ℕ) (ids new : List ℕ) (id : ℕ) (held : Rows) → AllBelow end ids → id < end → new ≡ ids ++ only_free held id → AllBelow end new
-below_free end ids new id held h lt pushed = subst (AllBelow end) (sym pushed) (below_free_all end ids id held h lt)
+pub ids_free : (ids new : List ℕ) (id : ℕ) (held : Rows) → AreIds ids → IsId id → new ≡ ids ++ only_free held id → AreIds new
+ids_free ids new id held h one pushed = subst AreIds (sym pushed) (ids_free_all ids id held h one)

@@ -50,5 +50,5 @@ command_of _ = None
 
 -- the card and the button of a `review` line are in the ranges of a review's columns
 abbrev pub IsInRange : Command → Type 0
-IsInRange (Review device card ease count) = (card < 9_007_199_254_740_992) × (ease ≤ 4)
+IsInRange (Review device card ease count) = (1 ≤ card) × (card < 9_007_199_254_740_992) × (ease ≤ 4)
 IsInRange command = ⊤

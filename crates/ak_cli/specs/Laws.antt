@@ -8,7 +8,8 @@ use Rattle.ak_keep.specs.Collections.{Rows, union}
 use Rattle.ak_merge.specs.FirstTies.{first_tie_none}
 use Rattle.ak_merge.specs.Join.{IsJoin, AreSame, union_joins, union_commutes}
 use Rattle.ak_merge.specs.Ties.{AreApart, first_tie}
-use Rattle.ak_cli.specs.Sides.{is_free, free_ids, raised}
+use Rattle.ak_cli.specs.NewReviews.{is_free, free_ids}
+use Rattle.ak_cli.specs.Sides.{raised}
 use Rattle.ak_cli.specs.Syncs.{joined_side, joined, unless_tied, synced}
 use Rattle.ak_cli.specs.declared.lab.sides.Side.{Side}
 use Rattle.ak_cli.specs.declared.lab.sides.TheConstants.{LAST_MOMENT}

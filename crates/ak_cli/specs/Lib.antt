@@ -4,7 +4,9 @@ pub mod LabRun
 pub mod Labs
 pub mod Laws
 pub mod Programs
+pub mod NewReviews
 pub mod Sides
+pub mod Stores
 pub mod Steps
 pub mod Syncs
 pub mod Tables

@@ -6,5 +6,6 @@ mod laboratories;
 pub mod laws;
 pub(crate) mod scripts;
 mod sides;
+mod stores;
 mod syncs;
 mod tables;

@@ -1,12 +1,19 @@
--- A collection's rows as a finite map from names to rows.
-use Rattle.std.specs.Prelude.{◌≡◌, ℤ, Bool, ◌&&◌, ◌==◌, int_lt, List, [], ◌∷◌, ◌++◌, map, filter, IsTrue, ⊤}
-use Rattle.std.specs.FinMap.{FinMap, entries, from_entries}
+-- A collection: a finite map from names to rows, and a head.
+use Rattle.std.specs.Prelude.{◌≡◌, ℕ, ℤ, pos, negsuc, Bool, false, not, ◌&&◌, ◌==◌, ◌<◌, int_lt, List, [], ◌∷◌, ◌++◌, map, filter, length, take, IsTrue, ⊤, Option, Some, Ok, IfSome}
+use Rattle.std.specs.FinMap.{FinMap, entries, keys, from_entries, insert, remove}
 use Rattle.std.specs.List.{AllByRecursion}
+use Rattle.std.specs.Option.{option_map}
+use Rattle.std.specs.Ordering.{int_eq}
 use Rattle.ak_base.specs.Names.{name_cmp, table_place}
-use Rattle.ak_base.specs.Rows.{name_of}
+use Rattle.ak_base.specs.Rows.{name_of, usn_of, check_of}
+use Rattle.ak_base.specs.Heads.{IsHeadInRange, IsMoment, IsWithin}
+use Rattle.ak_base.specs.declared.heads.Head.{Head}
 use Rattle.ak_base.specs.declared.names.Name.{Name}
 use Rattle.ak_base.specs.declared.names.Table.{Table}
 use Rattle.ak_base.specs.declared.rows.Row.{Row}
+use Rattle.ak_base.specs.declared.rows.Row.TheVariants as rows
+use Rattle.ak_keep.specs.declared.keepers.Wanted.{Wanted}
+use Rattle.ak_keep.specs.declared.keepers.Wanted.TheVariants.{Unsent, From}
 
 -- the rows of a collection, each under its name
 abbrev pub Rows : Type 0
@@ -19,6 +26,10 @@ StandsUnderNames rows = AllByRecursion (λ entry. name_of entry.1 ≡ entry.0) (
 -- the rows of both, and under a name that both hold the row of the first
 abbrev pub union : Rows → Rows → Rows
 union a b = from_entries (entries a ++ entries b)
+
+-- these rows, each under its name; where two have one name, the first of them stands
+abbrev pub rows_of : List Row → Rows
+rows_of rows = from_entries (map (λ row. (name_of row, row)) rows)
 
 -- a name of this table with an id over `past`
 abbrev pub is_past : Table → ℤ → Name → Bool
@@ -37,3 +48,96 @@ last_id past (row ∷ rows) = last_id (name_of row).id rows
 abbrev pub AscendsPast : Table → ℤ → List Row → Type 0
 AscendsPast table past [] = ⊤
 AscendsPast table past (row ∷ rows) = IsTrue (is_past table past (name_of row)) × AscendsPast table (name_of row).id rows
+
+-- a row that was not sent yet
+abbrev pub is_pending : Row → Bool
+is_pending row = int_eq (usn_of row) (negsuc 0)
+
+-- a row that a sync gave its update sequence number
+abbrev pub is_settled : Row → Bool
+is_settled row = not (is_pending row)
+
+-- a row that was not sent yet, or one whose update sequence number is at least so much
+abbrev pub is_wanted : Wanted → Row → Bool
+is_wanted Unsent row = is_pending row
+is_wanted (From usn) row = not (int_lt (usn_of row) usn)
+
+-- the wanted rows of a table with ids over `past`, by ascending id
+abbrev pub wanted_past : Table → Wanted → ℤ → Rows → List Row
+wanted_past table want past rows = filter (is_wanted want) (rows_past table past rows)
+
+-- how many rows a table has
+abbrev pub row_count : Table → Rows → ℕ
+row_count table rows = length (filter (λ name. table_place name.table == table_place table) (keys rows))
+
+-- whether a row is a card of this note
+abbrev pub is_card_of : ℤ → Row → Bool
+is_card_of note (rows.Note n) = false
+is_card_of note (rows.Card c) = int_eq c.nid note
+is_card_of note (rows.Review r) = false
+is_card_of note (rows.NoteType t) = false
+is_card_of note (rows.Deck d) = false
+is_card_of note (rows.Options o) = false
+is_card_of note (rows.Grave g) = false
+
+-- the ids of a note's cards among entries
+abbrev pub cards_among : ℤ → List (Name × Row) → List ℤ
+cards_among note es = map (λ (entry : Name × Row). entry.0.id) (filter (λ (entry : Name × Row). is_card_of note entry.1) es)
+
+-- the ids of a note's cards, in ascending order
+abbrev pub cards_of : ℤ → Rows → List ℤ
+cards_of note rows = cards_among note (entries rows)
+
+-- a page of all that comes past an id: its first `limit` rows. A page that is not full is all of it, and behind each
+-- page comes what is past its last row
+pub record IsPageOf (all : ℤ → List Row) (past : ℤ) (limit : ℕ) (page : List Row) : Type 0 where
+  pub rows : page ≡ take limit (all past)
+  pub whole : length page < limit → all past ≡ page
+  pub rest : all past ≡ page ++ all (last_id past page)
+
+-- ---- the collection
+-- its rows by name, and its head, None where no collection is held
+pub record Collection : Type 0 where
+  pub rows : Rows
+  pub head : Option Head
+
+-- a row whose columns are all in their ranges
+abbrev pub IsChecked : Row → Type 0
+IsChecked row = check_of row ≡ Ok tt
+
+-- each row stands under its own name, and all of it is in its ranges
+pub record IsWellFormed (c : Collection) : Type 0 where
+  pub named : StandsUnderNames c.rows
+  pub checked : AllByRecursion (λ entry. IsChecked entry.1) (entries c.rows)
+  pub head : IfSome c.head IsHeadInRange
+
+-- with this row under its name
+abbrev pub with_row : Row → Collection → Collection
+with_row row c = record c { rows = insert c.rows (name_of row) row }
+
+-- without the row of this name
+abbrev pub without : Name → Collection → Collection
+without name c = record c { rows = remove c.rows name }
+
+abbrev pub with_head : Head → Collection → Collection
+with_head head c = record c { head = Some head }
+
+-- with these moments and update sequence numbers in the head that is held
+abbrev pub with_moments : ℤ → ℤ → ℤ → ℤ → Collection → Collection
+with_moments moment schema usn last_sync c =
+    record c { head = option_map (λ (head : Head). record head { moment = moment; schema = schema; usn = usn; last_sync = last_sync }) c.head }
+
+-- with the rows of another under names that are not held
+abbrev pub with_rows_of : Collection → Collection → Collection
+with_rows_of from c = record c { rows = union c.rows from.rows }
+
+-- these rows, and this head
+abbrev pub made_of : List Row → Head → Collection
+made_of rows head = record { rows = rows_of rows; head = Some head }
+
+-- the moments and the update sequence number of a head are in their ranges
+pub record AreMomentsInRange (m : ℤ) (s : ℤ) (u : ℤ) (l : ℤ) : Type 0 where
+  pub moment : IsMoment m
+  pub schema : IsMoment s
+  pub usn : IsWithin (pos 0) (pos 2_147_483_646) u
+  pub last_sync : IsMoment l

@@ -1,9 +1,9 @@
 -- A keeper's entries, as the finite map of them.
-use Rattle.std.specs.Prelude.{◌≡◌, Bool, true, false, T, not, ◌&&◌, Option, Some, None, is_some, List, [], ◌∷◌, ◌++◌, cond, length}
+use Rattle.std.specs.Prelude.{◌≡◌, Bool, true, false, T, not, ◌&&◌, Option, Some, None, is_some, List, [], ◌∷◌, ◌++◌, map, cond, length}
 use Rattle.std.proofs.Common.{refl, sym, ap, subst, ◌∙◌, arith}
 use Rattle.std.specs.BTreeMap.{is_at}
 use Rattle.std.specs.Cmp.{eq_by_cmp_equiv, tied_itself}
-use Rattle.std.specs.FinMap.{find, put, get, insert, empty, entries, entries_sorted, from_entries, is_sorted, get-entries, get-insert, get-from_entries, entries-insert, len-entries, len-empty, same_map}
+use Rattle.std.specs.FinMap.{find, put, get, insert, remove, empty, entries, entries_sorted, from_entries, is_sorted, get-entries, get-insert, get-remove, get-from_entries, entries-insert, len-entries, len-empty, same_map}
 use Rattle.std.specs.FinMap.Entries.{by_order, below_all, same_entries}
 use Rattle.std.specs.List.{AllByRecursion}
 use Rattle.std.specs.List.Sorted.{IsStrictlySortedBy}
@@ -16,7 +16,7 @@ use Rattle.ak_base.specs.Names.{name_cmp, names_total, names_exact}
 use Rattle.ak_base.specs.Rows.{name_of}
 use Rattle.ak_base.specs.declared.names.Name.{Name}
 use Rattle.ak_base.specs.declared.rows.Row.{Row}
-use Rattle.ak_keep.specs.Collections.{Rows, StandsUnderNames, union}
+use Rattle.ak_keep.specs.Collections.{Rows, StandsUnderNames, union, rows_of}
 
 pub both_first : (a b : Bool) → T (a && b) → T a
 both_first true b h = tt
@@ -31,6 +31,11 @@ is_less Less h = refl
 is_less Equal h = absurd h
 is_less Greater h = absurd h
 
+tied_of : (r : Ordering) → is_eq r ≡ true → r ≡ Equal
+tied_of Less is = absurd (subst T (sym is) tt)
+tied_of Equal is = refl
+tied_of Greater is = absurd (subst T (sym is) tt)
+
 -- the row that stands under a name
 abbrev pub row_at : List (Name × Row) → Name → Option Row
 row_at es name = lookup (is_at (name_cmp name)) es
@@ -43,8 +48,16 @@ find-row_at (e ∷ es) q = ap (cond (is_at (name_cmp q) e.0) (Some e.1)) (find-r
 pub get-row_at : (es : List (Name × Row)) (q : Name) → get (from_entries {R = name_cmp} es) q ≡ row_at es q
 get-row_at es q = get-from_entries names_total es q ∙ find-row_at es q
 
+-- entries that have this row under this name, and are else the same
+abbrev pub IsPut : List (Name × Row) → Name → Row → List (Name × Row) → Type 0
+IsPut es name row fs = (q : Name) → row_at fs q ≡ cond (is_at (name_cmp name) q) (Some row) (row_at es q)
+
+-- entries that have nothing under this name, and are else the same
+abbrev pub IsTakenOut : List (Name × Row) → Name → List (Name × Row) → Type 0
+IsTakenOut es name fs = (q : Name) → row_at fs q ≡ cond (is_at (name_cmp name) q) None (row_at es q)
+
 -- entries that differ under one name make maps that differ there
-pub one_put : (es fs : List (Name × Row)) (name : Name) (row : Row) → ((q : Name) → row_at fs q ≡ cond (is_at (name_cmp name) q) (Some row) (row_at es q)) → from_entries {R = name_cmp} fs ≡ insert (from_entries es) name row
+pub one_put : (es fs : List (Name × Row)) (name : Name) (row : Row) → IsPut es name row fs → from_entries {R = name_cmp} fs ≡ insert (from_entries es) name row
 one_put es fs name row h = same_map names_total names_exact _ _ (λ q.
     get-row_at fs q ∙ h q ∙ ap (λ b. cond b (Some row) (row_at es q)) ((eq_by_cmp_equiv names_total).symm name q)
     ∙ sym (get-insert names_total (from_entries es) name row q ∙ ap (cond (is_at (name_cmp q) name) (Some row)) (get-row_at es q)))
@@ -52,6 +65,38 @@ one_put es fs name row h = same_map names_total names_exact _ _ (λ q.
 -- what the first entries have, and where they have nothing, what the second have
 abbrev pub IsFilled : List (Name × Row) → List (Name × Row) → List (Name × Row) → Type 0
 IsFilled es fs made = (q : Name) → row_at made q ≡ option_or (row_at es q) (row_at fs q)
+
+or_none : (o : Option Row) → o ≡ option_or o None
+or_none None = refl
+or_none (Some x) = refl
+
+or_first : (o p : Option Row) → is_some o ≡ true → o ≡ option_or o p
+or_first None p is = absurd (subst T (sym is) tt)
+or_first (Some x) p is = refl
+
+pub none_of : (o : Option Row) → is_some o ≡ false → o ≡ None
+none_of None is = refl
+none_of (Some x) is = absurd (subst (λ b. T (not b)) (sym is) tt)
+
+pub same_of_tied : (x y : Name) → eq_by_cmp name_cmp x y ≡ true → x ≡ y
+same_of_tied x y is = names_exact x y (tied_of (name_cmp x y) is)
+
+-- under a name that is held, nothing is filled in
+pub held_filled : (es : List (Name × Row)) (name : Name) (row : Row) → is_some (row_at es name) ≡ true → IsFilled es ((name, row) ∷ []) es
+held_filled es name row held q =
+    elim (is_at (name_cmp q) name) as (λ b. is_at (name_cmp q) name ≡ b → row_at es q ≡ option_or (row_at es q) (cond b (Some row) None)) [
+      | true ↦ λ is. or_first (row_at es q) (Some row) (ap (λ (n : Name). is_some (row_at es n)) (same_of_tied q name is) ∙ held)
+      | false ↦ λ is. or_none (row_at es q)
+    ] refl
+
+-- a row put under a name that was not held fills it in
+pub put_filled : (es fs : List (Name × Row)) (name : Name) (row : Row) → is_some (row_at es name) ≡ false → IsPut es name row fs → IsFilled es ((name, row) ∷ []) fs
+put_filled es fs name row free h q =
+    h q ∙ ap (λ b. cond b (Some row) (row_at es q)) ((eq_by_cmp_equiv names_total).symm name q)
+    ∙ elim (is_at (name_cmp q) name) as (λ b. is_at (name_cmp q) name ≡ b → cond b (Some row) (row_at es q) ≡ option_or (row_at es q) (cond b (Some row) None)) [
+      | true ↦ λ is. ap (λ o. option_or o (Some row)) (sym (none_of (row_at es q) (ap (λ (n : Name). is_some (row_at es n)) (same_of_tied q name is) ∙ free)))
+      | false ↦ λ is. or_none (row_at es q)
+    ] refl
 
 find-append_or : (q : Name) (es fs : List (Name × Row)) → find name_cmp q (es ++ fs) ≡ option_or (find name_cmp q es) (find name_cmp q fs)
 find-append_or q [] fs = refl
@@ -90,6 +135,12 @@ named-put row (e ∷ es) h =
 pub named-insert : (rows : Rows) (row : Row) → StandsUnderNames rows → StandsUnderNames (insert rows (name_of row) row)
 named-insert rows row h = subst (AllByRecursion IsNamed) (sym (entries-insert names_total rows (name_of row) row)) (named-put row (entries rows) h)
 
+-- entries that lack one name, and are else the same, make the map without it
+pub one_removed : (es fs : List (Name × Row)) (name : Name) → IsTakenOut es name fs → from_entries {R = name_cmp} fs ≡ remove (from_entries es) name
+one_removed es fs name h = same_map names_total names_exact _ _ (λ q.
+    get-row_at fs q ∙ h q ∙ ap (λ b. cond b None (row_at es q)) ((eq_by_cmp_equiv names_total).symm name q)
+    ∙ sym (get-remove names_total (from_entries es) name q ∙ ap (cond (is_at (name_cmp q) name) None) (get-row_at es q)))
+
 named-none : (es : List (Name × Row)) → length es ≡ 0 → AllByRecursion IsNamed es
 named-none [] is = tt
 named-none (e ∷ es) is = absurd (omega arith)
@@ -106,13 +157,20 @@ named-append : (es fs : List (Name × Row)) → AllByRecursion IsNamed es → Al
 named-append [] fs g h = h
 named-append (e ∷ es) fs g h = (g.0, named-append es fs g.1 h)
 
+named-rows : (rows : List Row) → AllByRecursion IsNamed (map (λ row. (name_of row, row)) rows)
+named-rows [] = tt
+named-rows (row ∷ rows) = (refl, named-rows rows)
+
+pub named-rows_of : (rows : List Row) → StandsUnderNames (rows_of rows)
+named-rows_of rows = named-from_entries (map (λ row. (name_of row, row)) rows) (named-rows rows)
+
 pub named-union : (a b : Rows) → StandsUnderNames a → StandsUnderNames b → StandsUnderNames (union a b)
 named-union a b g h = named-from_entries (entries a ++ entries b) (named-append (entries a) (entries b) g h)
 
-none_some : (row : Row) → None ≡ Some row → ⊥
+pub none_some : (row : Row) → None ≡ Some row → ⊥
 none_some row is = subst (λ (o : Option Row). T (not (is_some o))) is tt
 
-same_some : (x y : Row) → Some x ≡ Some y → x ≡ y
+pub same_some : (x y : Row) → Some x ≡ Some y → x ≡ y
 same_some x y is = ap (λ o. unwrap_or o x) is
 
 named-find : (q : Name) (row : Row) (es : List (Name × Row)) → AllByRecursion IsNamed es → find name_cmp q es ≡ Some row → name_of row ≡ q
@@ -172,6 +230,33 @@ got rows (e ∷ es) h = (get-entries rows e.0 ∙ h.0, got rows es h.1)
 
 pub entries_found : (rows : Rows) → AllByRecursion (λ entry. get rows entry.0 ≡ Some entry.1) (entries rows)
 entries_found rows = got rows (entries rows) (found (entries rows) (entries_sorted rows))
+
+-- ---- what holds of each entry, as what holds of each row that is found
+all_from : (P : Name × Row → Type 0) (rows : Rows) (es : List (Name × Row)) → ((q : Name) (row : Row) → get rows q ≡ Some row → P (q, row)) → AllByRecursion (λ entry. get rows entry.0 ≡ Some entry.1) es → AllByRecursion P es
+all_from P rows [] h found = tt
+all_from P rows (e ∷ es) h found = (h e.0 e.1 found.0, all_from P rows es h found.1)
+
+pub all_from_gets : (P : Name × Row → Type 0) (rows : Rows) → ((q : Name) (row : Row) → get rows q ≡ Some row → P (q, row)) → AllByRecursion P (entries rows)
+all_from_gets P rows h = all_from P rows (entries rows) h (entries_found rows)
+
+pub all_find : (P : Name × Row → Type 0) (q : Name) (row : Row) (es : List (Name × Row)) → AllByRecursion P es → find name_cmp q es ≡ Some row → P (q, row)
+all_find P q row [] h is = absurd (none_some row is)
+all_find P q row (e ∷ es) h is =
+    elim (name_cmp q e.0) as (λ r. name_cmp q e.0 ≡ r → cond (is_eq r) (Some e.1) (find name_cmp q es) ≡ Some row → P (q, row)) [
+      | Less ↦ λ t is. all_find P q row es h.1 is
+      | Equal ↦ λ t is. subst (λ (x : Row). P (q, x)) (same_some e.1 row is) (subst (λ (x : Name). P (x, e.1)) (sym (names_exact _ _ t)) h.0)
+      | Greater ↦ λ t is. all_find P q row es h.1 is
+    ] refl is
+
+pub all_gets : (P : Name × Row → Type 0) (rows : Rows) (q : Name) (row : Row) → AllByRecursion P (entries rows) → get rows q ≡ Some row → P (q, row)
+all_gets P rows q row h is = all_find P q row (entries rows) h (sym (get-entries rows q) ∙ is)
+
+some_where : (b : Bool) (o : Option Row) (row : Row) → cond b None o ≡ Some row → o ≡ Some row
+some_where true o row is = absurd (none_some row is)
+some_where false o row is = is
+
+pub all-remove : (P : Name × Row → Type 0) (rows : Rows) (name : Name) → AllByRecursion P (entries rows) → AllByRecursion P (entries (remove rows name))
+all-remove P rows name h = all_from_gets P (remove rows name) (λ q row is. all_gets P rows q row h (some_where _ _ row (sym (get-remove names_total rows name q) ∙ is)))
 
 -- nothing stands under a name below all
 pub none_below : (q : Name) (es : List (Name × Row)) → T (below_all name_cmp q es) → find name_cmp q es ≡ None

@@ -1,13 +1,14 @@
 -- A page of a table: a run of the entries, and what comes behind it.
-use Rattle.std.specs.Prelude.{◌≡◌, ℕ, suc, ℤ, ◌-◌, ◌<◌, ◌≤◌, Bool, true, false, T, cond, if◌then◌else◌, ◌&&◌, ◌==◌, int_lt, List, [], ◌∷◌, ◌++◌, map, filter, length, take, drop, get_or, min}
-use Rattle.std.proofs.Common.{refl, sym, ap, subst, ◌∙◌, arith, length-append, append_assoc}
+use Rattle.std.specs.Prelude.{◌≡◌, ℕ, suc, ℤ, ◌-◌, ◌<◌, ◌≤◌, Option, Some, None, Bool, true, false, T, cond, if◌then◌else◌, ◌&&◌, ◌==◌, int_lt, List, [], ◌∷◌, ◌++◌, map, filter, length, take, drop, get_or, min}
+use Rattle.std.proofs.Common.{refl, sym, ap, subst, ◌∙◌, arith, length-append, append_assoc, append-nil}
 use Rattle.std.proofs.lemmas.Bool.{ne_eqb}
 use Rattle.std.proofs.lemmas.List.{length-take, take-append-drop, take_all}
 use Rattle.std.specs.BTreeMap.Range.{entries_between}
 use Rattle.std.specs.Cmp.{ranked, unsigned_Decides, int_cmp_total, tied_itself}
 use Rattle.std.specs.FinMap.{entries, entries_sorted, from_entries, is_sorted}
 use Rattle.std.specs.FinMap.Entries.{below_all}
-use Rattle.std.specs.List.{AllByRecursion}
+use Rattle.std.proofs.lemmas.List.Elements.{All-take, filter_passes}
+use Rattle.std.specs.List.{All, AllByRecursion}
 use Rattle.std.specs.List.Sorted.{IsStrictlySortedBy}
 use Rattle.std.specs.Map.{keys_of}
 use Rattle.std.specs.Ordering.{nat_cmp, int_cmp, is_lt, ordering_then}
@@ -19,7 +20,8 @@ use Rattle.ak_base.specs.declared.names.Name.{Name}
 use Rattle.ak_base.specs.declared.names.Table.{Table}
 use Rattle.ak_base.specs.declared.rows.Row.{Row}
 use Rattle.ak_keep.specs.Entries.{both_first, both_second, is_less, is_sorted-from, entries-from_entries}
-use Rattle.ak_keep.specs.Collections.{Rows, AscendsPast, StandsUnderNames, is_past, rows_past, last_id}
+use Rattle.ak_keep.specs.Collections.{Rows, AscendsPast, StandsUnderNames, IsPageOf, is_past, is_wanted, rows_past, last_id}
+use Rattle.ak_keep.specs.declared.keepers.Wanted.{Wanted}
 
 -- the rows of a table up to the first entry of another
 abbrev pub first_run : Table → List (Name × Row) → List Row
@@ -30,15 +32,38 @@ first_run table (entry ∷ es) = if table_place entry.0.table == table_place tab
 abbrev pub picked : Table → ℤ → List (Name × Row) → List Row
 picked table past es = map (λ (entry : Name × Row). entry.1) (filter (λ (entry : Name × Row). is_past table past entry.0) es)
 
--- a page that has room takes the next row of the table
-pub page_goes_on : (table : Table) (limit : ℕ) (page all : List Row) (entry : Name × Row) (es : List (Name × Row)) → page ++ take (limit - length page) (first_run table (entry ∷ es)) ≡ all → (table_place entry.0.table == table_place table) ≡ true → length page < limit
-    → (page ++ entry.1 ∷ []) ++ take (limit - length (page ++ entry.1 ∷ [])) (first_run table es) ≡ all
-page_goes_on table limit page all entry es is same room =
+-- whether a page takes the row: any row, or the wanted ones
+abbrev pub is_picked : Option Wanted → Row → Bool
+is_picked None row = true
+is_picked (Some want) row = is_wanted want row
+
+pub any_picked : (rows : List Row) → filter (is_picked None) rows ≡ rows
+any_picked [] = refl
+any_picked (row ∷ rows) = ap (λ ys. row ∷ ys) (any_picked rows)
+
+-- a page that has room takes the next row of the table, if it is picked
+pub page_goes_on : (w : Row → Bool) (table : Table) (limit : ℕ) (page all : List Row) (entry : Name × Row) (es : List (Name × Row))
+    → page ++ take (limit - length page) (filter w (first_run table (entry ∷ es))) ≡ all → (table_place entry.0.table == table_place table) ≡ true → length page < limit
+    → (page ++ filter w (entry.1 ∷ [])) ++ take (limit - length (page ++ filter w (entry.1 ∷ []))) (filter w (first_run table es)) ≡ all
+page_goes_on w table limit page all entry es is same room =
+    let left = filter w (first_run table es) in
     let n = limit - length (page ++ entry.1 ∷ []) in
     let more : suc n ≡ limit - length page = omega (arith, length-append page (entry.1 ∷ []), room) in
-    append_assoc page (entry.1 ∷ []) (take n (first_run table es))
-    ∙ ap (λ m. page ++ take m (entry.1 ∷ first_run table es)) more
-    ∙ ap (λ b. page ++ take (limit - length page) (cond b (entry.1 ∷ first_run table es) [])) (sym same) ∙ is
+    let next : page ++ take (limit - length page) (filter w (entry.1 ∷ first_run table es)) ≡ all =
+    ap (λ b. page ++ take (limit - length page) (filter w (cond b (entry.1 ∷ first_run table es) []))) (sym same) ∙ is in
+    elim (w entry.1) as (λ b. page ++ take (limit - length page) (cond b (entry.1 ∷ left) left) ≡ all
+    → (page ++ cond b (entry.1 ∷ []) []) ++ take (limit - length (page ++ cond b (entry.1 ∷ []) [])) left ≡ all) [
+      | true ↦ λ is. append_assoc page (entry.1 ∷ []) (take n left) ∙ ap (λ m. page ++ take m (entry.1 ∷ left)) more ∙ is
+      | false ↦ λ is. subst (λ (ps : List Row). ps ++ take (limit - length ps) left ≡ all) (sym (append-nil page)) is
+    ] next
+
+-- it does not grow past its limit
+pub page_fits : (w : Row → Bool) (limit : ℕ) (page : List Row) (row : Row) → length page < limit → length (page ++ filter w (row ∷ [])) ≤ limit
+page_fits w limit page row room =
+    elim (w row) as (λ b. length (page ++ cond b (row ∷ []) []) ≤ limit) [
+      | true ↦ omega (arith, length-append page (row ∷ []), room)
+      | false ↦ omega (arith, length-append page [], room)
+    ]
 
 -- ---- numbers and names
 and_first : (a b : Bool) → (a && b) ≡ true → a ≡ true
@@ -78,7 +103,7 @@ less_than a b =
       ]
     ]
 
-compared_less : (a b : ℤ) → int_lt a b ≡ true → int_cmp a b ≡ Less
+pub compared_less : (a b : ℤ) → int_lt a b ≡ true → int_cmp a b ≡ Less
 compared_less a b is = ap (λ t. cond t Less (cond (int_lt b a) Greater Equal)) is
 
 int_chain : (a b c : ℤ) → int_lt a b ≡ true → int_lt b c ≡ true → int_lt a c ≡ true
@@ -103,7 +128,7 @@ tables_rise x y =
     ] refl
 
 -- within a table, a later name has a later id
-ids_rise : (table : Table) (x y : Name) → T (is_lt (name_cmp x y)) → (table_place x.table == table_place table) ≡ true → (table_place y.table == table_place table) ≡ true → int_lt x.id y.id ≡ true
+pub ids_rise : (table : Table) (x y : Name) → T (is_lt (name_cmp x y)) → (table_place x.table == table_place table) ≡ true → (table_place y.table == table_place table) ≡ true → int_lt x.id y.id ≡ true
 ids_rise table x y below same also =
     let p = table_place x.table in
     let q = table_place y.table in
@@ -159,11 +184,12 @@ run-picked table past (e ∷ es) h =
           (sym (apart_too p t earlier)) picks
     ] refl
 
--- the page that a keeper's entries give
-pub page_of_entries : (table : Table) (past : ℤ) (limit : ℕ) (es : List (Name × Row)) (page : List Row) → IsStrictlySortedBy name_cmp (keys_of es)
-    → page ≡ take limit (first_run table (entries_between name_cmp (Excluded (record { table = table; id = past })) Unbounded es)) → page ≡ take limit (rows_past table past (from_entries es))
-page_of_entries table past limit es page ordered is =
-    is ∙ ap (take limit) (run-picked table past es (is_sorted-from es ordered) ∙ ap (picked table past) (sym (entries-from_entries es ordered)))
+-- the page that a map's entries give
+pub page_of_entries : (w : Row → Bool) (table : Table) (past : ℤ) (limit : ℕ) (es : List (Name × Row)) (page : List Row) → IsStrictlySortedBy name_cmp (keys_of es)
+    → page ≡ take limit (filter w (first_run table (entries_between name_cmp (Excluded (record { table = table; id = past })) Unbounded es)))
+    → page ≡ take limit (filter w (rows_past table past (from_entries es)))
+page_of_entries w table past limit es page ordered is =
+    is ∙ ap (λ xs. take limit (filter w xs)) (run-picked table past es (is_sorted-from es ordered) ∙ ap (picked table past) (sym (entries-from_entries es ordered)))
 
 -- ---- what comes behind a page
 -- behind a row of the table, what is past its id is what is past any lower id
@@ -243,14 +269,72 @@ page_ascends table past rows page limit named is =
     rows_past-ascend table past rows page (drop limit (rows_past table past rows)) named
     (sym (take-append-drop limit (rows_past table past rows)) ∙ ap (λ ys. ys ++ drop limit (rows_past table past rows)) (sym is))
 
--- a page that is not full is all that is past the id
-pub page_whole : (table : Table) (past : ℤ) (rows : Rows) (page : List Row) (limit : ℕ) → page ≡ take limit (rows_past table past rows) → length page < limit → rows_past table past rows ≡ page
-page_whole table past rows page limit is short =
-    let few : min limit (length (rows_past table past rows)) < limit = subst (λ n. n < limit) (ap length is ∙ length-take limit (rows_past table past rows)) short in
-    sym (is ∙ take_all limit (rows_past table past rows) (omega (arith, few)))
+-- a page that is not full is all that there is
+pub page_whole : (all page : List Row) (limit : ℕ) → page ≡ take limit all → length page < limit → all ≡ page
+page_whole all page limit is short =
+    let few : min limit (length all) < limit = subst (λ n. n < limit) (ap length is ∙ length-take limit all) short in
+    sym (is ∙ take_all limit all (omega (arith, few)))
 
 -- behind any page comes what is past its last row
 pub page_rest : (table : Table) (past : ℤ) (rows : Rows) (page : List Row) (limit : ℕ) → StandsUnderNames rows → page ≡ take limit (rows_past table past rows) → rows_past table past rows ≡ page ++ rows_past table (last_id past page) rows
 page_rest table past rows page limit named is =
     let parts : rows_past table past rows ≡ page ++ drop limit (rows_past table past rows) = sym (take-append-drop limit (rows_past table past rows)) ∙ ap (λ ys. ys ++ drop limit (rows_past table past rows)) (sym is) in
     parts ∙ ap (λ ys. page ++ ys) (rows_past-append table past rows page (drop limit (rows_past table past rows)) named parts)
+
+-- ---- the wanted rows past an id
+past_too : (table : Table) (past mid : ℤ) (name : Name) → int_lt past mid ≡ true → is_past table mid name ≡ true → is_past table past name ≡ true
+past_too table past mid name over is =
+    ap (λ b. b && int_lt past name.id) (and_first _ _ is) ∙ int_chain past mid name.id over (and_second _ _ is)
+
+-- they are any first part of them, and then what is past the last of the part
+pub wanted-append : (w : Row → Bool) (table : Table) (past : ℤ) (rows : Rows) (xs front rest : List Row) → StandsUnderNames rows → rows_past table past rows ≡ xs → filter w xs ≡ front ++ rest
+    → rest ≡ filter w (rows_past table (last_id past front) rows)
+wanted-append w table past rows xs [] rest named is parts = sym parts ∙ ap (filter w) (sym is)
+wanted-append w table past rows [] (row ∷ front) rest named is parts = absurd (no_first row (front ++ rest) parts)
+wanted-append w table past rows (x ∷ xs) (row ∷ front) rest named is parts =
+    let behind = first_and_rest table past (entries rows) x xs (entries_sorted rows) named is in
+    elim (w x) as (λ b. cond b (x ∷ filter w xs) (filter w xs) ≡ row ∷ (front ++ rest) → rest ≡ filter w (rows_past table (last_id (name_of row).id front) rows)) [
+      | true ↦ λ parts.
+          subst (λ (r : Row). rest ≡ filter w (rows_past table (last_id (name_of r).id front) rows)) (same_first parts)
+          (wanted-append w table (name_of x).id rows xs front rest named behind (same_rest parts))
+      | false ↦ λ parts. wanted-append w table (name_of x).id rows xs (row ∷ front) rest named behind parts
+    ] parts
+
+-- they ascend, and so does any first part of them
+pub wanted-ascend : (w : Row → Bool) (table : Table) (past : ℤ) (rows : Rows) (xs front rest : List Row) → StandsUnderNames rows → rows_past table past rows ≡ xs → filter w xs ≡ front ++ rest
+    → AscendsPast table past front
+wanted-ascend w table past rows xs [] rest named is parts = tt
+wanted-ascend w table past rows [] (row ∷ front) rest named is parts = absurd (no_first row (front ++ rest) parts)
+wanted-ascend w table past rows (x ∷ xs) (row ∷ front) rest named is parts =
+    let behind = first_and_rest table past (entries rows) x xs (entries_sorted rows) named is in
+    let passes : is_past table past (name_of x) ≡ true = first_is_past table past (entries rows) x xs named is in
+    elim (w x) as (λ b. cond b (x ∷ filter w xs) (filter w xs) ≡ row ∷ (front ++ rest) → (is_past table past (name_of row) ≡ true) × AscendsPast table (name_of row).id front) [
+      | true ↦ λ parts.
+          subst (λ (r : Row). (is_past table past (name_of r) ≡ true) × AscendsPast table (name_of r).id front) (same_first parts)
+          (passes, wanted-ascend w table (name_of x).id rows xs front rest named behind (same_rest parts))
+      | false ↦ λ parts.
+          let later = wanted-ascend w table (name_of x).id rows xs (row ∷ front) rest named behind parts in
+          (past_too table past (name_of x).id (name_of row) (and_second _ _ passes) later.0, later.1)
+    ] parts
+
+whole_of : (limit : ℕ) (all page : List Row) → page ≡ take limit all → all ≡ page ++ drop limit all
+whole_of limit all page is = sym (take-append-drop limit all) ∙ ap (λ ys. ys ++ drop limit all) (sym is)
+
+pub wanted_page : (w : Row → Bool) (table : Table) (past : ℤ) (rows : Rows) (limit : ℕ) (page : List Row) → StandsUnderNames rows → page ≡ take limit (filter w (rows_past table past rows))
+    → IsPageOf (λ p. filter w (rows_past table p rows)) past limit page
+wanted_page w table past rows limit page named is =
+    let all = filter w (rows_past table past rows) in
+    let parts = whole_of limit all page is in
+    record {
+      rows = is;
+      whole = page_whole all page limit is;
+      rest = parts ∙ ap (λ ys. page ++ ys) (wanted-append w table past rows (rows_past table past rows) page (drop limit all) named refl parts);
+    }
+
+pub wanted_page-ascends : (w : Row → Bool) (table : Table) (past : ℤ) (rows : Rows) (limit : ℕ) (page : List Row) → StandsUnderNames rows → page ≡ take limit (filter w (rows_past table past rows)) → AscendsPast table past page
+wanted_page-ascends w table past rows limit page named is =
+    let all = filter w (rows_past table past rows) in
+    wanted-ascend w table past rows (rows_past table past rows) page (drop limit all) named refl (whole_of limit all page is)
+
+pub page_passes : (w : Row → Bool) (limit : ℕ) (xs page : List Row) → page ≡ take limit (filter w xs) → All (λ row. w row ≡ true) page
+page_passes w limit xs page is = subst (All (λ row. w row ≡ true)) (sym is) (All-take (λ row. w row ≡ true) limit (filter w xs) (filter_passes w xs))

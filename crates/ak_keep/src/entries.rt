@@ -1,79 +1,60 @@
-// Entries of a keeper: copying and filling them, and a page of them.
-ghost use Rattle.std.specs.Prelude.{◌≡◌, [], ◌∷◌, ◌++◌, take, IfOk, OnOk};
-ghost use Rattle.std.specs.BTreeMap.{IsOrdered};
-ghost use Rattle.std.specs.BTreeMap.Range.{entries_between};
-ghost use Rattle.std.specs.declared.ops.Bound.TheVariants.{Excluded, Unbounded};
-ghost use Rattle.ak_base.specs.Names.{name_cmp};
+// Entries of a map of rows: copying them, filling them in, and making them of a list.
+ghost use Rattle.std.specs.Prelude.{[], ◌∷◌, map, IfOk, OnOk};
+ghost use Rattle.ak_base.specs.Rows.{name_of};
 ghost use Rattle.ak_keep.specs.Entries.{IsFilled};
-ghost use Rattle.ak_keep.specs.Pages.{first_run};
 
+use crate::indexed::IndexedRows;
 use ak_base::{List, Memory, Name, Row};
 use std::alloc::Global;
-use std::collections::BTreeMap;
-use std::ops::Bound;
-
-/// The rows of the table of `past` that come after it, up to `limit` of them.
-pub(crate) fn page_of(
-    alloc: Global,
-    rows: &BTreeMap<Name, Row>,
-    past: &Name,
-    limit: usize,
-) -> Result<List<Row>, Memory>
-    ensures rows { IfOk result (λ page. page ≡ take limit (first_run past.now.table (entries_between name_cmp (Excluded past.now) Unbounded rows.now.entries))) }
-    ensures ordered { IsOrdered name_cmp rows.now }
-{
-    let mut page = List::new(alloc);
-    for (name, row) in rows.range((Bound::Excluded(*past), Bound::Unbounded)) {
-        if page.as_slice().len() == limit {
-            return Ok(page);
-        }
-        if name.table.place() != past.table.place() {
-            return Ok(page);
-        }
-        push_copy(&mut page, row)?;
-    }
-    Ok(page)
-}
-
-fn push_copy(page: &mut List<Row>, row: &Row) -> Result<(), Memory>
-    ensures ok { OnOk result (page.new ≡ page.old ++ row.now ∷ []) }
-{
-    let copy = row.copy()?;
-    page.push(copy)
-}
 
 // To fill an empty map copies it.
-pub(crate) fn copy_rows(
-    alloc: Global,
-    rows: &BTreeMap<Name, Row>,
-) -> Result<BTreeMap<Name, Row>, Memory>
-    ensures { IfOk result (λ made. IsFilled [] rows.now.entries made.entries) }
+pub(crate) fn copy_rows(alloc: Global, rows: &IndexedRows) -> Result<IndexedRows, Memory>
+    ensures { IfOk result (λ made. IsFilled [] rows.now made) }
 {
-    let mut made = BTreeMap::new(alloc);
+    let mut made = IndexedRows::new(alloc);
     fill_rows(&mut made, rows)?;
     Ok(made)
 }
 
 // Puts in what is not held. It never overwrites a row, so it needs no fact on the names of `from`.
-pub(crate) fn fill_rows(
-    into: &mut BTreeMap<Name, Row>,
-    from: &BTreeMap<Name, Row>,
-) -> Result<(), Memory>
-    ensures filled { OnOk result (IsFilled into.old.entries from.now.entries into.new.entries) }
+pub(crate) fn fill_rows(into: &mut IndexedRows, from: &IndexedRows) -> Result<(), Memory>
+    ensures filled { OnOk result (IsFilled into.old from.now into.new) }
 {
-    for (name, row) in from {
+    for (name, row) in from.by_name() {
         fill_one(into, *name, row)?;
     }
     Ok(())
 }
 
-fn fill_one(into: &mut BTreeMap<Name, Row>, name: Name, row: &Row) -> Result<(), Memory>
-    ensures filled { OnOk result (IsFilled into.old.entries ((name, row.now) ∷ []) into.new.entries) }
+fn fill_one(into: &mut IndexedRows, name: Name, row: &Row) -> Result<(), Memory>
+    ensures filled { OnOk result (IsFilled into.old ((name, row.now) ∷ []) into.new) }
 {
-    if into.contains_key(&name) {
+    if into.holds(&name) {
         return Ok(());
     }
     let copy = row.copy()?;
-    into.insert(name, copy)?;
+    into.put(name, copy)?;
+    Ok(())
+}
+
+/// The map of the rows by their names. Where two have one name, the first of them stands.
+pub(crate) fn map_of(alloc: Global, rows: List<Row>) -> Result<IndexedRows, Memory>
+    ensures { IfOk result (λ made. IsFilled [] (map (λ row. (name_of row, row)) rows) made) }
+{
+    let mut made = IndexedRows::new(alloc);
+    for row in rows.into_vec() {
+        add_one(&mut made, row)?;
+    }
+    Ok(made)
+}
+
+fn add_one(made: &mut IndexedRows, row: Row) -> Result<(), Memory>
+    ensures filled { OnOk result (IsFilled made.old ((name_of row, row) ∷ []) made.new) }
+{
+    let name = row.name();
+    if made.holds(&name) {
+        return Ok(());
+    }
+    made.put(name, row)?;
     Ok(())
 }

@@ -1,130 +1,310 @@
-ghost use Rattle.std.specs.Prelude.{◌≡◌, ◌<◌, ◌≤◌, ◌++◌, length, take, IfOk, IfSome, OnOk, OnErr};
-ghost use Rattle.std.specs.FinMap as map;
+ghost use Rattle.std.specs.Prelude.{◌≡◌, ◌<◌, ◌≤◌, [], true, false, None, is_some, length, map, IfOk, IfSome, OnOk, OnErr};
+ghost use Rattle.std.specs.FinMap as finite;
+ghost use Rattle.std.specs.List.{All, IsDistinct};
+ghost use Rattle.std.specs.List.Sorted.{IsStrictlySortedBy};
+ghost use Rattle.std.specs.Ordering.{eq_by_cmp, int_cmp};
+ghost use Rattle.ak_base.specs.Heads.{IsHeadInRange};
+ghost use Rattle.ak_base.specs.Names.{name_cmp};
 ghost use Rattle.ak_base.specs.Rows.{name_of};
-ghost use Rattle.ak_keep.specs.Collections.{AscendsPast, union, rows_past, last_id};
+ghost use Rattle.ak_keep.specs.Collections.{AscendsPast, IsChecked, IsPageOf, AreMomentsInRange, IsWellFormed, with_row, without, with_head, with_moments, with_rows_of, made_of, rows_past, wanted_past, row_count, cards_of, is_wanted};
+ghost use Rattle.ak_keep.specs.Keepers.{KeepCause, is_marked, put};
+ghost use Rattle.ak_keep.specs.MemoryKeepers.{FailsWhere, keeping_of, kept_changed, kept_marked, kept_back, kept_committed, is_to_fail, called, called_with, answer_of};
 
-use crate::entries::{copy_rows, fill_rows, page_of};
-use ak_base::{List, Memory, Name, Row, Table};
+use crate::calls::Calls;
+use crate::keepers::{KeepFault, Keeper, Wanted};
+use crate::memory_collections::MemoryCollection;
+use crate::row_maps::RowMap;
+use ak_base::{Head, List, Memory, Name, Row, Table};
 use std::alloc::Global;
-use std::collections::BTreeMap;
-use std::collections::btree_map::Iter;
 use std::marker::Model;
 
-/// A collection kept in memory, seen as the finite map from names to rows.
+/// A keeper in memory, which tells what it keeps. The calls that `fail_at` lists fail, and no others.
 #[derive(Debug, Drop)]
 pub struct MemoryKeeper {
     alloc: Global,
-    rows: BTreeMap<Name, Row>,
+    current: MemoryCollection,
+    mark: Option<MemoryCollection>,
+    calls: Calls,
 }
 
 impl Model for MemoryKeeper {
-    ghost use Rattle.std.specs.FinMap as map;
     ghost use Rattle.std.specs.Coded.{codes};
-    ghost use Rattle.ak_base.specs.Names.{name_cmp};
-    ghost use Rattle.ak_base.specs.declared.rows.Row.{Row};
+    ghost use Rattle.std.specs.FinMap as map;
+    ghost use Rattle.ak_keep.specs.MemoryKeepers.{MemoryState, collection_code, kept_code, state_code};
 
-    ghost Value = { map.FinMap name_cmp Row };
+    ghost Value = { MemoryState };
 
-    ghost coded = { map.code (Prim.hlevel codes) (Prim.hlevel codes) };
+    ghost coded = { state_code (kept_code (collection_code (map.code (Prim.hlevel codes) (Prim.hlevel codes)) (Prim.hlevel codes))) };
 
-    ghost use Rattle.ak_keep.specs.Collections.{StandsUnderNames};
-
-    ghost view = { λ keeper. map.from_entries keeper.rows.entries };
-
-    ghost invariant = { λ keeper. StandsUnderNames (map.from_entries keeper.rows.entries) };
+    ghost view = { λ keeper. record {
+      kept = record { current = keeper.current; mark = keeper.mark };
+      calls = keeper.calls.count;
+      fails = keeper.calls.fails;
+      faults = keeper.calls.faults;
+    } };
 }
 
 impl MemoryKeeper {
-    /// An empty collection, kept in this allocator's memory.
+    /// A keeper of no rows and no head, in this allocator's memory. It is not marked.
     pub fn new(alloc: Global) -> MemoryKeeper
-        ensures { result ≡ map.empty }
+        ensures { result ≡ record { kept = record { current = record { rows = finite.empty; head = None }; mark = None }; calls = 0; fails = []; faults = 0 } }
     {
         MemoryKeeper {
             alloc,
-            rows: BTreeMap::new(alloc),
+            current: MemoryCollection::empty(alloc),
+            mark: None,
+            calls: Calls::new(alloc),
         }
     }
 
-    /// A copy of the row of this name.
-    pub fn get(&self, name: Name) -> Result<Option<Row>, Memory>
-        ensures row { IfOk result (λ row. row ≡ map.get self.now name) }
-        ensures named { IfOk result (λ row. IfSome row (λ row. name_of row ≡ name)) }
+    /// From now on the calls of these numbers fail, counted from 0 over the calls that can.
+    pub fn fail_at(&mut self, calls: List<u64>)
+        ensures { self.new ≡ record self.old { calls = 0; fails = calls } }
     {
-        match self.rows.get(&name) {
-            Some(row) => {
-                let copy = row.copy()?;
-                return Ok(Some(copy));
-            }
-            None => return Ok(None),
-        }
+        self.calls.fail_at(calls);
     }
 
-    /// Puts the row under its name, in place of the row that stands there.
-    pub fn put(&mut self, row: Row) -> Result<(), Memory>
-        ensures ok { OnOk result (self.new ≡ map.insert self.old (name_of row) row) }
-        ensures err { OnErr result (self.new ≡ self.old) }
+    /// The current rows.
+    pub fn rows(&self) -> &RowMap
+        ensures { result.now ≡ self.now.kept.current.rows }
     {
-        let name = row.name();
-        self.rows.insert(name, row)?;
-        Ok(())
-    }
-
-    /// The rows of a table with ids over `past`, by ascending id: the first `limit` of them, or all
-    /// where there are no more. It finds the first in logarithmic time and walks over the page alone.
-    pub fn page(&self, table: Table, past: i64, limit: usize) -> Result<List<Row>, Memory>
-        requires low { 0 < limit }
-        requires high { limit ≤ 1000 }
-        ensures rows { IfOk result (λ page. page ≡ take limit (rows_past table past self.now)) }
-
-        ensures ascends { IfOk result (λ page. AscendsPast table past page) }
-
-        // A page that is not full is the rest of the table, and behind each page comes what is past
-        // its last row.
-        ensures whole { IfOk result (λ page. length page < limit → rows_past table past self.now ≡ page) }
-        ensures rest { IfOk result (λ page. rows_past table past self.now ≡ page ++ rows_past table (last_id past page) self.now) }
-    {
-        let before = Name { table, id: past };
-        let page = page_of(self.alloc, &self.rows, &before, limit)?;
-        Ok(page)
-    }
-
-    /// All rows with their names, by ascending name.
-    pub fn entries(&self) -> Iter<'_, Name, Row>
-        ensures { result ≡ map.entries self.now }
-    {
-        self.rows.iter()
+        self.current.rows()
     }
 
     /// Puts in the rows of `from` under names that are not held.
     pub fn fill(&mut self, from: &MemoryKeeper) -> Result<(), Memory>
-        ensures ok { OnOk result (self.new ≡ union self.old from.now) }
+        ensures ok { OnOk result (self.new ≡ record self.old { kept = kept_changed (with_rows_of from.now.kept.current) self.old.kept }) }
         ensures err { OnErr result (self.new ≡ self.old) }
     {
-        let joined = self.filled(from)?;
-        *self = joined;
+        self.current.fill(&from.current)?;
+        Ok(())
+    }
+}
+
+impl Keeper for MemoryKeeper {
+    ghost keeping = { λ keeper. keeping_of keeper.kept };
+
+    ghost fault_count = { λ keeper. keeper.faults };
+
+    fn faults(&self) -> u64 {
+        self.calls.faults
+    }
+
+    fn marked(&self) -> bool {
+        self.mark.is_some()
+    }
+
+    fn held(&self) -> bool {
+        recall_mark(&self.mark);
+        self.current.is_headed()
+    }
+
+    fn get(&mut self, name: Name) -> Result<Option<Row>, KeepFault>
+        ensures row { IfOk result (λ row. row ≡ finite.get self.old.kept.current.rows name) }
+        ensures named { IfOk result (λ row. IfSome row (λ row. name_of row ≡ name)) }
+        ensures checked { IfOk result (λ row. IfSome row IsChecked) }
+        ensures state { self.new ≡ called self.old }
+        ensures fails { FailsWhere (is_to_fail self.old) result }
+        ensures cause { KeepCause self.old.faults self.new.faults result }
+    {
+        self.calls.next()?;
+        let row = self.current.get(name)?;
+        Ok(row)
+    }
+
+    fn put(&mut self, row: Row) -> Result<(), KeepFault>
+        requires marked { is_marked (keeping_of self.old.kept) ≡ true }
+        requires checked { IsChecked row }
+        ensures ok { OnOk result (self.new ≡ called_with (kept_changed (with_row row)) self.old) }
+        ensures err { OnErr result (self.new ≡ called self.old) }
+        ensures fails { FailsWhere (is_to_fail self.old) result }
+        ensures cause { KeepCause self.old.faults self.new.faults result }
+    {
+        self.calls.next()?;
+        self.current.put(row)?;
         Ok(())
     }
 
-    // The rows of both, and under a name that both hold the row of `self`.
-    fn filled(&self, from: &MemoryKeeper) -> Result<MemoryKeeper, Memory>
-        ensures { IfOk result (λ made. made ≡ union self.now from.now) }
+    fn remove(&mut self, name: Name) -> Result<(), KeepFault>
+        requires marked { is_marked (keeping_of self.old.kept) ≡ true }
+        ensures ok { OnOk result (self.new ≡ called_with (kept_changed (without name)) self.old) }
+        ensures err { OnErr result (self.new ≡ called self.old) }
+        ensures answer { result ≡ answer_of (is_to_fail self.old) tt }
+        ensures cause { KeepCause self.old.faults self.new.faults result }
     {
-        let mut rows = copy_rows(self.alloc, &self.rows)?;
-        fill_rows(&mut rows, &from.rows)?;
-        Ok(MemoryKeeper {
-            alloc: self.alloc,
-            rows,
-        })
+        self.calls.next()?;
+        self.current.remove(name);
+        Ok(())
     }
 
-    /// An equal collection, kept in the same allocator's memory.
-    pub fn copy(&self) -> Result<MemoryKeeper, Memory>
-        ensures { IfOk result (λ made. made ≡ self.now) }
+    fn page(&mut self, table: Table, past: i64, limit: usize) -> Result<List<Row>, KeepFault>
+        requires low { 0 < limit }
+        requires high { limit ≤ 1000 }
+        ensures page { IfOk result (λ page. IsPageOf (λ past. rows_past table past self.old.kept.current.rows) past limit page) }
+        ensures fits { IfOk result (λ page. length page ≤ limit) }
+        ensures ascends { IfOk result (λ page. AscendsPast table past page) }
+        ensures checked { IfOk result (λ page. All IsChecked page) }
+        ensures state { self.new ≡ called self.old }
+        ensures fails { FailsWhere (is_to_fail self.old) result }
+        ensures cause { KeepCause self.old.faults self.new.faults result }
     {
-        let rows = copy_rows(self.alloc, &self.rows)?;
-        Ok(MemoryKeeper {
-            alloc: self.alloc,
-            rows,
-        })
+        self.calls.next()?;
+        let page = self.current.page(table, past, limit)?;
+        Ok(page)
+    }
+
+    fn pending(
+        &mut self,
+        table: Table,
+        want: Wanted,
+        past: i64,
+        limit: usize,
+    ) -> Result<List<Row>, KeepFault>
+        requires low { 0 < limit }
+        requires high { limit ≤ 1000 }
+        ensures page { IfOk result (λ page. IsPageOf (λ past. wanted_past table want past self.old.kept.current.rows) past limit page) }
+        ensures fits { IfOk result (λ page. length page ≤ limit) }
+        ensures ascends { IfOk result (λ page. AscendsPast table past page) }
+        ensures wanted { IfOk result (λ page. All (λ row. is_wanted want row ≡ true) page) }
+        ensures checked { IfOk result (λ page. All IsChecked page) }
+        ensures state { self.new ≡ called self.old }
+        ensures fails { FailsWhere (is_to_fail self.old) result }
+        ensures cause { KeepCause self.old.faults self.new.faults result }
+    {
+        self.calls.next()?;
+        let page = self.current.pending(table, want, past, limit)?;
+        Ok(page)
+    }
+
+    fn cards_of(&mut self, note: i64) -> Result<List<i64>, KeepFault>
+        ensures cards { IfOk result (λ ids. ids ≡ cards_of note self.old.kept.current.rows) }
+        ensures ascend { IfOk result (λ ids. IsStrictlySortedBy int_cmp ids) }
+        ensures state { self.new ≡ called self.old }
+        ensures fails { FailsWhere (is_to_fail self.old) result }
+        ensures cause { KeepCause self.old.faults self.new.faults result }
+    {
+        self.calls.next()?;
+        let ids = self.current.cards_of(note)?;
+        Ok(ids)
+    }
+
+    fn count(&mut self, table: Table) -> Result<u64, KeepFault>
+        ensures state { self.new ≡ called self.old }
+        ensures answer { result ≡ answer_of (is_to_fail self.old) (row_count table self.old.kept.current.rows) }
+        ensures cause { KeepCause self.old.faults self.new.faults result }
+    {
+        self.calls.next()?;
+        Ok(self.current.count(table))
+    }
+
+    fn head(&mut self) -> Result<Option<Head>, KeepFault>
+        ensures head { IfOk result (λ head. head ≡ self.old.kept.current.head) }
+        ensures range { IfOk result (λ head. IfSome head IsHeadInRange) }
+        ensures state { self.new ≡ called self.old }
+        ensures fails { FailsWhere (is_to_fail self.old) result }
+        ensures cause { KeepCause self.old.faults self.new.faults result }
+    {
+        self.calls.next()?;
+        let head = self.current.head()?;
+        Ok(head)
+    }
+
+    fn set_head(&mut self, head: Head) -> Result<(), KeepFault>
+        requires marked { is_marked (keeping_of self.old.kept) ≡ true }
+        requires range { IsHeadInRange head }
+        ensures ok { OnOk result (self.new ≡ called_with (kept_changed (with_head head)) self.old) }
+        ensures err { OnErr result (self.new ≡ called self.old) }
+        ensures answer { result ≡ answer_of (is_to_fail self.old) tt }
+        ensures cause { KeepCause self.old.faults self.new.faults result }
+    {
+        self.calls.next()?;
+        self.current.set_head(head);
+        Ok(())
+    }
+
+    fn set_moments(
+        &mut self,
+        moment: i64,
+        schema: i64,
+        usn: i64,
+        last_sync: i64,
+    ) -> Result<(), KeepFault>
+        requires marked { is_marked (keeping_of self.old.kept) ≡ true }
+        requires held { is_some self.old.kept.current.head ≡ true }
+        requires range { AreMomentsInRange moment schema usn last_sync }
+        ensures ok { OnOk result (self.new ≡ called_with (kept_changed (with_moments moment schema usn last_sync)) self.old) }
+        ensures err { OnErr result (self.new ≡ called self.old) }
+        ensures answer { result ≡ answer_of (is_to_fail self.old) tt }
+        ensures cause { KeepCause self.old.faults self.new.faults result }
+    {
+        self.calls.next()?;
+        self.current.set_moments(moment, schema, usn, last_sync);
+        Ok(())
+    }
+
+    fn replace_all(&mut self, rows: List<Row>, head: Head) -> Result<(), KeepFault>
+        requires marked { is_marked (keeping_of self.old.kept) ≡ true }
+        requires checked { All IsChecked rows }
+        requires distinct { IsDistinct (eq_by_cmp name_cmp) (map name_of rows) }
+        requires range { IsHeadInRange head }
+        ensures ok { OnOk result (self.new ≡ called_with (kept_changed (λ _. made_of rows head)) self.old) }
+        ensures err { OnErr result (self.new ≡ called self.old) }
+        ensures fails { FailsWhere (is_to_fail self.old) result }
+        ensures cause { KeepCause self.old.faults self.new.faults result }
+    {
+        self.calls.next()?;
+        let made = MemoryCollection::of(self.alloc, rows, head)?;
+        self.current = made;
+        Ok(())
+    }
+
+    fn mark(&mut self) -> Result<(), KeepFault>
+        requires unmarked { is_marked (keeping_of self.old.kept) ≡ false }
+        ensures ok { OnOk result (self.new ≡ called_with kept_marked self.old) }
+        ensures err { OnErr result (self.new ≡ called self.old) }
+        ensures fails { FailsWhere (is_to_fail self.old) result }
+        ensures cause { KeepCause self.old.faults self.new.faults result }
+    {
+        self.calls.next()?;
+        let copy = self.current.copy()?;
+        self.mark = Some(copy);
+        Ok(())
+    }
+
+    fn back(&mut self)
+        requires marked { is_marked (keeping_of self.old.kept) ≡ true }
+        ensures { self.new ≡ record self.old { kept = kept_back self.old.kept } }
+    {
+        if let Some(kept) = self.mark.take() {
+            self.current = kept;
+        }
+    }
+
+    fn commit(&mut self) -> Result<(), KeepFault>
+        requires marked { is_marked (keeping_of self.old.kept) ≡ true }
+        ensures ok { OnOk result (self.new ≡ called_with kept_committed self.old) }
+        ensures err { OnErr result (self.new ≡ called_with kept_back self.old) }
+        ensures answer { result ≡ answer_of (is_to_fail self.old) tt }
+        ensures cause { KeepCause self.old.faults self.new.faults result }
+    {
+        match self.calls.next() {
+            Ok(()) => {
+                self.mark = None;
+                return Ok(());
+            }
+            Err(fault) => {
+                self.back();
+                return Err(fault);
+            }
+        }
+    }
+}
+
+// Recalls that the collection at the mark is well formed, for the proof of `held` alone.
+fn recall_mark(mark: &Option<MemoryCollection>)
+    ensures { IfSome mark.now IsWellFormed }
+{
+    if let Some(collection) = mark {
+        collection.is_headed();
     }
 }

@@ -8,17 +8,18 @@ use Rattle.std.specs.List.{AllByRecursion}
 use Rattle.std.specs.Option.{option_map, option_map_or, unwrap_or}
 use Rattle.std.specs.Ordering.{is_eq, is_lt}
 use Rattle.std.specs.declared.cmp.Ordering.TheVariants.{Less, Equal, Greater}
+use Rattle.ak_base.specs.Contents.{same_content}
 use Rattle.ak_base.specs.Names.{name_cmp, names_exact}
 use Rattle.ak_base.specs.declared.names.Name.{Name}
 use Rattle.ak_base.specs.declared.rows.Row.{Row}
 use Rattle.ak_keep.specs.Collections.{Rows}
 use Rattle.ak_keep.specs.Entries.{both_first, both_second, entries_found, none_below, below_more}
-use Rattle.ak_merge.specs.Ties.{same_but_usn, is_tie, first_tie, AreApart, DifferUnder, IsLeastTie}
+use Rattle.ak_merge.specs.Ties.{is_tie, first_tie, AreApart, DifferUnder, IsLeastTie}
 
-not_tied : (b : Rows) (entry : Name × Row) (y : Row) → is_tie b entry ≡ false → get b entry.0 ≡ Some y → IsTrue (same_but_usn entry.1 y)
+not_tied : (b : Rows) (entry : Name × Row) (y : Row) → is_tie b entry ≡ false → get b entry.0 ≡ Some y → IsTrue (same_content entry.1 y)
 not_tied b entry y is has =
-    let apart : not (same_but_usn entry.1 y) ≡ false = sym (ap (λ o. option_map_or (λ held. not (same_but_usn entry.1 held)) o false) has) ∙ is in
-    elim (same_but_usn entry.1 y) as (λ t. not t ≡ false → t ≡ true) [ true ↦ λ _. refl | false ↦ λ h. sym h ] apart
+    let apart : not (same_content entry.1 y) ≡ false = sym (ap (λ o. option_map_or (λ held. not (same_content entry.1 held)) o false) has) ∙ is in
+    elim (same_content entry.1 y) as (λ t. not t ≡ false → t ≡ true) [ true ↦ λ _. refl | false ↦ λ h. sym h ] apart
 
 none_some : {X : Type 0} (x : X) → None ≡ Some x → ⊥
 none_some {X} x is = subst (λ (o : Option X). T (not (is_some o))) is tt
@@ -36,19 +37,19 @@ none_mapped (Some e) is = absurd (none_some e.0 (sym is))
 
 -- a row found behind an entry that is no tie, or in it
 passed : (b : Rows) (e : Name × Row) (es : List (Name × Row)) (q : Name) (x y : Row) → is_tie b e ≡ false → get b q ≡ Some y
-    → (map.find name_cmp q es ≡ Some x → IsTrue (same_but_usn x y)) → map.find name_cmp q (e ∷ es) ≡ Some x → IsTrue (same_but_usn x y)
+    → (map.find name_cmp q es ≡ Some x → IsTrue (same_content x y)) → map.find name_cmp q (e ∷ es) ≡ Some x → IsTrue (same_content x y)
 passed b e es q x y clear held behind has =
-    elim (name_cmp q e.0) as (λ r. name_cmp q e.0 ≡ r → cond (is_eq r) (Some e.1) (map.find name_cmp q es) ≡ Some x → IsTrue (same_but_usn x y)) [
+    elim (name_cmp q e.0) as (λ r. name_cmp q e.0 ≡ r → cond (is_eq r) (Some e.1) (map.find name_cmp q es) ≡ Some x → IsTrue (same_content x y)) [
       | Less ↦ λ _ has. behind has
-      | Equal ↦ λ tied has. subst (λ (row : Row). IsTrue (same_but_usn row y)) (same_some has) (not_tied b e y clear (ap (get b) (sym (names_exact q e.0 tied)) ∙ held))
+      | Equal ↦ λ tied has. subst (λ (row : Row). IsTrue (same_content row y)) (same_some has) (not_tied b e y clear (ap (get b) (sym (names_exact q e.0 tied)) ∙ held))
       | Greater ↦ λ _ has. behind has
     ] refl has
 
 -- where no entry is a tie, the rows agree
-no_tie : (b : Rows) (es : List (Name × Row)) (q : Name) (x y : Row) → find (is_tie b) es ≡ None → map.find name_cmp q es ≡ Some x → get b q ≡ Some y → IsTrue (same_but_usn x y)
+no_tie : (b : Rows) (es : List (Name × Row)) (q : Name) (x y : Row) → find (is_tie b) es ≡ None → map.find name_cmp q es ≡ Some x → get b q ≡ Some y → IsTrue (same_content x y)
 no_tie b [] q x y none has held = absurd (none_some x has)
 no_tie b (e ∷ es) q x y none has held =
-    elim (is_tie b e) as (λ t. is_tie b e ≡ t → cond t (Some e) (find (is_tie b) es) ≡ None → IsTrue (same_but_usn x y)) [
+    elim (is_tie b e) as (λ t. is_tie b e ≡ t → cond t (Some e) (find (is_tie b) es) ≡ None → IsTrue (same_content x y)) [
       | true ↦ λ _ none. absurd (none_some e (sym none))
       | false ↦ λ clear none. passed b e es q x y clear held (λ has. no_tie b es q x y none has held) has
     ] refl none
@@ -57,7 +58,7 @@ no_tie b (e ∷ es) q x y none has held =
 agree : (a b : Rows) (es : List (Name × Row)) → AllByRecursion (λ e. get a e.0 ≡ Some e.1) es → AreApart a b → find (is_tie b) es ≡ None
 agree a b [] found apart = refl
 agree a b (e ∷ es) found apart =
-    let clear : is_tie b e ≡ false = elim (get b e.0) as (λ o. get b e.0 ≡ o → option_map_or (λ held. not (same_but_usn e.1 held)) o false ≡ false) [
+    let clear : is_tie b e ≡ false = elim (get b e.0) as (λ o. get b e.0 ≡ o → option_map_or (λ held. not (same_content e.1 held)) o false ≡ false) [
       | None ↦ λ _. refl
       | Some y ↦ λ is. ap not (apart e.0 e.1 y found.0 is)
     ] refl in
@@ -71,7 +72,7 @@ first_tie_none a b = (
 
 tied_entry : (a b : Rows) (e : Name × Row) → is_tie b e ≡ true → get a e.0 ≡ Some e.1 → DifferUnder a b e.0
 tied_entry a b e tie has =
-    elim (get b e.0) as (λ o. get b e.0 ≡ o → option_map_or (λ held. not (same_but_usn e.1 held)) o false ≡ true → DifferUnder a b e.0) [
+    elim (get b e.0) as (λ o. get b e.0 ≡ o → option_map_or (λ held. not (same_content e.1 held)) o false ≡ true → DifferUnder a b e.0) [
       | None ↦ λ _ is. absurd (subst T (sym is) tt)
       | Some y ↦ λ held is. (e.1, y, has, held, turned_false _ is)
     ] refl tie
@@ -90,10 +91,10 @@ below_first q e es less h = subst (λ r. T (is_lt r && below_all name_cmp q es))
 
 -- under a lesser name they agree
 below_tie : (b : Rows) (es : List (Name × Row)) (name q : Name) (x y : Row) → T (is_sorted name_cmp es) → option_map (λ (e : Name × Row). e.0) (find (is_tie b) es) ≡ Some name
-    → name_cmp q name ≡ Less → map.find name_cmp q es ≡ Some x → get b q ≡ Some y → IsTrue (same_but_usn x y)
+    → name_cmp q name ≡ Less → map.find name_cmp q es ≡ Some x → get b q ≡ Some y → IsTrue (same_content x y)
 below_tie b [] name q x y sorted is less has held = absurd (none_some x has)
 below_tie b (e ∷ es) name q x y sorted is less has held =
-    elim (is_tie b e) as (λ t. is_tie b e ≡ t → option_map (λ (e : Name × Row). e.0) (cond t (Some e) (find (is_tie b) es)) ≡ Some name → IsTrue (same_but_usn x y)) [
+    elim (is_tie b e) as (λ t. is_tie b e ≡ t → option_map (λ (e : Name × Row). e.0) (cond t (Some e) (find (is_tie b) es)) ≡ Some name → IsTrue (same_content x y)) [
       | true ↦ λ _ is.
           let before : name_cmp q e.0 ≡ Less = ap (name_cmp q) (same_some is) ∙ less in
           let none : map.find name_cmp q (e ∷ es) ≡ None = none_below q (e ∷ es) (below_first q e es before (both_first _ _ sorted)) in

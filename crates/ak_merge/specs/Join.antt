@@ -1,62 +1,57 @@
--- The join of two collections of reviews.
-use Rattle.std.specs.Prelude.{◌≡◌, Bool, true, false, ◌||◌, ◌&&◌, IsTrue, IfSome, Option, Some, None, is_some, ℤ}
+-- The join of two collections' rows.
+use Rattle.std.specs.Prelude.{◌≡◌, Bool, true, false, ◌||◌, ◌&&◌, IsTrue, IfSome, Option, Some, None, is_some}
 use Rattle.std.proofs.Common.{refl, sym, ap, subst, ◌∙◌}
-use Rattle.std.specs.Cmp.{int_eq_equiv}
 use Rattle.std.specs.FinMap.{get}
 use Rattle.std.specs.Option.{option_or}
+use Rattle.ak_base.specs.Contents.{same_content, same_content_equiv}
 use Rattle.ak_base.specs.declared.names.Name.{Name}
 use Rattle.ak_base.specs.declared.rows.Row.{Row}
-use Rattle.ak_base.specs.declared.rows.Row.TheVariants as rows
 use Rattle.ak_keep.specs.Collections.{Rows, union}
 use Rattle.ak_keep.specs.Entries.{get-union}
-use Rattle.ak_merge.specs.Ties.{same_but_usn, AreApart}
+use Rattle.ak_merge.specs.Ties.{AreApart}
 
 -- j holds a name exactly where a or b does, with the row that it has there, update sequence numbers aside
 pub record IsJoin (a b j : Rows) : Type 0 where
   pub names : (name : Name) → is_some (get j name) ≡ (is_some (get a name) || is_some (get b name))
-  pub from_a : (name : Name) (row : Row) → get a name ≡ Some row → IfSome (get j name) (λ joined. IsTrue (same_but_usn row joined))
-  pub from_b : (name : Name) (row : Row) → get b name ≡ Some row → IfSome (get j name) (λ joined. IsTrue (same_but_usn row joined))
+  pub from_a : (name : Name) (row : Row) → get a name ≡ Some row → IfSome (get j name) (λ joined. IsTrue (same_content row joined))
+  pub from_b : (name : Name) (row : Row) → get b name ≡ Some row → IfSome (get j name) (λ joined. IsTrue (same_content row joined))
 
 -- whether two names hold nothing, or rows that are equal but for the update sequence number
 abbrev pub same_held : Option Row → Option Row → Bool
 same_held None None = true
 same_held None (Some y) = false
 same_held (Some x) None = false
-same_held (Some x) (Some y) = same_but_usn x y
+same_held (Some x) (Some y) = same_content x y
 
 -- the two hold the same names, with the same rows, update sequence numbers aside
 abbrev pub AreSame : Rows → Rows → Type 0
 AreSame a b = (name : Name) → IsTrue (same_held (get a name) (get b name))
 
-pub same-itself : (x : Row) → IsTrue (same_but_usn x x)
-same-itself (rows.Review a) =
-    let e = λ (n : ℤ). int_eq_equiv.refl n in
-    λ i. e a.id i && e a.cid i && e a.ease i && e a.ivl i && e a.last_ivl i && e a.factor i && e a.time i && e a.kind i
+same-itself : (x : Row) → IsTrue (same_content x x)
+same-itself = same_content_equiv.refl
 
-pub same-turned : (x y : Row) → same_but_usn x y ≡ same_but_usn y x
-same-turned (rows.Review a) (rows.Review b) =
-    let e = λ (m n : ℤ). int_eq_equiv.symm m n in
-    λ i. e a.id b.id i && e a.cid b.cid i && e a.ease b.ease i && e a.ivl b.ivl i && e a.last_ivl b.last_ivl i && e a.factor b.factor i && e a.time b.time i && e a.kind b.kind i
+same-turned : (x y : Row) → same_content x y ≡ same_content y x
+same-turned = same_content_equiv.symm
 
 held-either : (x y : Option Row) → is_some (option_or x y) ≡ (is_some x || is_some y)
 held-either None y = refl
 held-either (Some x) y = refl
 
-first_held : (x y : Option Row) (row : Row) → x ≡ Some row → IfSome (option_or x y) (λ joined. IsTrue (same_but_usn row joined))
-first_held x y row is = subst (λ (o : Option Row). IfSome (option_or o y) (λ joined. IsTrue (same_but_usn row joined))) (sym is) (same-itself row)
+first_held : (x y : Option Row) (row : Row) → x ≡ Some row → IfSome (option_or x y) (λ joined. IsTrue (same_content row joined))
+first_held x y row is = subst (λ (o : Option Row). IfSome (option_or o y) (λ joined. IsTrue (same_content row joined))) (sym is) (same-itself row)
 
-second_held : (x y : Option Row) (row : Row) → ((held : Row) → x ≡ Some held → IsTrue (same_but_usn held row)) → y ≡ Some row → IfSome (option_or x y) (λ joined. IsTrue (same_but_usn row joined))
-second_held None y row apart is = subst (λ (o : Option Row). IfSome o (λ joined. IsTrue (same_but_usn row joined))) (sym is) (same-itself row)
+second_held : (x y : Option Row) (row : Row) → ((held : Row) → x ≡ Some held → IsTrue (same_content held row)) → y ≡ Some row → IfSome (option_or x y) (λ joined. IsTrue (same_content row joined))
+second_held None y row apart is = subst (λ (o : Option Row). IfSome o (λ joined. IsTrue (same_content row joined))) (sym is) (same-itself row)
 second_held (Some held) y row apart is = same-turned row held ∙ apart held refl
 
 pub union_joins : (a b : Rows) → AreApart a b → IsJoin a b (union a b)
 union_joins a b apart = record {
   names = λ name. ap is_some (get-union a b name) ∙ held-either (get a name) (get b name);
-  from_a = λ name row is. subst (λ (o : Option Row). IfSome o (λ joined. IsTrue (same_but_usn row joined))) (sym (get-union a b name)) (first_held (get a name) (get b name) row is);
-  from_b = λ name row is. subst (λ (o : Option Row). IfSome o (λ joined. IsTrue (same_but_usn row joined))) (sym (get-union a b name)) (second_held (get a name) (get b name) row (λ held has. apart name held row has is) is);
+  from_a = λ name row is. subst (λ (o : Option Row). IfSome o (λ joined. IsTrue (same_content row joined))) (sym (get-union a b name)) (first_held (get a name) (get b name) row is);
+  from_b = λ name row is. subst (λ (o : Option Row). IfSome o (λ joined. IsTrue (same_content row joined))) (sym (get-union a b name)) (second_held (get a name) (get b name) row (λ held has. apart name held row has is) is);
 }
 
-either_way : (x y : Option Row) → ((p q : Row) → x ≡ Some p → y ≡ Some q → IsTrue (same_but_usn p q)) → IsTrue (same_held (option_or x y) (option_or y x))
+either_way : (x y : Option Row) → ((p q : Row) → x ≡ Some p → y ≡ Some q → IsTrue (same_content p q)) → IsTrue (same_held (option_or x y) (option_or y x))
 either_way None None apart = refl
 either_way None (Some q) apart = same-itself q
 either_way (Some p) None apart = same-itself p

@@ -1,33 +1,21 @@
 -- Where two collections hold unequal rows of one name.
-use Rattle.std.specs.Prelude.{◌≡◌, Bool, false, not, ◌&&◌, IsTrue, IsFalse, Option, Some, find}
+use Rattle.std.specs.Prelude.{◌≡◌, Bool, false, not, IsTrue, IsFalse, Option, Some, find}
 use Rattle.std.specs.FinMap.{get, entries}
 use Rattle.std.specs.Option.{option_map, option_map_or}
-use Rattle.std.specs.Ordering.{int_eq}
 use Rattle.std.specs.declared.cmp.Ordering.TheVariants.{Less}
+use Rattle.ak_base.specs.Contents.{same_content}
 use Rattle.ak_base.specs.Names.{name_cmp}
 use Rattle.ak_base.specs.declared.names.Name.{Name}
-use Rattle.ak_base.specs.declared.reviews.Review.{Review}
 use Rattle.ak_base.specs.declared.rows.Row.{Row}
-use Rattle.ak_base.specs.declared.rows.Row.TheVariants as rows
 use Rattle.ak_keep.specs.Collections.{Rows}
-
--- equal in the last four columns
-abbrev pub same_results : Review → Review → Bool
-same_results a b = int_eq a.last_ivl b.last_ivl && int_eq a.factor b.factor && int_eq a.time b.time && int_eq a.kind b.kind
-
--- equal but for the update sequence number
-abbrev pub same_but_usn : Row → Row → Bool
-same_but_usn (rows.Review a) (rows.Review b) =
-    int_eq a.id b.id && int_eq a.cid b.cid && int_eq a.ease b.ease && int_eq a.ivl b.ivl && int_eq a.last_ivl b.last_ivl
-    && int_eq a.factor b.factor && int_eq a.time b.time && int_eq a.kind b.kind
 
 -- each row that both hold under one name is the same in both, but for the update sequence number
 abbrev pub AreApart : Rows → Rows → Type 0
-AreApart a b = (name : Name) (x y : Row) → get a name ≡ Some x → get b name ≡ Some y → IsTrue (same_but_usn x y)
+AreApart a b = (name : Name) (x y : Row) → get a name ≡ Some x → get b name ≡ Some y → IsTrue (same_content x y)
 
 -- whether the collection holds another row under the entry's name
 abbrev pub is_tie : Rows → Name × Row → Bool
-is_tie b entry = option_map_or (λ held. not (same_but_usn entry.1 held)) (get b entry.0) false
+is_tie b entry = option_map_or (λ held. not (same_content entry.1 held)) (get b entry.0) false
 
 -- the first name, in their order, under which the two hold rows that differ in more
 abbrev pub first_tie : Rows → Rows → Option Name
@@ -35,9 +23,9 @@ first_tie a b = option_map (λ entry. entry.0) (find (is_tie b) (entries a))
 
 -- both hold a row under the name, and the two differ in more than the update sequence number
 abbrev pub DifferUnder : Rows → Rows → Name → Type 0
-DifferUnder a b name = (x : Row) × (y : Row) × (get a name ≡ Some x) × (get b name ≡ Some y) × IsFalse (same_but_usn x y)
+DifferUnder a b name = (x : Row) × (y : Row) × (get a name ≡ Some x) × (get b name ≡ Some y) × IsFalse (same_content x y)
 
 -- the two differ under this name, and under no lesser one
 pub record IsLeastTie (a b : Rows) (name : Name) : Type 0 where
   pub differ : DifferUnder a b name
-  pub below : (other : Name) (x y : Row) → name_cmp other name ≡ Less → get a other ≡ Some x → get b other ≡ Some y → IsTrue (same_but_usn x y)
+  pub below : (other : Name) (x y : Row) → name_cmp other name ≡ Less → get a other ≡ Some x → get b other ≡ Some y → IsTrue (same_content x y)

@@ -7,17 +7,18 @@ ghost use Rattle.ak_io.specs.Scripts.{Goes, AppendsPart, written_lines};
 ghost use Rattle.ak_cli.specs.Commands.{IsInRange};
 ghost use Rattle.ak_cli.specs.Labs.{state_of, device_step, review_step, sync_step, sync_line, show_step, obeyed, is_skipped, line_step, lab_step};
 ghost use Rattle.ak_cli.specs.LabRun.{opening_lab};
+ghost use Rattle.ak_cli.specs.NewReviews.{IsId};
 ghost use Rattle.ak_cli.specs.Steps.{IsRefusal, RefusesBy, Went, Stopped, LineCause};
 
 use crate::lab::commands::{Command, read_command};
 use crate::lab::devices::{Device, is_device_name, place_of};
 use crate::lab::faults::{LineFault, refusal};
-use crate::lab::sides::{IDS_END, Side};
+use crate::lab::sides::Side;
+use crate::lab::stores::Store;
 use crate::lab::syncs::{SyncEnd, sync_sides};
 use crate::lab::tables::print_reviews;
 use ak_base::{Memory, Text};
 use ak_io::{PrintFault, Sink, Taken, print_line};
-use ak_keep::MemoryKeeper;
 use std::alloc::Global;
 
 /// How many devices a lab holds.
@@ -44,7 +45,7 @@ impl Lab {
             alloc,
             clock: OPENING_MOMENT,
             server: Side {
-                reviews: MemoryKeeper::new(alloc),
+                reviews: Store::new(alloc),
                 moment: OPENING_MOMENT,
             },
             devices: Vec::new(alloc),
@@ -130,7 +131,7 @@ impl Lab {
         ease: u64,
         count: u64,
     ) -> Result<(), LineFault>
-        requires card { card < IDS_END }
+        requires card { IsId card }
         requires ease { ease ≤ 4 }
         ensures ok { OnOk result (review_step name.now card ease count (state_of self.old) ≡ Goes [] (state_of self.new)) }
         ensures refused { IfErr result (RefusesBy (review_step name.now card ease count (state_of self.old))) }
@@ -168,8 +169,8 @@ impl Lab {
             SyncEnd::MomentsEnd => Err(refusal(self.alloc, "bad line")),
             SyncEnd::NoChanges => Ok("no changes"),
             SyncEnd::Finished { device, server } => {
-                self.devices[place].side = device;
-                self.server = server;
+                self.devices[place].side.replace_by(device);
+                self.server.replace_by(server);
                 Ok("finished")
             }
         }
@@ -190,13 +191,13 @@ impl Lab {
         ensures cause { LineCause (O.fault_count out.old) (O.fault_count out.new) result }
     {
         if name.as_str() == "server" {
-            print_reviews(self.alloc, out, &self.server.reviews)?;
+            print_reviews(self.alloc, out, self.server.reviews.rows())?;
             return Ok(());
         }
         let Some(place) = place_of(self.devices.as_slice(), name) else {
             return Err(self.no_device(name));
         };
-        print_reviews(self.alloc, out, &self.devices[place].side.reviews)?;
+        print_reviews(self.alloc, out, self.devices[place].side.reviews.rows())?;
         Ok(())
     }
 }

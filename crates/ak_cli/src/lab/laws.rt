@@ -1,7 +1,7 @@
 ghost use Rattle.std.specs.Prelude.{◌≡◌, ℕ, List, length, Some};
 ghost use Rattle.ak_keep.specs.Collections.{Rows};
 ghost use Rattle.ak_cli.specs.Laws.{AreLeastFree, Joins};
-ghost use Rattle.ak_cli.specs.Sides.{free_ids};
+ghost use Rattle.ak_cli.specs.NewReviews.{free_ids};
 ghost use Rattle.ak_cli.specs.Syncs.{synced};
 ghost use Rattle.ak_cli.specs.declared.lab.sides.Side.{Side};
 ghost use Rattle.ak_cli.specs.declared.lab.syncs.SyncEnd.TheVariants.{Finished};

@@ -1,9 +1,11 @@
 ghost use Rattle.std.specs.Prelude.{◌≡◌, ◌-◌, ◌++◌, ◌≤◌, ◌<◌, IfOk, OnOk, IfSome, OnSome, IfNone};
 ghost use Rattle.std.specs.Option.{option_map};
-ghost use Rattle.ak_cli.specs.Sides.{is_free, only_free, free_ids, review_name, new_review, with_reviews, raised, reviewed, AllBelow};
+ghost use Rattle.ak_cli.specs.NewReviews.{is_free, only_free, free_ids, review_name, AreIds, IsId};
+ghost use Rattle.ak_cli.specs.Sides.{raised, reviewed};
 
-use ak_base::{Memory, Name, Review, Row, Table};
-use ak_keep::MemoryKeeper;
+use crate::lab::stores::Store;
+use ak_base::{Memory, Name, Table};
+use ak_keep::RowMap;
 use std::alloc::Global;
 
 /// The first id past the last one that a row may have.
@@ -15,7 +17,7 @@ pub(crate) const LAST_MOMENT: u64 = 4_294_967_295_999;
 /// One side of a sync: a collection of reviews, and the moment of its last change.
 #[derive(Debug, Drop)]
 pub(crate) struct Side {
-    pub(crate) reviews: MemoryKeeper,
+    pub(crate) reviews: Store,
     pub(crate) moment: u64,
 }
 
@@ -31,6 +33,13 @@ impl Side {
         })
     }
 
+    /// Takes the other side's place: the old one is let go here.
+    pub(crate) fn replace_by(&mut self, other: Side)
+        ensures { self.new ≡ other }
+    {
+        *self = other;
+    }
+
     /// Adds reviews of a card, each under the least free id from the clock's moment on, as one edit.
     /// None, with the side as it was, where there are not so many free ids, or the moment is the last.
     pub(crate) fn review(
@@ -41,32 +50,28 @@ impl Side {
         ease: u64,
         count: u64,
     ) -> Result<Option<()>, Memory>
-        requires card { card < IDS_END }
+        requires card { IsId card }
         requires ease { ease ≤ 4 }
         ensures done { IfOk result (λ done. OnSome done (reviewed at card ease count self.old ≡ Some self.new)) }
         ensures ended { IfOk result (λ done. IfNone done (reviewed at card ease count self.old ≡ None)) }
     {
-        let Some(ids) = free_ids(alloc, &self.reviews, at, count)? else {
+        let Some(ids) = free_ids(alloc, self.reviews.rows(), at.max(1), count)? else {
             return Ok(None);
         };
         let Some(moment) = raised(at, self.moment) else {
             return Ok(None);
         };
-        put_reviews(&mut self.reviews, ids.as_slice(), card, ease)?;
+        self.reviews.add(ids.as_slice(), card, ease)?;
         self.moment = moment;
         Ok(Some(()))
     }
 }
 
 /// The first `count` free ids from `from` on, if there are so many.
-fn free_ids(
-    alloc: Global,
-    held: &MemoryKeeper,
-    from: u64,
-    count: u64,
-) -> Result<Option<Vec<u64>>, Memory>
+fn free_ids(alloc: Global, held: &RowMap, from: u64, count: u64) -> Result<Option<Vec<u64>>, Memory>
+    requires { 1 ≤ from }
     ensures ids { IfOk result (λ ids. option_map (λ ids. ids.items) ids ≡ free_ids (IDS_END - from) from count held.now) }
-    ensures range { IfOk result (λ ids. IfSome ids (λ ids. AllBelow IDS_END ids.items)) }
+    ensures range { IfOk result (λ ids. IfSome ids (λ ids. AreIds ids.items)) }
 {
     let mut ids = Vec::new(alloc);
     for id in from..IDS_END {
@@ -81,7 +86,7 @@ fn free_ids(
     Ok(None)
 }
 
-fn push_free(ids: &mut Vec<u64>, held: &MemoryKeeper, id: u64) -> Result<(), Memory>
+fn push_free(ids: &mut Vec<u64>, held: &RowMap, id: u64) -> Result<(), Memory>
     requires { id < IDS_END }
     ensures { OnOk result (ids.new.items ≡ ids.old.items ++ only_free held.now id) }
 {
@@ -91,24 +96,12 @@ fn push_free(ids: &mut Vec<u64>, held: &MemoryKeeper, id: u64) -> Result<(), Mem
     Ok(())
 }
 
-fn is_free(held: &MemoryKeeper, id: u64) -> Result<bool, Memory>
+fn is_free(held: &RowMap, id: u64) -> Result<bool, Memory>
     requires { id < IDS_END }
     ensures { IfOk result (λ free. free ≡ is_free held.now id) }
 {
     let row = held.get(review_name(id))?;
     Ok(row.is_none())
-}
-
-fn put_reviews(held: &mut MemoryKeeper, ids: &[u64], card: u64, ease: u64) -> Result<(), Memory>
-    requires ids { AllBelow IDS_END ids.now }
-    requires card { card < IDS_END }
-    requires ease { ease ≤ 4 }
-    ensures { OnOk result (held.new ≡ with_reviews ids.now card ease held.old) }
-{
-    for id in ids {
-        held.put(new_review(*id, card, ease))?;
-    }
-    Ok(())
 }
 
 fn review_name(id: u64) -> Name
@@ -119,25 +112,6 @@ fn review_name(id: u64) -> Name
         table: Table::Review,
         id: id as i64,
     }
-}
-
-fn new_review(id: u64, card: u64, ease: u64) -> Row
-    requires id { id < IDS_END }
-    requires card { card < IDS_END }
-    requires ease { ease ≤ 4 }
-    ensures { result ≡ new_review id card ease }
-{
-    Row::Review(Review {
-        id: id as i64,
-        cid: card as i64,
-        usn: -1,
-        ease: ease as i64,
-        ivl: 0,
-        last_ivl: 0,
-        factor: 0,
-        time: 0,
-        kind: 0,
-    })
 }
 
 /// The moment behind one more change. None where the moment stands at its last value.

@@ -3,7 +3,7 @@ ghost use Rattle.ak_cli.specs.Syncs.{joined_side, synced};
 
 use crate::lab::sides::{Side, raised};
 use ak_base::Memory;
-use ak_merge::{join_into, tie_between};
+use ak_merge::tie_between;
 
 /// How a sync of two sides ends.
 #[derive(Debug, Drop)]
@@ -22,7 +22,7 @@ pub(crate) enum SyncEnd {
 pub(crate) fn sync_sides(at: u64, device: &Side, server: &Side) -> Result<SyncEnd, Memory>
     ensures { IfOk result (λ end. end ≡ synced at device.now server.now) }
 {
-    if let Some(name) = tie_between(&device.reviews, &server.reviews)? {
+    if let Some(name) = tie_between(device.reviews.rows(), server.reviews.rows())? {
         return Ok(SyncEnd::Tie(name.id));
     }
     if device.moment == server.moment {
@@ -42,6 +42,6 @@ fn joined_side(side: &Side, other: &Side, moment: u64) -> Result<Side, Memory>
     ensures { IfOk result (λ joined. joined ≡ joined_side side.now other.now moment) }
 {
     let mut reviews = side.reviews.copy()?;
-    join_into(&mut reviews, &other.reviews)?;
+    reviews.join(&other.reviews)?;
     Ok(Side { reviews, moment })
 }

@@ -1,15 +1,16 @@
-ghost use Rattle.std.specs.Prelude.{◌≡◌, [], ◌∷◌, ◌++◌, ◌<◌, length, map, IfOk, OnOk, OnErr, string_bytes};
+ghost use Rattle.std.specs.Prelude.{◌≡◌, [], ◌∷◌, ◌++◌, ◌<◌, length, map, IfOk, OnOk, OnErr};
 ghost use Rattle.std.specs.Io.KnownBytes.{Appends};
 ghost use Rattle.ak_base.specs.declared.names.Table.TheVariants as tables;
 ghost use Rattle.ak_cli.specs.declared.lab.tables.TheConstants.{PAGE};
 ghost use Rattle.ak_io.specs.Prints.{PrintCause};
 ghost use Rattle.ak_io.specs.Scripts.{AppendsPart, written_lines};
 ghost use Rattle.ak_keep.specs.Collections.{rows_past, last_id};
-ghost use Rattle.ak_cli.specs.Tables.{row_text, review_text, shown_reviews};
+ghost use Rattle.ak_cli.specs.Tables.{row_text, shown_reviews};
 
-use ak_base::{List, Memory, Name, Review, Row, Table};
+use ak_base::{List, Memory, Name, Row, Table, Text};
 use ak_io::{PrintFault, Sink, print_line};
-use ak_keep::MemoryKeeper;
+use ak_json::{whole_numbers_are_written, write_row, write_text};
+use ak_keep::RowMap;
 use std::alloc::Global;
 
 /// How many rows are read at a time.
@@ -19,7 +20,7 @@ const PAGE: usize = 1000;
 pub(crate) fn print_reviews<O: Sink>(
     alloc: Global,
     out: &mut O,
-    reviews: &MemoryKeeper,
+    reviews: &RowMap,
 ) -> Result<(), PrintFault>
     ensures ok { OnOk result (Appends (O.written out.old) (O.written out.new) (written_lines (shown_reviews reviews.now))) }
     ensures part { OnErr result (AppendsPart (O.written out.old) (O.written out.new) (written_lines (shown_reviews reviews.now))) }
@@ -41,7 +42,7 @@ pub(crate) fn print_reviews<O: Sink>(
 }
 
 /// The first reviews past a name.
-fn page_past(reviews: &MemoryKeeper, past: &Name) -> Result<List<Row>, Memory>
+fn page_past(reviews: &RowMap, past: &Name) -> Result<List<Row>, Memory>
     ensures whole { IfOk result (λ page. length page < PAGE → rows_past tables.Review past.now.id reviews.now ≡ page) }
     ensures rest { IfOk result (λ page. rows_past tables.Review past.now.id reviews.now ≡ page ++ rows_past tables.Review (last_id past.now.id page) reviews.now) }
 {
@@ -76,32 +77,16 @@ fn print_row<O: Sink>(alloc: Global, out: &mut O, row: &Row) -> Result<(), Print
     ensures cause { PrintCause (O.fault_count out.old) (O.fault_count out.new) result }
 {
     let text = row_text(alloc, row)?;
-    print_line(alloc, out, text.as_bytes())
+    print_line(alloc, out, text.as_str().as_bytes())
 }
 
-/// A row as the lab shows it: its JSON array, with the update sequence number 0.
-fn row_text(alloc: Global, row: &Row) -> Result<String, Memory>
-    ensures { IfOk result (λ text. string_bytes text ≡ row_text row.now) }
+/// A row as the lab shows it: its JSON text, with the update sequence number 0.
+fn row_text(alloc: Global, row: &Row) -> Result<Text, Memory>
+    ensures { IfOk result (λ text. text ≡ row_text row.now) }
 {
-    match row {
-        Row::Review(review) => review_text(alloc, review),
-    }
-}
-
-fn review_text(alloc: Global, review: &Review) -> Result<String, Memory>
-    ensures { IfOk result (λ text. string_bytes text ≡ review_text review.now) }
-{
-    let Review {
-        id,
-        cid,
-        ease,
-        ivl,
-        last_ivl,
-        factor,
-        time,
-        kind,
-        ..
-    } = review;
-    let text = format!(in alloc; "[{id},{cid},0,{ease},{ivl},{last_ivl},{factor},{time},{kind}]")?;
-    Ok(text)
+    let mut shown = row.copy()?;
+    shown.set_usn(0);
+    let value = write_row(alloc, &shown)?;
+    whole_numbers_are_written();
+    write_text(alloc, &value)
 }

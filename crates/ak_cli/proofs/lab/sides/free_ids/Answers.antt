@@ -1,6 +1,6 @@
 use Rattle.std.proofs.Common.{◌-◌, ◌∙◌, sym, length, arith}
 use Rattle.ak_cli.specs.declared.lab.sides.TheConstants.{IDS_END}
-use Rattle.ak_cli.proofs.FreeIds.{goes_on, found_all, found_few, few_more, below_free}
+use Rattle.ak_cli.proofs.FreeIds.{goes_on, found_all, found_few, few_more, ids_free}
 use Rattle.ak_cli.proofs.lab.sides.free_ids.Goals as goal
 
 pub returns-then-len-count-clause-ids : goal.returns-then-len-count-clause-ids
@@ -12,7 +12,8 @@ loop-id-preserved c = record {
   found = goes_on IDS_END c.loop-id.id c.args.count (c.args.count - length c.loop-id.ids.items - 1) c.loop-id.ids.items _ c.args.held.now (omega arith) (omega arith) c.in_ok-push_free.ensures
       ∙ c.loop-id.invariant.found;
   few = few_more c.args.count c.loop-id.ids.items _ c.loop-id.id c.args.held.now (omega arith) c.in_ok-push_free.ensures;
-  below = below_free IDS_END c.loop-id.ids.items _ c.loop-id.id c.args.held.now c.loop-id.invariant.below (omega arith) c.in_ok-push_free.ensures;
+  low = omega (arith, c.loop-id.invariant.low);
+  ids = ids_free c.loop-id.ids.items _ c.loop-id.id c.args.held.now c.loop-id.invariant.ids (c.loop-id.invariant.low, omega arith) c.in_ok-push_free.ensures;
 }
 
 pub returns-then-len-count-2-clause-ids : goal.returns-then-len-count-2-clause-ids

@@ -1,6 +1,6 @@
 use Rattle.std.proofs.Common.{◌≡◌, ◌-◌, ◌≤◌, ◌++◌, length}
 use Rattle.std.specs.Option.{option_map}
-use Rattle.ak_cli.specs.Sides.{AllBelow, free_ids}
+use Rattle.ak_cli.specs.NewReviews.{AreIds, free_ids}
 use Rattle.ak_cli.specs.declared.lab.sides.TheConstants.{IDS_END}
 use Rattle.ak_cli.proofs.lab.sides.free_ids.Given as goal
 
@@ -9,5 +9,6 @@ abbrev pub invariant-loop-id : goal.invariant-loop-id
 invariant-loop-id l = record {
   found : option_map (λ more. l.ids.items ++ more) (free_ids (IDS_END - l.id) l.id (l.count - length l.ids.items) l.held) ≡ free_ids (IDS_END - l.from) l.from l.count l.held;
   few : length l.ids.items ≤ l.count;
-  below : AllBelow IDS_END l.ids.items;
+  low : 1 ≤ l.id;
+  ids : AreIds l.ids.items;
 }

@@ -4,10 +4,10 @@ use Rattle.ak_cli.proofs.lab.tables.print_rows.Goals as goal
 
 pub returns-in_err-print_row-clause-part : goal.returns-in_err-print_row-clause-part
 returns-in_err-print_row-clause-part g c =
-    on_err _ (row_stopped _ _ _ _ c.args.rows.now c.loop-row.row-index _ (omega arith) c.loop-row.invariant.so_far c.in_err-print_row.ensures.part)
+    on_err _ (row_stopped _ _ _ _ c.args.rows.now c.loop-row.row-index _ (omega arith) c.row-item.is c.loop-row.invariant.so_far c.in_err-print_row.ensures.part)
 
 pub loop-row-preserved : goal.loop-row-preserved
 loop-row-preserved g c = record {
-  so_far = row_printed _ _ _ _ c.args.rows.now c.loop-row.row-index _ (omega arith) c.loop-row.invariant.so_far c.in_ok-print_row.ensures.ok;
+  so_far = row_printed _ _ _ _ c.args.rows.now c.loop-row.row-index _ (omega arith) c.row-item.is c.loop-row.invariant.so_far c.in_ok-print_row.ensures.ok;
   later = omega (arith, c.in_ok-print_row.ensures.cause.later, c.loop-row.invariant.later);
 }

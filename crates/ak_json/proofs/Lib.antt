@@ -1,0 +1,16 @@
+pub mod Again
+pub mod Shallow
+pub mod Unknown
+pub mod Kept
+pub mod Parts
+pub mod OptionRests
+pub mod RowForms
+pub mod WholeNumbers
+pub mod RowsAgain
+pub mod ConfsAgain
+pub mod ObjectForms
+pub mod DecksAgain
+pub mod NoteTypesAgain
+pub mod Sorted
+pub mod ReadSorted
+pub mod OptionsAgain

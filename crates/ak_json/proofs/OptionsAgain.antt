@@ -1,0 +1,444 @@
+-- What was written of an option group in its ranges is read again.
+use Rattle.std.proofs.Common.{◌≡◌, ℕ, ℤ, pos, negsuc, List, [], ◌∷◌, ◌++◌, length, map, take, drop, codes, Bool, true, false, ◌==◌, Option, Some, None, is_none, Ok, Ordering, Less, Equal, Greater, is_eq, nat_cmp, refl, sym, ap, subst, ◌∙◌, arith}
+use Rattle.std.specs.Prelude.{if◌then◌else◌, unwrap_or, option_and_then, option_map}
+use Rattle.std.specs.Option.{option_map_or, is_some}
+use Rattle.std.specs.Cmp.Lexicographic.{slice_cmp, pointwise}
+use Rattle.std.specs.Ordering.{match_ordering}
+use Rattle.serde_json.specs.Data.{Data, null, boolean, number, string, array, object, no_items, Members, no_members, member, put}
+use Rattle.serde_json.specs.Find.{get_member, as_array, as_object}
+use Rattle.serde_json.specs.View.{items_of}
+use Rattle.serde_json.specs.Written.{compact_text}
+use Rattle.ak_base.specs.Columns.{code_fault, long_fault, first_fault}
+use Rattle.ak_base.specs.OptionGroups.{bad_step, steps_fault, options_faults, general_faults, new_faults, rev_faults, lapse_faults}
+use Rattle.ak_base.specs.Rests.{lacks, lacks_but_some, keeps_unknown, lacks_options, options_keys, new_keys, rev_keys, lapse_keys}
+use Rattle.ak_base.specs.declared.option_groups.Options.{Options}
+use Rattle.ak_json.specs.Cells.{cell_at, whole_at, truth_at, part_at, steps_at, inner_at, wholes}
+use Rattle.ak_json.specs.Flaws.{inner_flaw}
+use Rattle.ak_json.specs.Groups.{put_group, group_members, new_in, rev_in, lapse_in, options_kept, IsOptions, new_json, rev_json, lapse_json, options_cells, options_json}
+use Rattle.ak_json.specs.Keys.{word_text}
+use Rattle.ak_json.specs.Kinds.{whole_of, are_whole}
+use Rattle.ak_json.specs.Members.{Form, knows, unknown}
+use Rattle.ak_json.specs.Objects.{object_flaw, put_cells}
+use Rattle.ak_json.specs.Rests.{kept, rest_members, deep_fault}
+use Rattle.ak_json.specs.Written.{whole, pair, steps_json}
+use Rattle.ak_json.specs.declared.faults.JsonFault.TheVariants as faults
+use Rattle.ak_json.specs.declared.forms.TheConstants.{OPTIONS, NEW, REV, LAPSE}
+use Rattle.ak_json.specs.declared.keys.Word.{Word}
+use Rattle.ak_json.specs.declared.keys.Word.TheVariants as words
+use Rattle.ak_json.proofs.Again.{IsReadAgain, AllNone, all_none, id_again, stamp_again, code_again}
+use Rattle.ak_json.proofs.ConfsAgain.{truth_found}
+use Rattle.ak_json.proofs.DecksAgain.{whole_found, words_found, part_found}
+use Rattle.ak_json.proofs.Kept.{left_true, right_true, both_true, same_key}
+use Rattle.ak_json.proofs.NoteTypesAgain.{inner_none}
+use Rattle.ak_json.proofs.ObjectForms.{AllFound, found_all, are_apart, knows_all, keys_of, unknown_cells, all_unknown, IsKept, rest_kept, all_hold, flawless, plain_is_shallow, none_later, unequal, differs, no_rest}
+use Rattle.ak_json.proofs.OptionRests.{put_together}
+use Rattle.ak_json.proofs.Parts.{second_none}
+use Rattle.ak_json.proofs.RowForms.{first_none}
+use Rattle.ak_json.proofs.ReadSorted.{rest_sorted}
+use Rattle.ak_json.proofs.Sorted.{AllBehind, AreSorted, behind_before, absent_behind, unknown_behind, put_first}
+
+-- ---- what a group keeps, put back under its key
+
+-- the smaller form knows all that the form knows, but for the key of the own
+record IsWithout (own : Word) (form smaller : Form) : Type 0 where
+  known : knows form (word_text own) ≡ true
+  unknown : knows smaller (word_text own) ≡ false
+  others : (k : List ℕ) → pointwise ◌==◌ (word_text own) k ≡ false → knows form k ≡ knows smaller k
+
+kept_alike : (form smaller : Form) (l : List ℕ) (e : Data) (ms : Members) → knows form l ≡ knows smaller l → unknown form ms ≡ unknown smaller ms → unknown form (member l e ms) ≡ unknown smaller (member l e ms)
+kept_alike form smaller l e ms h later = rw (h, later) refl
+
+-- where the key is none of the members', both forms keep the same
+absent_alike : (own : Word) (form smaller : Form) (ms : Members) → IsWithout own form smaller → is_none (get_member (word_text own) ms) ≡ true → unknown form ms ≡ unknown smaller ms
+absent_alike own form smaller no_members w h = refl
+absent_alike own form smaller (member l e ms) w h =
+    kept_alike form smaller l e ms
+    (w.others l (differs (word_text own) l (unequal (slice_cmp nat_cmp (word_text own) l) (get_member (word_text own) ms) e h)))
+    (absent_alike own form smaller ms w (none_later (slice_cmp nat_cmp (word_text own) l) (get_member (word_text own) ms) e h))
+
+-- the members that hold a value under the key keep it, where it is put back in its place
+put_back : (own : Word) (form smaller : Form) (d : Data) (ms : Members) → IsWithout own form smaller → AreSorted ms → get_member (word_text own) ms ≡ Some d
+    → put (word_text own) d (unknown form ms) ≡ unknown smaller ms
+put_back own form smaller d no_members w s g = cc
+put_back own form smaller d (member l e ms) w s g = one (slice_cmp nat_cmp (word_text own) l) refl g (put_back own form smaller d ms w s.1)
+  where
+    elsewhere : (known : Bool) → slice_cmp nat_cmp (word_text own) l ≡ Greater → put (word_text own) d (unknown form ms) ≡ unknown smaller ms
+        → put (word_text own) d (if known then unknown form ms else member l e (unknown form ms)) ≡ (if known then unknown smaller ms else member l e (unknown smaller ms))
+    elsewhere true is later = later
+    elsewhere false is later =
+        ap (λ o. match_ordering o (member (word_text own) d (member l e (unknown form ms))) (member l d (unknown form ms)) (member l e (put (word_text own) d (unknown form ms)))) is
+        ∙ ap (member l e) later
+
+    one : (o : Ordering) → slice_cmp nat_cmp (word_text own) l ≡ o → match_ordering o (get_member (word_text own) ms) (Some e) (get_member (word_text own) ms) ≡ Some d
+        → (get_member (word_text own) ms ≡ Some d → put (word_text own) d (unknown form ms) ≡ unknown smaller ms)
+        → put (word_text own) d (unknown form (member l e ms)) ≡ unknown smaller (member l e ms)
+    one Less is here later =
+        let none : get_member (word_text own) ms ≡ None = absent_behind (word_text own) ms (behind_before (word_text own) l ms is s.0) in
+        let both : None ≡ Some d = sym none ∙ here in
+        cc
+    one Equal is here later =
+        let same : word_text own ≡ l = same_key (word_text own) l is in
+        let known : knows form l ≡ true = sym (ap (knows form) same) ∙ w.known in
+        let new : knows smaller l ≡ false = sym (ap (knows smaller) same) ∙ w.unknown in
+        let behind : AllBehind (word_text own) ms = subst (λ (k : List ℕ). AllBehind k ms) (sym same) s.0 in
+        let alike : unknown form ms ≡ unknown smaller ms = absent_alike own form smaller ms w (ap is_none (absent_behind (word_text own) ms behind)) in
+        let value : d ≡ e = sym (ap (λ (o : Option Data). unwrap_or o d) here) in
+        ap (λ (b : Bool). put (word_text own) d (if b then unknown form ms else member l e (unknown form ms))) known
+        ∙ (put_first (word_text own) d (unknown form ms) (unknown_behind form (word_text own) ms behind)
+        ∙ (ap (λ (k : List ℕ). member k d (unknown form ms)) same
+        ∙ (ap (λ (x : Data). member l x (unknown form ms)) value
+        ∙ (ap (member l e) alike
+        ∙ sym (ap (λ (b : Bool). if b then unknown smaller ms else member l e (unknown smaller ms)) new)))))
+    one Greater is here later =
+        let other : knows form l ≡ knows smaller l = w.others l (differs (word_text own) l (ap is_eq is)) in
+        elsewhere (knows form l) is (later here) ∙ ap (λ (b : Bool). if b then unknown smaller ms else member l e (unknown smaller ms)) other
+
+-- what a group keeps stands again where the rest keeps it
+group_back : (own : Word) (keys : List (List ℕ)) (form smaller : Form) (ms : Members) → IsWithout own form smaller → AreSorted ms → keeps_unknown (word_text own) keys ms ≡ true
+    → put_group own (group_members own (object ms)) (unknown form ms) ≡ unknown smaller ms
+group_back own keys form smaller ms w s h = one (get_member (word_text own) ms) refl h
+  where
+    one : (o : Option Data) → get_member (word_text own) ms ≡ o → option_map_or (λ value. option_map_or (lacks_but_some keys) (as_object value) false) o true ≡ true
+        → put_group own (unwrap_or (option_and_then as_object o) no_members) (unknown form ms) ≡ unknown smaller ms
+    one None is k = absent_alike own form smaller ms w (ap is_none is)
+    one (Some null) is k = no_rest k
+    one (Some (boolean b)) is k = no_rest k
+    one (Some (number n)) is k = no_rest k
+    one (Some (string t)) is k = no_rest k
+    one (Some (array ds)) is k = no_rest k
+    one (Some (object no_members)) is k = no_rest k
+    one (Some (object (member l d group))) is k = put_back own form smaller (object (member l d group)) ms w s is
+
+-- all that a group keeps is unknown to it
+group_unknown : (own : Word) (form : Form) (ms : Members) → keeps_unknown (word_text own) (keys_of form) ms ≡ true → unknown form (group_members own (object ms)) ≡ group_members own (object ms)
+group_unknown own form ms h = one (get_member (word_text own) ms) h
+  where
+    one : (o : Option Data) → option_map_or (λ value. option_map_or (lacks_but_some (keys_of form)) (as_object value) false) o true ≡ true
+        → unknown form (unwrap_or (option_and_then as_object o) no_members) ≡ unwrap_or (option_and_then as_object o) no_members
+    one None k = refl
+    one (Some null) k = no_rest k
+    one (Some (boolean b)) k = no_rest k
+    one (Some (number n)) k = no_rest k
+    one (Some (string t)) k = no_rest k
+    one (Some (array ds)) k = no_rest k
+    one (Some (object no_members)) k = no_rest k
+    one (Some (object (member l d group))) k = all_unknown form (member l d group) k
+
+-- ---- the members that an option group keeps
+
+-- the columns of an option group that hold no objects, and then those from a place on
+abbrev own_and : ℕ → Form
+own_and place = take 5 OPTIONS ++ drop place OPTIONS
+
+without_new : IsWithout words.New OPTIONS (own_and 6)
+without_new = record { known = refl; unknown = refl; others = λ k h. rw h refl }
+
+without_rev : IsWithout words.Rev (own_and 6) (own_and 7)
+without_rev = record { known = refl; unknown = refl; others = λ k h. rw h refl }
+
+without_lapse : IsWithout words.Lapse (own_and 7) (own_and 8)
+without_lapse = record { known = refl; unknown = refl; others = λ k h. rw h refl }
+
+-- what a rest of an option group keeps, at its top and inside `new`, `rev` and `lapse`
+record KeepsUnknown (ms : Members) : Type 0 where
+  own : lacks options_keys ms ≡ true
+  new : keeps_unknown (codes "new") new_keys ms ≡ true
+  rev : keeps_unknown (codes "rev") rev_keys ms ≡ true
+  lapse : keeps_unknown (codes "lapse") lapse_keys ms ≡ true
+
+keeps_each : (ms : Members) → lacks_options ms ≡ true → KeepsUnknown ms
+keeps_each ms h =
+    let groups = right_true (lacks options_keys ms) _ h in
+    let later = right_true (keeps_unknown (codes "new") new_keys ms) _ groups in
+    record {
+      own = left_true _ _ h;
+      new = left_true _ _ groups;
+      rev = left_true _ _ later;
+      lapse = right_true (keeps_unknown (codes "rev") rev_keys ms) _ later;
+    }
+
+-- what the groups keep and the other unknown members are together all that the rest keeps
+options_back : (ms : Members) → AreSorted ms → KeepsUnknown ms
+    → put_group words.Lapse (group_members words.Lapse (object ms)) (put_group words.Rev (group_members words.Rev (object ms)) (put_group words.New (group_members words.New (object ms)) (unknown OPTIONS ms))) ≡ ms
+options_back ms s k =
+    let rev : Members = group_members words.Rev (object ms) in
+    let lapse : Members = group_members words.Lapse (object ms) in
+    ap (λ (m : Members). put_group words.Lapse lapse (put_group words.Rev rev m)) (group_back words.New new_keys OPTIONS (own_and 6) ms without_new s k.new)
+    ∙ (ap (put_group words.Lapse lapse) (group_back words.Rev rev_keys (own_and 6) (own_and 7) ms without_rev s k.rev)
+    ∙ (group_back words.Lapse lapse_keys (own_and 7) (own_and 8) ms without_lapse s k.lapse
+    ∙ all_unknown (own_and 8) ms k.own))
+
+-- ---- steps
+
+abbrev AllRead : List ℤ → Type 0
+AllRead [] = Unit {0}
+AllRead (z ∷ zs) = IsReadAgain z × AllRead zs
+
+each_step : (column : ℕ) (zs : List ℤ) → bad_step column zs ≡ None → AllRead zs
+each_step column [] h = tt
+each_step column (z ∷ zs) h = (
+  code_again column 1_000_000 z (pos 1) (omega arith) (first_none _ (bad_step column zs) h),
+  each_step column zs (second_none (code_fault column z (pos 1) (pos 1_000_000)) _ h),
+)
+
+steps_again : (column : ℕ) (zs : List ℤ) → steps_fault column zs ≡ None → AllRead zs
+steps_again column zs h = each_step column zs (second_none (long_fault column (length zs) 50) _ h)
+
+steps_hold : (zs : List ℤ) → AllRead zs → are_whole (items_of (map whole zs)) ≡ true
+steps_hold [] r = refl
+steps_hold (z ∷ zs) r = both_true _ _ (ap is_some r.0) (steps_hold zs r.1)
+
+steps_read : (zs : List ℤ) → AllRead zs → zs ≡ wholes (items_of (map whole zs))
+steps_read [] r = refl
+steps_read (z ∷ zs) r =
+    ap (λ (first : ℤ). first ∷ zs) (sym (ap (λ (o : Option ℤ). unwrap_or o (pos 0)) r.0))
+    ∙ ap (λ (later : List ℤ). unwrap_or (whole_of (whole z)) (pos 0) ∷ later) (steps_read zs r.1)
+
+steps_found : (form : Form) (n : ℕ) (d : Data) (zs : List ℤ) → cell_at form n d ≡ Some (steps_json zs) → AllRead zs → zs ≡ steps_at form n d
+steps_found form n d zs e r = steps_read zs r ∙ sym (ap (λ (o : Option Data). wholes (unwrap_or (option_and_then as_array o) no_items)) e)
+
+-- ---- the numbers
+
+-- the numbers of an option group are read as they were written
+record AreRead (o : Options) : Type 0 where
+  id : IsReadAgain o.id
+  stamp : IsReadAgain o.stamp
+  usn : IsReadAgain o.usn
+  max_taken : IsReadAgain o.max_taken
+  new_steps : AllRead o.new_steps
+  grad_ivl : IsReadAgain o.grad_ivl
+  easy_ivl : IsReadAgain o.easy_ivl
+  initial_factor : IsReadAgain o.initial_factor
+  new_per_day : IsReadAgain o.new_per_day
+  rev_per_day : IsReadAgain o.rev_per_day
+  ease4 : IsReadAgain o.ease4
+  ivl_fct : IsReadAgain o.ivl_fct
+  max_ivl : IsReadAgain o.max_ivl
+  hard_factor : IsReadAgain o.hard_factor
+  lapse_steps : AllRead o.lapse_steps
+  mult : IsReadAgain o.mult
+  min_int : IsReadAgain o.min_int
+  leech_fails : IsReadAgain o.leech_fails
+  leech_action : IsReadAgain o.leech_action
+
+are_read : (o : Options) → AllNone (options_faults o) → AreRead o
+unfolding general_faults new_faults rev_faults lapse_faults
+are_read o all =
+    let new = all.1.1.1.1.1 in
+    let rev = new.1.1.1.1.1 in
+    let lapse = rev.1.1.1.1.1 in
+    record {
+      id = id_again o.id all.0;
+      stamp = stamp_again o.stamp all.1.0;
+      usn = code_again 2 2_147_483_647 o.usn (negsuc 0) (omega arith) all.1.1.0;
+      max_taken = code_again 4 86_400 o.max_taken (pos 0) (omega arith) all.1.1.1.1.0;
+      new_steps = steps_again 5 o.new_steps new.0;
+      grad_ivl = code_again 6 100_000 o.grad_ivl (pos 1) (omega arith) new.1.0;
+      easy_ivl = code_again 7 100_000 o.easy_ivl (pos 1) (omega arith) new.1.1.0;
+      initial_factor = code_again 8 100_000 o.initial_factor (pos 1_300) (omega arith) new.1.1.1.0;
+      new_per_day = code_again 9 999_999 o.new_per_day (pos 0) (omega arith) new.1.1.1.1.0;
+      rev_per_day = code_again 11 999_999 o.rev_per_day (pos 0) (omega arith) rev.0;
+      ease4 = code_again 12 100_000 o.ease4 (pos 1) (omega arith) rev.1.0;
+      ivl_fct = code_again 13 100_000 o.ivl_fct (pos 1) (omega arith) rev.1.1.0;
+      max_ivl = code_again 14 100_000 o.max_ivl (pos 1) (omega arith) rev.1.1.1.0;
+      hard_factor = code_again 15 100_000 o.hard_factor (pos 1) (omega arith) rev.1.1.1.1.0;
+      lapse_steps = steps_again 17 o.lapse_steps lapse.0;
+      mult = code_again 18 1_000 o.mult (pos 0) (omega arith) lapse.1.0;
+      min_int = code_again 19 100_000 o.min_int (pos 1) (omega arith) lapse.1.1.0;
+      leech_fails = code_again 20 999_999 o.leech_fails (pos 0) (omega arith) lapse.1.1.1.0;
+      leech_action = code_again 21 1 o.leech_action (pos 0) (omega arith) lapse.1.1.1.1.0;
+    }
+
+-- ---- the objects inside
+
+-- the object inside has no flaw and its cells, and keeps those members
+record IsGroupAgain (form : Form) (cells : List Data) (ms : Members) : Type 0 where
+  found : AllFound form cells (object (put_cells form cells ms))
+  flaw : inner_flaw form (object (put_cells form cells ms)) ≡ None
+  kept : unknown form (put_cells form cells ms) ≡ ms
+
+group_again : (form : Form) (cells : List Data) (ms : Members) → are_apart form ≡ true → knows_all form form ≡ true → unknown form ms ≡ ms → all_hold form cells ≡ true → IsGroupAgain form cells ms
+group_again form cells ms apart known new holds =
+    let d : Data = object (put_cells form cells ms) in
+    let found : AllFound form cells d = found_all form cells ms apart in
+    record {
+      found = found;
+      flaw = inner_none form d (flawless form cells d found holds);
+      kept = unknown_cells form form cells ms known ∙ new;
+    }
+
+abbrev new_cells : Options → List Data
+new_cells o = steps_json o.new_steps ∷ pair (record { day = o.grad_ivl; count = o.easy_ivl }) ∷ whole o.initial_factor ∷ whole o.new_per_day ∷ boolean o.new_bury ∷ []
+
+new_holds : (o : Options) → AreRead o → all_hold NEW (new_cells o) ≡ true
+new_holds o r = rw (steps_hold o.new_steps r.new_steps, r.grad_ivl, r.easy_ivl, r.initial_factor, r.new_per_day) refl
+
+new_again : (o : Options) (ms : Members) → AreRead o → KeepsUnknown ms → IsGroupAgain NEW (new_cells o) (group_members words.New (object ms))
+new_again o ms r k = group_again NEW (new_cells o) (group_members words.New (object ms)) refl refl (group_unknown words.New NEW ms k.new) (new_holds o r)
+
+-- what stands in the columns for new cards is read
+record ReadsNew (o : Options) (d : Data) : Type 0 where
+  steps : o.new_steps ≡ steps_at NEW 0 d
+  grad : o.grad_ivl ≡ part_at NEW 1 0 d
+  easy : o.easy_ivl ≡ part_at NEW 1 1 d
+  factor : o.initial_factor ≡ whole_at NEW 2 d
+  per_day : o.new_per_day ≡ whole_at NEW 3 d
+  bury : o.new_bury ≡ truth_at NEW 4 d
+
+reads_new : (o : Options) (d : Data) → AllFound NEW (new_cells o) d → AreRead o → ReadsNew o d
+reads_new o d f r =
+    let days : Data = pair (record { day = o.grad_ivl; count = o.easy_ivl }) in
+    record {
+      steps = steps_found NEW 0 d o.new_steps f.0 r.new_steps;
+      grad = sym (part_found NEW 1 0 d days o.grad_ivl f.1.0 refl r.grad_ivl);
+      easy = sym (part_found NEW 1 1 d days o.easy_ivl f.1.0 refl r.easy_ivl);
+      factor = whole_found NEW 2 d o.initial_factor f.1.1.0 r.initial_factor;
+      per_day = whole_found NEW 3 d o.new_per_day f.1.1.1.0 r.new_per_day;
+      bury = truth_found NEW 4 d o.new_bury f.1.1.1.1.0;
+    }
+
+abbrev rev_cells : Options → List Data
+rev_cells o = whole o.rev_per_day ∷ whole o.ease4 ∷ whole o.ivl_fct ∷ whole o.max_ivl ∷ whole o.hard_factor ∷ boolean o.rev_bury ∷ []
+
+rev_holds : (o : Options) → AreRead o → all_hold REV (rev_cells o) ≡ true
+rev_holds o r = rw (r.rev_per_day, r.ease4, r.ivl_fct, r.max_ivl, r.hard_factor) refl
+
+rev_again : (o : Options) (ms : Members) → AreRead o → KeepsUnknown ms → IsGroupAgain REV (rev_cells o) (group_members words.Rev (object ms))
+rev_again o ms r k = group_again REV (rev_cells o) (group_members words.Rev (object ms)) refl refl (group_unknown words.Rev REV ms k.rev) (rev_holds o r)
+
+-- what stands in the columns for reviews is read
+record ReadsRev (o : Options) (d : Data) : Type 0 where
+  per_day : o.rev_per_day ≡ whole_at REV 0 d
+  ease4 : o.ease4 ≡ whole_at REV 1 d
+  ivl_fct : o.ivl_fct ≡ whole_at REV 2 d
+  max_ivl : o.max_ivl ≡ whole_at REV 3 d
+  hard_factor : o.hard_factor ≡ whole_at REV 4 d
+  bury : o.rev_bury ≡ truth_at REV 5 d
+
+reads_rev : (o : Options) (d : Data) → AllFound REV (rev_cells o) d → AreRead o → ReadsRev o d
+reads_rev o d f r =
+    record {
+      per_day = whole_found REV 0 d o.rev_per_day f.0 r.rev_per_day;
+      ease4 = whole_found REV 1 d o.ease4 f.1.0 r.ease4;
+      ivl_fct = whole_found REV 2 d o.ivl_fct f.1.1.0 r.ivl_fct;
+      max_ivl = whole_found REV 3 d o.max_ivl f.1.1.1.0 r.max_ivl;
+      hard_factor = whole_found REV 4 d o.hard_factor f.1.1.1.1.0 r.hard_factor;
+      bury = truth_found REV 5 d o.rev_bury f.1.1.1.1.1.0;
+    }
+
+abbrev lapse_cells : Options → List Data
+lapse_cells o = steps_json o.lapse_steps ∷ whole o.mult ∷ whole o.min_int ∷ whole o.leech_fails ∷ whole o.leech_action ∷ []
+
+lapse_holds : (o : Options) → AreRead o → all_hold LAPSE (lapse_cells o) ≡ true
+lapse_holds o r = rw (steps_hold o.lapse_steps r.lapse_steps, r.mult, r.min_int, r.leech_fails, r.leech_action) refl
+
+lapse_again : (o : Options) (ms : Members) → AreRead o → KeepsUnknown ms → IsGroupAgain LAPSE (lapse_cells o) (group_members words.Lapse (object ms))
+lapse_again o ms r k = group_again LAPSE (lapse_cells o) (group_members words.Lapse (object ms)) refl refl (group_unknown words.Lapse LAPSE ms k.lapse) (lapse_holds o r)
+
+-- what stands in the columns for cards that were forgotten is read
+record ReadsLapse (o : Options) (d : Data) : Type 0 where
+  steps : o.lapse_steps ≡ steps_at LAPSE 0 d
+  mult : o.mult ≡ whole_at LAPSE 1 d
+  min_int : o.min_int ≡ whole_at LAPSE 2 d
+  leech_fails : o.leech_fails ≡ whole_at LAPSE 3 d
+  leech_action : o.leech_action ≡ whole_at LAPSE 4 d
+
+reads_lapse : (o : Options) (d : Data) → AllFound LAPSE (lapse_cells o) d → AreRead o → ReadsLapse o d
+reads_lapse o d f r =
+    record {
+      steps = steps_found LAPSE 0 d o.lapse_steps f.0 r.lapse_steps;
+      mult = whole_found LAPSE 1 d o.mult f.1.0 r.mult;
+      min_int = whole_found LAPSE 2 d o.min_int f.1.1.0 r.min_int;
+      leech_fails = whole_found LAPSE 3 d o.leech_fails f.1.1.1.0 r.leech_fails;
+      leech_action = whole_found LAPSE 4 d o.leech_action f.1.1.1.1.0 r.leech_action;
+    }
+
+-- ---- an option group
+
+options_hold : (o : Options) (new rev lapse : Data) → AreRead o → is_some (as_object new) ≡ true → is_some (as_object rev) ≡ true → is_some (as_object lapse) ≡ true
+    → inner_flaw NEW new ≡ None → inner_flaw REV rev ≡ None → inner_flaw LAPSE lapse ≡ None
+    → all_hold OPTIONS (whole o.id ∷ whole o.stamp ∷ whole o.usn ∷ string o.name ∷ whole o.max_taken ∷ new ∷ rev ∷ lapse ∷ []) ≡ true
+options_hold o new rev lapse r a b c f g h = rw (r.id, r.stamp, r.usn, r.max_taken, a, b, c, f, g, h) refl
+
+inner_found : (n : ℕ) (d inner : Data) → cell_at OPTIONS n d ≡ Some inner → inner ≡ inner_at OPTIONS n d
+inner_found n d inner e = sym (ap (λ (o : Option Data). unwrap_or o d) e)
+
+options_found : (o : Options) (d new rev lapse : Data)
+    → AllFound OPTIONS (whole o.id ∷ whole o.stamp ∷ whole o.usn ∷ string o.name ∷ whole o.max_taken ∷ new ∷ rev ∷ lapse ∷ []) d → AreRead o
+    → ReadsNew o new → ReadsRev o rev → ReadsLapse o lapse → o.rest.text ≡ compact_text (object (options_kept d)) → IsOptions d o
+options_found o d new rev lapse f r new_read rev_read lapse_read rest =
+    let n : ReadsNew o (new_in d) = subst (ReadsNew o) (inner_found 5 d new f.1.1.1.1.1.0) new_read in
+    let v : ReadsRev o (rev_in d) = subst (ReadsRev o) (inner_found 6 d rev f.1.1.1.1.1.1.0) rev_read in
+    let l : ReadsLapse o (lapse_in d) = subst (ReadsLapse o) (inner_found 7 d lapse f.1.1.1.1.1.1.1.0) lapse_read in
+    record {
+      id = whole_found OPTIONS 0 d o.id f.0 r.id;
+      stamp = whole_found OPTIONS 1 d o.stamp f.1.0 r.stamp;
+      usn = whole_found OPTIONS 2 d o.usn f.1.1.0 r.usn;
+      name = words_found OPTIONS 3 d o.name f.1.1.1.0;
+      max_taken = whole_found OPTIONS 4 d o.max_taken f.1.1.1.1.0 r.max_taken;
+      new_steps = n.steps;
+      grad_ivl = n.grad;
+      easy_ivl = n.easy;
+      initial_factor = n.factor;
+      new_per_day = n.per_day;
+      new_bury = n.bury;
+      rev_per_day = v.per_day;
+      ease4 = v.ease4;
+      ivl_fct = v.ivl_fct;
+      max_ivl = v.max_ivl;
+      hard_factor = v.hard_factor;
+      rev_bury = v.bury;
+      lapse_steps = l.steps;
+      mult = l.mult;
+      min_int = l.min_int;
+      leech_fails = l.leech_fails;
+      leech_action = l.leech_action;
+      rest = rest;
+    }
+
+-- what is kept of an object of the cells is what the rest keeps
+kept_again : (d new rev lapse : Data) (ms : Members) → AreSorted ms → KeepsUnknown ms → unknown OPTIONS ms ≡ kept OPTIONS d
+    → new ≡ new_in d → rev ≡ rev_in d → lapse ≡ lapse_in d
+    → kept NEW new ≡ group_members words.New (object ms) → kept REV rev ≡ group_members words.Rev (object ms) → kept LAPSE lapse ≡ group_members words.Lapse (object ms)
+    → options_kept d ≡ ms
+kept_again d new rev lapse ms s k own new_is rev_is lapse_is new_kept rev_kept lapse_kept =
+    let with_new : Members = put_group words.New (group_members words.New (object ms)) (unknown OPTIONS ms) in
+    let with_rev : Members = put_group words.Rev (group_members words.Rev (object ms)) with_new in
+    sym (put_together d new rev lapse (unknown OPTIONS ms) with_new with_rev
+    (put_group words.Lapse (group_members words.Lapse (object ms)) with_rev)
+    (group_members words.New (object ms)) (group_members words.Rev (object ms)) (group_members words.Lapse (object ms))
+    own new_is (sym new_kept) refl rev_is (sym rev_kept) refl lapse_is (sym lapse_kept) refl)
+    ∙ options_back ms s k
+
+-- the object has the form, and its option group is the one that was written
+pub record IsOptionsAgain (o : Options) : Type 0 where
+  pub flaw : object_flaw OPTIONS (options_json o) ≡ None
+  pub deep : deep_fault (options_kept (options_json o)) ≡ None
+  pub row : IsOptions (options_json o) o
+
+pub options_again : (o : Options) (good : Unit {0}) → first_fault (options_faults o) ≡ Ok good → IsOptionsAgain o
+options_again o good e =
+    let r : AreRead o = are_read o (all_none (options_faults o) good e) in
+    let d : Data = options_json o in
+    let ms : Members = rest_members o.rest.text in
+    let rest : IsKept lacks_options o.rest.text ms = rest_kept lacks_options o.rest.text o.rest.unknown in
+    let k : KeepsUnknown ms = keeps_each ms rest.unknown in
+    let cells : List Data = options_cells o (object ms) in
+    let found : AllFound OPTIONS cells d = found_all OPTIONS cells ms refl in
+    let new = new_again o ms r k in
+    let rev = rev_again o ms r k in
+    let lapse = lapse_again o ms r k in
+    let new_is = inner_found 5 d (new_json o (object ms)) found.1.1.1.1.1.0 in
+    let rev_is = inner_found 6 d (rev_json o (object ms)) found.1.1.1.1.1.1.0 in
+    let lapse_is = inner_found 7 d (lapse_json o (object ms)) found.1.1.1.1.1.1.1.0 in
+    let same : options_kept d ≡ ms =
+    kept_again d (new_json o (object ms)) (rev_json o (object ms)) (lapse_json o (object ms)) ms (rest_sorted o.rest.text) k
+    (sym (unknown_cells OPTIONS OPTIONS cells ms refl)) new_is rev_is lapse_is new.kept rev.kept lapse.kept in
+    record {
+      flaw = flawless OPTIONS cells d found (options_hold o (new_json o (object ms)) (rev_json o (object ms)) (lapse_json o (object ms)) r refl refl refl new.flaw rev.flaw lapse.flaw);
+      deep = ap deep_fault same ∙ ap (λ (o : Option (List ℕ)). option_map faults.WrongKind o) (plain_is_shallow ms rest.plain);
+      row =
+          options_found o d (new_json o (object ms)) (rev_json o (object ms)) (lapse_json o (object ms)) found r
+          (reads_new o (new_json o (object ms)) new.found r) (reads_rev o (rev_json o (object ms)) rev.found r) (reads_lapse o (lapse_json o (object ms)) lapse.found r)
+          (sym (ap (λ (m : Members). compact_text (object m)) same ∙ rest.written));
+    }

@@ -1,0 +1,110 @@
+-- What was written of a row in its ranges is read again.
+use Rattle.std.proofs.Common.{◌≡◌, Option, Result, Ok, Err, refl, sym, ap, ◌∙◌}
+use Rattle.std.specs.Prelude.{option_map}
+use Rattle.std.specs.Option.{option_or}
+use Rattle.ak_base.specs.Cards.{card_faults}
+use Rattle.ak_base.specs.Decks.{deck_faults}
+use Rattle.ak_base.specs.Graves.{grave_faults}
+use Rattle.ak_base.specs.Notes.{note_faults}
+use Rattle.ak_base.specs.NoteTypes.{note_type_faults}
+use Rattle.ak_base.specs.OptionGroups.{options_faults}
+use Rattle.ak_base.specs.Reviews.{review_faults}
+use Rattle.ak_base.specs.Columns.{first_fault}
+use Rattle.ak_base.specs.declared.cards.Card.{Card}
+use Rattle.ak_base.specs.declared.decks.Deck.{Deck}
+use Rattle.ak_base.specs.declared.errors.RowFault.{RowFault}
+use Rattle.ak_base.specs.declared.graves.Grave.{Grave}
+use Rattle.ak_base.specs.declared.names.Table.{Table}
+use Rattle.ak_base.specs.declared.names.Table.TheVariants as tables
+use Rattle.ak_base.specs.declared.notes.Note.{Note}
+use Rattle.ak_base.specs.declared.note_types.NoteType.{NoteType}
+use Rattle.ak_base.specs.declared.option_groups.Options.{Options}
+use Rattle.ak_base.specs.declared.reviews.Review.{Review}
+use Rattle.ak_base.specs.declared.rows.Row.{Row}
+use Rattle.ak_base.specs.declared.rows.Row.TheVariants as rows
+use Rattle.ak_json.specs.Rows.{StandsIn, checked_then, kind_check, row_check, row_json, ReadsRow}
+use Rattle.ak_json.specs.Decks.{deck_json}
+use Rattle.ak_json.specs.Faults.{told}
+use Rattle.ak_json.specs.Groups.{options_kept, options_json}
+use Rattle.ak_json.specs.NoteTypes.{note_type_json}
+use Rattle.ak_json.specs.Rests.{deep_key, deep_fault}
+use Rattle.ak_json.specs.declared.flaws.Flaw.{Flaw}
+use Rattle.ak_json.specs.declared.forms.TheConstants.{DECK, NOTE_TYPE}
+use Rattle.ak_json.proofs.DecksAgain.{IsDeckAgain, deck_again}
+use Rattle.ak_json.proofs.OptionsAgain.{IsOptionsAgain, options_again}
+use Rattle.ak_json.proofs.NoteTypesAgain.{IsNoteTypeAgain, note_type_again}
+use Rattle.ak_json.proofs.Again.{IsNote, IsCard, IsReview, IsGrave, note_again, card_again, review_again, grave_again}
+
+in_range : (first later : Result (Unit {0}) RowFault) → checked_then first later ≡ Ok tt → first ≡ Ok tt
+in_range (Ok good) later h = refl
+in_range (Err fault) later h = cc
+
+note_in : (table : Table) (n : Note) → StandsIn table (rows.Note n) → row_check table (rows.Note n) ≡ Ok tt → ReadsRow table (row_json (rows.Note n)) (rows.Note n)
+note_in tables.Note n s h =
+    let read : IsNote n = note_again n tt (in_range (first_fault (note_faults n)) (Ok tt) h) in
+    record { form = rw read.form refl; is = (tt, sym read.row); good = h }
+note_in table n s h = absurd s
+
+card_in : (table : Table) (c : Card) → StandsIn table (rows.Card c) → row_check table (rows.Card c) ≡ Ok tt → ReadsRow table (row_json (rows.Card c)) (rows.Card c)
+card_in tables.Card c s h =
+    let read : IsCard c = card_again c tt (in_range (first_fault (card_faults c)) (Ok tt) h) in
+    record { form = rw read.form refl; is = (tt, sym read.row); good = h }
+card_in table c s h = absurd s
+
+review_in : (table : Table) (r : Review) → StandsIn table (rows.Review r) → row_check table (rows.Review r) ≡ Ok tt → ReadsRow table (row_json (rows.Review r)) (rows.Review r)
+review_in tables.Review r s h =
+    let read : IsReview r = review_again r tt (in_range (first_fault (review_faults r)) (Ok tt) h) in
+    record { form = rw read.form refl; is = (tt, sym read.row); good = h }
+review_in table r s h = absurd s
+
+grave_in : (table : Table) (g : Grave) → StandsIn table (rows.Grave g) → row_check table (rows.Grave g) ≡ Ok tt → ReadsRow table (row_json (rows.Grave g)) (rows.Grave g)
+grave_in tables.NoteGrave g s h =
+    let read : IsGrave g = grave_again g tt (in_range (first_fault (grave_faults g)) (kind_check tables.NoteGrave g) h) in
+    record { form = rw read.form refl; is = (tt, sym read.row); good = h }
+grave_in tables.CardGrave g s h =
+    let read : IsGrave g = grave_again g tt (in_range (first_fault (grave_faults g)) (kind_check tables.CardGrave g) h) in
+    record { form = rw read.form refl; is = (tt, sym read.row); good = h }
+grave_in tables.DeckGrave g s h =
+    let read : IsGrave g = grave_again g tt (in_range (first_fault (grave_faults g)) (kind_check tables.DeckGrave g) h) in
+    record { form = rw read.form refl; is = (tt, sym read.row); good = h }
+grave_in table g s h = absurd s
+
+deck_in : (table : Table) (k : Deck) → StandsIn table (rows.Deck k) → row_check table (rows.Deck k) ≡ Ok tt → ReadsRow table (row_json (rows.Deck k)) (rows.Deck k)
+deck_in tables.Deck k s h =
+    let read : IsDeckAgain k = deck_again k tt (in_range (first_fault (deck_faults k)) (Ok tt) h) in
+    record {
+      form = ap (λ (o : Option Flaw). option_or (option_map told o) (deep_key DECK (deck_json k))) read.flaw ∙ read.deep;
+      is = (tt, read.row);
+      good = h;
+    }
+deck_in table k s h = absurd s
+
+note_type_in : (table : Table) (n : NoteType) → StandsIn table (rows.NoteType n) → row_check table (rows.NoteType n) ≡ Ok tt → ReadsRow table (row_json (rows.NoteType n)) (rows.NoteType n)
+note_type_in tables.NoteType n s h =
+    let read : IsNoteTypeAgain n = note_type_again n tt (in_range (first_fault (note_type_faults n)) (Ok tt) h) in
+    record {
+      form = ap (λ (o : Option Flaw). option_or (option_map told o) (deep_key NOTE_TYPE (note_type_json n))) read.flaw ∙ read.deep;
+      is = (tt, read.row);
+      good = h;
+    }
+note_type_in table n s h = absurd s
+
+options_in : (table : Table) (o : Options) → StandsIn table (rows.Options o) → row_check table (rows.Options o) ≡ Ok tt → ReadsRow table (row_json (rows.Options o)) (rows.Options o)
+options_in tables.Options o s h =
+    let read : IsOptionsAgain o = options_again o tt (in_range (first_fault (options_faults o)) (Ok tt) h) in
+    record {
+      form = ap (λ (flaw : Option Flaw). option_or (option_map told flaw) (deep_fault (options_kept (options_json o)))) read.flaw ∙ read.deep;
+      is = (tt, read.row);
+      good = h;
+    }
+options_in table o s h = absurd s
+
+-- what was written of a row in its ranges is read as that row
+pub rows_again : (table : Table) (row : Row) → StandsIn table row → row_check table row ≡ Ok tt → ReadsRow table (row_json row) row
+rows_again table (rows.Note n) s h = note_in table n s h
+rows_again table (rows.Card c) s h = card_in table c s h
+rows_again table (rows.Review r) s h = review_in table r s h
+rows_again table (rows.NoteType n) s h = note_type_in table n s h
+rows_again table (rows.Deck k) s h = deck_in table k s h
+rows_again table (rows.Grave g) s h = grave_in table g s h
+rows_again table (rows.Options o) s h = options_in table o s h

@@ -1,0 +1,8 @@
+use Rattle.std.proofs.Common.{refl}
+use Rattle.ak_base.specs.Rests.{conf_keys}
+use Rattle.ak_json.proofs.Kept.{lacks_known}
+use Rattle.ak_json.specs.declared.forms.TheConstants.{CONF}
+use Rattle.ak_json.proofs.confs.read_conf.Goals as goal
+
+pub read_rest-requires : goal.read_rest-requires
+read_rest-requires c = λ members. lacks_known conf_keys CONF members refl

@@ -1,0 +1,28 @@
+use Rattle.serde_json.specs.View.{view, members_view}
+use Rattle.ak_json.proofs.OptionRests.{put_together}
+use Rattle.ak_json.proofs.groups.kept_of.Goals as goal
+
+pub returns : goal.returns
+returns c =
+    put_together
+    (view c.args.value.now)
+    (view c.inner.result.now)
+    (view c.inner-2.result.now)
+    (view c.inner-3.result.now)
+    (members_view c.in_ok-members.members.entries)
+    (members_view c.put_group.new.members.entries)
+    (members_view c.put_group-2.new.members.entries)
+    (members_view c.put_group-3.new.members.entries)
+    (members_view c.in_ok-new.new.entries)
+    (members_view c.in_ok-rev.rev.entries)
+    (members_view c.in_ok-lapse.lapse.entries)
+    c.in_ok-members.ensures
+    c.inner.ensures
+    c.in_ok-new.ensures
+    c.in_ok-put_group.ensures
+    c.inner-2.ensures
+    c.in_ok-rev.ensures
+    c.in_ok-put_group-2.ensures
+    c.inner-3.ensures
+    c.in_ok-lapse.ensures
+    c.in_ok-put_group-3.ensures

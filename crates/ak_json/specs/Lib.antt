@@ -1,0 +1,16 @@
+pub mod Keys
+pub mod Depths
+pub mod Kinds
+pub mod Members
+pub mod Flaws
+pub mod Faults
+pub mod Cells
+pub mod Arrays
+pub mod Written
+pub mod Objects
+pub mod Rests
+pub mod Decks
+pub mod Confs
+pub mod NoteTypes
+pub mod Groups
+pub mod Rows

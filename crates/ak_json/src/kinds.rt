@@ -1,0 +1,97 @@
+ghost use Rattle.std.specs.Prelude.{◌≡◌};
+ghost use Rattle.serde_json.specs.View.{view, items_view};
+ghost use Rattle.ak_json.specs.Kinds.{holds, may_lack, is_within, are_whole, is_part};
+
+use crate::depths::is_shallow;
+use serde_json::Value;
+
+/// What a column holds.
+#[derive(Clone, Copy)]
+pub(crate) enum Kind {
+    /// A whole number that fits 64 bits with its sign.
+    Whole,
+    /// A whole number from the least to the most.
+    Within(i64, i64),
+    /// A text.
+    Words,
+    /// True or false.
+    Truth,
+    /// A list of whole numbers.
+    Steps,
+    /// A list of two whole numbers.
+    Pair,
+    /// The fields of a note type.
+    Fields,
+    /// The templates of a note type.
+    Templates,
+    /// What an option group has for new cards, for reviews and for cards that were forgotten.
+    New,
+    Rev,
+    Lapse,
+    /// Anything, or nothing, with no number that is not whole. It is not read.
+    Ignored,
+}
+
+/// Whether there is a whole number from the least to the most.
+fn is_within(least: i64, most: i64, number: Option<i64>) -> bool
+    ensures { result ≡ is_within least most number }
+{
+    match number {
+        Some(number) => least <= number && number <= most,
+        None => false,
+    }
+}
+
+/// Whether all the values are whole numbers.
+fn are_whole(values: &[Value]) -> bool
+    ensures { result ≡ are_whole (items_view values.now) }
+{
+    for value in values {
+        if value.as_i64().is_none() {
+            return false;
+        }
+    }
+    true
+}
+
+/// Whether the element at that place is a whole number.
+fn is_part(value: &Value, place: usize) -> bool
+    ensures { result ≡ is_part place (view value.now) }
+{
+    match value.get(place) {
+        Some(part) => part.as_i64().is_some(),
+        None => false,
+    }
+}
+
+impl Kind {
+    /// Whether a column of this kind may be missing.
+    pub(crate) fn may_lack(self) -> bool
+        ensures { result ≡ may_lack self }
+    {
+        match self {
+            Kind::Ignored => true,
+            _ => false,
+        }
+    }
+
+    /// Whether the value is of this kind.
+    pub(crate) fn holds(self, value: &Value) -> bool
+        ensures { result ≡ holds self (view value.now) }
+    {
+        match self {
+            Kind::Whole => value.as_i64().is_some(),
+            Kind::Within(least, most) => is_within(least, most, value.as_i64()),
+            Kind::Words => value.as_str().is_some(),
+            Kind::Truth => value.as_bool().is_some(),
+            Kind::Steps => match value.as_array() {
+                Some(values) => are_whole(values.as_slice()),
+                None => false,
+            },
+            Kind::Pair => is_part(value, 0) && is_part(value, 1) && value.get(2).is_none(),
+            Kind::Fields | Kind::Templates => value.is_array(),
+            Kind::New | Kind::Rev | Kind::Lapse => value.is_object(),
+            Kind::Ignored => is_shallow(u64::MAX, value),
+        }
+    }
+}

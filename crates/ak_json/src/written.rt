@@ -1,0 +1,158 @@
+ghost use Rattle.std.specs.Prelude.{◌≡◌, IfOk, map};
+ghost use Rattle.serde_json.specs.Data.{array};
+ghost use Rattle.serde_json.specs.View.{view, items_of};
+ghost use Rattle.ak_json.specs.Written.{cell_data, cells_data, steps_json, note_json, card_json, review_json, grave_json};
+
+use ak_base::{Card, Count, Grave, List, Memory, Note, Review, Text};
+use serde_json::{Value, json};
+use std::alloc::Global;
+
+/// What is written into a column.
+#[derive(Clone, Copy)]
+pub(crate) enum Cell<'a> {
+    Whole(i64),
+    Words(&'a Text),
+    Truth(bool),
+    /// 1 for true, 0 for false.
+    Bit(bool),
+    Pair(Count),
+    /// A place in a list, from 0.
+    Place(usize),
+    Steps(&'a List<i64>),
+    /// A value that was made before.
+    Made(&'a Value),
+}
+
+impl Cell<'_> {
+    pub(crate) fn value(self, alloc: Global) -> Result<Value, Memory>
+        ensures { IfOk result (λ value. view value ≡ cell_data self.entry) }
+    {
+        match self {
+            Cell::Whole(number) => Ok(Value::from(number)),
+            Cell::Words(text) => Ok(Value::try_from_str(alloc, text.as_str())?),
+            Cell::Truth(truth) => Ok(Value::Bool(truth)),
+            Cell::Bit(truth) => {
+                if truth {
+                    return Ok(Value::from(1_i64));
+                }
+                Ok(Value::from(0_i64))
+            },
+            Cell::Pair(count) => Ok(json!(in alloc; [count.day, count.count])?),
+            Cell::Place(place) => Ok(Value::from(place as u64)),
+            Cell::Steps(steps) => write_steps(alloc, steps.as_slice()),
+            Cell::Made(value) => Ok(value.clone()?),
+        }
+    }
+}
+
+/// The array of these numbers.
+fn write_steps(alloc: Global, steps: &[i64]) -> Result<Value, Memory>
+    ensures { IfOk result (λ value. view value ≡ steps_json steps.now) }
+{
+    let mut values = Vec::new(alloc);
+    for step in steps {
+        values.push(Value::from(*step))?;
+    }
+    Ok(Value::Array(values))
+}
+
+/// The array of these cells.
+fn write_array(alloc: Global, cells: &[Cell<'_>]) -> Result<Value, Memory>
+    ensures { IfOk result (λ value. view value ≡ array (items_of (cells_data cells.now))) }
+{
+    let mut values = Vec::new(alloc);
+    for cell in cells {
+        let value = cell.value(alloc)?;
+        values.push(value)?;
+    }
+    Ok(Value::Array(values))
+}
+
+/// The array of a review.
+#[tactic(auto, unfolding(crate::specs::Written::review_cells))]
+pub(crate) fn write_review(alloc: Global, review: &Review) -> Result<Value, Memory>
+    ensures { IfOk result (λ value. view value ≡ review_json review.now) }
+{
+    write_array(
+        alloc,
+        &[
+            Cell::Whole(review.id),
+            Cell::Whole(review.cid),
+            Cell::Whole(review.usn),
+            Cell::Whole(review.ease),
+            Cell::Whole(review.ivl),
+            Cell::Whole(review.last_ivl),
+            Cell::Whole(review.factor),
+            Cell::Whole(review.time),
+            Cell::Whole(review.kind),
+        ],
+    )
+}
+
+/// The array of a grave.
+#[tactic(auto, unfolding(crate::specs::Written::grave_cells))]
+pub(crate) fn write_grave(alloc: Global, grave: &Grave) -> Result<Value, Memory>
+    ensures { IfOk result (λ value. view value ≡ grave_json grave.now) }
+{
+    write_array(
+        alloc,
+        &[
+            Cell::Whole(grave.usn),
+            Cell::Whole(grave.oid),
+            Cell::Whole(grave.kind),
+        ],
+    )
+}
+
+/// The array of a note.
+#[tactic(auto, unfolding(crate::specs::Written::note_cells))]
+pub(crate) fn write_note(alloc: Global, note: &Note) -> Result<Value, Memory>
+    ensures { IfOk result (λ value. view value ≡ note_json note.now) }
+{
+    write_array(
+        alloc,
+        &[
+            Cell::Whole(note.id),
+            Cell::Words(&note.guid),
+            Cell::Whole(note.mid),
+            Cell::Whole(note.stamp),
+            Cell::Whole(note.usn),
+            Cell::Words(&note.tags),
+            Cell::Words(&note.flds),
+            Cell::Words(&note.sfld),
+            Cell::Whole(note.csum),
+            Cell::Whole(note.flags),
+            Cell::Words(&note.extra),
+        ],
+    )
+}
+
+/// The array of a card.
+#[tactic(auto, unfolding(crate::specs::Written::card_cells))]
+pub(crate) fn write_card(alloc: Global, card: &Card) -> Result<Value, Memory>
+    ensures { IfOk result (λ value. view value ≡ card_json card.now) }
+{
+    write_array(
+        alloc,
+        &[
+            Cell::Whole(card.id),
+            Cell::Whole(card.nid),
+            Cell::Whole(card.did),
+            Cell::Whole(card.ord),
+            Cell::Whole(card.stamp),
+            Cell::Whole(card.usn),
+            Cell::Whole(card.kind),
+            Cell::Whole(card.queue),
+            Cell::Whole(card.due),
+            Cell::Whole(card.ivl),
+            Cell::Whole(card.factor),
+            Cell::Whole(card.reps),
+            Cell::Whole(card.lapses),
+            Cell::Whole(card.left),
+            Cell::Whole(card.odue),
+            Cell::Whole(card.odid),
+            Cell::Whole(card.flags),
+            Cell::Words(&card.extra),
+        ],
+    )
+}

@@ -1,0 +1,166 @@
+// Callers of any keeper, proved from what the trait says alone.
+ghost use Rattle.std.specs.Prelude.{◌≡◌, true, false, IfOk, OnOk, OnErr};
+ghost use Rattle.ak_base.specs.Heads.{IsHeadInRange};
+ghost use Rattle.ak_base.specs.declared.rows.Row.TheVariants as rows;
+ghost use Rattle.ak_keep.specs.Collections.{IsChecked};
+ghost use Rattle.ak_keep.specs.Keepers.{KeepCause, is_marked, put, marked_here, committed};
+
+use crate::keepers::{KeepFault, Keeper, Wanted};
+use ak_base::{Conf, Head, List, Memory, Name, Rest, Review, Row, Table};
+use std::alloc::Global;
+
+// Puts both reviews, or leaves all as it was.
+pub(crate) fn store_both<K: Keeper>(
+    keeper: &mut K,
+    first: Review,
+    second: Review,
+) -> Result<(), KeepFault>
+    requires unmarked { is_marked (K.keeping keeper.old) ≡ false }
+    requires first { IsChecked (rows.Review first) }
+    requires second { IsChecked (rows.Review second) }
+    ensures ok { OnOk result (K.keeping keeper.new ≡ committed (put (rows.Review second) (put (rows.Review first) (marked_here (K.keeping keeper.old))))) }
+    ensures err { OnErr result (K.keeping keeper.new ≡ K.keeping keeper.old) }
+    ensures cause { KeepCause (K.fault_count keeper.old) (K.fault_count keeper.new) result }
+{
+    keeper.mark()?;
+    match keeper.put(Row::Review(first)) {
+        Ok(()) => {}
+        Err(fault) => {
+            keeper.back();
+            return Err(fault);
+        }
+    }
+    match keeper.put(Row::Review(second)) {
+        Ok(()) => {}
+        Err(fault) => {
+            keeper.back();
+            return Err(fault);
+        }
+    }
+    keeper.commit()
+}
+
+// One call of this kind, if the keeper is marked where it must be.
+pub(crate) fn use_keeper<K: Keeper>(
+    alloc: Global,
+    keeper: &mut K,
+    kind: u64,
+) -> Result<(), KeepFault> {
+    if kind == 0 {
+        return mark(keeper);
+    }
+    if kind <= 6 {
+        return change(alloc, keeper, kind);
+    }
+    read(keeper, kind)
+}
+
+fn mark<K: Keeper>(keeper: &mut K) -> Result<(), KeepFault> {
+    if keeper.marked() {
+        return Ok(());
+    }
+    keeper.mark()
+}
+
+fn change<K: Keeper>(alloc: Global, keeper: &mut K, kind: u64) -> Result<(), KeepFault> {
+    if !keeper.marked() {
+        return Ok(());
+    }
+    match kind {
+        1 => put_head(alloc, keeper),
+        2 => put_review(keeper, 5),
+        3 => keeper.remove(name(5)),
+        4 => put_moments(keeper),
+        5 => replace(alloc, keeper),
+        _ => keeper.commit(),
+    }
+}
+
+fn read<K: Keeper>(keeper: &mut K, kind: u64) -> Result<(), KeepFault> {
+    match kind {
+        7 => drop(keeper.get(name(5))?),
+        8 => drop(keeper.page(Table::Review, 0, 2)?),
+        9 => drop(keeper.pending(Table::Review, Wanted::Unsent, 0, 2)?),
+        10 => drop(keeper.cards_of(3)?),
+        11 => drop(keeper.count(Table::Review)?),
+        _ => drop(keeper.head()?),
+    }
+    Ok(())
+}
+
+pub(crate) fn name(id: i64) -> Name {
+    Name {
+        table: Table::Review,
+        id,
+    }
+}
+
+pub(crate) fn review(id: i64, ease: i64) -> Review {
+    Review {
+        id,
+        cid: 7,
+        usn: -1,
+        ease,
+        ivl: 1,
+        last_ivl: -60,
+        factor: 2500,
+        time: 4000,
+        kind: 0,
+    }
+}
+
+fn put_review<K: Keeper>(keeper: &mut K, id: i64) -> Result<(), KeepFault>
+    requires { is_marked (K.keeping keeper.old) ≡ true }
+{
+    let review = review(id, 3);
+    match review.check() {
+        Ok(()) => keeper.put(Row::Review(review)),
+        Err(_) => Ok(()),
+    }
+}
+
+fn put_head<K: Keeper>(alloc: Global, keeper: &mut K) -> Result<(), KeepFault>
+    requires { is_marked (K.keeping keeper.old) ≡ true }
+{
+    let head = head(alloc)?;
+    keeper.set_head(head)
+}
+
+fn put_moments<K: Keeper>(keeper: &mut K) -> Result<(), KeepFault>
+    requires { is_marked (K.keeping keeper.old) ≡ true }
+{
+    if !keeper.held() {
+        return Ok(());
+    }
+    keeper.set_moments(4, 3, 2, 1)
+}
+
+fn replace<K: Keeper>(alloc: Global, keeper: &mut K) -> Result<(), KeepFault>
+    requires { is_marked (K.keeping keeper.old) ≡ true }
+{
+    let rows = List::new(alloc);
+    let head = head(alloc)?;
+    keeper.replace_all(rows, head)
+}
+
+fn head(alloc: Global) -> Result<Head, Memory>
+    ensures { IfOk result IsHeadInRange }
+{
+    let conf = Conf {
+        new_spread: 0,
+        collapse: 1200,
+        day_learn_first: false,
+        next_pos: 1,
+        last_unburied: 0,
+        rest: Rest::empty(alloc)?,
+    };
+    Ok(Head {
+        crt: 1_699_920_000,
+        moment: 1_700_000_000_000,
+        schema: 1_700_000_000_000,
+        usn: 0,
+        last_sync: 0,
+        conf,
+        tags: List::new(alloc),
+    })
+}

@@ -1,0 +1,92 @@
+// Pages of a table, and the cards of a note.
+ghost use Rattle.std.specs.Prelude.{◌≡◌, [], ◌∷◌, ◌++◌, ◌==◌, filter, length, take, IfOk, OnOk};
+ghost use Rattle.std.specs.BTreeMap.{IsOrdered, keys};
+ghost use Rattle.std.specs.BTreeMap.Range.{entries_between};
+ghost use Rattle.std.specs.declared.ops.Bound.TheVariants.{Excluded, Unbounded};
+ghost use Rattle.ak_base.specs.Names.{name_cmp, table_place};
+ghost use Rattle.ak_keep.specs.Collections.{cards_among, is_card_of};
+ghost use Rattle.ak_keep.specs.Pages.{first_run, is_picked};
+
+use crate::keepers::Wanted;
+use ak_base::{List, Memory, Name, Row, Table};
+use std::alloc::Global;
+use std::collections::BTreeMap;
+use std::ops::Bound;
+
+/// The rows of the table of `past` that come after it, or the wanted of them, up to `limit`.
+pub(crate) fn page_of(
+    alloc: Global,
+    rows: &BTreeMap<Name, Row>,
+    want: &Option<Wanted>,
+    past: &Name,
+    limit: usize,
+) -> Result<List<Row>, Memory>
+    ensures rows { IfOk result (λ page. page ≡ take limit (filter (is_picked want.now) (first_run past.now.table (entries_between name_cmp (Excluded past.now) Unbounded rows.now.entries)))) }
+    ensures ordered { IsOrdered name_cmp rows.now }
+{
+    let mut page = List::new(alloc);
+    for (name, row) in rows.range((Bound::Excluded(*past), Bound::Unbounded)) {
+        if page.as_slice().len() == limit {
+            return Ok(page);
+        }
+        if name.table.place() != past.table.place() {
+            return Ok(page);
+        }
+        push_picked(&mut page, want, row)?;
+    }
+    Ok(page)
+}
+
+fn push_picked(page: &mut List<Row>, want: &Option<Wanted>, row: &Row) -> Result<(), Memory>
+    ensures ok { OnOk result (page.new ≡ page.old ++ filter (is_picked want.now) (row.now ∷ [])) }
+{
+    if is_picked(want, row) {
+        let copy = row.copy()?;
+        return page.push(copy);
+    }
+    Ok(())
+}
+
+fn is_picked(want: &Option<Wanted>, row: &Row) -> bool
+    ensures { result ≡ is_picked want.now row.now }
+{
+    match want {
+        Some(want) => want.takes(row),
+        None => true,
+    }
+}
+
+/// The ids of the note's cards, in the order of their names.
+pub(crate) fn cards_among(
+    alloc: Global,
+    rows: &BTreeMap<Name, Row>,
+    note: &i64,
+) -> Result<List<i64>, Memory>
+    ensures ids { IfOk result (λ ids. ids ≡ cards_among note.now rows.now.entries) }
+    ensures ordered { IsOrdered name_cmp rows.now }
+{
+    let mut ids = List::new(alloc);
+    let _ordered = rows.len();
+    for (name, row) in rows {
+        push_card(&mut ids, name, row, note)?;
+    }
+    Ok(ids)
+}
+
+fn push_card(ids: &mut List<i64>, name: &Name, row: &Row, note: &i64) -> Result<(), Memory>
+    ensures ok { OnOk result (ids.new ≡ ids.old ++ cards_among note.now ((name.now, row.now) ∷ [])) }
+{
+    if is_card_of(row, note) {
+        return ids.push(name.id);
+    }
+    Ok(())
+}
+
+fn is_card_of(row: &Row, note: &i64) -> bool
+    ensures { result ≡ is_card_of note.now row.now }
+{
+    match row {
+        Row::Card(card) => card.nid == *note,
+        _ => false,
+    }
+}
