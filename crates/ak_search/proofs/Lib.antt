@@ -1,0 +1,5 @@
+pub mod Cuttings
+pub mod Grammars
+pub mod OnePass
+pub mod Parsing
+pub mod Places

@@ -1,0 +1,69 @@
+ghost use Rattle.std.specs.Prelude.{◌≡◌, ◌≤◌, ◌-◌, ◌^◌};
+ghost use Rattle.ak_search.specs.Terms.{up_to, whole, not_zero, from_one, days_of, signed_of};
+
+use ak_base::read_number;
+use ak_filters::cut;
+
+fn up_to(most: u64, text: &str) -> Option<i64>
+    requires { most ≤ 2 ^ 63 - 1 }
+    ensures { result ≡ up_to most text.now }
+{
+    match read_number(text, most) {
+        Some(number) => Some(number as i64),
+        None => None,
+    }
+}
+
+pub(crate) fn whole(text: &str) -> Option<i64>
+    ensures { result ≡ whole text.now }
+{
+    up_to(9_223_372_036_854_775_807, text)
+}
+
+fn not_zero(number: i64) -> Option<i64>
+    ensures { result ≡ not_zero number }
+{
+    if number == 0 { None } else { Some(number) }
+}
+
+fn from_one(most: u64, text: &str) -> Option<i64>
+    requires { most ≤ 2 ^ 63 - 1 }
+    ensures { result ≡ from_one most text.now }
+{
+    let number = up_to(most, text)?;
+    not_zero(number)
+}
+
+/// The number of a flag: 0 to 7.
+pub(crate) fn flag_of(text: &str) -> Option<i64>
+    ensures { result ≡ up_to 7 text.now }
+{
+    up_to(7, text)
+}
+
+pub(crate) fn ease_of(text: &str) -> Option<i64>
+    ensures { result ≡ from_one 4 text.now }
+{
+    from_one(4, text)
+}
+
+pub(crate) fn days_of(text: &str) -> Option<i64>
+    ensures { result ≡ days_of text.now }
+{
+    from_one(100_000, text)
+}
+
+/// A number that may have a `-`.
+pub(crate) fn signed_of(text: &str) -> Option<i64>
+    ensures { result ≡ signed_of text.now }
+{
+    if let Some((before, digits)) = cut(text, "-") {
+        if before.len() == 0 {
+            return match whole(digits) {
+                Some(number) => Some(0 - number),
+                None => None,
+            };
+        }
+    }
+    whole(text)
+}

@@ -1,0 +1,67 @@
+use crate::Mark;
+use ak_base::{List, Text};
+
+/// A state that a card may be in.
+#[derive(Clone, Copy, Debug, PartialEq, Eq)]
+pub enum State {
+    New,
+    Learn,
+    Review,
+    Due,
+    Suspended,
+    Buried,
+    BuriedManually,
+    BuriedSibling,
+}
+
+/// A number of a card.
+#[derive(Clone, Copy, Debug, PartialEq, Eq)]
+pub enum Property {
+    Interval,
+    Reps,
+    Lapses,
+    /// In permille.
+    Ease,
+    /// In days from today.
+    Due,
+    /// The place among the new cards.
+    Position,
+}
+
+#[derive(Clone, Copy, Debug, PartialEq, Eq)]
+pub enum Comparison {
+    Equal,
+    Differs,
+    Below,
+    Above,
+    AtMost,
+    AtLeast,
+}
+
+/// What is asked of a card.
+#[derive(Debug, Drop)]
+pub enum Term {
+    /// Marks that the stripped text of some field matches, `Any` at both ends.
+    Contains(List<Mark>),
+    /// Marks that the stripped text of some field matches between two spaces.
+    Word(List<Mark>),
+    /// A field's name, and a pattern that its stripped text matches.
+    Field(Text, List<Mark>),
+    Deck(List<Mark>),
+    Tag(List<Mark>),
+    Untagged,
+    NoteType(List<Mark>),
+    /// A pattern that the template's name matches, or its place from 1.
+    Template(List<Mark>),
+    InState(State),
+    Prop(Property, Comparison, i64),
+    Flag(i64),
+    /// Answered in so many days.
+    Rated(i64),
+    /// Answered in so many days with that ease.
+    RatedWith(i64, i64),
+    Added(i64),
+    Edited(i64),
+    NoteIds(List<i64>),
+    CardIds(List<i64>),
+}
