@@ -4,5 +4,8 @@ pub mod Counts
 pub mod Entries
 pub mod Keepers
 pub mod MemoryKeepers
+pub mod NoteCards
+pub mod NoteKeys
 pub mod Pages
+pub mod Walks
 pub mod WellFormed

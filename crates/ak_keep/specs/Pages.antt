@@ -70,7 +70,7 @@ and_first : (a b : Bool) → (a && b) ≡ true → a ≡ true
 and_first true b is = refl
 and_first false b is = is
 
-and_second : (a b : Bool) → (a && b) ≡ true → b ≡ true
+pub and_second : (a b : Bool) → (a && b) ≡ true → b ≡ true
 and_second true b is = is
 and_second false b is = absurd (subst T (sym is) tt)
 
@@ -106,7 +106,7 @@ less_than a b =
 pub compared_less : (a b : ℤ) → int_lt a b ≡ true → int_cmp a b ≡ Less
 compared_less a b is = ap (λ t. cond t Less (cond (int_lt b a) Greater Equal)) is
 
-int_chain : (a b c : ℤ) → int_lt a b ≡ true → int_lt b c ≡ true → int_lt a c ≡ true
+pub int_chain : (a b c : ℤ) → int_lt a b ≡ true → int_lt b c ≡ true → int_lt a c ≡ true
 int_chain a b c h k = less_than a c (int_cmp_total.trans a b c (compared_less a b h) (compared_less b c k))
 
 not_below_itself : (a : ℤ) → int_lt a a ≡ false

@@ -6,7 +6,7 @@ ghost use Rattle.ak_keep.specs.Collections.{IsChecked};
 ghost use Rattle.ak_keep.specs.Keepers.{KeepCause, is_marked, put, marked_here, committed};
 
 use crate::keepers::{KeepFault, Keeper, Wanted};
-use ak_base::{Conf, Head, List, Memory, Name, Rest, Review, Row, Table};
+use ak_base::{Card, Conf, Head, List, Memory, Name, Rest, Review, Row, Table, Text};
 use std::alloc::Global;
 
 // Puts both reviews, or leaves all as it was.
@@ -68,8 +68,8 @@ fn change<K: Keeper>(alloc: Global, keeper: &mut K, kind: u64) -> Result<(), Kee
     }
     match kind {
         1 => put_head(alloc, keeper),
-        2 => put_review(keeper, 5),
-        3 => keeper.remove(name(5)),
+        2 => put_card(alloc, keeper),
+        3 => keeper.remove(card_name(5)),
         4 => put_moments(keeper),
         5 => replace(alloc, keeper),
         _ => keeper.commit(),
@@ -78,11 +78,11 @@ fn change<K: Keeper>(alloc: Global, keeper: &mut K, kind: u64) -> Result<(), Kee
 
 fn read<K: Keeper>(keeper: &mut K, kind: u64) -> Result<(), KeepFault> {
     match kind {
-        7 => drop(keeper.get(name(5))?),
-        8 => drop(keeper.page(Table::Review, 0, 2)?),
-        9 => drop(keeper.pending(Table::Review, Wanted::Unsent, 0, 2)?),
+        7 => drop(keeper.get(card_name(5))?),
+        8 => drop(keeper.page(Table::Card, 0, 2)?),
+        9 => drop(keeper.pending(Table::Card, Wanted::Unsent, 0, 2)?),
         10 => drop(keeper.cards_of(3)?),
-        11 => drop(keeper.count(Table::Review)?),
+        11 => drop(keeper.count(Table::Card)?),
         _ => drop(keeper.head()?),
     }
     Ok(())
@@ -109,12 +109,44 @@ pub(crate) fn review(id: i64, ease: i64) -> Review {
     }
 }
 
-fn put_review<K: Keeper>(keeper: &mut K, id: i64) -> Result<(), KeepFault>
+pub(crate) fn card_name(id: i64) -> Name {
+    Name {
+        table: Table::Card,
+        id,
+    }
+}
+
+// A new card of the note.
+pub(crate) fn card(alloc: Global, id: i64, note: i64) -> Result<Card, Memory> {
+    Ok(Card {
+        id,
+        nid: note,
+        did: 1,
+        ord: 0,
+        stamp: 0,
+        usn: -1,
+        kind: 0,
+        queue: 0,
+        due: 1,
+        ivl: 0,
+        factor: 0,
+        reps: 0,
+        lapses: 0,
+        left: 0,
+        odue: 0,
+        odid: 0,
+        flags: 0,
+        extra: Text::of(alloc, "")?,
+    })
+}
+
+// The card 5 of the note 3.
+fn put_card<K: Keeper>(alloc: Global, keeper: &mut K) -> Result<(), KeepFault>
     requires { is_marked (K.keeping keeper.old) ≡ true }
 {
-    let review = review(id, 3);
-    match review.check() {
-        Ok(()) => keeper.put(Row::Review(review)),
+    let card = card(alloc, 5, 3)?;
+    match card.check() {
+        Ok(()) => keeper.put(Row::Card(card)),
         Err(_) => Ok(()),
     }
 }

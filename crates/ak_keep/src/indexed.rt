@@ -1,22 +1,27 @@
 // The rows by name, with what is kept beside them so that nobody walks over a table to know it.
-ghost use Rattle.std.specs.Prelude.{◌≡◌, [], ◌+◌, ◌-◌, ◌<◌, ◌^◌, is_some, slice_index, slice_set, OnOk, OnErr};
+ghost use Rattle.std.specs.Prelude.{◌≡◌, None, [], ◌+◌, ◌-◌, ◌<◌, ◌^◌, is_some, slice_index, slice_set, IfOk, OnOk, OnErr};
 ghost use Rattle.std.specs.Option.{option_copied};
 ghost use Rattle.std.specs.List.Sorted.{IsStrictlySortedBy};
 ghost use Rattle.std.specs.Map.{keys_of};
 ghost use Rattle.ak_base.specs.Names.{name_cmp, table_place};
-ghost use Rattle.ak_keep.specs.Counts.{count_among};
+ghost use Rattle.ak_keep.specs.Collections.{cards_among};
+ghost use Rattle.ak_keep.specs.Counts.{AreCounts, count_among};
 ghost use Rattle.ak_keep.specs.Entries.{IsPut, IsTakenOut, row_at};
+ghost use Rattle.ak_keep.specs.NoteKeys.{note_at};
 
-use ak_base::{Memory, Name, Row, Table};
+use crate::note_cards::{NoteKey, add_card, drop_card, drop_left_card, ids_of, note_of};
+use ak_base::{List, Memory, Name, Row, Table};
 use std::alloc::Global;
-use std::collections::BTreeMap;
+use std::collections::{BTreeMap, BTreeSet};
 use std::marker::Model;
 
-/// Rows by name, seen as their entries by ascending name. How many rows each table has is kept beside them.
+/// Rows by name, seen as their entries by ascending name. How many rows each table has is kept beside
+/// them, and a key for each card, by which the cards of a note are found.
 #[derive(Debug, Drop)]
 pub(crate) struct IndexedRows {
     rows: BTreeMap<Name, Row>,
     counts: [u64; 9],
+    cards: BTreeSet<NoteKey>,
 }
 
 impl Model for IndexedRows {
@@ -26,11 +31,11 @@ impl Model for IndexedRows {
 
     ghost Value = { List (Name × Row) };
 
-    ghost use Rattle.ak_keep.specs.Counts.{AreCounts};
+    ghost use Rattle.ak_keep.specs.NoteKeys.{IsIndexed};
 
     ghost view = { λ indexed. indexed.rows.entries };
 
-    ghost invariant = { λ indexed. AreCounts indexed.counts indexed.rows.entries };
+    ghost invariant = { λ indexed. IsIndexed indexed.counts indexed.cards.keys indexed.rows.entries };
 }
 
 impl IndexedRows {
@@ -41,6 +46,7 @@ impl IndexedRows {
         IndexedRows {
             rows: BTreeMap::new(alloc),
             counts: [0; 9],
+            cards: BTreeSet::new(alloc),
         }
     }
 
@@ -75,29 +81,93 @@ impl IndexedRows {
         self.counts[table.place() as usize]
     }
 
+    /// The ids of the note's cards, in the order of their names.
+    pub(crate) fn cards_of(&self, alloc: Global, note: &i64) -> Result<List<i64>, Memory>
+        ensures ids { IfOk result (λ ids. ids ≡ cards_among note.now self.now) }
+        ensures ordered { IsStrictlySortedBy name_cmp (keys_of self.now) }
+    {
+        let _ordered = self.rows.len();
+        let ids = ids_of(alloc, &self.cards, note)?;
+        Ok(ids)
+    }
+
     /// Puts the row under the name, in place of the row that stands there.
     pub(crate) fn put(&mut self, name: Name, row: Row) -> Result<(), Memory>
         ensures ok { OnOk result (IsPut self.old name row self.new) }
         ensures err { OnErr result (self.new ≡ self.old) }
     {
-        // There are fewer than 2^63 rows, so a count has room for one more.
-        let _small = self.rows.len();
-        let replaced = self.rows.insert(name, row)?;
-        if replaced.is_some() {
-            return Ok(());
+        // The key comes first: it may want memory, and to take one out never does.
+        let note = note_of(&row);
+        add_card(&mut self.cards, note, name)?;
+        match put_row(&mut self.rows, &mut self.counts, name, row) {
+            Ok(old) => {
+                drop_left_card(&mut self.cards, old, note, name);
+                return Ok(());
+            }
+            Err(memory) => {
+                drop_card(&mut self.cards, note, name);
+                return Err(memory);
+            }
         }
-        count_in(&mut self.counts, name.table);
-        Ok(())
     }
 
     /// Takes out the row of this name, if there is one.
     pub(crate) fn take(&mut self, name: Name)
         ensures { IsTakenOut self.old name self.new }
     {
-        let taken = self.rows.remove(&name);
-        if taken.is_some() {
-            count_out(&mut self.counts, name.table);
+        let old = take_row(&mut self.rows, &mut self.counts, name);
+        drop_card(&mut self.cards, old, name);
+    }
+}
+
+// Puts the row under the name, and counts it where it is a new one. It gives the note that the row before
+// was a card of.
+fn put_row(
+    rows: &mut BTreeMap<Name, Row>,
+    counts: &mut [u64; 9],
+    name: Name,
+    row: Row,
+) -> Result<Option<i64>, Memory>
+    requires { AreCounts counts.old rows.old.entries }
+    ensures note { IfOk result (λ note. note ≡ note_at rows.old.entries name) }
+    ensures put { OnOk result (IsPut rows.old.entries name row rows.new.entries) }
+    ensures counts { OnOk result (AreCounts counts.new rows.new.entries) }
+
+    // Only a name that is not held can want memory.
+    ensures free { OnErr result (row_at rows.old.entries name ≡ None) }
+    ensures rows { OnErr result (rows.new.entries ≡ rows.old.entries) }
+    ensures same { OnErr result (counts.new ≡ counts.old) }
+{
+    // There are fewer than 2^63 rows, so a count has room for one more.
+    let _small = rows.len();
+    match rows.insert(name, row)? {
+        Some(old) => {
+            let note = note_of(&old);
+            drop(old);
+            return Ok(note);
         }
+        None => {
+            count_in(counts, name.table);
+            return Ok(None);
+        }
+    }
+}
+
+// Takes out the row of this name, and counts it out. It gives the note that it was a card of.
+fn take_row(rows: &mut BTreeMap<Name, Row>, counts: &mut [u64; 9], name: Name) -> Option<i64>
+    requires { AreCounts counts.old rows.old.entries }
+    ensures note { result ≡ note_at rows.old.entries name }
+    ensures taken { IsTakenOut rows.old.entries name rows.new.entries }
+    ensures counts { AreCounts counts.new rows.new.entries }
+{
+    match rows.remove(&name) {
+        Some(old) => {
+            count_out(counts, name.table);
+            let note = note_of(&old);
+            drop(old);
+            return note;
+        }
+        None => return None,
     }
 }
 

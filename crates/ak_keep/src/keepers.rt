@@ -131,7 +131,7 @@ pub trait Keeper {
         ensures same { keeping self.new ≡ keeping self.old }
         ensures cause { KeepCause (fault_count self.old) (fault_count self.new) result };
 
-    /// The ids of the cards of a note, in ascending order.
+    /// The ids of the cards of a note, in ascending order, in logarithmic time and a step for each card.
     fn cards_of(&mut self, note: i64) -> Result<List<i64>, KeepFault>
         ensures cards { IfOk result (λ ids. WhereTold (keeping self.old) (λ c. ids ≡ cards_of note c.rows)) }
         ensures ascend { IfOk result (λ ids. IsStrictlySortedBy int_cmp ids) }

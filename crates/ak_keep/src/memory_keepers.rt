@@ -19,6 +19,7 @@ use std::alloc::Global;
 use std::marker::Model;
 
 /// A keeper in memory, which tells what it keeps. The calls that `fail_at` lists fail, and no others.
+/// A row, and the cards of a note, are found in logarithmic time and a step for each.
 #[derive(Debug, Drop)]
 pub struct MemoryKeeper {
     alloc: Global,

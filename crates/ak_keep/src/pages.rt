@@ -1,10 +1,9 @@
-// Pages of a table, and the cards of a note.
+// Pages of a table.
 ghost use Rattle.std.specs.Prelude.{◌≡◌, [], ◌∷◌, ◌++◌, ◌==◌, filter, length, take, IfOk, OnOk};
 ghost use Rattle.std.specs.BTreeMap.{IsOrdered, keys};
 ghost use Rattle.std.specs.BTreeMap.Range.{entries_between};
 ghost use Rattle.std.specs.declared.ops.Bound.TheVariants.{Excluded, Unbounded};
 ghost use Rattle.ak_base.specs.Names.{name_cmp, table_place};
-ghost use Rattle.ak_keep.specs.Collections.{cards_among, is_card_of};
 ghost use Rattle.ak_keep.specs.Pages.{first_run, is_picked};
 
 use crate::keepers::Wanted;
@@ -53,40 +52,5 @@ fn is_picked(want: &Option<Wanted>, row: &Row) -> bool
     match want {
         Some(want) => want.takes(row),
         None => true,
-    }
-}
-
-/// The ids of the note's cards, in the order of their names.
-pub(crate) fn cards_among(
-    alloc: Global,
-    rows: &BTreeMap<Name, Row>,
-    note: &i64,
-) -> Result<List<i64>, Memory>
-    ensures ids { IfOk result (λ ids. ids ≡ cards_among note.now rows.now.entries) }
-    ensures ordered { IsOrdered name_cmp rows.now }
-{
-    let mut ids = List::new(alloc);
-    let _ordered = rows.len();
-    for (name, row) in rows {
-        push_card(&mut ids, name, row, note)?;
-    }
-    Ok(ids)
-}
-
-fn push_card(ids: &mut List<i64>, name: &Name, row: &Row, note: &i64) -> Result<(), Memory>
-    ensures ok { OnOk result (ids.new ≡ ids.old ++ cards_among note.now ((name.now, row.now) ∷ [])) }
-{
-    if is_card_of(row, note) {
-        return ids.push(name.id);
-    }
-    Ok(())
-}
-
-fn is_card_of(row: &Row, note: &i64) -> bool
-    ensures { result ≡ is_card_of note.now row.now }
-{
-    match row {
-        Row::Card(card) => card.nid == *note,
-        _ => false,
     }
 }

@@ -9,7 +9,7 @@ ghost use Rattle.ak_keep.specs.Collections.{AscendsPast, IsPageOf, union, rows_o
 use crate::entries::{copy_rows, fill_rows, map_of};
 use crate::indexed::IndexedRows;
 use crate::keepers::Wanted;
-use crate::pages::{cards_among, page_of};
+use crate::pages::page_of;
 use ak_base::{List, Memory, Name, Row, Table};
 use std::alloc::Global;
 use std::collections::btree_map::Iter;
@@ -128,12 +128,12 @@ impl RowMap {
         Ok(page)
     }
 
-    /// The ids of the cards of a note, in ascending order.
+    /// The ids of the cards of a note, in ascending order, in logarithmic time and a step for each card.
     pub fn cards_of(&self, note: i64) -> Result<List<i64>, Memory>
         ensures cards { IfOk result (λ ids. ids ≡ cards_of note self.now) }
         ensures ascend { IfOk result (λ ids. IsStrictlySortedBy int_cmp ids) }
     {
-        let ids = cards_among(self.alloc, self.rows.by_name(), &note)?;
+        let ids = self.rows.cards_of(self.alloc, &note)?;
         Ok(ids)
     }
 

@@ -1,4 +1,4 @@
-use crate::callers::{name, review, store_both, use_keeper};
+use crate::callers::{card, card_name, name, review, store_both, use_keeper};
 use crate::{KeepFault, Keeper, MemoryKeeper, RowMap, Wanted};
 use ak_base::{List, Memory, Row, Table};
 use std::alloc::Global;
@@ -36,6 +36,16 @@ fn pending(rows: &RowMap, want: Wanted) -> Result<(i64, usize), Memory> {
     Ok(summary(&page))
 }
 
+// Three pages, and two of wanted rows.
+fn pages(rows: &RowMap) -> Result<[(i64, usize); 5], Memory> {
+    let whole = page(rows, 0)?;
+    let last = page(rows, 20)?;
+    let none = page(rows, 30)?;
+    let unsent = pending(rows, Wanted::Unsent)?;
+    let sent = pending(rows, Wanted::From(0))?;
+    Ok([whole, last, none, unsent, sent])
+}
+
 fn ease(rows: &RowMap, id: i64) -> Result<i64, Memory> {
     match rows.get(name(id))? {
         Some(Row::Review(review)) => Ok(review.ease),
@@ -43,20 +53,63 @@ fn ease(rows: &RowMap, id: i64) -> Result<i64, Memory> {
     }
 }
 
+// Puts back what was taken out, and counts the reviews of a copy.
+fn refill(alloc: Global, rows: &mut RowMap) -> Result<u64, Memory> {
+    let other = three_reviews(alloc)?;
+    rows.fill(&other)?;
+    let copy = rows.copy()?;
+    Ok(copy.count(Table::Review))
+}
+
+fn put_card(alloc: Global, rows: &mut RowMap, id: i64, note: i64) -> Result<(), Memory> {
+    let card = card(alloc, id, note)?;
+    rows.put(Row::Card(card))
+}
+
+// The cards 9, 7 and 8 of note 3, of which 8 moves to note 4.
+fn put_cards(alloc: Global, rows: &mut RowMap) -> Result<(), Memory> {
+    put_card(alloc, rows, 9, 3)?;
+    put_card(alloc, rows, 7, 3)?;
+    put_card(alloc, rows, 8, 3)?;
+    put_card(alloc, rows, 8, 4)
+}
+
+// The first id of a note's cards, or 0, and how many they are.
+fn cards_of(rows: &RowMap, note: i64) -> Result<(i64, usize), Memory> {
+    let ids = rows.cards_of(note)?;
+    match ids.as_slice().first() {
+        Some(id) => Ok((*id, ids.as_slice().len())),
+        None => Ok((0, 0)),
+    }
+}
+
+// The cards of notes 3 and 4, and those in a copy after 7 was taken out.
+fn move_cards(alloc: Global, rows: &mut RowMap) -> Result<[(i64, usize); 4], Memory> {
+    put_cards(alloc, rows)?;
+    let third = cards_of(rows, 3)?;
+    let fourth = cards_of(rows, 4)?;
+    rows.remove(card_name(7));
+    let copy = rows.copy()?;
+    let left = cards_of(&copy, 3);
+    let moved = cards_of(&copy, 4);
+    drop(copy);
+    Ok([third, fourth, left?, moved?])
+}
+
 #[test]
 fn rows_stand_by_name(rt: HostRuntime) -> Result<(), Fail> {
     let mut rows = three_reviews(rt.alloc())?;
-    assert_eq!(rt; page(&rows, 0)?, (10, 2));
-    assert_eq!(rt; page(&rows, 20)?, (30, 1));
-    assert_eq!(rt; page(&rows, 30)?, (0, 0));
-    assert_eq!(rt; pending(&rows, Wanted::Unsent)?, (20, 2));
-    assert_eq!(rt; pending(&rows, Wanted::From(0))?, (0, 0));
-    assert_eq!(rt; ease(&rows, 10)?, 4);
+    let pages = pages(&rows);
+    let held = ease(&rows, 10);
     rows.remove(name(10));
-    assert_eq!(rt; ease(&rows, 10)?, -1);
-    let other = three_reviews(rt.alloc())?;
-    rows.fill(&other)?;
-    assert_eq!(rt; rows.copy()?.count(Table::Review), 3);
+    let gone = ease(&rows, 10);
+    let reviews = refill(rt.alloc(), &mut rows);
+    let cards = move_cards(rt.alloc(), &mut rows);
+    drop(rows);
+    assert_eq!(rt; pages?, [(10, 2), (30, 1), (0, 0), (20, 2), (0, 0)]);
+    assert_eq!(rt; (held?, gone?), (4, -1));
+    assert_eq!(rt; reviews?, 3);
+    assert_eq!(rt; cards?, [(7, 2), (8, 1), (9, 1), (8, 1)]);
     Ok(())
 }
 
@@ -71,7 +124,7 @@ fn list_call(alloc: Global, keeper: &mut MemoryKeeper, call: u64) -> Result<(), 
     Ok(())
 }
 
-// A head is committed, and a row put behind the next mark.
+// A head is committed, and a card of note 3 put behind the next mark.
 fn set_up(alloc: Global, keeper: &mut MemoryKeeper) -> Result<(), KeepFault> {
     use_keeper(alloc, keeper, 0)?;
     use_keeper(alloc, keeper, 1)?;
@@ -80,31 +133,46 @@ fn set_up(alloc: Global, keeper: &mut MemoryKeeper) -> Result<(), KeepFault> {
     use_keeper(alloc, keeper, 2)
 }
 
-// How many faults are counted, whether the keeper is marked, and how many reviews it has.
-fn seen(keeper: &MemoryKeeper) -> (u64, bool, u64) {
-    let reviews = keeper.rows().count(Table::Review);
-    (keeper.faults(), keeper.marked(), reviews)
+// How many faults are counted, whether the keeper is marked, and how many cards note 3 has.
+fn seen(keeper: &MemoryKeeper) -> Result<(u64, bool, usize), Memory> {
+    let cards = keeper.rows().cards_of(3)?;
+    Ok((keeper.faults(), keeper.marked(), cards.as_slice().len()))
+}
+
+// Whether the listed call failed, what is seen then, and whether the keeper is marked after the same call again.
+// What is to be marked is not marked before.
+fn fail_once(
+    alloc: Global,
+    keeper: &mut MemoryKeeper,
+    kind: u64,
+) -> Result<(bool, (u64, bool, usize), bool), KeepFault> {
+    set_up(alloc, keeper)?;
+    if kind == 0 {
+        use_keeper(alloc, keeper, 6)?;
+    }
+    list_call(alloc, keeper, 0)?;
+    let failed = is_failed(use_keeper(alloc, keeper, kind));
+    let after = seen(keeper)?;
+    use_keeper(alloc, keeper, kind)?;
+    Ok((failed, after, keeper.marked()))
 }
 
 // A refused commit leaves the collection of the mark, and any other call what there was.
 #[test]
 fn each_listed_call_fails(rt: HostRuntime) -> Result<(), Fail> {
     let alloc = rt.alloc();
-    for kind in 1..13 {
+    for kind in 0..13 {
         let mut keeper = MemoryKeeper::new(alloc);
-        let ready = set_up(alloc, &mut keeper);
-        let listed = list_call(alloc, &mut keeper, 0);
-        let failed = is_failed(use_keeper(alloc, &mut keeper, kind));
-        let after = seen(&keeper);
+        let tried = fail_once(alloc, &mut keeper, kind);
         drop(keeper);
+        let (failed, after, marked) = tried?;
         let wanted = if kind == 6 {
             (1, false, 0)
         } else {
-            (1, true, 1)
+            (1, kind != 0, 1)
         };
-        ready?;
-        listed?;
         assert!(rt; failed && after == wanted, "call {kind}");
+        assert!(rt; marked == (kind != 6), "call {kind} again");
     }
     Ok(())
 }
@@ -122,7 +190,7 @@ fn each_call_goes_on(rt: HostRuntime) -> Result<(), Fail> {
         let left = if emptied { 0 } else { 1 };
         ready?;
         gone?;
-        assert!(rt; after == (0, kind != 6, left), "call {kind}");
+        assert!(rt; after? == (0, kind != 6, left), "call {kind}");
     }
     Ok(())
 }
@@ -141,7 +209,8 @@ fn a_caller_takes_back_what_it_put(rt: HostRuntime) -> Result<(), Fail> {
     } else {
         is_failed(store_both(&mut keeper, first, second))
     };
-    let before = seen(&keeper);
+    let reviews = keeper.rows().count(Table::Review);
+    let before = (keeper.faults(), keeper.marked(), reviews);
     drop(keeper);
     listed?;
     assert!(rt; failed);

@@ -1,0 +1,17 @@
+use Rattle.std.proofs.Common.{◌≡◌, ℤ, true, List, ◌∷◌, ◌++◌, map, sym, subst, ◌∙◌}
+use Rattle.std.specs.Ordering.{int_eq}
+use Rattle.ak_base.specs.declared.names.Name.{Name}
+use Rattle.ak_keep.specs.NoteCards.{keys_from, names_run, run_goes_on}
+use Rattle.ak_keep.specs.NoteKeys.{NoteKey}
+use Rattle.ak_keep.proofs.note_cards.ids_of.Goals as goal
+
+pub loop-other-preserved : goal.loop-other-preserved
+loop-other-preserved c =
+    let note : ℤ = c.args.note.now in
+    let key : NoteKey = c.in-Some.field-0.now in
+    let all : List ℤ = map (λ (name : Name). name.id) (names_run note (keys_from note c.args.keys.now.keys)) in
+    let before : c.loop-other.ids ++ map (λ (name : Name). name.id) (names_run note (key ∷ c.next.new.self)) ≡ all =
+    subst (λ (keys : List NoteKey). c.loop-other.ids ++ map (λ (name : Name). name.id) (names_run note keys) ≡ all) c.in-Some.ensures.steps c.loop-other.invariant in
+    let same : int_eq key.0 note ≡ true = sym c.is_note.ensures ∙ c.if-not-is_note.false in
+    subst (λ (ids : List ℤ). ids ++ map (λ (name : Name). name.id) (names_run note c.next.new.self) ≡ all) (sym c.in_ok-push_id.ensures.ok)
+    (run_goes_on note c.loop-other.ids all key c.next.new.self before same)
