@@ -7,7 +7,7 @@ use Rattle.ak_base.specs.declared.names.Name.{Name}
 use Rattle.ak_keep.specs.Collections.{Rows, union}
 use Rattle.ak_merge.specs.FirstTies.{first_tie_none}
 use Rattle.ak_merge.specs.Join.{IsJoin, AreSame, union_joins, union_commutes}
-use Rattle.ak_merge.specs.Ties.{AreApart, first_tie}
+use Rattle.ak_merge.specs.Ties.{DoAgree, first_tie}
 use Rattle.ak_cli.specs.NewReviews.{is_free, free_ids}
 use Rattle.ak_cli.specs.Sides.{raised}
 use Rattle.ak_cli.specs.Syncs.{joined_side, joined, unless_tied, synced}
@@ -72,7 +72,7 @@ raised_over at moment raised_to is =
       | false ↦ λ is. let e : max at (moment + 1) ≡ raised_to = cc in omega (arith, e)
     ] is
 
-joins_at : (device server : Side) (moment : ℕ) → AreApart device.reviews server.reviews → max device.moment server.moment < moment
+joins_at : (device server : Side) (moment : ℕ) → DoAgree device.reviews server.reviews → max device.moment server.moment < moment
     → Joins device server (joined_side device server moment) (joined_side server device moment)
 joins_at device server moment apart over = record {
   one_content = union_commutes device.reviews server.reviews apart;
@@ -86,7 +86,7 @@ pub finished_joins : (at : ℕ) (device server device' server' : Side) → synce
 finished_joins at device server device' server' is =
     by_tie (first_tie device.reviews server.reviews) refl is
   where
-    by_moment : AreApart device.reviews server.reviews → (to : Option ℕ) → raised at (max device.moment server.moment) ≡ to → joined device server to ≡ Finished device' server' → Joins device server device' server'
+    by_moment : DoAgree device.reviews server.reviews → (to : Option ℕ) → raised at (max device.moment server.moment) ≡ to → joined device server to ≡ Finished device' server' → Joins device server device' server'
     by_moment apart None raised_to is = cc
     by_moment apart (Some moment) raised_to is =
         let d : joined_side device server moment ≡ device' = cc in
@@ -95,7 +95,7 @@ finished_joins at device server device' server' is =
         (subst (λ (x : Side). Joins device server (joined_side device server moment) x) s
         (joins_at device server moment apart (raised_over at (max device.moment server.moment) moment raised_to)))
 
-    unless_same : AreApart device.reviews server.reviews → (same : Bool) → cond same NoChanges (joined device server (raised at (max device.moment server.moment))) ≡ Finished device' server' → Joins device server device' server'
+    unless_same : DoAgree device.reviews server.reviews → (same : Bool) → cond same NoChanges (joined device server (raised at (max device.moment server.moment))) ≡ Finished device' server' → Joins device server device' server'
     unless_same apart true is = cc
     unless_same apart false is = by_moment apart (raised at (max device.moment server.moment)) refl is
 

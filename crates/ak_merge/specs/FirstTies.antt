@@ -14,7 +14,7 @@ use Rattle.ak_base.specs.declared.names.Name.{Name}
 use Rattle.ak_base.specs.declared.rows.Row.{Row}
 use Rattle.ak_keep.specs.Collections.{Rows}
 use Rattle.ak_keep.specs.Entries.{both_first, both_second, entries_found, none_below, below_more}
-use Rattle.ak_merge.specs.Ties.{is_tie, first_tie, AreApart, DifferUnder, IsLeastTie}
+use Rattle.ak_merge.specs.Ties.{is_tie, first_tie, DoAgree, DifferUnder, IsLeastTie}
 
 not_tied : (b : Rows) (entry : Name × Row) (y : Row) → is_tie b entry ≡ false → get b entry.0 ≡ Some y → IsTrue (same_content entry.1 y)
 not_tied b entry y is has =
@@ -55,7 +55,7 @@ no_tie b (e ∷ es) q x y none has held =
     ] refl none
 
 -- where the rows agree, no entry is a tie
-agree : (a b : Rows) (es : List (Name × Row)) → AllByRecursion (λ e. get a e.0 ≡ Some e.1) es → AreApart a b → find (is_tie b) es ≡ None
+agree : (a b : Rows) (es : List (Name × Row)) → AllByRecursion (λ e. get a e.0 ≡ Some e.1) es → DoAgree a b → find (is_tie b) es ≡ None
 agree a b [] found apart = refl
 agree a b (e ∷ es) found apart =
     let clear : is_tie b e ≡ false = elim (get b e.0) as (λ o. get b e.0 ≡ o → option_map_or (λ held. not (same_content e.1 held)) o false ≡ false) [
@@ -64,7 +64,7 @@ agree a b (e ∷ es) found apart =
     ] refl in
     ap (λ t. cond t (Some e) (find (is_tie b) es)) clear ∙ agree a b es found.1 apart
 
-pub first_tie_none : (a b : Rows) → (first_tie a b ≡ None → AreApart a b) × (AreApart a b → first_tie a b ≡ None)
+pub first_tie_none : (a b : Rows) → (first_tie a b ≡ None → DoAgree a b) × (DoAgree a b → first_tie a b ≡ None)
 first_tie_none a b = (
   (λ none name x y has held. no_tie b (entries a) name x y (none_mapped _ none) (sym (get-entries a name) ∙ has) held),
   (λ apart. ap (option_map (λ (e : Name × Row). e.0)) (agree a b (entries a) (entries_found a) apart)),

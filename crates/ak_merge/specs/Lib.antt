@@ -1,3 +1,12 @@
 pub mod Ties
 pub mod Join
 pub mod FirstTies
+pub mod Holdings
+pub mod Joins
+pub mod Takings
+pub mod Links
+pub mod Soundness
+pub mod Parting
+pub mod Commits
+pub mod Settling
+pub mod Undoing

@@ -10,8 +10,8 @@ use Rattle.ak_base.specs.declared.rows.Row.{Row}
 use Rattle.ak_keep.specs.Collections.{Rows}
 
 -- each row that both hold under one name is the same in both, but for the update sequence number
-abbrev pub AreApart : Rows → Rows → Type 0
-AreApart a b = (name : Name) (x y : Row) → get a name ≡ Some x → get b name ≡ Some y → IsTrue (same_content x y)
+abbrev pub DoAgree : Rows → Rows → Type 0
+DoAgree a b = (name : Name) (x y : Row) → get a name ≡ Some x → get b name ≡ Some y → IsTrue (same_content x y)
 
 -- whether the collection holds another row under the entry's name
 abbrev pub is_tie : Rows → Name × Row → Bool

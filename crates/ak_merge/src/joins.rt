@@ -2,7 +2,7 @@ ghost use Rattle.std.specs.Prelude.{◌≡◌, OnOk, OnErr};
 ghost use Rattle.ak_keep.specs.Collections.{with_rows_of};
 ghost use Rattle.ak_keep.specs.MemoryKeepers.{kept_changed};
 ghost use Rattle.ak_merge.specs.Join.{IsJoin};
-ghost use Rattle.ak_merge.specs.Ties.{AreApart};
+ghost use Rattle.ak_merge.specs.Ties.{DoAgree};
 
 use ak_base::Memory;
 use ak_keep::MemoryKeeper;
@@ -11,7 +11,7 @@ use ak_keep::MemoryKeeper;
 #[tactic(auto, using(crate::specs::Join::union_joins))]
 pub fn join_into(into: &mut MemoryKeeper, from: &MemoryKeeper) -> Result<(), Memory>
     ensures ok { OnOk result (into.new ≡ record into.old { kept = kept_changed (with_rows_of from.now.kept.current) into.old.kept }) }
-    ensures join { OnOk result (AreApart into.old.kept.current.rows from.now.kept.current.rows → IsJoin into.old.kept.current.rows from.now.kept.current.rows into.new.kept.current.rows) }
+    ensures join { OnOk result (DoAgree into.old.kept.current.rows from.now.kept.current.rows → IsJoin into.old.kept.current.rows from.now.kept.current.rows into.new.kept.current.rows) }
     ensures err { OnErr result (into.new ≡ into.old) }
 {
     into.fill(from)

@@ -1,5 +1,5 @@
 ghost use Rattle.std.specs.Prelude.{◌≡◌, ◌↔◌, None, IfOk, IfSome};
-ghost use Rattle.ak_merge.specs.Ties.{AreApart, IsLeastTie, first_tie, is_tie};
+ghost use Rattle.ak_merge.specs.Ties.{DoAgree, IsLeastTie, first_tie, is_tie};
 
 use ak_base::{Memory, Name, Row};
 use ak_keep::RowMap;
@@ -8,7 +8,7 @@ use ak_keep::RowMap;
 #[tactic(auto, using(crate::specs::FirstTies::first_tie_none))]
 pub fn tie_between(a: &RowMap, b: &RowMap) -> Result<Option<Name>, Memory>
     ensures tie { IfOk result (λ tie. tie ≡ first_tie a.now b.now) }
-    ensures none { IfOk result (λ tie. (tie ≡ None) ↔ AreApart a.now b.now) }
+    ensures none { IfOk result (λ tie. (tie ≡ None) ↔ DoAgree a.now b.now) }
     ensures least { IfOk result (λ tie. IfSome tie (λ name. IsLeastTie a.now b.now name)) }
 {
     let tie = find_tie(a, b)?;

@@ -1,0 +1,239 @@
+-- What an exchange leaves under one name, on both sides.
+use Rattle.std.specs.Prelude.{◌≡◌, ℤ, ◌<ℤ◌, Bool, true, false, not, ◌||◌, if◌then◌else◌, int_lt, IsTrue, IfSome, List, Option, Some, None, is_some}
+use Rattle.std.proofs.Common.{refl, sym, ap, subst, ◌∙◌, inl, inr, arith}
+use Rattle.std.proofs.lemmas.Int.{ints}
+use Rattle.std.proofs.lemmas.List.Elements.{recursion_from_All}
+use Rattle.std.specs.Option.{option_and_then}
+use Rattle.ak_base.specs.Contents.{same_content}
+use Rattle.ak_base.specs.Rows.{name_of, stamp_of, usn_of, with_usn}
+use Rattle.ak_base.specs.declared.names.Name.{Name}
+use Rattle.ak_base.specs.declared.rows.Row.{Row}
+use Rattle.ak_keep.specs.Collections.{is_pending, is_settled, is_wanted}
+use Rattle.ak_keep.specs.declared.keepers.Wanted.{Wanted}
+use Rattle.ak_keep.specs.declared.keepers.Wanted.TheVariants.{Unsent, From}
+use Rattle.ak_keep.specs.Entries.{none_some, same_some}
+use Rattle.ak_merge.specs.Commits.{wanted_under, IsSent, settled}
+use Rattle.ak_merge.specs.Holdings.{At, AreNamed, same_held}
+use Rattle.ak_merge.specs.Joins.{newest}
+use Rattle.ak_merge.specs.Links.{HasTaken, IsKnown}
+use Rattle.ak_merge.proofs.RowFacts.{same-with_usn, like_stamp, same-itself, same-turned}
+use Rattle.ak_merge.proofs.TakingLaws.{received, received_by, newest_in, each_newest, has_newest}
+use Rattle.ak_merge.proofs.CommitLaws.{if_weaker}
+
+-- ---- an exchange: what came and what was sent
+-- of what is wanted at one name
+abbrev pub only_wanted : Wanted → Option Row → Option Row
+only_wanted want o = option_and_then (λ (row : Row). if is_wanted want row then Some row else None) o
+
+pub only_is : (want : Wanted) (x r : Row) → only_wanted want (Some x) ≡ Some r → (x ≡ r) × IsTrue (is_wanted want x)
+only_is want x r is =
+    elim (is_wanted want x) as (λ b. is_wanted want x ≡ b → (if b then Some x else None) ≡ Some r → (x ≡ r) × IsTrue (is_wanted want x)) [
+      | true ↦ λ meets is. (same_some x r is, meets)
+      | false ↦ λ meets is. absurd (none_some r is)
+    ] refl is
+
+pub is_only : (want : Wanted) (x : Row) → IsTrue (is_wanted want x) → only_wanted want (Some x) ≡ Some x
+is_only want x meets = rw meets refl
+
+pub wanted_named : (want : Wanted) (at : At) → AreNamed at → AreNamed (wanted_under want at)
+wanted_named want at named name row is =
+    elim (at name) as (λ o. at name ≡ o → only_wanted want o ≡ Some row → name_of row ≡ name) [
+      | None ↦ λ held is. absurd (none_some row is)
+      | Some x ↦ λ held is. named name row (held ∙ ap (λ (r : Row). Some r) (only_is want x row is).0)
+    ] refl is
+
+-- what was sent of a name stands there
+pub sent_each : (sent : List Row) (at after : At) (name : Name) → IsSent sent at after → IfSome (newest_in sent name) (λ (row : Row). at name ≡ Some row)
+sent_each sent at after name gave =
+    if_weaker (λ (row : Row). (at (name_of row) ≡ Some row) × (name_of row ≡ name)) (λ (row : Row). at name ≡ Some row) (λ row h. ap at (sym h.1) ∙ h.0) (newest_in sent name)
+    (each_newest (λ (row : Row). at (name_of row) ≡ Some row) sent name (recursion_from_All (λ (row : Row). at (name_of row) ≡ Some row) sent gave.each))
+
+-- what is wanted and stays was sent
+pub sent_whole : (sent : List Row) (at after : At) (name : Name) (row : Row) → IsSent sent at after → AreNamed at → at name ≡ Some row → after name ≡ Some row
+    → newest_in sent name ≡ Some row
+sent_whole sent at after name row gave named is stays =
+    let some : is_some (newest_in sent name) ≡ true = ap (λ (n : Name). is_some (newest_in sent n)) (sym (named name row is)) ∙ has_newest sent row (gave.whole name row is stays) in
+    elim (newest_in sent name) as (λ o. is_some o ≡ true → IfSome o (λ (x : Row). at name ≡ Some x) → o ≡ Some row) [
+      | None ↦ λ some each. grind (arith, some)
+      | Some x ↦ λ some each. sym each ∙ is
+    ] some (sent_each sent at after name gave)
+
+-- ---- an exchange: at one name
+-- what is known of one name: x and g are the device's row and grave, y and h the server's, w and k what of them came, p and q what was sent
+pub record Meets (least usn : ℤ) (x g y h w k p q : Option Row) : Type 0 where
+  pub taken : HasTaken least x g y
+  pub known : IsKnown least x y h
+  pub own_single : is_some g ≡ true → x ≡ None
+  pub single : is_some h ≡ true → y ≡ None
+  pub grave_sent : IfSome g (λ row. IsTrue (is_settled row) → is_some h ≡ true)
+  pub grave_came : IfSome h (λ row. usn_of row <ℤ least → is_some g ≡ true)
+  pub apart : (a b : Row) → x ≡ Some a → y ≡ Some b → stamp_of a ≡ stamp_of b → IsTrue (same_content a b)
+  pub came : IfSome w (λ row. only_wanted (From least) y ≡ Some row)
+  pub came_all : (row : Row) → only_wanted (From least) y ≡ Some row → received_by usn y h p q ≡ Some row → w ≡ Some row
+  pub sent : IfSome p (λ row. only_wanted Unsent x ≡ Some row)
+  pub sent_all : (row : Row) → only_wanted Unsent x ≡ Some row → received_by usn x g w k ≡ Some row → p ≡ Some row
+  pub graves_came : IfSome k (λ row. is_some h ≡ true)
+  pub graves_came_all : IfSome h (λ row. IsTrue (is_wanted (From least) row) → is_some k ≡ true)
+  pub graves_sent : IfSome q (λ row. is_some g ≡ true)
+  pub graves_sent_all : IfSome g (λ row. IsTrue (is_pending row) → is_some q ≡ true)
+
+-- what stands in the join
+abbrev pub joined_of : Option Row → Option Row → Option Row → Option Row → Option Row
+joined_of x g y h = if is_some g || is_some h then None else newest x y
+
+-- what both hold then is what stands in the join
+pub record Agrees (usn : ℤ) (x g y h w k p q : Option Row) : Type 0 where
+  pub device : IsTrue (same_held (received_by usn x g w k) (joined_of x g y h))
+  pub server : IsTrue (same_held (received_by usn y h p q) (joined_of x g y h))
+
+pending_or_settled : (row : Row) (P : Type 0) → (IsTrue (is_pending row) → P) → (IsTrue (is_settled row) → P) → P
+pending_or_settled row P one other = elim (is_pending row) as (λ b. is_pending row ≡ b → P) [ true ↦ λ is. one is | false ↦ λ is. other (ap not is) ] refl
+
+wanted_or_below : (least : ℤ) (row : Row) (P : Type 0) → (IsTrue (is_wanted (From least) row) → P) → (usn_of row <ℤ least → P) → P
+wanted_or_below least row P one other =
+    elim (int_lt (usn_of row) least) as (λ b. int_lt (usn_of row) least ≡ b → P) [ true ↦ λ is. other (omega (arith, ints, is)) | false ↦ λ is. one (ap not is) ] refl
+
+nothing : is_some {T = Row} None ≡ true → ⊥
+nothing some = grind (arith, some)
+
+-- ---- where the server has a grave
+device_buried : (least usn : ℤ) (x g y : Option Row) (h : Row) (w k p q : Option Row) → Meets least usn x g y (Some h) w k p q
+    → IsTrue (same_held (received_by usn x g w k) (joined_of x g y (Some h)))
+device_buried least usn x None y h w (Some k) p q m = refl
+device_buried least usn x (Some g) y h w (Some k) p q m = refl
+device_buried least usn x (Some g) y h w None p q m = ap (λ o. same_held o None) (m.own_single refl)
+device_buried least usn x None y h w None p q m = absurd (wanted_or_below least h ⊥ (λ wanted. nothing (m.graves_came_all wanted)) (λ below. nothing (m.grave_came below)))
+
+server_buried : (least usn : ℤ) (x g y : Option Row) (h : Row) (w k p q : Option Row) → Meets least usn x g y (Some h) w k p q
+    → IsTrue (same_held (received_by usn y (Some h) p q) (joined_of x g y (Some h)))
+server_buried least usn x None y h w k p (Some q) m = refl
+server_buried least usn x (Some g) y h w k p (Some q) m = refl
+server_buried least usn x None y h w k p None m = ap (λ o. same_held o None) (m.single refl)
+server_buried least usn x (Some g) y h w k p None m = ap (λ o. same_held o None) (m.single refl)
+
+-- ---- where the device alone has one
+device_bury : (least usn : ℤ) (x : Option Row) (g : Row) (y w k p q : Option Row) → Meets least usn x (Some g) y None w k p q
+    → IsTrue (same_held (received_by usn x (Some g) w k) None)
+device_bury least usn x g y w (Some k) p q m = refl
+device_bury least usn x g y w None p q m = ap (λ o. same_held o None) (m.own_single refl)
+
+server_bury : (least usn : ℤ) (x : Option Row) (g : Row) (y w k p q : Option Row) → Meets least usn x (Some g) y None w k p q
+    → IsTrue (same_held (received_by usn y None p q) None)
+server_bury least usn x g y w k p (Some q) m = refl
+server_bury least usn x g y w k p None m = absurd (pending_or_settled g ⊥ (λ pending. nothing (m.graves_sent_all pending)) (λ sent. nothing (m.grave_sent sent)))
+
+-- ---- where neither has one
+-- a row with another number, of one that is this
+like_sent : (usn : ℤ) (x r : Row) → x ≡ r → IsTrue (same_content (with_usn r usn) x)
+like_sent usn x r is = subst (λ (z : Row). IsTrue (same_content (with_usn r usn) z)) (sym is) (same-with_usn r usn)
+
+neither_holds : (least usn : ℤ) (w p : Option Row) → Meets least usn None None None None w None p None → Agrees usn None None None None w None p None
+neither_holds least usn None None m = record { device = refl; server = refl }
+neither_holds least usn (Some w) p m = absurd (none_some w m.came)
+neither_holds least usn None (Some p) m = absurd (none_some p m.sent)
+
+server_holds : (least usn : ℤ) (y : Row) (w p : Option Row) → Meets least usn None None (Some y) None w None p None → Agrees usn None None (Some y) None w None p None
+server_holds least usn y w (Some p) m = absurd (none_some p m.sent)
+server_holds least usn y (Some w) None m = record { device = like_sent usn y w (only_is (From least) y w m.came).0; server = same-itself y }
+server_holds least usn y None None m = absurd (wanted_or_below least y ⊥
+    (λ wanted. none_some y (m.came_all y (is_only (From least) y wanted) refl))
+    (λ below. elim (m.taken below) [ inl none ↦ absurd none | inr (inl none) ↦ absurd none | inr (inr none) ↦ absurd none ]))
+
+device_holds : (least usn : ℤ) (x : Row) (w p : Option Row) → Meets least usn (Some x) None None None w None p None → Agrees usn (Some x) None None None w None p None
+device_holds least usn x (Some w) p m = absurd (none_some w m.came)
+device_holds least usn x None (Some p) m = record { device = same-itself x; server = like_sent usn x p (only_is Unsent x p m.sent).0 }
+device_holds least usn x None None m = absurd (pending_or_settled x ⊥
+    (λ pending. none_some x (m.sent_all x (is_only Unsent x pending) refl))
+    (λ settled. elim (m.known settled) [ inl none ↦ absurd none | inr (inl none) ↦ absurd none | inr (inr none) ↦ absurd none ]))
+
+-- a row that is not newer leaves what is held
+older_came : (usn : ℤ) (x y : Row) (w : Option Row) → int_lt (stamp_of x) (stamp_of y) ≡ false → IfSome w (λ row. y ≡ row) → received usn (Some x) w ≡ Some x
+older_came usn x y None not_newer is = refl
+older_came usn x y (Some w) not_newer is = let same : int_lt (stamp_of x) (stamp_of w) ≡ false = ap (λ (r : Row). int_lt (stamp_of x) (stamp_of r)) (sym is) ∙ not_newer in rw same refl
+
+came_is : (want : Wanted) (y : Row) (w : Option Row) → IfSome w (λ row. only_wanted want (Some y) ≡ Some row) → IfSome w (λ row. y ≡ row)
+came_is want y w came = if_weaker (λ row. only_wanted want (Some y) ≡ Some row) (λ row. y ≡ row) (λ row is. (only_is want y row is).0) w came
+
+-- the newest of two, by the test that tells it
+newest_by : (s : Bool) (x y : Row) (z : Option Row) → int_lt (stamp_of x) (stamp_of y) ≡ s → IsTrue (same_held z (if s then Some y else Some x))
+    → IsTrue (same_held z (newest (Some x) (Some y)))
+newest_by s x y z is same = subst (λ b. IsTrue (same_held z (if b then Some y else Some x))) (sym is) same
+
+-- where the server's is newer
+device_takes : (least usn : ℤ) (x y : Row) (w p : Option Row) → int_lt (stamp_of x) (stamp_of y) ≡ true → received usn (Some y) p ≡ Some y
+    → Meets least usn (Some x) None (Some y) None w None p None
+    → IsTrue (same_held (received usn (Some x) w) (Some y))
+device_takes least usn x y (Some w) p newer stays m =
+    let is = (only_is (From least) y w m.came).0 in
+    let same : int_lt (stamp_of x) (stamp_of w) ≡ true = ap (λ (r : Row). int_lt (stamp_of x) (stamp_of r)) (sym is) ∙ newer in
+    rw same (like_sent usn y w is)
+device_takes least usn x y None p newer stays m = absurd (wanted_or_below least y ⊥
+    (λ wanted. none_some y (m.came_all y (is_only (From least) y wanted) stays))
+    (λ below. elim (m.taken below) [
+      | inl like ↦ let one = like_stamp y x like in absurd (omega (arith, ints, one, newer))
+      | inr (inl held) ↦ absurd (omega (arith, ints, held.newer, newer))
+      | inr (inr none) ↦ absurd none
+    ]))
+
+server_newer : (least usn : ℤ) (x y : Row) (w p : Option Row) → int_lt (stamp_of x) (stamp_of y) ≡ true → Meets least usn (Some x) None (Some y) None w None p None
+    → Agrees usn (Some x) None (Some y) None w None p None
+server_newer least usn x y w p newer m =
+    let not_newer : int_lt (stamp_of y) (stamp_of x) ≡ false = grind (arith, ints, newer) in
+    let stays = older_came usn y x p not_newer (came_is Unsent x p m.sent) in
+    record {
+      device = newest_by true x y (received usn (Some x) w) newer (device_takes least usn x y w p newer stays m);
+      server = newest_by true x y (received usn (Some y) p) newer (ap (λ o. same_held o (Some y)) stays ∙ same-itself y);
+    }
+
+-- where it is not
+server_takes : (least usn : ℤ) (x y : Row) (w p : Option Row) → int_lt (stamp_of x) (stamp_of y) ≡ false → received usn (Some x) w ≡ Some x
+    → Meets least usn (Some x) None (Some y) None w None p None
+    → IsTrue (same_held (received usn (Some y) p) (Some x))
+server_takes least usn x y w p not_newer stays m = pending_or_settled x (IsTrue (same_held (received usn (Some y) p) (Some x)))
+    (λ pending. subst (λ (o : Option Row). IsTrue (same_held (received usn (Some y) o) (Some x))) (sym (m.sent_all x (is_only Unsent x pending) stays))
+    (elim (int_lt (stamp_of y) (stamp_of x)) as (λ s. int_lt (stamp_of y) (stamp_of x) ≡ s → IsTrue (same_held (if s then Some (with_usn x usn) else Some y) (Some x))) [
+      | true ↦ λ less. same-with_usn x usn
+      | false ↦ λ less. same-turned x y (m.apart x y refl refl (omega (arith, ints, less, not_newer)))
+    ] refl))
+    (λ settled. server_keeps least usn x y w p not_newer settled m)
+  where
+    not_sent : (x : Row) (p : Option Row) → IsTrue (is_settled x) → IfSome p (λ row. only_wanted Unsent (Some x) ≡ Some row) → p ≡ None
+    not_sent x None settled sent = refl
+    not_sent x (Some p) settled sent = let pending : is_pending x ≡ true = (only_is Unsent x p sent).1 in grind (arith, pending, settled)
+
+    server_keeps : (least usn : ℤ) (x y : Row) (w p : Option Row) → int_lt (stamp_of x) (stamp_of y) ≡ false → IsTrue (is_settled x)
+        → Meets least usn (Some x) None (Some y) None w None p None → IsTrue (same_held (received usn (Some y) p) (Some x))
+    server_keeps least usn x y w p not_newer settled m = subst (λ (o : Option Row). IsTrue (same_held (received usn (Some y) o) (Some x))) (sym (not_sent x p settled m.sent))
+        (elim (m.known settled) [
+          | inl like ↦ same-turned x y like
+          | inr (inl held) ↦ absurd (omega (arith, ints, held.newer, not_newer))
+          | inr (inr none) ↦ absurd none
+        ])
+
+device_newer : (least usn : ℤ) (x y : Row) (w p : Option Row) → int_lt (stamp_of x) (stamp_of y) ≡ false → Meets least usn (Some x) None (Some y) None w None p None
+    → Agrees usn (Some x) None (Some y) None w None p None
+device_newer least usn x y w p not_newer m =
+    let stays = older_came usn x y w not_newer (came_is (From least) y w m.came) in
+    record {
+      device = newest_by false x y (received usn (Some x) w) not_newer (ap (λ o. same_held o (Some x)) stays ∙ same-itself x);
+      server = newest_by false x y (received usn (Some y) p) not_newer (server_takes least usn x y w p not_newer stays m);
+    }
+
+both_hold : (least usn : ℤ) (x y : Row) (w p : Option Row) → Meets least usn (Some x) None (Some y) None w None p None
+    → Agrees usn (Some x) None (Some y) None w None p None
+both_hold least usn x y w p m =
+    elim (int_lt (stamp_of x) (stamp_of y)) as (λ s. int_lt (stamp_of x) (stamp_of y) ≡ s → Agrees usn (Some x) None (Some y) None w None p None) [
+      | true ↦ λ newer. server_newer least usn x y w p newer m
+      | false ↦ λ not_newer. device_newer least usn x y w p not_newer m
+    ] refl
+
+-- ---- all cases
+pub agree : (least usn : ℤ) (x g y h w k p q : Option Row) → Meets least usn x g y h w k p q → Agrees usn x g y h w k p q
+agree least usn x g y (Some h) w k p q m = record { device = device_buried least usn x g y h w k p q m; server = server_buried least usn x g y h w k p q m }
+agree least usn x (Some g) y None w k p q m = record { device = device_bury least usn x g y w k p q m; server = server_bury least usn x g y w k p q m }
+agree least usn x None y None w (Some k) p q m = absurd (nothing m.graves_came)
+agree least usn x None y None w None p (Some q) m = absurd (nothing m.graves_sent)
+agree least usn None None None None w None p None m = neither_holds least usn w p m
+agree least usn None None (Some y) None w None p None m = server_holds least usn y w p m
+agree least usn (Some x) None None None w None p None m = device_holds least usn x w p m
+agree least usn (Some x) None (Some y) None w None p None m = both_hold least usn x y w p m

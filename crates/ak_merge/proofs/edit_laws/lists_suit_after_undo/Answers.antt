@@ -1,0 +1,5 @@
+use Rattle.ak_merge.proofs.StepLists.{lists_suit_after_undo}
+use Rattle.ak_merge.proofs.edit_laws.lists_suit_after_undo.Goals as goal
+
+pub returns : goal.returns
+returns c = lists_suit_after_undo

@@ -1,0 +1,5 @@
+use Rattle.ak_merge.proofs.UndoingLaws.{undos_keep_names}
+use Rattle.ak_merge.proofs.edit_laws.undos_keep_names.Goals as goal
+
+pub returns : goal.returns
+returns c = undos_keep_names

@@ -1,0 +1,109 @@
+-- Whether a collection is sound: what Anki's basic check asks, and the first fault.
+use Rattle.std.specs.Prelude.{◌≡◌, ℤ, pos, Bool, true, false, not, ◌&&◌, ◌<ℤ◌, int_lt, is_some, List, [], ◌∷◌, find, length, Option, Some, None}
+use Rattle.std.specs.FinMap.{get}
+use Rattle.std.specs.Option.{option_map, option_and_then, option_or}
+use Rattle.ak_base.specs.Rows.{name_of}
+use Rattle.ak_base.specs.declared.cards.Card.{Card}
+use Rattle.ak_base.specs.declared.names.Name.{Name}
+use Rattle.ak_base.specs.declared.names.Table.{Table}
+use Rattle.ak_base.specs.declared.names.Table.TheVariants as tables
+use Rattle.ak_base.specs.declared.note_types.NoteType.{NoteType}
+use Rattle.ak_base.specs.declared.notes.Note.{Note}
+use Rattle.ak_base.specs.declared.rows.Row.{Row}
+use Rattle.ak_base.specs.declared.rows.Row.TheVariants as rows
+use Rattle.ak_keep.specs.Collections.{Rows, rows_past, cards_of}
+use Rattle.ak_merge.specs.Holdings.{At}
+use Rattle.ak_merge.specs.declared.checks.CheckFault.{CheckFault}
+use Rattle.ak_merge.specs.declared.checks.CheckFault.TheVariants as faults
+use Rattle.ak_merge.specs.declared.checks.Part.{Part}
+use Rattle.ak_merge.specs.declared.checks.Part.TheVariants as parts
+
+abbrev pub named : Table → ℤ → Name
+named table id = record { table = table; id = id }
+
+-- the name of a note's type
+abbrev pub type_name : Option Row → Option Name
+type_name (Some (rows.Note note)) = Some (named tables.NoteType note.mid)
+type_name (Some (rows.Card c)) = None
+type_name (Some (rows.Review r)) = None
+type_name (Some (rows.NoteType t)) = None
+type_name (Some (rows.Deck d)) = None
+type_name (Some (rows.Options o)) = None
+type_name (Some (rows.Grave g)) = None
+type_name None = None
+
+-- the type of the note of this name, where both are held
+abbrev pub type_under : At → Name → Option Row
+type_under at note = option_and_then at (type_name (at note))
+
+-- a standard type has no template at this place
+abbrev pub lacks_template : ℤ → Option Row → Bool
+lacks_template ord (Some (rows.NoteType t)) = not t.cloze && not (int_lt ord (pos (length t.templates)))
+lacks_template ord (Some (rows.Note n)) = false
+lacks_template ord (Some (rows.Card c)) = false
+lacks_template ord (Some (rows.Review r)) = false
+lacks_template ord (Some (rows.Deck d)) = false
+lacks_template ord (Some (rows.Options o)) = false
+lacks_template ord (Some (rows.Grave g)) = false
+lacks_template ord None = false
+
+-- no ids at all
+abbrev pub is_empty : List ℤ → Bool
+is_empty [] = true
+is_empty (id ∷ ids) = false
+
+-- ---- one row at a part of the check
+abbrev pub bad_note : Part → Rows → Note → Bool
+bad_note parts.CardNote held note = false
+bad_note parts.NoteCard held note = is_empty (cards_of note.id held)
+bad_note parts.NoteType held note = not (is_some (get held (named tables.NoteType note.mid)))
+bad_note parts.CardTemplate held note = false
+
+abbrev pub bad_card : Part → Rows → Card → Bool
+bad_card parts.CardNote held card = not (is_some (get held (named tables.Note card.nid)))
+bad_card parts.NoteCard held card = false
+bad_card parts.NoteType held card = false
+bad_card parts.CardTemplate held card = lacks_template card.ord (type_under (get held) (named tables.Note card.nid))
+
+abbrev pub is_bad : Part → Rows → Row → Bool
+is_bad part held (rows.Note note) = bad_note part held note
+is_bad part held (rows.Card card) = bad_card part held card
+is_bad part held (rows.Review r) = false
+is_bad part held (rows.NoteType t) = false
+is_bad part held (rows.Deck d) = false
+is_bad part held (rows.Options o) = false
+is_bad part held (rows.Grave g) = false
+
+-- the table whose rows a part of the check asks about
+abbrev pub table_of : Part → Table
+table_of parts.CardNote = tables.Card
+table_of parts.NoteCard = tables.Note
+table_of parts.NoteType = tables.Note
+table_of parts.CardTemplate = tables.Card
+
+-- the name of the first row, by id, that a part of the check finds bad. Ids are over 0
+abbrev pub first_bad : Part → Rows → Option Name
+first_bad part held = option_map name_of (find (is_bad part held) (rows_past (table_of part) (pos 0) held))
+
+-- a fault with the id of the first bad row, where there is one
+abbrev pub first_of : (ℤ → CheckFault) → Part → Rows → Option CheckFault
+first_of fault part held = option_map (λ (name : Name). fault name.id) (first_bad part held)
+
+-- the first fault: by the order of the faults, then by id
+abbrev pub first_fault : Rows → Option CheckFault
+first_fault held =
+    option_or (first_of faults.CardNoNote parts.CardNote held)
+    (option_or (first_of faults.NoteNoCard parts.NoteCard held)
+    (option_or (first_of faults.NoteNoType parts.NoteType held) (first_of faults.CardNoTemplate parts.CardTemplate held)))
+
+-- ---- sound
+pub record IsSound (at : At) : Type 0 where
+  -- Each card's note is held.
+  pub card_note : (card : Card) → at (named tables.Card card.id) ≡ Some (rows.Card card) → is_some (at (named tables.Note card.nid)) ≡ true
+  -- Each note has a card.
+  pub note_card : (note : Note) → at (named tables.Note note.id) ≡ Some (rows.Note note) → (card : Card) × (at (named tables.Card card.id) ≡ Some (rows.Card card)) × (card.nid ≡ note.id)
+  -- Each note's type is held.
+  pub note_type : (note : Note) → at (named tables.Note note.id) ≡ Some (rows.Note note) → is_some (at (named tables.NoteType note.mid)) ≡ true
+  -- Each card whose note has a standard type has an ord below the number of its templates.
+  pub template : (card : Card) (note : Note) (type : NoteType) → at (named tables.Card card.id) ≡ Some (rows.Card card) → at (named tables.Note card.nid) ≡ Some (rows.Note note)
+      → at (named tables.NoteType note.mid) ≡ Some (rows.NoteType type) → type.cloze ≡ false → card.ord <ℤ pos (length type.templates)
