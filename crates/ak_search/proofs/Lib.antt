@@ -1,5 +1,12 @@
+pub mod Answering
 pub mod Cuttings
 pub mod Grammars
+pub mod Looking
 pub mod OnePass
+pub mod Orders
 pub mod Parsing
+pub mod Passing
 pub mod Places
+pub mod Sets
+pub mod Telling
+pub mod Walking

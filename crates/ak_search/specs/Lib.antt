@@ -1,5 +1,10 @@
+pub mod AllFaults
 pub mod Grammar
+pub mod Holds
+pub mod Looks
 pub mod Matching
+pub mod Meanings
+pub mod Passes
 pub mod Patterns
 pub mod Signs
 pub mod Terms

@@ -46,6 +46,20 @@ fits (mark ∷ marks) (letter ∷ letters) =
 abbrev pub matches : List Mark → List ℕ → Bool
 matches marks text = fits marks (chars text)
 
+-- whether the mark is that character itself, written in the same case
+abbrev pub is_letter : Mark → ℕ → Bool
+is_letter Any letter = false
+is_letter One letter = false
+is_letter Apart letter = false
+is_letter (Is own) letter = own == letter
+
+-- whether the marks are those characters themselves, and nothing else
+abbrev pub are_letters : List Mark → List ℕ → Bool
+are_letters [] [] = true
+are_letters [] (letter ∷ letters) = false
+are_letters (mark ∷ marks) [] = false
+are_letters (mark ∷ marks) (letter ∷ letters) = is_letter mark letter && are_letters marks letters
+
 -- the pattern anywhere in a text
 abbrev pub anywhere : List Mark → List Mark
 anywhere marks = Any ∷ (marks ++ (Any ∷ []))

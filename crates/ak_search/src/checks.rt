@@ -1,3 +1,4 @@
+// The first fault of the tokens of a search text.
 ghost use Rattle.std.specs.Prelude.{◌≡◌, ◌+◌, ◌≤◌, ◌<◌, ◌^◌, false, length};
 ghost use Rattle.ak_search.specs.Grammar.{pieces_in, closes, begins_part, begins_close, ends_part, depth_behind, lone_fault, group_fault, fault_at, fault_in};
 
@@ -24,7 +25,6 @@ fn closes(tokens: &[Token]) -> bool
     false
 }
 
-// Whether a term or group comes next.
 fn begins_part(tokens: &[Token]) -> bool
     ensures { result ≡ begins_part (pieces_in tokens.now) }
 {

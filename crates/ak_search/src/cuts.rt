@@ -1,3 +1,4 @@
+// What stands at the front of a search text: a parenthesis, one of the two words, or a term.
 ghost use Rattle.std.specs.Prelude.{◌≡◌, ◌≤◌, ◌+◌, ◌++◌, ◌∷◌, [], length, IfOk};
 ghost use Rattle.ak_search.specs.Terms.{term_of};
 ghost use Rattle.ak_search.specs.Tokens.{ends_word, word_size, quote_at, is_negated_by, piece_of, word_piece, quoted_cut, word_cut, first_cut};

@@ -1,3 +1,4 @@
+// The ids between commas, behind `nid:` and `cid:`.
 ghost use Rattle.std.specs.Prelude.{◌≡◌, ◌++◌, IfOk, Some, None, map};
 ghost use Rattle.std.specs.Option.{option_map};
 ghost use Rattle.ak_search.specs.Terms.{wholes, ids_of};
@@ -6,7 +7,6 @@ use crate::numbers::whole;
 use ak_base::{List, Memory};
 use std::alloc::Global;
 
-// The ids that the texts are, behind those so far. The second is false where one of them is no number.
 fn read_ids(alloc: Global, texts: &[&str]) -> Result<Option<List<i64>>, Memory>
     ensures { IfOk result (λ ids. ids ≡ wholes (map (λ text. text.now) texts.now)) }
 {

@@ -1,5 +1,6 @@
+// The marks of which a pattern is made.
 ghost use Rattle.std.specs.Prelude.{◌≡◌, ◌++◌, IfOk, OnOk};
-ghost use Rattle.ak_search.specs.Patterns.{is_any, takes, mark_of, pattern_of, anywhere, as_word};
+ghost use Rattle.ak_search.specs.Patterns.{is_any, takes, is_letter, are_letters, mark_of, pattern_of, anywhere, as_word};
 
 use crate::signs::Sign;
 use ak_base::{List, Memory};
@@ -39,6 +40,28 @@ impl Mark {
             Mark::Apart => !letter.is_ascii_alphanumeric(),
             Mark::Is(own) => own.eq_ignore_ascii_case(&letter),
         }
+    }
+
+    fn is_letter(&self, letter: u8) -> bool
+        ensures { result ≡ is_letter self.now letter }
+    {
+        match self {
+            Mark::Is(own) => *own == letter as char,
+            Mark::Any | Mark::One | Mark::Apart => false,
+        }
+    }
+}
+
+/// Whether the marks are those characters themselves, and nothing else: no wildcard, and no other case.
+pub(crate) fn are_letters(marks: &[Mark], letters: &[u8]) -> bool
+    ensures { result ≡ are_letters marks.now letters.now }
+{
+    match (marks.split_first(), letters.split_first()) {
+        (Some((mark, other_marks)), Some((letter, other_letters))) => {
+            mark.is_letter(*letter) && are_letters(other_marks, other_letters)
+        }
+        (None, None) => true,
+        _ => false,
     }
 }
 

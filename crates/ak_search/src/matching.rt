@@ -1,3 +1,4 @@
+// Whether a pattern matches a text, in one pass over its characters.
 ghost use Rattle.std.specs.Prelude.{◌≡◌, ◌+◌, ◌∷◌, ◌++◌, [], true, false, length, IfOk, OnOk};
 ghost use Rattle.ak_search.specs.Matching.{falses, advanced, advanced_by, ended};
 ghost use Rattle.ak_search.specs.Patterns.{fits, matches, matches_spaced};

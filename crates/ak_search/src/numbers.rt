@@ -1,3 +1,4 @@
+// The numbers in terms.
 ghost use Rattle.std.specs.Prelude.{◌≡◌, ◌≤◌, ◌-◌, ◌^◌};
 ghost use Rattle.ak_search.specs.Terms.{up_to, whole, not_zero, from_one, days_of, signed_of};
 

@@ -1,3 +1,4 @@
+// What may stand before the colon of a term, and the words that are known behind it.
 ghost use Rattle.std.specs.Prelude.{◌≡◌};
 ghost use Rattle.ak_search.specs.Terms.{prefix_of, value_prefix_of, state_of, buried_state_of, property_of};
 

@@ -1,3 +1,4 @@
+// The term that signs spell.
 ghost use Rattle.std.specs.Prelude.{◌≡◌, IfOk};
 ghost use Rattle.ak_search.specs.Terms.{bound_of, compared, prop_of, rated_of, tag_of, takes_pattern, patterned, plain_valued, valued, prefixed, prefix_of, term_of};
 ghost use Rattle.ak_search.specs.Signs.{lowered};
@@ -80,7 +81,6 @@ fn tag_of(alloc: Global, value: &[Sign]) -> Result<Term, Memory>
     Ok(Term::Tag(pattern))
 }
 
-// A term whose value is a pattern.
 fn patterned(alloc: Global, prefix: Prefix, name: &[Sign], value: &[Sign]) -> Result<Term, Memory>
     ensures { IfOk result (λ term. term ≡ patterned prefix name.now value.now) }
 {

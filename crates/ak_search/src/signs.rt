@@ -1,3 +1,4 @@
+// The characters of a search text, each with its place and whether a backslash takes it literally.
 ghost use Rattle.std.specs.Prelude.{◌≡◌, ◌≤◌, ◌<◌, ◌+◌, ◌∷◌, ◌++◌, [], ◌^◌, None, true, false, length, IfOk, OnOk, string_bytes};
 ghost use Rattle.std.specs.Char.{len_utf8};
 ghost use Rattle.std.specs.Str.{chars};

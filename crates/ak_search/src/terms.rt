@@ -1,3 +1,4 @@
+// What a search can ask of a card.
 use crate::Mark;
 use ak_base::{List, Text};
 

@@ -1,3 +1,4 @@
+// Where search texts go wrong, and what patterns match.
 use crate::marks::{anywhere, as_word, pattern_of};
 use crate::signs::signs_of;
 use crate::{SearchFault, matches, matches_spaced, parse};

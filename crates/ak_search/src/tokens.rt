@@ -1,3 +1,4 @@
+// A search text as a list of pieces, each with its place.
 ghost use Rattle.std.specs.Prelude.{◌≡◌, ◌++◌, ◌∷◌, false, IfOk};
 ghost use Rattle.ak_search.specs.Tokens.{placed, tokens_from};
 

@@ -1,0 +1,178 @@
+-- What the answers show, review by review, and when they serve a search.
+use Rattle.std.proofs.Common.{◌≡◌, true, false, ◌&&◌, ◌||◌, cond, Bool, ℤ, int_lt, Option, Some, List, [], ◌∷◌, ◌++◌, refl, ap, sym, ◌∙◌, arith}
+use Rattle.std.proofs.lemmas.Int.{ints}
+use Rattle.std.specs.BTreeMap.{get}
+use Rattle.std.specs.Cmp.{signed_Decides}
+use Rattle.std.specs.Ordering.{int_cmp, int_eq, is_eq, ordering_then}
+use Rattle.std.specs.declared.cmp.Ordering.{Ordering}
+use Rattle.std.specs.declared.cmp.Ordering.TheVariants.{Less, Equal, Greater}
+use Rattle.ak_base.specs.declared.cards.Card.{Card}
+use Rattle.ak_base.specs.declared.days.Day.{Day}
+use Rattle.ak_base.specs.declared.rows.Row.{Row}
+use Rattle.ak_keep.specs.Collections.{Rows}
+use Rattle.ak_search.specs.declared.answers.Answers.{Answers}
+use Rattle.ak_search.specs.declared.holds.Asking.{Asking}
+use Rattle.ak_search.specs.declared.looks.Around.{Around}
+use Rattle.ak_search.specs.declared.terms.Term.{Term}
+use Rattle.ak_search.specs.declared.terms.Term.TheVariants as terms
+use Rattle.ak_search.specs.declared.tokens.Piece.{Piece}
+use Rattle.ak_search.specs.declared.tokens.Piece.TheVariants.{Test, BadValue, Open, Close, Or, And, OpenQuote}
+use Rattle.ak_search.specs.declared.courses.Group.{Group as Outer}
+use Rattle.ak_search.specs.Holds.{held_and, holds}
+use Rattle.ak_search.specs.Looks.{Seen, seen, is_since, is_answer, is_answered, is_answer_in}
+use Rattle.ak_search.specs.Meanings.{walk, negated_by}
+use Rattle.ak_search.specs.Passes.{AreAnswersOf, Serves, around_in, asked, is_on_answers, is_on_around, is_shown, pair_cmp, seen_by, some_term}
+
+-- ---- the later of two ids
+pub later_since : (one other least : ℤ) → int_lt one other ≡ true → is_since other least ≡ (is_since one least || is_since other least)
+later_since one other least h = grind (arith, ints)
+
+pub earlier_since : (one other least : ℤ) → int_lt one other ≡ false → is_since one least ≡ (is_since one least || is_since other least)
+earlier_since one other least h = grind (arith, ints)
+
+-- ---- rows of reviews
+or_apart : (v w x : Bool) → ((v || w) || x) ≡ v || (w || x)
+or_apart true w x = refl
+or_apart false w x = refl
+
+pub in_append : (card ease least : ℤ) (front rest : List Row) → is_answer_in card ease least (front ++ rest) ≡ (is_answer_in card ease least front || is_answer_in card ease least rest)
+in_append card ease least [] rest = refl
+in_append card ease least (row ∷ front) rest =
+    ap (λ v. is_answer card ease least row || v) (in_append card ease least front rest) ∙ sym (or_apart (is_answer card ease least row) (is_answer_in card ease least front) (is_answer_in card ease least rest))
+
+-- ---- a term that asks for no answers holds whatever they are
+same_unless : (day : Day) (s : Seen) (f : ℤ → ℤ → Bool) (term : Term) → is_on_answers term ≡ false → holds day s term ≡ holds day (record s { answered = f }) term
+same_unless day s f (terms.Contains marks) h = refl
+same_unless day s f (terms.Word marks) h = refl
+same_unless day s f (terms.Field name marks) h = refl
+same_unless day s f (terms.Deck marks) h = refl
+same_unless day s f (terms.Tag marks) h = refl
+same_unless day s f terms.Untagged h = refl
+same_unless day s f (terms.NoteType marks) h = refl
+same_unless day s f (terms.Template marks) h = refl
+same_unless day s f (terms.InState state) h = refl
+same_unless day s f (terms.Prop what comparison bound) h = refl
+same_unless day s f (terms.Flag number) h = refl
+same_unless day s f (terms.Rated days) h = grind (arith, h)
+same_unless day s f (terms.RatedWith days ease) h = grind (arith, h)
+same_unless day s f (terms.Added days) h = refl
+same_unless day s f (terms.Edited days) h = refl
+same_unless day s f (terms.NoteIds ids) h = refl
+same_unless day s f (terms.CardIds ids) h = refl
+
+neither : (v w : Bool) → (v || w) ≡ false → (v ≡ false) × (w ≡ false)
+neither true w h = grind (arith, h)
+neither false w h = (refl, h)
+
+-- a term that asks for the card alone holds whatever is around it
+same_around : (day : Day) (answers : Answers) (c : Card) (one other : Around) (term : Term) → is_on_around term ≡ false → holds day (seen_by answers c one) term ≡ holds day (seen_by answers c other) term
+same_around day answers c one other (terms.Contains marks) h = grind (arith, h)
+same_around day answers c one other (terms.Word marks) h = grind (arith, h)
+same_around day answers c one other (terms.Field name marks) h = grind (arith, h)
+same_around day answers c one other (terms.Deck marks) h = grind (arith, h)
+same_around day answers c one other (terms.Tag marks) h = grind (arith, h)
+same_around day answers c one other terms.Untagged h = grind (arith, h)
+same_around day answers c one other (terms.NoteType marks) h = grind (arith, h)
+same_around day answers c one other (terms.Template marks) h = grind (arith, h)
+same_around day answers c one other (terms.InState state) h = refl
+same_around day answers c one other (terms.Prop what comparison bound) h = refl
+same_around day answers c one other (terms.Flag number) h = refl
+same_around day answers c one other (terms.Rated days) h = refl
+same_around day answers c one other (terms.RatedWith days ease) h = refl
+same_around day answers c one other (terms.Added days) h = refl
+same_around day answers c one other (terms.Edited days) h = grind (arith, h)
+same_around day answers c one other (terms.NoteIds ids) h = refl
+same_around day answers c one other (terms.CardIds ids) h = refl
+
+-- two tests that agree on all terms but some lead to the same where none of those is asked
+same_walk : (apart f g : Term → Bool) → ((term : Term) → apart term ≡ false → f term ≡ g term) → (outer : List Outer) (either all : Bool) (ps : List Piece) → some_term apart ps ≡ false → walk f outer either all ps ≡ walk g outer either all ps
+same_walk apart f g same outer either all [] h = refl
+same_walk apart f g same outer either all (Test negated term ∷ ps) h =
+    let both = neither (apart term) (some_term apart ps) h in
+    ap (λ v. walk f outer either (all && negated_by negated v) ps) (same term both.0) ∙ same_walk apart f g same outer either (all && negated_by negated (g term)) ps both.1
+same_walk apart f g same outer either all (BadValue ∷ ps) h = same_walk apart f g same outer either all ps h
+same_walk apart f g same outer either all (Open negated ∷ ps) h = same_walk apart f g same (record { negated = negated; either = either; all = all } ∷ outer) false true ps h
+same_walk apart f g same [] either all (Close ∷ ps) h = same_walk apart f g same [] either all ps h
+same_walk apart f g same (group ∷ outer) either all (Close ∷ ps) h = same_walk apart f g same outer group.either (group.all && negated_by group.negated (either || all)) ps h
+same_walk apart f g same outer either all (Or ∷ ps) h = same_walk apart f g same outer (either || all) true ps h
+same_walk apart f g same outer either all (And ∷ ps) h = same_walk apart f g same outer either all ps h
+same_walk apart f g same outer either all (OpenQuote ∷ ps) h = same_walk apart f g same outer either all ps h
+
+-- what is seen of a card decides as what is held does, first by what is around it and then by the answers
+by_around : (day : Day) (held : Rows) (asking : Asking) (c : Card) (around : Around) (ps : List Piece) → (some_term is_on_around ps ≡ true → asking.around ≡ true) → (asking.around ≡ true → around ≡ around_in held c)
+    → asked ps (holds day (seen_by asking.answers c around)) ≡ asked ps (holds day (seen_by asking.answers c (around_in held c)))
+by_around day held asking c around ps looks is =
+    elim (some_term is_on_around ps) as (λ b. some_term is_on_around ps ≡ b → asked ps (holds day (seen_by asking.answers c around)) ≡ asked ps (holds day (seen_by asking.answers c (around_in held c)))) [
+      | true ↦ λ asks. ap (λ (a : Around). asked ps (holds day (seen_by asking.answers c a))) (is (looks asks))
+      | false ↦ λ asks. same_walk is_on_around (holds day (seen_by asking.answers c around)) (holds day (seen_by asking.answers c (around_in held c))) (same_around day asking.answers c around (around_in held c)) [] false true ps asks
+    ] refl
+
+by_answers : (day : Day) (held : Rows) (answers : Answers) (c : Card) (ps : List Piece) → (some_term is_on_answers ps ≡ true → AreAnswersOf answers held)
+    → asked ps (holds day (seen_by answers c (around_in held c))) ≡ asked ps (holds day (seen held c))
+by_answers day held answers c ps serve =
+    elim (some_term is_on_answers ps) as (λ b. some_term is_on_answers ps ≡ b → asked ps (holds day (seen_by answers c (around_in held c))) ≡ asked ps (holds day (seen held c))) [
+      | true ↦ λ asks.
+          let same : is_shown answers c.id ≡ is_answered held c.id = λ i ease least. serve asks c.id ease least i in
+          ap (λ (f : ℤ → ℤ → Bool). asked ps (holds day (record (seen held c) { answered = f }))) same
+      | false ↦ λ asks. same_walk is_on_answers (holds day (seen_by answers c (around_in held c))) (holds day (seen held c)) (λ term h. same_unless day (seen_by answers c (around_in held c)) (is_answered held c.id) term h) [] false true ps asks
+    ] refl
+
+pub serves : (day : Day) (held : Rows) (asking : Asking) (c : Card) (around : Around) (ps : List Piece) → Serves asking ps held → (asking.around ≡ true → around ≡ around_in held c)
+    → asked ps (holds day (seen_by asking.answers c around)) ≡ asked ps (holds day (seen held c))
+serves day held asking c around ps serve is = by_around day held asking c around ps serve.around is ∙ by_answers day held asking.answers c ps serve.answers
+
+-- ---- one more review
+or_false : (v : Bool) → v ≡ (v || false)
+or_false true = refl
+or_false false = refl
+
+and_both : (v w : Bool) → (v && w) ≡ true → (v ≡ true) × (w ≡ true)
+and_both true w h = (refl, h)
+and_both false w h = grind (arith, h)
+
+both_equal : (r s : Ordering) → is_eq (ordering_then r s) ≡ (is_eq r && is_eq s)
+both_equal Less s = refl
+both_equal Equal s = refl
+both_equal Greater s = refl
+
+pub added : (old new : Answers) (cid own last id cid' own' last' : ℤ) → cid' ≡ cid → own' ≡ own → last' ≡ last
+    → ((q : ℤ × ℤ) → get pair_cmp new.last q ≡ cond (is_eq (pair_cmp (cid', own') q)) (Some last') (get pair_cmp old.last q))
+    → ((least : ℤ) → is_since last least ≡ (is_shown old cid own least || is_since id least))
+    → (card ease least : ℤ) → is_shown new card ease least ≡ (is_shown old card ease least || ((int_eq cid card && int_eq own ease) && is_since id least))
+added old new cid own last id cid' own' last' cid_is own_is last_is puts since card ease least =
+    let test : ℤ → Bool = λ (x : ℤ). is_since x least in
+    ap (held_and test) (puts (card, ease))
+    ∙ ap (λ (x : ℤ). held_and test (cond (is_eq (pair_cmp (x, own') (card, ease))) (Some last') (get pair_cmp old.last (card, ease)))) cid_is
+    ∙ ap (λ (x : ℤ). held_and test (cond (is_eq (pair_cmp (cid, x) (card, ease))) (Some last') (get pair_cmp old.last (card, ease)))) own_is
+    ∙ ap (λ (x : ℤ). held_and test (cond (is_eq (pair_cmp (cid, own) (card, ease))) (Some x) (get pair_cmp old.last (card, ease)))) last_is
+    ∙ ap (λ b. held_and test (cond b (Some last) (get pair_cmp old.last (card, ease)))) (both_equal (int_cmp cid card) (int_cmp own ease))
+    ∙ elim (int_eq cid card && int_eq own ease) as (λ b. (int_eq cid card && int_eq own ease) ≡ b
+    → held_and test (cond b (Some last) (get pair_cmp old.last (card, ease))) ≡ (is_shown old card ease least || (b && is_since id least))) [
+      | true ↦ λ e.
+          let same = and_both (int_eq cid card) (int_eq own ease) e in
+          let card_is : cid ≡ card = (signed_Decides cid card).0 same.0 in
+          let ease_is : own ≡ ease = (signed_Decides own ease).0 same.1 in
+          since least
+          ∙ ap (λ (x : ℤ). is_shown old x own least || is_since id least) card_is
+          ∙ ap (λ (x : ℤ). is_shown old card x least || is_since id least) ease_is
+      | false ↦ λ e. or_false (is_shown old card ease least)
+    ] refl
+
+-- what a look-up by such numbers found
+pub looked_up : (answers : Answers) (card ease least card' ease' : ℤ) (found : Option ℤ) → card' ≡ card → ease' ≡ ease → found ≡ get pair_cmp answers.last (card', ease')
+    → held_and (λ (last : ℤ). is_since last least) found ≡ is_shown answers card ease least
+looked_up answers card ease least card' ease' found card_is ease_is is =
+    let test : ℤ → Bool = λ (x : ℤ). is_since x least in
+    ap (held_and test) is
+    ∙ ap (λ (x : ℤ). held_and test (get pair_cmp answers.last (x, ease'))) card_is
+    ∙ ap (λ (x : ℤ). held_and test (get pair_cmp answers.last (card, x))) ease_is
+
+-- one more row, and one more page
+pub row_added : (old new test rest total : Bool) → new ≡ (old || test) → (old || (test || rest)) ≡ total → (new || rest) ≡ total
+row_added old new test rest total h g = ap (λ v. v || rest) h ∙ or_apart old test rest ∙ g
+
+pub page_added : (old new total : Bool) (card ease least : ℤ) (all page rest : List Row) → new ≡ (old || is_answer_in card ease least page) → all ≡ page ++ rest
+    → (old || is_answer_in card ease least all) ≡ total → (new || is_answer_in card ease least rest) ≡ total
+page_added old new total card ease least all page rest h split g =
+    row_added old new (is_answer_in card ease least page) (is_answer_in card ease least rest) total h
+    (ap (λ v. old || v) (sym (ap (is_answer_in card ease least) split ∙ in_append card ease least page rest)) ∙ g)

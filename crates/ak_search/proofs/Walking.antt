@@ -1,0 +1,91 @@
+-- What a search asks: walked through piece by piece, and of trees that are made of others.
+use Rattle.std.proofs.Common.{◌≡◌, Bool, true, false, not, ◌&&◌, ◌||◌, List, [], ◌∷◌, ◌++◌, append_assoc, refl, ap, sym, ◌∙◌, arith}
+use Rattle.ak_search.specs.declared.terms.Term.{Term}
+use Rattle.ak_search.specs.declared.tokens.Piece.{Piece}
+use Rattle.ak_search.specs.declared.tokens.Piece.TheVariants.{Close}
+use Rattle.ak_search.specs.declared.courses.Group.{Group as Outer}
+use Rattle.ak_search.specs.Trees.{Tree, End, Asks, Group, Either, Also, laid}
+use Rattle.ak_search.specs.Meanings.{negated_by, meets_from, meets, followed, has_no_or, walk}
+
+-- the two truth values behind a tree say whether it is met, whatever comes then
+Walked : (Term → Bool) → List Outer → Bool → Bool → Tree → Type 0
+Walked holds outer either all tree = (e : Bool) × (a : Bool) × ((e || a) ≡ meets_from holds either all tree) × ((ps : List Piece) → walk holds outer either all (laid tree ++ ps) ≡ walk holds outer e a ps)
+
+walked_tree : (holds : Term → Bool) (tree : Tree) (outer : List Outer) (either all : Bool) → Walked holds outer either all tree
+unfolding Walked
+walked_tree holds End outer either all = (either, all, refl, λ ps. refl)
+walked_tree holds (Asks negated term after) outer either all = walked_tree holds after outer either (all && negated_by negated (holds term))
+walked_tree holds (Either after) outer either all = walked_tree holds after outer (either || all) true
+walked_tree holds (Also after) outer either all = walked_tree holds after outer either all
+walked_tree holds (Group negated inside after) outer either all =
+    let group : Outer = record { negated = negated; either = either; all = all } in
+    let inner = walked_tree holds inside (group ∷ outer) false true in
+    let later = walked_tree holds after outer either (all && negated_by negated (inner.0 || inner.1)) in (
+      later.0,
+      later.1,
+      later.2 ∙ ap (λ v. meets_from holds either (all && negated_by negated v) after) inner.2,
+      λ ps. ap (walk holds (group ∷ outer) false true) (append_assoc (laid inside) (Close ∷ laid after) ps) ∙ inner.3 (Close ∷ (laid after ++ ps)) ∙ later.3 ps,
+    )
+
+no_more : {A : Type 0} (xs : List A) → xs ++ [] ≡ xs
+no_more [] = refl
+no_more (x ∷ xs) = ap (λ ys. x ∷ ys) (no_more xs)
+
+pub walked : (holds : Term → Bool) (tree : Tree) → walk holds [] false true (laid tree) ≡ meets holds tree
+unfolding Walked
+walked holds tree =
+    let whole = walked_tree holds tree [] false true in
+    ap (walk holds [] false true) (sym (no_more (laid tree))) ∙ whole.3 [] ∙ whole.2
+
+-- ---- union, intersection, complement
+
+or_apart : (v w x : Bool) → ((v || w) || x) ≡ v || (w || x)
+or_apart true w x = refl
+or_apart false w x = refl
+
+either_apart : (holds : Term → Bool) (tree : Tree) (either all : Bool) → meets_from holds either all tree ≡ either || meets_from holds false all tree
+either_apart holds End either all = refl
+either_apart holds (Asks negated term after) either all = either_apart holds after either (all && negated_by negated (holds term))
+either_apart holds (Group negated inside after) either all = either_apart holds after either (all && negated_by negated (meets_from holds false true inside))
+either_apart holds (Also after) either all = either_apart holds after either all
+either_apart holds (Either after) either all =
+    either_apart holds after (either || all) true
+    ∙ or_apart either all (meets_from holds false true after)
+    ∙ ap (λ v. either || v) (sym (either_apart holds after all true))
+
+or_from : (holds : Term → Bool) (one other : Tree) (either all : Bool) → meets_from holds either all (followed one (Either other)) ≡ meets_from holds either all one || meets_from holds false true other
+or_from holds End other either all = either_apart holds other (either || all) true
+or_from holds (Asks negated term after) other either all = or_from holds after other either (all && negated_by negated (holds term))
+or_from holds (Group negated inside after) other either all = or_from holds after other either (all && negated_by negated (meets_from holds false true inside))
+or_from holds (Either after) other either all = or_from holds after other (either || all) true
+or_from holds (Also after) other either all = or_from holds after other either all
+
+pub either_meets : (holds : Term → Bool) (one other : Tree) → meets holds (followed one (Either other)) ≡ meets holds one || meets holds other
+either_meets holds one other = or_from holds one other false true
+
+and_apart : (v w x : Bool) → ((v && w) && x) ≡ v && (w && x)
+and_apart true w x = refl
+and_apart false w x = refl
+
+all_apart : (holds : Term → Bool) (tree : Tree) (all : Bool) → has_no_or tree ≡ true → meets_from holds false all tree ≡ all && meets_from holds false true tree
+all_apart holds End true h = refl
+all_apart holds End false h = refl
+all_apart holds (Asks negated term after) all h = all_apart holds after (all && negated_by negated (holds term)) h ∙ and_apart all (negated_by negated (holds term)) (meets_from holds false true after) ∙ ap (λ v. all && v) (sym (all_apart holds after (negated_by negated (holds term)) h))
+all_apart holds (Group negated inside after) all h =
+    let part = negated_by negated (meets_from holds false true inside) in
+    all_apart holds after (all && part) h ∙ and_apart all part (meets_from holds false true after) ∙ ap (λ v. all && v) (sym (all_apart holds after part h))
+all_apart holds (Either after) all h = grind (arith, h)
+all_apart holds (Also after) all h = all_apart holds after all h
+
+and_from : (holds : Term → Bool) (one other : Tree) (all : Bool) → has_no_or one ≡ true → has_no_or other ≡ true → meets_from holds false all (followed one other) ≡ meets_from holds false all one && meets_from holds false true other
+and_from holds End other all h g = all_apart holds other all g
+and_from holds (Asks negated term after) other all h g = and_from holds after other (all && negated_by negated (holds term)) h g
+and_from holds (Group negated inside after) other all h g = and_from holds after other (all && negated_by negated (meets_from holds false true inside)) h g
+and_from holds (Either after) other all h g = grind (arith, h)
+and_from holds (Also after) other all h g = and_from holds after other all h g
+
+pub both_meet : (holds : Term → Bool) (one other : Tree) → has_no_or one ≡ true → has_no_or other ≡ true → meets holds (followed one other) ≡ meets holds one && meets holds other
+both_meet holds one other h g = and_from holds one other true h g
+
+pub none_meets : (holds : Term → Bool) (tree : Tree) → meets holds (Group true tree End) ≡ not (meets holds tree)
+none_meets holds tree = refl

@@ -1,0 +1,90 @@
+-- What one pass over the cards keeps.
+use Rattle.std.specs.Prelude.{◌≡◌, Bool, true, false, ◌||◌, ℤ, pos, int_lt, IsTrue, List, [], ◌∷◌, ◌++◌, ⊤}
+use Rattle.std.specs.BTreeMap.{get}
+use Rattle.std.specs.Ordering.{int_cmp, ordering_then}
+use Rattle.std.specs.declared.cmp.Ordering.{Ordering}
+use Rattle.ak_base.specs.declared.cards.Card.{Card}
+use Rattle.ak_keep.specs.Collections.{Rows}
+use Rattle.ak_search.specs.declared.answers.Answers.{Answers}
+use Rattle.ak_search.specs.declared.holds.Asking.{Asking}
+use Rattle.ak_search.specs.declared.looks.Around.{Around}
+use Rattle.ak_search.specs.declared.terms.Term.{Term}
+use Rattle.ak_search.specs.declared.terms.Term.TheVariants as terms
+use Rattle.ak_search.specs.declared.tokens.Piece.{Piece}
+use Rattle.ak_search.specs.declared.tokens.Piece.TheVariants.{Test, BadValue, Open, Close, Or, And, OpenQuote}
+use Rattle.ak_search.specs.declared.courses.Course.{Course}
+use Rattle.ak_search.specs.Holds.{held_and}
+use Rattle.ak_search.specs.Looks.{Seen, note_at, type_of, deck_of, is_answered, is_since}
+use Rattle.ak_search.specs.Meanings.{walk}
+
+-- the order of cards with an ease
+abbrev pub pair_cmp : ℤ × ℤ → ℤ × ℤ → Ordering
+pair_cmp one other = ordering_then (int_cmp one.0 other.0) (int_cmp one.1 other.1)
+
+-- whether the answers show a review of that card with that ease and at least that id
+abbrev pub is_shown : Answers → ℤ → ℤ → ℤ → Bool
+is_shown answers card ease least = held_and (λ (last : ℤ). is_since last least) (get pair_cmp answers.last (card, ease))
+
+-- what a card belongs to
+abbrev pub around_in : Rows → Card → Around
+around_in held c = record { note = note_at held c.nid; note_type = type_of held (note_at held c.nid); deck = deck_of held c.did }
+
+-- what is seen of a card by what was read
+abbrev pub seen_by : Answers → Card → Around → Seen
+seen_by answers c around = record { card = c; note = around.note; note_type = around.note_type; deck = around.deck; answered = is_shown answers c.id }
+
+-- what the pieces that are left ask, on a course that came so far
+abbrev pub course_at : Course → (Term → Bool) → List Piece → Bool
+course_at course holds ps = walk holds course.outer.items course.either course.all ps
+
+-- what the pieces of a search ask
+abbrev pub asked : List Piece → (Term → Bool) → Bool
+asked ps holds = walk holds [] false true ps
+
+-- whether some term of the pieces passes
+abbrev pub some_term : (Term → Bool) → List Piece → Bool
+some_term test [] = false
+some_term test (Test negated term ∷ ps) = test term || some_term test ps
+some_term test (BadValue ∷ ps) = some_term test ps
+some_term test (Open negated ∷ ps) = some_term test ps
+some_term test (Close ∷ ps) = some_term test ps
+some_term test (Or ∷ ps) = some_term test ps
+some_term test (And ∷ ps) = some_term test ps
+some_term test (OpenQuote ∷ ps) = some_term test ps
+
+-- whether a term asks for reviews
+abbrev pub is_on_answers : Term → Bool
+is_on_answers (terms.Rated days) = true
+is_on_answers (terms.RatedWith days ease) = true
+is_on_answers term = false
+
+-- whether a term asks for what a card belongs to
+abbrev pub is_on_around : Term → Bool
+is_on_around (terms.InState state) = false
+is_on_around (terms.Prop what comparison bound) = false
+is_on_around (terms.Flag number) = false
+is_on_around (terms.Rated days) = false
+is_on_around (terms.RatedWith days ease) = false
+is_on_around (terms.Added days) = false
+is_on_around (terms.NoteIds ids) = false
+is_on_around (terms.CardIds ids) = false
+is_on_around term = true
+
+-- the answers are those of the collection
+abbrev pub AreAnswersOf : Answers → Rows → Type 0
+AreAnswersOf answers held = (card ease least : ℤ) → is_shown answers card ease least ≡ is_answered held card ease least
+
+-- what is asked with serves the pieces: where a term asks for answers, they are those of the collection, and where one
+-- asks for what a card belongs to, that is looked at
+pub record Serves (asking : Asking) (ps : List Piece) (held : Rows) : Type 0 where
+  pub answers : some_term is_on_answers ps ≡ true → AreAnswersOf asking.answers held
+  pub around : some_term is_on_around ps ≡ true → asking.around ≡ true
+
+-- ids ascend from over `past`
+abbrev pub AscendFrom : ℤ → List ℤ → Type 0
+AscendFrom past [] = ⊤
+AscendFrom past (id ∷ ids) = IsTrue (int_lt past id) × AscendFrom id ids
+
+-- whatever ascends from over `past` may come behind the ids found
+abbrev pub TakesFrom : List ℤ → ℤ → Type 0
+TakesFrom found past = (ids : List ℤ) → AscendFrom past ids → AscendFrom (pos 0) (found ++ ids)

@@ -1,0 +1,94 @@
+// The answers that cards got, read from the reviews of a keeper.
+ghost use Rattle.std.specs.Prelude.{◌≡◌, ◌||◌, ℤ, IfOk, OnOk, false};
+ghost use Rattle.ak_base.specs.declared.rows.Row.TheVariants as rows;
+ghost use Rattle.ak_keep.specs.Keepers.{WhereTold, KeepCause};
+ghost use Rattle.ak_search.specs.Looks.{is_answer, is_answer_in, is_since};
+ghost use Rattle.ak_search.specs.Passes.{AreAnswersOf, is_shown};
+
+use crate::states::is_since;
+use ak_base::{Memory, Name, Review, Row, Table};
+use ak_keep::{KeepFault, Keeper, Walk};
+use std::alloc::Global;
+use std::collections::BTreeMap;
+
+/// The answers that cards got: of each card and ease the id of the last review.
+#[derive(Debug, Drop)]
+pub(crate) struct Answers {
+    pub(crate) last: BTreeMap<(i64, i64), i64>,
+}
+
+impl Answers {
+    pub(crate) fn new(alloc: Global) -> Answers
+        ensures { (card ease least : ℤ) → is_shown result card ease least ≡ false }
+    {
+        Answers {
+            last: BTreeMap::new(alloc),
+        }
+    }
+
+    // The last review of that card and ease, once there is one more.
+    fn last_with(&self, review: &Review) -> i64
+        ensures { (least : ℤ) → is_since result least ≡ (is_shown self.now review.now.cid review.now.ease least || is_since review.now.id least) }
+    {
+        match self.last.get(&(review.cid, review.ease)) {
+            Some(last) => { if *last < review.id { review.id } else { *last } }
+            None => review.id,
+        }
+    }
+
+    fn add(&mut self, review: &Review) -> Result<(), Memory>
+        ensures { OnOk result ((card ease least : ℤ) → is_shown self.new card ease least ≡ (is_shown self.old card ease least || is_answer card ease least (rows.Review review.now))) }
+    {
+        let last = self.last_with(review);
+        self.last.insert((review.cid, review.ease), last)?;
+        Ok(())
+    }
+
+    fn add_row(&mut self, row: &Row) -> Result<(), Memory>
+        ensures { OnOk result ((card ease least : ℤ) → is_shown self.new card ease least ≡ (is_shown self.old card ease least || is_answer card ease least row.now)) }
+    {
+        match row {
+            Row::Review(review) => self.add(review),
+            _ => Ok(()),
+        }
+    }
+
+    fn add_rows(&mut self, rows: &[Row]) -> Result<(), Memory>
+        ensures { OnOk result ((card ease least : ℤ) → is_shown self.new card ease least ≡ (is_shown self.old card ease least || is_answer_in card ease least rows.now)) }
+    {
+        let mut rest = rows;
+        while let Some((row, others)) = rest.split_first() {
+            self.add_row(row)?;
+            rest = others;
+        }
+        Ok(())
+    }
+
+    /// Whether a review of that card with that ease has at least that id.
+    pub(crate) fn is_shown(&self, card: &i64, ease: &i64, least: &i128) -> bool
+        ensures { result ≡ is_shown self.now card.now ease.now least.now }
+    {
+        match self.last.get(&(*card, *ease)) {
+            Some(last) => is_since(last, least),
+            None => false,
+        }
+    }
+}
+
+/// The answers in all reviews that are kept.
+pub(crate) fn read_answers<K: Keeper>(alloc: Global, keeper: &mut K) -> Result<Answers, KeepFault>
+    ensures answers { IfOk result (λ answers. WhereTold (K.keeping keeper.old) (λ c. AreAnswersOf answers c.rows)) }
+    ensures same { K.keeping keeper.new ≡ K.keeping keeper.old }
+    ensures cause { KeepCause (K.fault_count keeper.old) (K.fault_count keeper.new) result }
+{
+    let mut answers = Answers::new(alloc);
+    let mut walk = Walk::past(Name {
+        table: Table::Review,
+        id: 0,
+    });
+    'pages: while !walk.is_done() {
+        let page = walk.next(keeper)?;
+        answers.add_rows(page.as_slice())?;
+    }
+    Ok(answers)
+}
