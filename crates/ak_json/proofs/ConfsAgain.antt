@@ -1,12 +1,14 @@
 -- What was written of settings in their ranges is read again.
-use Rattle.std.proofs.Common.{◌≡◌, ℕ, ◌<◌, ◌≤◌, ◌^◌, ℤ, pos, negsuc, Bool, true, false, Option, Some, refl, sym, ap, ◌∙◌, arith}
+use Rattle.std.proofs.Common.{◌≡◌, ℕ, ◌<◌, ◌≤◌, ◌^◌, ℤ, pos, negsuc, ◌≤ℤ◌, Bool, true, false, Option, Some, refl, sym, ap, ◌∙◌, arith}
 use Rattle.std.specs.Prelude.{int_le, unwrap_or, option_and_then, option_map}
 use Rattle.std.specs.Option.{option_or}
+use Rattle.std.proofs.lemmas.Int.{ints}
 use Rattle.serde_json.specs.Data.{Data, boolean}
 use Rattle.serde_json.specs.Find.{as_bool}
+use Rattle.ak_base.specs.Heads.{IsWithin, IsConfInRange}
 use Rattle.ak_base.specs.declared.heads.Conf.{Conf}
 use Rattle.ak_json.specs.Cells.{cell_at, truth_at}
-use Rattle.ak_json.specs.Confs.{ReadsConf, conf_cells, conf_json, are_in_range}
+use Rattle.ak_json.specs.Confs.{ReadsConf, conf_cells, conf_json}
 use Rattle.ak_json.specs.Faults.{told}
 use Rattle.ak_json.specs.Kinds.{is_within, holds}
 use Rattle.ak_json.specs.Members.{Form}
@@ -17,8 +19,15 @@ use Rattle.ak_json.specs.declared.forms.TheConstants.{CONF}
 use Rattle.ak_json.specs.declared.kinds.Kind.TheVariants as kinds
 use Rattle.ak_json.proofs.Again.{IsReadAgain, small_again}
 use Rattle.ak_json.proofs.DecksAgain.{whole_found}
-use Rattle.ak_json.proofs.Kept.{left_true, right_true}
+use Rattle.ak_json.proofs.Kept.{right_true, both_true}
 use Rattle.ak_json.proofs.ObjectForms.{AllFound, all_hold, IsObjectAgain, object_again, nat_most}
+
+least_test : (a b : ℤ) → a ≤ℤ b → int_le a b ≡ true
+least_test a b h = grind (arith, ints)
+
+-- a number that is within passes the test
+within_test : (least most z : ℤ) → IsWithin least most z → is_within least most (Some z) ≡ true
+within_test least most z h = both_true _ _ (least_test least z h.low) (least_test z most h.high)
 
 within_again : (m : ℕ) (least z : ℤ) → m < 2 ^ 63 → is_within least (pos m) (Some z) ≡ true → IsReadAgain z
 within_again m least (pos n) h w = let k : n ≤ m = nat_most n m (right_true (int_le least (pos n)) _ w) in small_again n (omega arith)
@@ -31,14 +40,12 @@ pub truth_found : (form : Form) (n : ℕ) (d : Data) (b : Bool) → cell_at form
 truth_found form n d b e = sym (ap (λ (o : Option Data). unwrap_or (option_and_then as_bool o) false) e)
 
 -- what was written of settings in their ranges is read as these settings
-pub conf_again : (c : Conf) → are_in_range c ≡ true → ReadsConf (conf_json c) c
+pub conf_again : (c : Conf) → IsConfInRange c → ReadsConf (conf_json c) c
 conf_again c h =
-    let spread = left_true (is_within (pos 0) (pos 2) (Some c.new_spread)) _ h in
-    let h1 = right_true (is_within (pos 0) (pos 2) (Some c.new_spread)) _ h in
-    let ahead = left_true (is_within (pos 0) (pos 86_400) (Some c.collapse)) _ h1 in
-    let h2 = right_true (is_within (pos 0) (pos 86_400) (Some c.collapse)) _ h1 in
-    let next = left_true (is_within (pos 0) (pos 2_147_483_647) (Some c.next_pos)) _ h2 in
-    let day = right_true (is_within (pos 0) (pos 2_147_483_647) (Some c.next_pos)) _ h2 in
+    let spread = within_test (pos 0) (pos 2) c.new_spread h.new_spread in
+    let ahead = within_test (pos 0) (pos 86_400) c.collapse h.collapse in
+    let next = within_test (pos 0) (pos 2_147_483_647) c.next_pos h.next_pos in
+    let day = within_test (negsuc 9_999_999) (pos 100_000_000) c.last_unburied h.last_unburied in
     let r0 : IsReadAgain c.new_spread = within_again 2 (pos 0) c.new_spread (omega arith) spread in
     let r1 : IsReadAgain c.collapse = within_again 86_400 (pos 0) c.collapse (omega arith) ahead in
     let r3 : IsReadAgain c.next_pos = within_again 2_147_483_647 (pos 0) c.next_pos (omega arith) next in

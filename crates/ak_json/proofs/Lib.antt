@@ -14,3 +14,5 @@ pub mod NoteTypesAgain
 pub mod Sorted
 pub mod ReadSorted
 pub mod OptionsAgain
+pub mod ConfRanges
+pub mod OneRow

@@ -28,18 +28,19 @@ pub first_none : {T : Type 0} (a b : Option T) → option_or a b ≡ None → a 
 first_none None b h = refl
 first_none (Some x) b h = cc
 
-flaw_at : Form → ℕ → Data → Option Flaw
+-- the flaw of a column, counted from 0
+abbrev pub flaw_at : Form → ℕ → Data → Option Flaw
 flaw_at [] n d = None
 flaw_at (column ∷ columns) zero d = column_flaw column d
 flaw_at (column ∷ columns) (suc n) d = flaw_at columns n d
 
-none_at : (form : Form) (n : ℕ) (d : Data) → first_flaw form d ≡ None → flaw_at form n d ≡ None
-unfolding flaw_at
+-- where no column has a flaw, this one has none
+pub none_at : (form : Form) (n : ℕ) (d : Data) → first_flaw form d ≡ None → flaw_at form n d ≡ None
 none_at [] n d h = refl
 none_at (column ∷ columns) zero d h = first_none (column_flaw column d) (first_flaw columns d) h
 none_at (column ∷ columns) (suc n) d h = none_at columns n d (second_none (column_flaw column d) (first_flaw columns d) h)
 
-when_object : (b : Bool) (x : Option Flaw) → (if b then x else Some flaws.WholeValue) ≡ None → x ≡ None
+pub when_object : (b : Bool) (x : Option Flaw) → (if b then x else Some flaws.WholeValue) ≡ None → x ≡ None
 when_object true x h = h
 when_object false x h = cc
 
@@ -58,14 +59,12 @@ inside_templates place None h = refl
 inside_templates place (Some d) h = told_none place _ h
 
 in_fields : (d : Data) → object_flaw NOTE_TYPE d ≡ None → parts_flaw FIELD (items_at 6 d) ≡ None
-unfolding flaw_at
 in_fields d h =
     let flawless : first_flaw NOTE_TYPE d ≡ None = when_object (is_some (as_object d)) _ h in
     let here : column_flaw (places.Own words.Flds, kinds.Fields) d ≡ None = none_at NOTE_TYPE 6 d flawless in
     inside_fields (places.Own words.Flds) (get (word_text words.Flds) d) (second_none (plain_flaw (places.Own words.Flds, kinds.Fields) d) _ here)
 
 in_templates : (d : Data) → object_flaw NOTE_TYPE d ≡ None → parts_flaw TEMPLATE (items_at 7 d) ≡ None
-unfolding flaw_at
 in_templates d h =
     let flawless : first_flaw NOTE_TYPE d ≡ None = when_object (is_some (as_object d)) _ h in
     let here : column_flaw (places.Own words.Tmpls, kinds.Templates) d ≡ None = none_at NOTE_TYPE 7 d flawless in

@@ -1,10 +1,9 @@
 -- The settings of a collection as an object.
-use Rattle.std.specs.Prelude.{◌≡◌, pos, negsuc, Bool, ◌&&◌, List, [], ◌∷◌, Option, Some, None, option_map}
+use Rattle.std.specs.Prelude.{◌≡◌, List, [], ◌∷◌, Option, None, option_map}
 use Rattle.std.specs.Option.{option_or}
 use Rattle.serde_json.specs.Data.{Data, boolean}
 use Rattle.ak_json.specs.Cells.{whole_at, truth_at}
 use Rattle.ak_json.specs.Faults.{told}
-use Rattle.ak_json.specs.Kinds.{is_within}
 use Rattle.ak_json.specs.Objects.{object_flaw}
 use Rattle.ak_json.specs.Rests.{rest_text, deep_key, object_json}
 use Rattle.ak_json.specs.Written.{whole}
@@ -34,11 +33,3 @@ conf_cells c =
 -- the object of the settings
 abbrev pub conf_json : Conf → Data
 conf_json c = object_json CONF (conf_cells c) c.rest.text
-
--- the numbers of the settings are in their ranges
-abbrev pub are_in_range : Conf → Bool
-are_in_range c =
-    is_within (pos 0) (pos 2) (Some c.new_spread)
-    && (is_within (pos 0) (pos 86_400) (Some c.collapse)
-    && (is_within (pos 0) (pos 2_147_483_647) (Some c.next_pos)
-    && is_within (negsuc 9_999_999) (pos 100_000_000) (Some c.last_unburied)))

@@ -1,5 +1,6 @@
 ghost use Rattle.std.specs.Prelude.{◌≡◌, IfOk, IfErr};
 ghost use Rattle.serde_json.specs.View.{view};
+ghost use Rattle.ak_base.specs.Heads.{IsConfInRange};
 ghost use Rattle.ak_json.specs.Faults.{Tells};
 ghost use Rattle.ak_json.specs.Confs.{ReadsConf, conf_fault, conf_json};
 
@@ -17,6 +18,7 @@ use std::alloc::Global;
 /// The settings that an object stands for. A number out of its range is of the wrong kind.
 pub fn read_conf(alloc: Global, value: &Value) -> Result<Conf, JsonFault>
     ensures ok { IfOk result (ReadsConf (view value.now)) }
+    ensures range { IfOk result IsConfInRange }
     ensures err { IfErr result (Tells (conf_fault (view value.now))) }
 {
     refuse(alloc, object_flaw(&CONF, value))?;

@@ -1,11 +1,15 @@
 // Laws of the forms, as the contracts of functions that do nothing.
-ghost use Rattle.std.specs.Prelude.{◌≡◌, true, false, Ok};
+ghost use Rattle.std.specs.Prelude.{◌≡◌, ◌⊎◌, false, Ok};
+ghost use Rattle.serde_json.specs.Data.{Data};
 ghost use Rattle.serde_json.specs.Written.{has_float};
+ghost use Rattle.ak_base.specs.Heads.{IsConfInRange};
 ghost use Rattle.ak_base.specs.declared.heads.Conf.{Conf};
 ghost use Rattle.ak_base.specs.declared.names.Table.{Table};
 ghost use Rattle.ak_base.specs.declared.rows.Row.{Row};
-ghost use Rattle.ak_json.specs.Confs.{are_in_range, conf_json, ReadsConf};
-ghost use Rattle.ak_json.specs.Rows.{StandsIn, row_check, row_json, ReadsRow};
+ghost use Rattle.ak_json.specs.Confs.{conf_json, ReadsConf};
+ghost use Rattle.ak_json.specs.Rows.{StandsIn, row_check, row_json, ReadsRow, RefusesRow};
+ghost use Rattle.ak_json.specs.declared.faults.JsonFault.{JsonFault};
+ghost use Rattle.ak_json.specs.declared.faults.JsonFault.TheVariants as faults;
 
 /// What is written of a row in its ranges is read as that row.
 pub fn rows_are_read_again()
@@ -14,11 +18,34 @@ pub fn rows_are_read_again()
 
 /// What is written of settings in their ranges is read as these settings.
 pub fn confs_are_read_again()
-    ensures { (conf : Conf) → are_in_range conf ≡ true → ReadsConf (conf_json conf) conf }
+    ensures { (conf : Conf) → IsConfInRange conf → ReadsConf (conf_json conf) conf }
 {}
 
 /// What is written of a row holds whole numbers alone, so it has one compact text.
 #[tactic(auto, using(crate::proofs::WholeNumbers::written_whole))]
 pub fn whole_numbers_are_written()
     ensures { (row : Row) → has_float (row_json row) ≡ false }
+{}
+
+/// A value is read as one row at most: two rows that it is read as are equal.
+#[tactic(auto, using(crate::proofs::OneRow::one_row_read))]
+pub fn one_row_is_read()
+    ensures { (table : Table) (d : Data) (a b : Row) → ReadsRow table d a → ReadsRow table d b → a ≡ b }
+{}
+
+/// A value that is read as a row is refused for want of memory alone.
+#[tactic(auto, using(crate::proofs::OneRow::read_or_refused))]
+pub fn what_is_read_is_not_refused()
+    ensures { (table : Table) (d : Data) (row : Row) (fault : JsonFault) → ReadsRow table d row → RefusesRow table d fault → fault ≡ faults.Memory }
+{}
+
+/// Two faults that refuse a value are equal, unless one of them is want of memory.
+#[tactic(auto, using(crate::proofs::OneRow::one_fault))]
+pub fn one_fault_is_told()
+    ensures { (table : Table) (d : Data) (a b : JsonFault) → RefusesRow table d a → RefusesRow table d b → (a ≡ b) ⊎ ((a ≡ faults.Memory) ⊎ (b ≡ faults.Memory)) }
+{}
+
+/// An object is read as one set of settings at most.
+pub fn one_conf_is_read()
+    ensures { (d : Data) (a b : Conf) → ReadsConf d a → ReadsConf d b → a ≡ b }
 {}

@@ -1,0 +1,65 @@
+-- Settings that were read are in their ranges.
+use Rattle.std.proofs.Common.{◌≡◌, ℤ, pos, negsuc, ◌≤ℤ◌, Bool, true, false, Option, Some, None, refl, sym, subst, arith}
+use Rattle.std.specs.Prelude.{int_le, unwrap_or, option_and_then, option_map, if◌then◌else◌}
+use Rattle.std.proofs.lemmas.Int.{ints}
+use Rattle.serde_json.specs.Data.{Data}
+use Rattle.serde_json.specs.Find.{as_object}
+use Rattle.std.specs.Option.{is_some, option_or}
+use Rattle.ak_base.specs.Heads.{IsWithin, IsConfInRange}
+use Rattle.ak_base.specs.declared.heads.Conf.{Conf}
+use Rattle.ak_json.specs.Confs.{ReadsConf, conf_fault}
+use Rattle.ak_json.specs.Faults.{told}
+use Rattle.ak_json.specs.Flaws.{found_flaw, plain_flaw, flaw_within, first_flaw}
+use Rattle.ak_json.specs.Keys.{find}
+use Rattle.ak_json.specs.Kinds.{whole_of, is_within}
+use Rattle.ak_json.specs.Objects.{object_flaw}
+use Rattle.ak_json.specs.Rests.{deep_key}
+use Rattle.ak_json.specs.declared.flaws.Flaw.{Flaw}
+use Rattle.ak_json.specs.declared.forms.TheConstants.{CONF}
+use Rattle.ak_json.specs.declared.keys.Place.{Place}
+use Rattle.ak_json.specs.declared.keys.Place.TheVariants as places
+use Rattle.ak_json.specs.declared.keys.Word.TheVariants as words
+use Rattle.ak_json.specs.declared.kinds.Kind.TheVariants as kinds
+use Rattle.ak_json.proofs.Kept.{left_true, right_true}
+use Rattle.ak_json.proofs.RowForms.{first_none, when_object, none_at}
+
+low_number : (a b : ℤ) → int_le a b ≡ true → a ≤ℤ b
+low_number a b h = grind (arith, ints)
+
+-- a number that passes the test is within
+number_within : (least most : ℤ) (o : Option ℤ) → is_within least most o ≡ true → IsWithin least most (unwrap_or o (pos 0))
+number_within least most None h = cc
+number_within least most (Some z) h =
+    record { low = low_number least z (left_true _ _ h); high = low_number z most (right_true (int_le least z) _ h) }
+
+when_none : (b : Bool) (flaw : Flaw) → (if b then None else Some flaw) ≡ None → b ≡ true
+when_none true flaw h = refl
+when_none false flaw h = cc
+
+-- so is one that was found in a column of its kind
+found_within : (place : Place) (least most : ℤ) (o : Option Data) → found_flaw (place, kinds.Within least most) o ≡ None → IsWithin least most (unwrap_or (option_and_then whole_of o) (pos 0))
+found_within place least most None h = cc
+found_within place least most (Some d) h = number_within least most (whole_of d) (when_none _ _ h)
+
+column_within : (place : Place) (least most : ℤ) (d : Data) → option_or (plain_flaw (place, kinds.Within least most) d) (flaw_within (place, kinds.Within least most) (find place d)) ≡ None
+    → IsWithin least most (unwrap_or (option_and_then whole_of (find place d)) (pos 0))
+column_within place least most d h = found_within place least most (find place d) (first_none _ _ h)
+
+none_told : (o : Option Flaw) → option_map told o ≡ None → o ≡ None
+none_told None h = refl
+none_told (Some flaw) h = cc
+
+flawless_conf : (d : Data) → conf_fault d ≡ None → first_flaw CONF d ≡ None
+flawless_conf d h = when_object (is_some (as_object d)) _ (none_told (object_flaw CONF d) (first_none _ (deep_key CONF d) h))
+
+-- settings that were read are in their ranges
+pub conf_in_range : (d : Data) (c : Conf) → ReadsConf d c → IsConfInRange c
+conf_in_range d c r =
+    let flawless : first_flaw CONF d ≡ None = flawless_conf d r.form in
+    record {
+      new_spread = subst (IsWithin (pos 0) (pos 2)) (sym r.new_spread) (column_within (places.Own words.NewSpread) (pos 0) (pos 2) d (none_at CONF 0 d flawless));
+      collapse = subst (IsWithin (pos 0) (pos 86_400)) (sym r.collapse) (column_within (places.Own words.CollapseTime) (pos 0) (pos 86_400) d (none_at CONF 1 d flawless));
+      next_pos = subst (IsWithin (pos 0) (pos 2_147_483_647)) (sym r.next_pos) (column_within (places.Own words.NextPos) (pos 0) (pos 2_147_483_647) d (none_at CONF 3 d flawless));
+      last_unburied = subst (IsWithin (negsuc 9_999_999) (pos 100_000_000)) (sym r.last_unburied)
+          (column_within (places.Own words.LastUnburied) (negsuc 9_999_999) (pos 100_000_000) d (none_at CONF 4 d flawless));
+    }
