@@ -1,10 +1,10 @@
 -- Settings that were read are in their ranges.
 use Rattle.std.proofs.Common.{◌≡◌, ℤ, pos, negsuc, ◌≤ℤ◌, Bool, true, false, Option, Some, None, refl, sym, subst, arith}
-use Rattle.std.specs.Prelude.{int_le, unwrap_or, option_and_then, option_map, if◌then◌else◌}
+use Rattle.std.specs.Prelude.{int_le, unwrap_or, option_and_then, if◌then◌else◌}
+use Rattle.std.specs.Option.{is_some, option_or}
 use Rattle.std.proofs.lemmas.Int.{ints}
 use Rattle.serde_json.specs.Data.{Data}
 use Rattle.serde_json.specs.Find.{as_object}
-use Rattle.std.specs.Option.{is_some, option_or}
 use Rattle.ak_base.specs.Heads.{IsWithin, IsConfInRange}
 use Rattle.ak_base.specs.declared.heads.Conf.{Conf}
 use Rattle.ak_json.specs.Confs.{ReadsConf, conf_fault}
@@ -21,7 +21,7 @@ use Rattle.ak_json.specs.declared.keys.Place.TheVariants as places
 use Rattle.ak_json.specs.declared.keys.Word.TheVariants as words
 use Rattle.ak_json.specs.declared.kinds.Kind.TheVariants as kinds
 use Rattle.ak_json.proofs.Kept.{left_true, right_true}
-use Rattle.ak_json.proofs.RowForms.{first_none, when_object, none_at}
+use Rattle.ak_json.proofs.RowForms.{first_none, none_mapped, when_object, none_at}
 
 low_number : (a b : ℤ) → int_le a b ≡ true → a ≤ℤ b
 low_number a b h = grind (arith, ints)
@@ -45,12 +45,8 @@ column_within : (place : Place) (least most : ℤ) (d : Data) → option_or (pla
     → IsWithin least most (unwrap_or (option_and_then whole_of (find place d)) (pos 0))
 column_within place least most d h = found_within place least most (find place d) (first_none _ _ h)
 
-none_told : (o : Option Flaw) → option_map told o ≡ None → o ≡ None
-none_told None h = refl
-none_told (Some flaw) h = cc
-
 flawless_conf : (d : Data) → conf_fault d ≡ None → first_flaw CONF d ≡ None
-flawless_conf d h = when_object (is_some (as_object d)) _ (none_told (object_flaw CONF d) (first_none _ (deep_key CONF d) h))
+flawless_conf d h = when_object (is_some (as_object d)) _ (none_mapped told (object_flaw CONF d) (first_none _ (deep_key CONF d) h))
 
 -- settings that were read are in their ranges
 pub conf_in_range : (d : Data) (c : Conf) → ReadsConf d c → IsConfInRange c

@@ -16,3 +16,5 @@ pub mod ReadSorted
 pub mod OptionsAgain
 pub mod ConfRanges
 pub mod OneRow
+pub mod Orderly
+pub mod EachValue

@@ -49,11 +49,11 @@ not_true : (b : Bool) → not b ≡ true → b ≡ false
 not_true true h = cc
 not_true false h = refl
 
-no_left : (a b : Bool) → (a || b) ≡ false → a ≡ false
+pub no_left : (a b : Bool) → (a || b) ≡ false → a ≡ false
 no_left true b h = cc
 no_left false b h = refl
 
-no_right : (a b : Bool) → (a || b) ≡ false → b ≡ false
+pub no_right : (a b : Bool) → (a || b) ≡ false → b ≡ false
 no_right true b h = cc
 no_right false b h = h
 

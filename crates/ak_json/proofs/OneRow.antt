@@ -1,8 +1,8 @@
 -- A value stands for one row at most, and is refused by one fault.
-use Rattle.std.proofs.Common.{◌≡◌, ℕ, List, [], ◌∷◌, map, true, Some, None, Ok, Err, ◌⊎◌, inl, inr, refl, sym, ap, ◌∙◌}
+use Rattle.std.proofs.Common.{◌≡◌, ℕ, List, [], ◌∷◌, map, Bool, true, Some, None, Ok, Err, ◌⊎◌, inl, inr, refl, sym, ap, ◌∙◌}
 use Rattle.std.proofs.Math.Bool.{Bool-set}
-use Rattle.std.proofs.Math.Path.{to_path_p}
-use Rattle.serde_json.specs.Data.{Data}
+use Rattle.std.proofs.Math.Path.{PathP, to_path_p}
+use Rattle.serde_json.specs.Data.{Data, Members}
 use Rattle.ak_base.specs.Rests.{is_rest, lacks, lacks_options, field_keys, template_keys, note_type_keys, deck_keys, conf_keys}
 use Rattle.ak_base.specs.declared.cards.Card.{Card}
 use Rattle.ak_base.specs.declared.decks.Deck.{Deck}
@@ -29,6 +29,10 @@ use Rattle.ak_json.specs.declared.faults.JsonFault.TheVariants as faults
 
 -- ---- equal records
 
+-- what shows that rests of one text are rests is one
+same_proof : (passes : Members → Bool) {x y : List ℕ} (p : x ≡ y) (u : is_rest passes x ≡ true) (v : is_rest passes y ≡ true) → PathP (λ i. is_rest passes (p i) ≡ true) u v
+same_proof passes p u v = to_path_p (λ i. is_rest passes (p i) ≡ true) (Bool-set _ _ _ _)
+
 one_deck : (d : Data) (a b : Deck) → IsDeck d a → IsDeck d b → a ≡ b
 one_deck d a b x y =
     let text : a.rest.text ≡ b.rest.text = x.rest ∙ sym y.rest in
@@ -44,7 +48,7 @@ one_deck d a b x y =
       rest = record {
         text = text i;
         owner = record {};
-        unknown = to_path_p (λ i. is_rest (lacks deck_keys) (text i) ≡ true) {a = a.rest.unknown} {b = b.rest.unknown} (Bool-set _ _ _ _) i;
+        unknown = same_proof (lacks deck_keys) text a.rest.unknown b.rest.unknown i;
       };
     }
 
@@ -56,7 +60,7 @@ one_field a b e =
       rest = record {
         text = text i;
         owner = record {};
-        unknown = to_path_p (λ i. is_rest (lacks field_keys) (text i) ≡ true) {a = a.rest.unknown} {b = b.rest.unknown} (Bool-set _ _ _ _) i;
+        unknown = same_proof (lacks field_keys) text a.rest.unknown b.rest.unknown i;
       };
     }
 
@@ -70,7 +74,7 @@ one_template a b e =
       rest = record {
         text = text i;
         owner = record {};
-        unknown = to_path_p (λ i. is_rest (lacks template_keys) (text i) ≡ true) {a = a.rest.unknown} {b = b.rest.unknown} (Bool-set _ _ _ _) i;
+        unknown = same_proof (lacks template_keys) text a.rest.unknown b.rest.unknown i;
       };
     }
 
@@ -103,7 +107,7 @@ one_note_type d a b x y =
       rest = record {
         text = text i;
         owner = record {};
-        unknown = to_path_p (λ i. is_rest (lacks note_type_keys) (text i) ≡ true) {a = a.rest.unknown} {b = b.rest.unknown} (Bool-set _ _ _ _) i;
+        unknown = same_proof (lacks note_type_keys) text a.rest.unknown b.rest.unknown i;
       };
     }
 
@@ -136,7 +140,7 @@ one_group d a b x y =
       rest = record {
         text = text i;
         owner = record {};
-        unknown = to_path_p (λ i. is_rest lacks_options (text i) ≡ true) {a = a.rest.unknown} {b = b.rest.unknown} (Bool-set _ _ _ _) i;
+        unknown = same_proof lacks_options text a.rest.unknown b.rest.unknown i;
       };
     }
 
@@ -153,7 +157,7 @@ one_conf d a b x y =
       rest = record {
         text = text i;
         owner = record {};
-        unknown = to_path_p (λ i. is_rest (lacks conf_keys) (text i) ≡ true) {a = a.rest.unknown} {b = b.rest.unknown} (Bool-set _ _ _ _) i;
+        unknown = same_proof (lacks conf_keys) text a.rest.unknown b.rest.unknown i;
       };
     }
 

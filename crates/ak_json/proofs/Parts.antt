@@ -38,7 +38,8 @@ shallow_kept form (member k d ms) h =
     one false true later e h i = rw e i
     one false false later e h i = cc
 
-of_object : (form : Form) (d : Data) (o : Option Members) → object_flaw_of form d o ≡ None → deep_member (unknown form (unwrap_or o no_members)) ≡ None
+-- no member that an object of a list keeps is deep, where the object has no flaw
+pub of_object : (form : Form) (d : Data) (o : Option Members) → object_flaw_of form d o ≡ None → deep_member (unknown form (unwrap_or o no_members)) ≡ None
 of_object form d None h = cc
 of_object form d (Some ms) h = shallow_kept form ms (not_deep _ _ (second_none (inner_flaw form d) _ h))
 

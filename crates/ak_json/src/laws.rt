@@ -1,6 +1,7 @@
 // Laws of the forms, as the contracts of functions that do nothing.
-ghost use Rattle.std.specs.Prelude.{◌≡◌, ◌⊎◌, false, Ok};
+ghost use Rattle.std.specs.Prelude.{◌≡◌, ◌⊎◌, ℕ, List, false, Some, Ok};
 ghost use Rattle.serde_json.specs.Data.{Data};
+ghost use Rattle.serde_json.specs.Read.{read};
 ghost use Rattle.serde_json.specs.Written.{has_float};
 ghost use Rattle.ak_base.specs.Heads.{IsConfInRange};
 ghost use Rattle.ak_base.specs.declared.heads.Conf.{Conf};
@@ -48,4 +49,9 @@ pub fn one_fault_is_told()
 /// An object is read as one set of settings at most.
 pub fn one_conf_is_read()
     ensures { (d : Data) (a b : Conf) → ReadsConf d a → ReadsConf d b → a ≡ b }
+{}
+
+/// Each value of a text is read as a row, or refused by a fault that is not want of memory.
+pub fn each_value_is_read_or_refused()
+    ensures { (table : Table) (text : List ℕ) (d : Data) → read text ≡ Some d → ((row : Row) × ReadsRow table d row) ⊎ ((fault : JsonFault) × RefusesRow table d fault × (fault ≡ faults.Memory → ⊥)) }
 {}
