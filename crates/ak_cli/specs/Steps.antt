@@ -1,8 +1,7 @@
 -- How a line of a script went, beside what its step says.
-use Rattle.std.specs.Prelude.{◌≡◌, ℕ, ◌≤◌, List, Option, Result, ⊤}
+use Rattle.std.specs.Prelude.{◌≡◌, ℕ, List, Option, Result, ⊤}
 use Rattle.std.specs.Io.KnownBytes.{Appends, Keeps}
-use Rattle.std.specs.Result.{IsErrOf}
-use Rattle.ak_io.specs.Causes.{Rose}
+use Rattle.ak_faults.specs.Causes.{HasCauseOf}
 use Rattle.ak_io.specs.Endings.{step_text}
 use Rattle.ak_io.specs.Scripts.{Step, Goes, Refused, AppendsPart, written_lines}
 use Rattle.ak_io.specs.declared.writes.PrintFault.{PrintFault}
@@ -39,6 +38,5 @@ Stopped step faults.Failed old new = AppendsPart old new (step_text step)
 Stopped step faults.Memory old new = AppendsPart old new (step_text step)
 
 -- the count of the output never falls, and it rose where the output failed
-pub record LineCause {T : Type 0} (before now : ℕ) (result : Result T LineFault) : Type 0 where
-  pub later : before ≤ now
-  pub failed : IsErrOf result faults.Failed → Rose before now
+abbrev pub LineCause : {T : Type 0} → ℕ → ℕ → Result T LineFault → Type 0
+LineCause before now result = HasCauseOf faults.Failed before now result

@@ -1,6 +1,6 @@
 ghost use Rattle.std.specs.Prelude.{◌≡◌, ◌⊎◌, ◌≤◌, true, false, IfSome, OnOk, OnErr};
 ghost use Rattle.std.specs.Io.KnownBytes.{Appends, IsAtEnd};
-ghost use Rattle.ak_io.specs.Causes.{HasCause, Rose};
+ghost use Rattle.ak_faults.specs.Causes.{HasCause, Rose};
 ghost use Rattle.ak_io.specs.Scripts.{AppendsPart};
 ghost use Rattle.ak_cli.specs.LabRun.{lab_run};
 ghost use Rattle.ak_cli.specs.Programs.{is_lab, usage_line, Prints};

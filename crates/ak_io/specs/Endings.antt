@@ -1,7 +1,7 @@
 -- How the run of a script ends, and what is written of it by then.
 use Rattle.std.specs.Prelude.{◌≡◌, ◌≢◌, ℕ, ◌≤◌, Bool, true, false, List, [], Option, Some, None, Result, Err, IsSome, IfSome, ⊤}
 use Rattle.std.specs.Io.KnownBytes.{Appends}
-use Rattle.ak_io.specs.Causes.{Rose}
+use Rattle.ak_faults.specs.Causes.{Rose}
 use Rattle.ak_io.specs.Scripts.{Step, Goes, Refused, Run, output_of, written_lines, AppendsPart, Reached}
 use Rattle.ak_io.specs.declared.endings.ScriptEnd.{ScriptEnd}
 use Rattle.ak_io.specs.declared.endings.ScriptEnd.TheVariants as ends

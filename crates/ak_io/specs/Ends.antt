@@ -1,14 +1,7 @@
 -- What an end in memory holds, and what each of its calls answers and leaves.
-use Rattle.std.specs.Prelude.{ℕ, ◌+◌, ◌-◌, ◌^◌, min, Bool, ◌==◌, nat_lt, ◌&&◌, ◌||◌, if◌then◌else◌, List, ◌++◌, length, take, drop, Option, Some, None}
-use Rattle.std.specs.List.{list_any}
-
--- one more, up to the last `u64`
-abbrev pub one_more : ℕ → ℕ
-one_more count = min (count + 1) (2 ^ 64 - 1)
-
--- whether the list names the call of this number
-abbrev pub is_named : ℕ → List ℕ → Bool
-is_named call fails = list_any (λ named. named == call) fails
+use Rattle.std.specs.Prelude.{ℕ, ◌-◌, min, Bool, ◌==◌, nat_lt, ◌&&◌, ◌||◌, if◌then◌else◌, List, ◌++◌, length, take, drop, Option, Some, None}
+use Rattle.ak_faults.specs.Calls.{is_named}
+use Rattle.ak_faults.specs.Causes.{one_more}
 
 -- the bytes that are left, how many reads came, which reads fail, and how many failed
 pub record SourceState : Type 0 where

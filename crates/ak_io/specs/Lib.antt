@@ -1,4 +1,3 @@
-pub mod Causes
 pub mod Ends
 pub mod Lines
 pub mod Prints

@@ -1,8 +1,7 @@
 -- Why a line was not read, and what the steps of reading one do.
-use Rattle.std.specs.Prelude.{◌≡◌, ℕ, ◌+◌, ◌<◌, ◌≤◌, true, false, if◌then◌else◌, List, [], ◌++◌, length, Result, Option, Some, None, ⊤}
+use Rattle.std.specs.Prelude.{◌≡◌, ℕ, ◌+◌, ◌<◌, true, false, if◌then◌else◌, List, [], ◌++◌, length, Result, Option, Some, None, ⊤}
 use Rattle.std.specs.Option.{option_map}
-use Rattle.std.specs.Result.{IsErrOf}
-use Rattle.ak_io.specs.Causes.{Rose}
+use Rattle.ak_faults.specs.Causes.{HasCauseOf}
 use Rattle.ak_io.specs.Lines.{lines_within, has_feed, behind, first_size}
 use Rattle.ak_io.specs.declared.lines.Taken.{Taken}
 use Rattle.ak_io.specs.declared.lines.Taken.TheVariants.{Line, Long, Past}
@@ -13,9 +12,8 @@ use Rattle.ak_io.specs.declared.readers.ReadFault.{ReadFault}
 use Rattle.ak_io.specs.declared.readers.ReadFault.TheVariants.{Failed}
 
 -- the count never falls, and it rose where the source refused
-pub record ReadCause {T : Type 0} (before now : ℕ) (result : Result T ReadFault) : Type 0 where
-  pub later : before ≤ now
-  pub failed : IsErrOf result Failed → Rose before now
+abbrev pub ReadCause : {T : Type 0} → ℕ → ℕ → Result T ReadFault → Type 0
+ReadCause before now result = HasCauseOf Failed before now result
 
 -- what is kept of a line, as it is taken
 abbrev pub as_taken : Part → Taken

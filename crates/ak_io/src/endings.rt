@@ -1,5 +1,5 @@
 ghost use Rattle.std.specs.Prelude.{◌≡◌, ◌≢◌, ◌≤◌, IfOk, string_bytes};
-ghost use Rattle.ak_io.specs.Causes.{Rose};
+ghost use Rattle.ak_faults.specs.Causes.{Rose};
 ghost use Rattle.ak_io.specs.Endings.{RunsTo, refused_run};
 ghost use Rattle.ak_io.specs.Scripts.{refusal_line};
 ghost use Rattle.ak_io.specs.declared.endings.ScriptEnd.TheVariants as ends;

@@ -2,54 +2,14 @@ ghost use Rattle.std.specs.Prelude.{◌≡◌, ℕ, ◌<◌, min, Option, List, 
 ghost use Rattle.std.specs.Io.{ReadsAtMost, WritesAtMost};
 ghost use Rattle.std.specs.Io.KnownBytes.{ReadConsumes, WriteAppends};
 ghost use Rattle.std.specs.Result.{result_ok};
-ghost use Rattle.ak_io.specs.Causes.{HasCause, Rose};
-ghost use Rattle.ak_io.specs.Ends.{one_more, is_named, gives, after_read, takes, after_write};
+ghost use Rattle.ak_faults.specs.Causes.{HasCause, Rose};
+ghost use Rattle.ak_io.specs.Ends.{gives, after_read, takes, after_write};
 
 use crate::traits::{Failed, Sink, Source};
 use ak_base::{List, Memory};
+use ak_faults::Calls;
 use std::alloc::Global;
 use std::marker::Model;
-
-// The calls that an end in memory got, which of them fail, and how many failed.
-#[derive(Debug, Drop)]
-struct Calls {
-    count: u64,
-    fails: Vec<u64>,
-    faults: u64,
-}
-
-impl Calls {
-    fn new(fails: List<u64>) -> Calls
-        ensures { (result.count ≡ 0) × (result.fails.items ≡ fails) × (result.faults ≡ 0) }
-    {
-        let fails = fails.into_vec();
-        Calls {
-            count: 0,
-            fails,
-            faults: 0,
-        }
-    }
-
-    // Counts a call, and answers whether it is to fail.
-    fn is_next_named(&mut self) -> bool
-        ensures named { result ≡ is_named self.old.count self.old.fails.items }
-        ensures count { self.new.count ≡ one_more self.old.count }
-        ensures fails { self.new.fails ≡ self.old.fails }
-        ensures faults { self.new.faults ≡ self.old.faults }
-    {
-        let named = self.fails.as_slice().contains(&self.count);
-        self.count = self.count.saturating_add(1);
-        named
-    }
-
-    fn count_fault(&mut self)
-        ensures count { self.new.count ≡ self.old.count }
-        ensures fails { self.new.fails ≡ self.old.fails }
-        ensures faults { self.new.faults ≡ one_more self.old.faults }
-    {
-        self.faults = self.faults.saturating_add(1);
-    }
-}
 
 // Copies what fits to the front of `into`, and answers how many bytes that are.
 fn copy_front(from: &[u8], into: &mut [u8]) -> usize
@@ -95,7 +55,7 @@ impl MemorySource {
         MemorySource {
             bytes,
             taken: 0,
-            calls: Calls::new(fails),
+            calls: Calls::new(fails.into_vec()),
         }
     }
 }
@@ -163,7 +123,7 @@ impl MemorySink {
         Ok(MemorySink {
             bytes,
             room,
-            calls: Calls::new(fails),
+            calls: Calls::new(fails.into_vec()),
         })
     }
 

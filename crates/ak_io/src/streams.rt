@@ -1,7 +1,7 @@
 ghost use Rattle.std.specs.Prelude.{◌≡◌, ◌<◌, ◌≤◌, false, length, take, IfOk, OnOk, OnErr};
 ghost use Rattle.std.specs.Io.{ReadsAtMost};
 ghost use Rattle.std.specs.Io.KnownBytes.{ReadConsumes, Appends, Keeps};
-ghost use Rattle.ak_io.specs.Causes.{HasCause};
+ghost use Rattle.ak_faults.specs.Causes.{HasCause};
 
 use crate::traits::{Failed, Sink, Source};
 use std::io::{Error, ErrorKind, Read, Write};

@@ -1,7 +1,7 @@
 ghost use Rattle.std.specs.Prelude.{◌≡◌, ℕ, ◌<◌, Option, List, length, IfOk};
 ghost use Rattle.std.specs.Io.{ReadsAtMost, WritesAtMost};
 ghost use Rattle.std.specs.Io.KnownBytes.{ReadConsumes, WriteAppends};
-ghost use Rattle.ak_io.specs.Causes.{HasCause, Rose};
+ghost use Rattle.ak_faults.specs.Causes.{HasCause, Rose};
 
 /// The outside refused. It comes only from a call in which that object's count of faults rose.
 #[derive(Clone, Copy, Debug, PartialEq, Eq)]

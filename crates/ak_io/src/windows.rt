@@ -1,6 +1,6 @@
 ghost use Rattle.std.specs.Prelude.{◌≡◌, ℕ, ◌<◌, ◌≤◌, true, false, List, [], length, drop, IfOk, OnOk};
 ghost use Rattle.std.specs.Io.KnownBytes.{Keeps, IsAtEnd, prepend_known};
-ghost use Rattle.ak_io.specs.Causes.{HasCause};
+ghost use Rattle.ak_faults.specs.Causes.{HasCause};
 
 use crate::traits::{Failed, Source};
 use ak_base::Memory;

@@ -1,6 +1,6 @@
 ghost use Rattle.std.specs.Prelude.{◌≡◌, [], ◌∷◌, ◌++◌, OnOk, OnErr, IfOk};
 ghost use Rattle.std.specs.Io.KnownBytes.{Appends};
-ghost use Rattle.ak_io.specs.Causes.{HasCause};
+ghost use Rattle.ak_faults.specs.Causes.{HasCause};
 ghost use Rattle.ak_io.specs.Prints.{PrintCause};
 ghost use Rattle.ak_io.specs.Scripts.{AppendsPart};
 

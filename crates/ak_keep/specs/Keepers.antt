@@ -1,7 +1,7 @@
 -- What is known of a keeper, and what each of its calls makes of it.
-use Rattle.std.specs.Prelude.{◌≡◌, ℕ, ◌+◌, ◌-◌, ◌^◌, ◌≤◌, min, Bool, true, is_some, ℤ, List, Option, Some, None, Result, IfSome}
+use Rattle.std.specs.Prelude.{◌≡◌, ℕ, Bool, true, is_some, ℤ, List, Option, Some, None, Result, IfSome}
 use Rattle.std.specs.Option.{option_map, unwrap_or}
-use Rattle.std.specs.Result.{IsErrOf}
+use Rattle.ak_faults.specs.Causes.{HasCauseOf}
 use Rattle.ak_base.specs.declared.heads.Head.{Head}
 use Rattle.ak_base.specs.declared.names.Name.{Name}
 use Rattle.ak_base.specs.declared.rows.Row.{Row}
@@ -68,7 +68,6 @@ abbrev pub committed : Keeping → Keeping
 committed k = record k { mark = None }
 
 -- ---- causes
--- the count of faults never falls, and it rose where the call failed; at the last `u64` it stays
-pub record KeepCause {T : Type 0} (before now : ℕ) (result : Result T KeepFault) : Type 0 where
-  pub later : before ≤ now
-  pub failed : IsErrOf result Failed → min (before + 1) (2 ^ 64 - 1) ≤ now
+-- the count of faults never falls, and it rose where the call failed
+abbrev pub KeepCause : {T : Type 0} → ℕ → ℕ → Result T KeepFault → Type 0
+KeepCause before now result = HasCauseOf Failed before now result

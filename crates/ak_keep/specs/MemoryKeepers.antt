@@ -1,8 +1,10 @@
 -- What a keeper in memory keeps, and what its calls make of it.
-use Rattle.std.specs.Prelude.{◌≡◌, refl, ℕ, ◌+◌, ◌-◌, ◌^◌, min, Bool, true, false, ◌==◌, is_some, if◌then◌else◌, List, Option, Some, None, Result, Ok, Err}
+use Rattle.std.specs.Prelude.{◌≡◌, refl, ℕ, Bool, true, false, is_some, if◌then◌else◌, List, Option, Some, None, Result, Ok, Err}
 use Rattle.std.specs.Coded.{Coded, code_by, coded×, coded_option, coded_list, coded_ℕ}
-use Rattle.std.specs.List.{list_any}
 use Rattle.std.specs.Option.{option_map, unwrap_or}
+use Rattle.ak_faults.specs.Calls.{is_named}
+use Rattle.ak_faults.specs.Causes.{one_more}
+use Rattle.ak_faults.specs.declared.counters.Calls.{Calls}
 use Rattle.ak_base.specs.declared.heads.Head.{Head}
 use Rattle.ak_keep.specs.Collections.{Collection, Rows}
 use Rattle.ak_keep.specs.Keepers.{Known, Keeping}
@@ -48,14 +50,6 @@ pub record MemoryState : Type 0 where
   pub fails : List ℕ
   pub faults : ℕ
 
--- one more, up to the last `u64`
-abbrev pub one_more : ℕ → ℕ
-one_more count = min (count + 1) (2 ^ 64 - 1)
-
--- whether the list names the call of this number
-abbrev pub is_named : ℕ → List ℕ → Bool
-is_named call fails = list_any (λ named. named == call) fails
-
 -- whether the next call is to fail
 abbrev pub is_to_fail : MemoryState → Bool
 is_to_fail s = is_named s.calls s.fails
@@ -63,6 +57,10 @@ is_to_fail s = is_named s.calls s.fails
 -- a call came: it is counted, and where it is to fail, a fault too
 abbrev pub called : MemoryState → MemoryState
 called s = record s { calls = one_more s.calls; faults = if is_to_fail s then one_more s.faults else s.faults }
+
+-- the same of the counts alone
+abbrev pub calls_after : Calls → Calls
+calls_after c = record c { count = one_more c.count; faults = if is_named c.count c.fails.items then one_more c.faults else c.faults }
 
 -- a call came, and what is kept was changed so
 abbrev pub called_with : (Kept → Kept) → MemoryState → MemoryState

@@ -10,11 +10,12 @@ ghost use Rattle.ak_keep.specs.Collections.{AscendsPast, IsChecked, IsPageOf, Ar
 ghost use Rattle.ak_keep.specs.Keepers.{KeepCause, is_marked, put};
 ghost use Rattle.ak_keep.specs.MemoryKeepers.{FailsWhere, keeping_of, kept_changed, kept_marked, kept_back, kept_committed, is_to_fail, called, called_with, answer_of};
 
-use crate::calls::Calls;
+use crate::calls::next_call;
 use crate::keepers::{KeepFault, Keeper, Wanted};
 use crate::memory_collections::MemoryCollection;
 use crate::row_maps::RowMap;
 use ak_base::{Head, List, Memory, Name, Row, Table};
+use ak_faults::Calls;
 use std::alloc::Global;
 use std::marker::Model;
 
@@ -40,7 +41,7 @@ impl Model for MemoryKeeper {
     ghost view = { λ keeper. record {
       kept = record { current = keeper.current; mark = keeper.mark };
       calls = keeper.calls.count;
-      fails = keeper.calls.fails;
+      fails = keeper.calls.fails.items;
       faults = keeper.calls.faults;
     } };
 }
@@ -54,7 +55,7 @@ impl MemoryKeeper {
             alloc,
             current: MemoryCollection::empty(alloc),
             mark: None,
-            calls: Calls::new(alloc),
+            calls: Calls::new(Vec::new(alloc)),
         }
     }
 
@@ -62,7 +63,7 @@ impl MemoryKeeper {
     pub fn fail_at(&mut self, calls: List<u64>)
         ensures { self.new ≡ record self.old { calls = 0; fails = calls } }
     {
-        self.calls.fail_at(calls);
+        self.calls.fail_at(calls.into_vec());
     }
 
     /// The current rows.
@@ -108,7 +109,7 @@ impl Keeper for MemoryKeeper {
         ensures fails { FailsWhere (is_to_fail self.old) result }
         ensures cause { KeepCause self.old.faults self.new.faults result }
     {
-        self.calls.next()?;
+        next_call(&mut self.calls)?;
         let row = self.current.get(name)?;
         Ok(row)
     }
@@ -121,7 +122,7 @@ impl Keeper for MemoryKeeper {
         ensures fails { FailsWhere (is_to_fail self.old) result }
         ensures cause { KeepCause self.old.faults self.new.faults result }
     {
-        self.calls.next()?;
+        next_call(&mut self.calls)?;
         self.current.put(row)?;
         Ok(())
     }
@@ -133,7 +134,7 @@ impl Keeper for MemoryKeeper {
         ensures answer { result ≡ answer_of (is_to_fail self.old) tt }
         ensures cause { KeepCause self.old.faults self.new.faults result }
     {
-        self.calls.next()?;
+        next_call(&mut self.calls)?;
         self.current.remove(name);
         Ok(())
     }
@@ -149,7 +150,7 @@ impl Keeper for MemoryKeeper {
         ensures fails { FailsWhere (is_to_fail self.old) result }
         ensures cause { KeepCause self.old.faults self.new.faults result }
     {
-        self.calls.next()?;
+        next_call(&mut self.calls)?;
         let page = self.current.page(table, past, limit)?;
         Ok(page)
     }
@@ -172,7 +173,7 @@ impl Keeper for MemoryKeeper {
         ensures fails { FailsWhere (is_to_fail self.old) result }
         ensures cause { KeepCause self.old.faults self.new.faults result }
     {
-        self.calls.next()?;
+        next_call(&mut self.calls)?;
         let page = self.current.pending(table, want, past, limit)?;
         Ok(page)
     }
@@ -184,7 +185,7 @@ impl Keeper for MemoryKeeper {
         ensures fails { FailsWhere (is_to_fail self.old) result }
         ensures cause { KeepCause self.old.faults self.new.faults result }
     {
-        self.calls.next()?;
+        next_call(&mut self.calls)?;
         let ids = self.current.cards_of(note)?;
         Ok(ids)
     }
@@ -194,7 +195,7 @@ impl Keeper for MemoryKeeper {
         ensures answer { result ≡ answer_of (is_to_fail self.old) (row_count table self.old.kept.current.rows) }
         ensures cause { KeepCause self.old.faults self.new.faults result }
     {
-        self.calls.next()?;
+        next_call(&mut self.calls)?;
         Ok(self.current.count(table))
     }
 
@@ -205,7 +206,7 @@ impl Keeper for MemoryKeeper {
         ensures fails { FailsWhere (is_to_fail self.old) result }
         ensures cause { KeepCause self.old.faults self.new.faults result }
     {
-        self.calls.next()?;
+        next_call(&mut self.calls)?;
         let head = self.current.head()?;
         Ok(head)
     }
@@ -218,7 +219,7 @@ impl Keeper for MemoryKeeper {
         ensures answer { result ≡ answer_of (is_to_fail self.old) tt }
         ensures cause { KeepCause self.old.faults self.new.faults result }
     {
-        self.calls.next()?;
+        next_call(&mut self.calls)?;
         self.current.set_head(head);
         Ok(())
     }
@@ -238,7 +239,7 @@ impl Keeper for MemoryKeeper {
         ensures answer { result ≡ answer_of (is_to_fail self.old) tt }
         ensures cause { KeepCause self.old.faults self.new.faults result }
     {
-        self.calls.next()?;
+        next_call(&mut self.calls)?;
         self.current.set_moments(moment, schema, usn, last_sync);
         Ok(())
     }
@@ -253,7 +254,7 @@ impl Keeper for MemoryKeeper {
         ensures fails { FailsWhere (is_to_fail self.old) result }
         ensures cause { KeepCause self.old.faults self.new.faults result }
     {
-        self.calls.next()?;
+        next_call(&mut self.calls)?;
         let made = MemoryCollection::of(self.alloc, rows, head)?;
         self.current = made;
         Ok(())
@@ -266,7 +267,7 @@ impl Keeper for MemoryKeeper {
         ensures fails { FailsWhere (is_to_fail self.old) result }
         ensures cause { KeepCause self.old.faults self.new.faults result }
     {
-        self.calls.next()?;
+        next_call(&mut self.calls)?;
         let copy = self.current.copy()?;
         self.mark = Some(copy);
         Ok(())
@@ -288,7 +289,7 @@ impl Keeper for MemoryKeeper {
         ensures answer { result ≡ answer_of (is_to_fail self.old) tt }
         ensures cause { KeepCause self.old.faults self.new.faults result }
     {
-        match self.calls.next() {
+        match next_call(&mut self.calls) {
             Ok(()) => {
                 self.mark = None;
                 return Ok(());
