@@ -1,2 +1,4 @@
 pub mod Numerals
 pub mod Resting
+pub mod RowFacts
+pub mod SameRows

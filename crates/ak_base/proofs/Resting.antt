@@ -1,6 +1,8 @@
 -- What stands beside known keys, read from its text and written again.
-use Rattle.std.specs.Prelude.{◌≡◌, ℕ, nat_le, ◌≤◌, Bool, true, false, T, not, ◌&&◌, ◌==◌, cond, if◌then◌else◌, List, [], ◌∷◌, Option, Some, None, option_and_then, codes}
+use Rattle.std.specs.Prelude.{◌≡◌, ℕ, ◌≤◌, Bool, true, false, T, not, ◌&&◌, ◌==◌, if◌then◌else◌, List, [], ◌∷◌, Some, None, option_and_then, codes}
 use Rattle.std.proofs.Common.{refl, sym, ap, subst, ◌∙◌, arith}
+use Rattle.std.proofs.Math.Bool.{Bool-set}
+use Rattle.std.proofs.Math.Path.{PathP, to_path_p}
 use Rattle.std.specs.Cmp.Lexicographic.{pointwise}
 use Rattle.std.specs.Option.{option_map_or}
 use Rattle.serde_json.specs.Data.{Data, null, boolean, number, string, array, Members, no_members, object, depth}
@@ -61,3 +63,7 @@ rest_reads text value passes is reads =
           ap (λ read. option_map_or (λ members. is_plain members && passes members) (option_and_then (λ value. if is_written_as text value then as_object value else None) read) false) reads
           ∙ ap (λ b. option_map_or (λ members. is_plain members && passes members) (if b then as_object value else None) false) other) ∙ is))
     ] refl
+
+-- what shows that rests of one text are rests is one
+pub same_proof : (passes : Members → Bool) {x y : List ℕ} (p : x ≡ y) (u : is_rest passes x ≡ true) (v : is_rest passes y ≡ true) → PathP (λ i. is_rest passes (p i) ≡ true) u v
+same_proof passes p u v = to_path_p (λ i. is_rest passes (p i) ≡ true) (Bool-set _ _ _ _)

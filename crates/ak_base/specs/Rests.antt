@@ -1,5 +1,5 @@
 -- The keys of an object that a row's columns do not know, kept as the compact text of an object.
-use Rattle.std.specs.Prelude.{ℕ, nat_le, Bool, false, not, is_none, ◌&&◌, ◌==◌, if◌then◌else◌, List, [], ◌∷◌, Option, Some, None, option_and_then, true, codes}
+use Rattle.std.specs.Prelude.{ℕ, nat_le, Bool, false, not, is_none, ◌&&◌, ◌==◌, if◌then◌else◌, List, [], ◌∷◌, Option, None, option_and_then, true, codes}
 use Rattle.std.specs.Cmp.Lexicographic.{pointwise}
 use Rattle.std.specs.List.{list_all}
 use Rattle.std.specs.Option.{option_map_or}

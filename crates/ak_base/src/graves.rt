@@ -1,9 +1,9 @@
-ghost use Rattle.std.specs.Prelude.{◌≡◌, IfOk};
+ghost use Rattle.std.specs.Prelude.{◌≡◌};
 ghost use Rattle.ak_base.specs.Columns.{first_fault};
 ghost use Rattle.ak_base.specs.Graves.{grave_faults, grave_table};
 
 use crate::columns::{LAST_USN, code_fault, first_fault, id_fault};
-use crate::{Memory, RowFault, Table};
+use crate::{RowFault, Table};
 
 /// That a row was deleted, as schema 11's `graves` keeps it.
 #[derive(Clone, Copy, Debug, PartialEq, Eq)]
@@ -40,13 +40,6 @@ impl Grave {
             code_fault(2, self.kind, 0, 2),
         ])
     }
-
-    /// An equal grave. It takes no memory.
-    pub fn copy(&self) -> Result<Grave, Memory>
-        ensures { IfOk result (λ made. made ≡ self.now) }
-    {
-        Ok(*self)
-    }
 }
 
 #[cfg(test)]
@@ -54,7 +47,7 @@ mod tests {
     use super::*;
 
     #[test]
-    fn the_first_fault_is_told(rt: HostRuntime) -> Result<(), Memory> {
+    fn the_first_fault_is_told(rt: HostRuntime) {
         let usn_fault = RowFault::BadCode {
             column: 0,
             value: -2,
@@ -73,8 +66,6 @@ mod tests {
         for (usn, oid, kind, wanted) in cases {
             let grave = Grave { usn, oid, kind };
             assert!(rt; grave.check() == wanted);
-            assert!(rt; grave.copy()? == grave);
         }
-        Ok(())
     }
 }

@@ -18,7 +18,8 @@ use Rattle.ak_merge.specs.Commits.{IsCommitOf, IsCommitted}
 use Rattle.ak_merge.specs.Holdings.{At, Held, under, AreNamed, AreChecked, graves_of, grave_under, IsSingle, tag_usn}
 use Rattle.ak_merge.proofs.JoinLaws.{no_graves}
 use Rattle.ak_merge.specs.Links.{has_stamps, IsGiven, AreNumbered, IsHeldLike, IsNewerFrom, IsThere, HasTaken, IsKnown, IsShared, IsTagShared, AreLinkedParts, AreLinked}
-use Rattle.ak_merge.proofs.RowFacts.{name_of-with_usn, stamp_of-with_usn, usn_of-with_usn, like_stamp}
+use Rattle.ak_base.proofs.RowFacts.{name_of-with_usn, stamp_of-with_usn, usn_of-with_usn}
+use Rattle.ak_base.proofs.SameRows.{like_stamp}
 use Rattle.ak_merge.proofs.TakingLaws.{received, received_by, received_under, grave_in, newest_in, all_taken_at, each_newest}
 
 -- ---- what holds of what is there

@@ -21,7 +21,7 @@ use Rattle.ak_base.specs.declared.rows.Row.TheVariants as rows
 use Rattle.ak_keep.specs.Collections.{rows_of}
 use Rattle.ak_keep.specs.Entries.{same_of_tied, same_some}
 use Rattle.ak_merge.proofs.Finding.{not_none, not_both}
-use Rattle.ak_merge.proofs.RowFacts.{same-turned, same-through}
+use Rattle.ak_base.proofs.RowFacts.{same-turned, same-through}
 use Rattle.ak_merge.proofs.SoundLaws.{has_place}
 use Rattle.ak_merge.proofs.TakingLaws.{is_name}
 use Rattle.ak_merge.specs.Holdings.{At, Held, graves_of, grave_under, IsSingle}

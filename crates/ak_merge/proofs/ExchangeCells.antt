@@ -16,7 +16,8 @@ use Rattle.ak_merge.specs.Commits.{wanted_under, IsSent, settled}
 use Rattle.ak_merge.specs.Holdings.{At, AreNamed, same_held}
 use Rattle.ak_merge.specs.Joins.{newest}
 use Rattle.ak_merge.specs.Links.{HasTaken, IsKnown}
-use Rattle.ak_merge.proofs.RowFacts.{same-with_usn, like_stamp, same-itself, same-turned}
+use Rattle.ak_base.proofs.RowFacts.{same-with_usn, same-itself, same-turned}
+use Rattle.ak_base.proofs.SameRows.{like_stamp}
 use Rattle.ak_merge.proofs.TakingLaws.{received, received_by, newest_in, each_newest, has_newest}
 use Rattle.ak_merge.proofs.CommitLaws.{if_weaker}
 

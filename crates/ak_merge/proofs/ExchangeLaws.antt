@@ -19,7 +19,8 @@ use Rattle.ak_merge.specs.Commits.{IsListOf, unsent_tags, tags_from, wanted_unde
 use Rattle.ak_merge.specs.Holdings.{At, Held, under, AreNamed, graves_of, grave_under, IsSingle, tag_usn, content_of, same_held, SameContent}
 use Rattle.ak_merge.specs.Joins.{AreApart, joined_under, join}
 use Rattle.ak_merge.specs.Links.{has_stamps, IsGiven, IsOwn, AreNumbered, IsHeldLike, HasTaken, IsKnown, IsShared, IsTagShared, AreLinkedParts}
-use Rattle.ak_merge.proofs.RowFacts.{name_of-with_usn, usn_of-with_usn, same-with_usn, same-itself, same-turned, same-through, held-turned, held-through}
+use Rattle.ak_base.proofs.RowFacts.{name_of-with_usn, usn_of-with_usn, same-with_usn, same-itself, same-turned, same-through}
+use Rattle.ak_merge.proofs.HeldFacts.{held-turned, held-through}
 use Rattle.ak_merge.proofs.TakingLaws.{received, received_under, grave_in, newest_in, all_taken_at}
 use Rattle.ak_merge.proofs.CommitLaws.{of_some, named_received, when_some, if_weaker, each_by, all_some, newest_named, grave_received, single_received, commit_under, given_more, given_now, commit_given, no_stamps, unstamped_graves, unstamped, stays_unstamped}
 use Rattle.ak_merge.proofs.ExchangeCells.{only_wanted, is_only, wanted_named, sent_each, sent_whole, Meets, agree}

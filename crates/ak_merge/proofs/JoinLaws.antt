@@ -12,7 +12,9 @@ use Rattle.ak_base.specs.declared.names.Table.TheVariants as tables
 use Rattle.ak_base.specs.declared.rows.Row.{Row}
 use Rattle.ak_merge.specs.Holdings.{At, Held, under, graves_of, is_dead, has_tag, content_of, same_held, SameContent}
 use Rattle.ak_merge.specs.Joins.{AreApart, newest, joined_under, newest_head, join}
-use Rattle.ak_merge.proofs.RowFacts.{like_stamp, same-itself, same-turned, held-itself, held-turned}
+use Rattle.ak_base.proofs.RowFacts.{same-itself, same-turned}
+use Rattle.ak_base.proofs.SameRows.{like_stamp}
+use Rattle.ak_merge.proofs.HeldFacts.{held-itself, held-turned}
 
 or-turned : (s t : Bool) → (s || t) ≡ (t || s)
 or-turned true true = refl

@@ -1,6 +1,6 @@
 pub mod Passing
 pub mod Taking
-pub mod RowFacts
+pub mod HeldFacts
 pub mod JoinLaws
 pub mod TakingLaws
 pub mod CommitLaws

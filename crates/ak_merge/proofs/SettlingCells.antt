@@ -8,7 +8,7 @@ use Rattle.ak_base.specs.declared.names.Name.{Name}
 use Rattle.ak_base.specs.declared.rows.Row.{Row}
 use Rattle.ak_keep.specs.Collections.{is_pending}
 use Rattle.ak_merge.proofs.EditFacts.{edited_name, false_true, true_false, none_held, held_none, one_held, edited_usn, edited_pending, pending_unsettled, edited_unsettled, edited_stamp, own_fields, by_three, risen_past, same_least, less_least}
-use Rattle.ak_merge.proofs.RowFacts.{like_stamp}
+use Rattle.ak_base.proofs.SameRows.{like_stamp}
 use Rattle.ak_merge.specs.Links.{has_stamps, IsOwn, IsThere, IsNewerUnsent, HasTaken, IsKnown, IsShared, IsTagShared}
 use Rattle.ak_merge.specs.Settling.{edited, risen, has_fields, settled_row, goes, changes_row, settled_tag}
 use Rattle.ak_merge.specs.Undoing.{IsTagKept}

@@ -9,7 +9,7 @@ use Rattle.ak_base.specs.declared.names.Table.{Table}
 use Rattle.ak_base.specs.declared.rows.Row.{Row}
 use Rattle.ak_keep.specs.Collections.{Collection, with_row, without}
 use Rattle.ak_keep.specs.Keepers.{Keeping, WhereTold, changed}
-use Rattle.ak_merge.proofs.RowFacts.{name_of-with_usn}
+use Rattle.ak_base.proofs.RowFacts.{name_of-with_usn}
 use Rattle.ak_merge.specs.Holdings.{At, graves_of, grave_name, is_dead}
 use Rattle.ak_merge.specs.Takings.{buried, without_buried, buried_name, with_taken, takes}
 

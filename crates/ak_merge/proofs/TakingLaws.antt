@@ -24,7 +24,7 @@ use Rattle.ak_merge.specs.Commits.{IsListOf, IsTakingOf}
 use Rattle.ak_merge.specs.Holdings.{At, Held, under, AreNamed, graves_of, grave_under, is_dead, IsSingle, tag_usn, content_of, same_held, SameContent}
 use Rattle.ak_merge.proofs.JoinLaws.{no_graves}
 use Rattle.ak_merge.specs.Joins.{newest, joined_under, join}
-use Rattle.ak_merge.proofs.RowFacts.{stamp_of-with_usn, same-with_usn, same-itself}
+use Rattle.ak_base.proofs.RowFacts.{stamp_of-with_usn, same-with_usn, same-itself}
 use Rattle.ak_merge.specs.Takings.{is_newer, takes, buried_table, buried_name, buried, taken, all_taken}
 
 -- ---- what stands under a name after taking

@@ -9,14 +9,14 @@ ghost use Rattle.ak_merge.specs.Parting.{IsLeastTorn, first_torn};
 ghost use Rattle.ak_merge.specs.Soundness.{IsSound, first_fault};
 ghost use Rattle.ak_merge.specs.Ties.{DoAgree};
 
-/// Where two collections are apart, their union is their join.
+/// Where two collections agree on each name that both hold, their union is their join.
 #[tactic(auto, using(crate::specs::Join::union_joins))]
 pub fn union_is_join()
     ensures { (a b : Rows) → DoAgree a b → IsJoin a b (union a b) }
 {}
 
-/// Where two collections are apart, it makes no difference which is joined into which, update
-/// sequence numbers aside.
+/// Where two collections agree on each name that both hold, it makes no difference which is joined into
+/// which, update sequence numbers aside.
 #[tactic(auto, using(crate::specs::Join::union_commutes))]
 pub fn union_commutes()
     ensures { (a b : Rows) → DoAgree a b → AreSame (union a b) (union b a) }

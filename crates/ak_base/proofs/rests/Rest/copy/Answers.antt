@@ -1,8 +1,7 @@
 use Rattle.std.proofs.Common.{◌≡◌, true, ℕ, List}
-use Rattle.std.proofs.Math.Bool.{Bool-set}
-use Rattle.std.proofs.Math.Path.{to_path_p}
 use Rattle.ak_base.specs.Rests.{is_rest}
 use Rattle.ak_base.specs.declared.rests.Rest.{Rest}
+use Rattle.ak_base.proofs.Resting.{same_proof}
 use Rattle.ak_base.proofs.rests.Rest.copy.Given as given
 use Rattle.ak_base.proofs.rests.Rest.copy.Goals as goal
 
@@ -12,7 +11,7 @@ same_rests : (g : given.Over) {x y : List ℕ} (u : is_rest g.O.Owner.ignores x 
 same_rests g u v p = λ i. record {
   text = p i;
   owner = record {};
-  unknown = to_path_p (λ i. is_rest g.O.Owner.ignores (p i) ≡ true) {a = u} {b = v} (Bool-set _ _ _ _) i;
+  unknown = same_proof g.O.Owner.ignores p u v i;
 }
 
 pub returns : goal.returns
