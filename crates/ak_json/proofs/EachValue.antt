@@ -9,9 +9,10 @@ use Rattle.serde_json.specs.Data.{Data, null, boolean, number, string, array, ob
 use Rattle.serde_json.specs.Find.{get, get_member, as_array, as_object}
 use Rattle.serde_json.specs.Read.{read}
 use Rattle.serde_json.specs.Written.{compact_text}
-use Rattle.ak_base.specs.Rests.{is_plain, is_rest, lacks, lacks_options, field_keys, template_keys, note_type_keys, deck_keys}
+use Rattle.ak_base.specs.Rests.{is_plain, is_rest, lacks, lacks_options, field_keys, template_keys, note_type_keys, deck_keys, conf_keys}
 use Rattle.ak_base.specs.declared.decks.Deck.{Deck}
 use Rattle.ak_base.specs.declared.errors.RowFault.{RowFault}
+use Rattle.ak_base.specs.declared.heads.Conf.{Conf}
 use Rattle.ak_base.specs.declared.names.Table.{Table}
 use Rattle.ak_base.specs.declared.names.Table.TheVariants as tables
 use Rattle.ak_base.specs.declared.note_types.CardTemplate.{CardTemplate}
@@ -23,20 +24,22 @@ use Rattle.ak_base.specs.declared.rows.Row.TheVariants as rows
 use Rattle.ak_base.proofs.Resting.{members_of-written, plain_value, written_is_rest}
 use Rattle.ak_json.specs.Arrays.{note_at, card_at, review_at, grave_at}
 use Rattle.ak_json.specs.Cells.{whole_at, words_at, truth_at, part_at, count_at, steps_at}
+use Rattle.ak_json.specs.Confs.{ReadsConf, conf_fault}
 use Rattle.ak_json.specs.Decks.{IsDeck}
-use Rattle.ak_json.specs.Faults.{told}
+use Rattle.ak_json.specs.Faults.{told, Tells}
 use Rattle.ak_json.specs.Flaws.{part_flaw, parts_flaw}
 use Rattle.ak_json.specs.Groups.{IsOptions, put_group, new_in, rev_in, lapse_in, options_kept}
 use Rattle.ak_json.specs.Keys.{word_text}
 use Rattle.ak_json.specs.Members.{Form, knows, unknown, deep_member}
 use Rattle.ak_json.specs.NoteTypes.{IsNoteType, field_of, field_in, fields_in, template_of, template_in, templates_in, items_at}
+use Rattle.ak_json.specs.Objects.{object_flaw}
 use Rattle.ak_json.specs.Rests.{kept, rest_text, deep_fault, deep_key}
 use Rattle.ak_json.specs.Rows.{row_flaw, deep_in, form_fault, IsRow, row_check, ReadsRow, RefusesRow}
 use Rattle.ak_json.specs.declared.faults.JsonFault.{JsonFault}
 use Rattle.ak_json.specs.declared.faults.JsonFault.TheVariants as faults
 use Rattle.ak_json.specs.declared.flaws.Flaw.{Flaw}
 use Rattle.ak_json.specs.declared.flaws.Flaw.TheVariants as flaws
-use Rattle.ak_json.specs.declared.forms.TheConstants.{DECK, NOTE_TYPE, FIELD, TEMPLATE, OPTIONS, NEW, REV, LAPSE}
+use Rattle.ak_json.specs.declared.forms.TheConstants.{CONF, DECK, NOTE_TYPE, FIELD, TEMPLATE, OPTIONS, NEW, REV, LAPSE}
 use Rattle.ak_json.specs.declared.keys.Word.{Word}
 use Rattle.ak_json.specs.declared.keys.Word.TheVariants as words
 use Rattle.ak_json.proofs.Kept.{lacks_known, plain_kept}
@@ -321,3 +324,46 @@ each_value table text d reads = one (form_fault table d) refl
         let made = row_made table d (read_orderly text d reads) flawless shallow in
         of_row table d made.0 e made.1 (row_check table made.0) refl
     one (Some fault) e = of_fault table d fault (subst (λ (o : Option JsonFault). IfSome o IsOfForm) e (fault_of_form table d)) e
+
+-- ---- the same of the settings
+
+conf_made : (d : Data) → IsOrderly d → conf_fault d ≡ None → (c : Conf) × ReadsConf d c
+conf_made d h e = (
+  record {
+    new_spread = whole_at CONF 0 d;
+    collapse = whole_at CONF 1 d;
+    day_learn_first = truth_at CONF 2 d;
+    next_pos = whole_at CONF 3 d;
+    last_unburied = whole_at CONF 4 d;
+    rest = record {
+      text = rest_text CONF d;
+      owner = record {};
+      unknown = kept_is_rest conf_keys CONF d refl h (none_mapped faults.WrongKind _ (second_none (option_map told (object_flaw CONF d)) _ e));
+    };
+  },
+  record { form = e; new_spread = refl; collapse = refl; day_learn_first = refl; next_pos = refl; last_unburied = refl; rest = refl },
+)
+
+-- settings that the value is read as, or a fault that refuses it
+abbrev IsConfDecided : Data → Type 0
+IsConfDecided d = ((c : Conf) × ReadsConf d c) ⊎ ((fault : JsonFault) × Tells (conf_fault d) fault × (fault ≡ faults.Memory → ⊥))
+
+conf_told : (d : Data) (fault : JsonFault) → IsOfForm fault → conf_fault d ≡ Some fault → IsConfDecided d
+conf_told d faults.NotJson h e = absurd h
+conf_told d (faults.Missing text) h e = inr (faults.Missing text, e, λ m. cc)
+conf_told d (faults.WrongKind text) h e = inr (faults.WrongKind text, e, λ m. cc)
+conf_told d (faults.Row fault) h e = absurd h
+conf_told d faults.Memory h e = absurd h
+
+fault_of_conf : (d : Data) → IfSome (conf_fault d) IsOfForm
+fault_of_conf d =
+    either_of_form _ _ (mapped (λ _. Unit {0}) IsOfForm told (λ flaw _. flaw_of_form flaw) (object_flaw CONF d) (unasked _)) (deep_of_form (kept CONF d))
+
+-- each value that was read from a text is read as settings, or refused
+pub each_conf : (text : List ℕ) (d : Data) → read text ≡ Some d
+    → ((c : Conf) × ReadsConf d c) ⊎ ((fault : JsonFault) × Tells (conf_fault d) fault × (fault ≡ faults.Memory → ⊥))
+each_conf text d reads = one (conf_fault d) refl
+  where
+    one : (o : Option JsonFault) → conf_fault d ≡ o → IsConfDecided d
+    one None e = inl (conf_made d (read_orderly text d reads) e)
+    one (Some fault) e = conf_told d fault (subst (λ (o : Option JsonFault). IfSome o IsOfForm) e (fault_of_conf d)) e

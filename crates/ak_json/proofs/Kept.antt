@@ -59,7 +59,7 @@ pub record IsWhole (deepest : ℕ) (most : ℕ) (floats : Bool) : Type 0 where
   pub nests : deepest ≤ most
   pub whole : floats ≡ false
 
-not_true : (b : Bool) → not b ≡ true → b ≡ false
+pub not_true : (b : Bool) → not b ≡ true → b ≡ false
 not_true true h = cc
 not_true false h = refl
 

@@ -27,7 +27,7 @@ use Rattle.ak_json.specs.declared.flaws.Flaw.TheVariants.{WrongKind}
 use Rattle.ak_json.specs.declared.keys.Place.{Place}
 use Rattle.ak_json.specs.declared.keys.Place.TheVariants as places
 use Rattle.ak_json.specs.declared.kinds.Kind.{Kind}
-use Rattle.ak_json.proofs.Kept.{left_true, right_true, both_true, same_key}
+use Rattle.ak_json.proofs.Kept.{left_true, right_true, both_true, same_key, not_true}
 
 -- each cell stands where its column does
 abbrev pub AllFound : Form → List Data → Data → Type 0
@@ -44,10 +44,6 @@ is_new columns (places.At place) = false
 abbrev pub are_apart : Form → Bool
 are_apart [] = true
 are_apart (column ∷ columns) = is_new columns column.0 && are_apart columns
-
-not_true : (b : Bool) → not b ≡ true → b ≡ false
-not_true true h = cc
-not_true false h = refl
 
 pub no_left : (a b : Bool) → (a || b) ≡ false → a ≡ false
 no_left true b h = cc

@@ -1,9 +1,7 @@
 -- A value stands for one row at most, and is refused by one fault.
-use Rattle.std.proofs.Common.{◌≡◌, ℕ, List, [], ◌∷◌, map, Bool, true, Some, None, Ok, Err, ◌⊎◌, inl, inr, refl, sym, ap, ◌∙◌}
-use Rattle.std.proofs.Math.Bool.{Bool-set}
-use Rattle.std.proofs.Math.Path.{PathP, to_path_p}
-use Rattle.serde_json.specs.Data.{Data, Members}
-use Rattle.ak_base.specs.Rests.{is_rest, lacks, lacks_options, field_keys, template_keys, note_type_keys, deck_keys, conf_keys}
+use Rattle.std.proofs.Common.{◌≡◌, ℕ, List, [], ◌∷◌, map, Option, Some, None, Ok, Err, ◌⊎◌, inl, inr, refl, sym, ap, ◌∙◌}
+use Rattle.serde_json.specs.Data.{Data}
+use Rattle.ak_base.specs.Rests.{lacks, lacks_options, note_type_keys, deck_keys, conf_keys}
 use Rattle.ak_base.specs.declared.cards.Card.{Card}
 use Rattle.ak_base.specs.declared.decks.Deck.{Deck}
 use Rattle.ak_base.specs.declared.errors.RowFault.{RowFault}
@@ -19,8 +17,11 @@ use Rattle.ak_base.specs.declared.option_groups.Options.{Options}
 use Rattle.ak_base.specs.declared.reviews.Review.{Review}
 use Rattle.ak_base.specs.declared.rows.Row.{Row}
 use Rattle.ak_base.specs.declared.rows.Row.TheVariants as rows
-use Rattle.ak_json.specs.Confs.{ReadsConf}
+use Rattle.ak_base.proofs.Resting.{same_proof}
+use Rattle.ak_base.proofs.SameRows.{one_field, one_template}
+use Rattle.ak_json.specs.Confs.{ReadsConf, conf_fault}
 use Rattle.ak_json.specs.Decks.{IsDeck}
+use Rattle.ak_json.specs.Faults.{Tells}
 use Rattle.ak_json.specs.Groups.{IsOptions}
 use Rattle.ak_json.specs.NoteTypes.{IsNoteType, field_of, template_of}
 use Rattle.ak_json.specs.Rows.{IsRow, row_check, form_fault, MissesRange, ReadsRow, RefusesRow}
@@ -28,10 +29,6 @@ use Rattle.ak_json.specs.declared.faults.JsonFault.{JsonFault}
 use Rattle.ak_json.specs.declared.faults.JsonFault.TheVariants as faults
 
 -- ---- equal records
-
--- what shows that rests of one text are rests is one
-same_proof : (passes : Members → Bool) {x y : List ℕ} (p : x ≡ y) (u : is_rest passes x ≡ true) (v : is_rest passes y ≡ true) → PathP (λ i. is_rest passes (p i) ≡ true) u v
-same_proof passes p u v = to_path_p (λ i. is_rest passes (p i) ≡ true) (Bool-set _ _ _ _)
 
 one_deck : (d : Data) (a b : Deck) → IsDeck d a → IsDeck d b → a ≡ b
 one_deck d a b x y =
@@ -52,31 +49,17 @@ one_deck d a b x y =
       };
     }
 
-one_field : (a b : FieldDef) → field_of a ≡ field_of b → a ≡ b
-one_field a b e =
-    let text : a.rest.text ≡ b.rest.text = ap (λ (f : List ℕ × List ℕ). f.1) e in
-    λ i. record {
-      name = (e i).0;
-      rest = record {
-        text = text i;
-        owner = record {};
-        unknown = same_proof (lacks field_keys) text a.rest.unknown b.rest.unknown i;
-      };
-    }
+same_field : (a b : FieldDef) → field_of a ≡ field_of b → a ≡ b
+same_field a b e = one_field a b (ap (λ (f : List ℕ × List ℕ). f.0) e) (ap (λ (f : List ℕ × List ℕ). f.1) e)
 
-one_template : (a b : CardTemplate) → template_of a ≡ template_of b → a ≡ b
-one_template a b e =
-    let text : a.rest.text ≡ b.rest.text = ap (λ (t : List ℕ × List ℕ × List ℕ × List ℕ). t.3) e in
-    λ i. record {
-      name = (e i).0;
-      front = (e i).1;
-      back = (e i).2;
-      rest = record {
-        text = text i;
-        owner = record {};
-        unknown = same_proof (lacks template_keys) text a.rest.unknown b.rest.unknown i;
-      };
-    }
+same_template : (a b : CardTemplate) → template_of a ≡ template_of b → a ≡ b
+same_template a b e =
+    let part : (List ℕ × List ℕ × List ℕ × List ℕ → List ℕ) → Type 0 = λ f. f (template_of a) ≡ f (template_of b) in
+    let name : part (λ t. t.0) = ap (λ (t : List ℕ × List ℕ × List ℕ × List ℕ). t.0) e in
+    let front : part (λ t. t.1) = ap (λ (t : List ℕ × List ℕ × List ℕ × List ℕ). t.1) e in
+    let back : part (λ t. t.2) = ap (λ (t : List ℕ × List ℕ × List ℕ × List ℕ). t.2) e in
+    let rest : part (λ t. t.3) = ap (λ (t : List ℕ × List ℕ × List ℕ × List ℕ). t.3) e in
+    one_template a b name front back rest
 
 -- lists are one where a function that tells their elements apart finds the same in both
 same_list : {A B : Type 0} (f : A → B) → ((a b : A) → f a ≡ f b → a ≡ b) → (xs ys : List A) → map f xs ≡ map f ys → xs ≡ ys
@@ -93,8 +76,8 @@ same_list f one (x ∷ xs) (y ∷ ys) e =
 one_note_type : (d : Data) (a b : NoteType) → IsNoteType d a → IsNoteType d b → a ≡ b
 one_note_type d a b x y =
     let text : a.rest.text ≡ b.rest.text = x.rest ∙ sym y.rest in
-    let fields : a.fields ≡ b.fields = same_list field_of one_field a.fields b.fields (x.fields ∙ sym y.fields) in
-    let templates : a.templates ≡ b.templates = same_list template_of one_template a.templates b.templates (x.templates ∙ sym y.templates) in
+    let fields : a.fields ≡ b.fields = same_list field_of same_field a.fields b.fields (x.fields ∙ sym y.fields) in
+    let templates : a.templates ≡ b.templates = same_list template_of same_template a.templates b.templates (x.templates ∙ sym y.templates) in
     λ i. record {
       id = (x.id ∙ sym y.id) i;
       stamp = (x.stamp ∙ sym y.stamp) i;
@@ -260,3 +243,26 @@ one_fault table d (faults.Missing text) b x y = or_memory (form_first table d (f
 one_fault table d (faults.WrongKind text) b x y = or_memory (form_first table d (faults.WrongKind text) b x y)
 one_fault table d (faults.Row fault) b x y = or_memory (range_first table d x.0 fault b x.1 y)
 one_fault table d faults.Memory b x y = inr (inl refl)
+
+-- ---- the same of the settings
+
+pub conf_read_or_refused : (d : Data) (c : Conf) (fault : JsonFault) → ReadsConf d c → Tells (conf_fault d) fault → fault ≡ faults.Memory
+conf_read_or_refused d c faults.NotJson x y = absurd y
+conf_read_or_refused d c (faults.Missing text) x y = let none : conf_fault d ≡ None = x.form in cc
+conf_read_or_refused d c (faults.WrongKind text) x y = let none : conf_fault d ≡ None = x.form in cc
+conf_read_or_refused d c (faults.Row fault) x y = absurd y
+conf_read_or_refused d c faults.Memory x y = refl
+
+told_first : (wanted : Option JsonFault) (a b : JsonFault) → wanted ≡ Some a → Tells wanted b → (a ≡ b) ⊎ (b ≡ faults.Memory)
+told_first wanted a faults.NotJson x y = absurd y
+told_first wanted a (faults.Missing text) x y = inl cc
+told_first wanted a (faults.WrongKind text) x y = inl cc
+told_first wanted a (faults.Row fault) x y = absurd y
+told_first wanted a faults.Memory x y = inr refl
+
+pub one_told : (wanted : Option JsonFault) (a b : JsonFault) → Tells wanted a → Tells wanted b → (a ≡ b) ⊎ ((a ≡ faults.Memory) ⊎ (b ≡ faults.Memory))
+one_told wanted faults.NotJson b x y = absurd x
+one_told wanted (faults.Missing text) b x y = or_memory (told_first wanted (faults.Missing text) b x y)
+one_told wanted (faults.WrongKind text) b x y = or_memory (told_first wanted (faults.WrongKind text) b x y)
+one_told wanted (faults.Row fault) b x y = absurd x
+one_told wanted faults.Memory b x y = inr (inl refl)

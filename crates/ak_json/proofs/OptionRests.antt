@@ -1,5 +1,5 @@
 -- What an option group keeps of its unknown keys is a rest.
-use Rattle.std.proofs.Common.{◌≡◌, ℕ, List, [], ◌∷◌, length, Bool, true, false, not, Option, None, is_none, arith, BTreeMap, String, Global, bytes_eq, refl, ap, ◌∙◌}
+use Rattle.std.proofs.Common.{◌≡◌, ℕ, List, [], ◌∷◌, length, true, false, not, Option, None, is_none, arith, BTreeMap, String, Global, bytes_eq, refl, ap, ◌∙◌}
 use Rattle.std.specs.Prelude.{unwrap_or}
 use Rattle.std.specs.List.{list_all}
 use Rattle.std.specs.Option.{option_map_or}
@@ -16,7 +16,7 @@ use Rattle.ak_json.specs.Groups.{put_group, options_kept, new_in, rev_in, lapse_
 use Rattle.ak_json.specs.declared.keys.Word.{Word}
 use Rattle.ak_json.specs.declared.keys.Word.TheVariants as words
 use Rattle.ak_json.specs.declared.forms.TheConstants.{OPTIONS, NEW, REV, LAPSE}
-use Rattle.ak_json.proofs.Kept.{left_true, right_true, both_true, lacking, lacks_known}
+use Rattle.ak_json.proofs.Kept.{left_true, right_true, both_true, lacking, lacks_known, not_true}
 
 pub group_none : (own : Word) (es : List Entry) (ms : Members) → length es ≡ 0 → put_group own (members_view es) ms ≡ ms
 group_none own [] ms h = refl
@@ -31,10 +31,6 @@ group_some own m ms h = rw (view-Object m) (some_entries own m.entries ms h)
 
 unlike : (a b : List ℕ) → bytes_eq a b ≡ false → bytes_eq b b ≡ true → a ≡ b → ⊥
 unlike a b h k e = let same : bytes_eq a b ≡ bytes_eq b b = ap (λ (x : List ℕ). bytes_eq x b) e in cc
-
-not_true : (b : Bool) → not b ≡ true → b ≡ false
-not_true true h = cc
-not_true false h = refl
 
 -- other keys keep their values
 other_key : (k : List ℕ) (own : Word) (group ms : Members) → (k ≡ word_text own → ⊥) → get_member k (put_group own group ms) ≡ get_member k ms

@@ -144,7 +144,6 @@ pair_whole : (c : Count) → IsWhole (pair c)
 pair_whole c = neither _ _ (number_whole c.day) (neither _ _ (number_whole c.count) refl)
 
 note_type_whole : (t : NoteType) → AreWhole (note_type_cells t)
-unfolding note_type_cells
 note_type_whole t =
     (number_whole t.id, (number_whole t.stamp, (number_whole t.usn, (refl, (bit_whole t.cloze, (number_whole t.sortf, (items_whole _ (fields_whole 0 t.fields), (items_whole _ (templates_whole 0 t.templates), tt))))))))
 

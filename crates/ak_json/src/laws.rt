@@ -7,7 +7,8 @@ ghost use Rattle.ak_base.specs.Heads.{IsConfInRange};
 ghost use Rattle.ak_base.specs.declared.heads.Conf.{Conf};
 ghost use Rattle.ak_base.specs.declared.names.Table.{Table};
 ghost use Rattle.ak_base.specs.declared.rows.Row.{Row};
-ghost use Rattle.ak_json.specs.Confs.{conf_json, ReadsConf};
+ghost use Rattle.ak_json.specs.Confs.{conf_fault, conf_json, ReadsConf};
+ghost use Rattle.ak_json.specs.Faults.{Tells};
 ghost use Rattle.ak_json.specs.Rows.{StandsIn, row_check, row_json, ReadsRow, RefusesRow};
 ghost use Rattle.ak_json.specs.declared.faults.JsonFault.{JsonFault};
 ghost use Rattle.ak_json.specs.declared.faults.JsonFault.TheVariants as faults;
@@ -34,16 +35,18 @@ pub fn one_row_is_read()
     ensures { (table : Table) (d : Data) (a b : Row) → ReadsRow table d a → ReadsRow table d b → a ≡ b }
 {}
 
-/// A value that is read as a row is refused for want of memory alone.
-#[tactic(auto, using(crate::proofs::OneRow::read_or_refused))]
+/// What is read, as a row or as settings, is refused for want of memory alone.
+#[tactic(auto, using(crate::proofs::OneRow::read_or_refused, crate::proofs::OneRow::conf_read_or_refused))]
 pub fn what_is_read_is_not_refused()
-    ensures { (table : Table) (d : Data) (row : Row) (fault : JsonFault) → ReadsRow table d row → RefusesRow table d fault → fault ≡ faults.Memory }
+    ensures row { (table : Table) (d : Data) (row : Row) (fault : JsonFault) → ReadsRow table d row → RefusesRow table d fault → fault ≡ faults.Memory }
+    ensures conf { (d : Data) (conf : Conf) (fault : JsonFault) → ReadsConf d conf → Tells (conf_fault d) fault → fault ≡ faults.Memory }
 {}
 
-/// Two faults that refuse a value are equal, unless one of them is want of memory.
-#[tactic(auto, using(crate::proofs::OneRow::one_fault))]
+/// Two faults by which a value is refused are equal, unless one of them is want of memory.
+#[tactic(auto, using(crate::proofs::OneRow::one_fault, crate::proofs::OneRow::one_told))]
 pub fn one_fault_is_told()
-    ensures { (table : Table) (d : Data) (a b : JsonFault) → RefusesRow table d a → RefusesRow table d b → (a ≡ b) ⊎ ((a ≡ faults.Memory) ⊎ (b ≡ faults.Memory)) }
+    ensures row { (table : Table) (d : Data) (a b : JsonFault) → RefusesRow table d a → RefusesRow table d b → (a ≡ b) ⊎ ((a ≡ faults.Memory) ⊎ (b ≡ faults.Memory)) }
+    ensures conf { (d : Data) (a b : JsonFault) → Tells (conf_fault d) a → Tells (conf_fault d) b → (a ≡ b) ⊎ ((a ≡ faults.Memory) ⊎ (b ≡ faults.Memory)) }
 {}
 
 /// An object is read as one set of settings at most.
@@ -51,7 +54,9 @@ pub fn one_conf_is_read()
     ensures { (d : Data) (a b : Conf) → ReadsConf d a → ReadsConf d b → a ≡ b }
 {}
 
-/// Each value of a text is read as a row, or refused by a fault that is not want of memory.
+/// Each value of a text is read, as a row and as settings, or refused by a fault that is not want of
+/// memory.
 pub fn each_value_is_read_or_refused()
-    ensures { (table : Table) (text : List ℕ) (d : Data) → read text ≡ Some d → ((row : Row) × ReadsRow table d row) ⊎ ((fault : JsonFault) × RefusesRow table d fault × (fault ≡ faults.Memory → ⊥)) }
+    ensures row { (table : Table) (text : List ℕ) (d : Data) → read text ≡ Some d → ((row : Row) × ReadsRow table d row) ⊎ ((fault : JsonFault) × RefusesRow table d fault × (fault ≡ faults.Memory → ⊥)) }
+    ensures conf { (text : List ℕ) (d : Data) → read text ≡ Some d → ((conf : Conf) × ReadsConf d conf) ⊎ ((fault : JsonFault) × Tells (conf_fault d) fault × (fault ≡ faults.Memory → ⊥)) }
 {}

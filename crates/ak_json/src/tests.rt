@@ -124,7 +124,7 @@ fn rows_are_written_as_they_were_read(rt: HostRuntime) -> Result<(), Memory> {
         ),
         (
             Table::Options,
-            "{\"id\":1,\"lapse\":{\"delays\":[],\"leechAction\":1,\"leechFails\":8,\"minInt\":1,\"multPm\":0,\"name\":0},\"maxTaken\":60,\"mod\":0,\"name\":\"x\",\"new\":{\"a\":[{}],\"bury\":true,\"delays\":[1,10],\"initialFactor\":2500,\"ints\":[1,4],\"perDay\":20},\"perDay\":1,\"rev\":{\"bury\":true,\"ease4Pm\":1300,\"hardFactorPm\":1200,\"ivlFctPm\":1000,\"maxIvl\":36500,\"perDay\":200},\"usn\":0}",
+            "{\"id\":1,\"lapse\":{\"delays\":[],\"leechAction\":1,\"leechFails\":8,\"minInt\":1,\"multPm\":0,\"name\":0},\"maxTaken\":60,\"mod\":0,\"name\":\"x\",\"new\":{\"a\":[{}],\"bury\":true,\"delays\":[1,10],\"initialFactor\":2500,\"ints\":[1,4],\"perDay\":20},\"perDay\":1,\"rev\":{\"bury\":true,\"ease4Pm\":1300,\"fuzz\":null,\"hardFactorPm\":1200,\"ivlFctPm\":1000,\"maxIvl\":36500,\"perDay\":200},\"usn\":0}",
         ),
         (
             Table::NoteType,

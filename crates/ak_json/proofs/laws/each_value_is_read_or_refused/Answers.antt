@@ -1,5 +1,8 @@
-use Rattle.ak_json.proofs.EachValue.{each_value}
+use Rattle.ak_json.proofs.EachValue.{each_value, each_conf}
 use Rattle.ak_json.proofs.laws.each_value_is_read_or_refused.Goals as goal
 
-pub returns : goal.returns
-returns c = each_value
+pub returns-clause-row : goal.returns-clause-row
+returns-clause-row c = each_value
+
+pub returns-clause-conf : goal.returns-clause-conf
+returns-clause-conf c = each_conf
