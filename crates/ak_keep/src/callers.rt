@@ -1,6 +1,6 @@
 // Callers of any keeper, proved from what the trait says alone.
 ghost use Rattle.std.specs.Prelude.{◌≡◌, true, false, IfOk, OnOk, OnErr};
-ghost use Rattle.ak_base.specs.Heads.{IsHeadInRange};
+ghost use Rattle.ak_base.specs.Heads.{IsHeadInRange, IsMoment};
 ghost use Rattle.ak_base.specs.declared.rows.Row.TheVariants as rows;
 ghost use Rattle.ak_keep.specs.Collections.{IsChecked};
 ghost use Rattle.ak_keep.specs.Keepers.{KeepCause, is_marked, put, marked_here, committed};
@@ -40,6 +40,25 @@ pub(crate) fn store_both<K: Keeper>(
     keeper.commit()
 }
 
+// The moments of the first head and of the next one.
+pub(crate) const FIRST: i64 = 1_700_000_000_000;
+
+pub(crate) const LATER: i64 = 1_700_000_000_001;
+
+// A head is committed, and the card 5 of note 3 put behind the next mark.
+pub(crate) fn set_up<K: Keeper>(alloc: Global, keeper: &mut K) -> Result<(), KeepFault> {
+    mark(keeper)?;
+    if keeper.marked() {
+        put_head(alloc, keeper, FIRST)?;
+    }
+    use_keeper(alloc, keeper, 6)?;
+    mark(keeper)?;
+    if keeper.marked() {
+        put_card(alloc, keeper, 5)?;
+    }
+    Ok(())
+}
+
 // One call of this kind, if the keeper is marked where it must be.
 pub(crate) fn use_keeper<K: Keeper>(
     alloc: Global,
@@ -67,8 +86,8 @@ fn change<K: Keeper>(alloc: Global, keeper: &mut K, kind: u64) -> Result<(), Kee
         return Ok(());
     }
     match kind {
-        1 => put_head(alloc, keeper),
-        2 => put_card(alloc, keeper),
+        1 => put_head(alloc, keeper, LATER),
+        2 => put_card(alloc, keeper, 6),
         3 => keeper.remove(card_name(5)),
         4 => put_moments(keeper),
         5 => replace(alloc, keeper),
@@ -140,21 +159,22 @@ pub(crate) fn card(alloc: Global, id: i64, note: i64) -> Result<Card, Memory> {
     })
 }
 
-// The card 5 of the note 3.
-fn put_card<K: Keeper>(alloc: Global, keeper: &mut K) -> Result<(), KeepFault>
+// A card of the note 3.
+fn put_card<K: Keeper>(alloc: Global, keeper: &mut K, id: i64) -> Result<(), KeepFault>
     requires { is_marked (K.keeping keeper.old) ≡ true }
 {
-    let card = card(alloc, 5, 3)?;
+    let card = card(alloc, id, 3)?;
     match card.check() {
         Ok(()) => keeper.put(Row::Card(card)),
         Err(_) => Ok(()),
     }
 }
 
-fn put_head<K: Keeper>(alloc: Global, keeper: &mut K) -> Result<(), KeepFault>
-    requires { is_marked (K.keeping keeper.old) ≡ true }
+fn put_head<K: Keeper>(alloc: Global, keeper: &mut K, moment: i64) -> Result<(), KeepFault>
+    requires marked { is_marked (K.keeping keeper.old) ≡ true }
+    requires moment { IsMoment moment }
 {
-    let head = head(alloc)?;
+    let head = head(alloc, moment)?;
     keeper.set_head(head)
 }
 
@@ -171,11 +191,12 @@ fn replace<K: Keeper>(alloc: Global, keeper: &mut K) -> Result<(), KeepFault>
     requires { is_marked (K.keeping keeper.old) ≡ true }
 {
     let rows = List::new(alloc);
-    let head = head(alloc)?;
+    let head = head(alloc, LATER)?;
     keeper.replace_all(rows, head)
 }
 
-fn head(alloc: Global) -> Result<Head, Memory>
+fn head(alloc: Global, moment: i64) -> Result<Head, Memory>
+    requires { IsMoment moment }
     ensures { IfOk result IsHeadInRange }
 {
     let conf = Conf {
@@ -188,7 +209,7 @@ fn head(alloc: Global) -> Result<Head, Memory>
     };
     Ok(Head {
         crt: 1_699_920_000,
-        moment: 1_700_000_000_000,
+        moment,
         schema: 1_700_000_000_000,
         usn: 0,
         last_sync: 0,

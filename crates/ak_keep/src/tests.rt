@@ -1,4 +1,4 @@
-use crate::callers::{card, card_name, name, review, store_both, use_keeper};
+use crate::callers::{FIRST, LATER, card, card_name, name, review, set_up, store_both, use_keeper};
 use crate::{KeepFault, Keeper, MemoryKeeper, RowMap, Wanted};
 use ak_base::{List, Memory, Row, Table};
 use std::alloc::Global;
@@ -124,73 +124,93 @@ fn list_call(alloc: Global, keeper: &mut MemoryKeeper, call: u64) -> Result<(), 
     Ok(())
 }
 
-// A head is committed, and a card of note 3 put behind the next mark.
-fn set_up(alloc: Global, keeper: &mut MemoryKeeper) -> Result<(), KeepFault> {
-    use_keeper(alloc, keeper, 0)?;
-    use_keeper(alloc, keeper, 1)?;
-    use_keeper(alloc, keeper, 6)?;
-    use_keeper(alloc, keeper, 0)?;
-    use_keeper(alloc, keeper, 2)
-}
+// What is seen of a keeper: how many faults are counted, whether it is marked, how many cards note 3 has, and
+// the moment of the head.
+type Seen = (u64, bool, usize, i64);
 
-// How many faults are counted, whether the keeper is marked, and how many cards note 3 has.
-fn seen(keeper: &MemoryKeeper) -> Result<(u64, bool, usize), Memory> {
+// Each kind of call; then whether the keeper is marked, how many cards note 3 has and the moment, after the
+// call was refused and after it went.
+const CALLS: [(u64, (bool, usize, i64), (bool, usize, i64)); 13] = [
+    (0, (false, 1, FIRST), (true, 1, FIRST)),
+    (1, (true, 1, FIRST), (true, 1, LATER)),
+    (2, (true, 1, FIRST), (true, 2, FIRST)),
+    (3, (true, 1, FIRST), (true, 0, FIRST)),
+    (4, (true, 1, FIRST), (true, 1, 4)),
+    (5, (true, 1, FIRST), (true, 0, LATER)),
+    // A refused commit leaves the collection of the mark, and any other refused call what there was.
+    (6, (false, 0, FIRST), (false, 1, FIRST)),
+    (7, (true, 1, FIRST), (true, 1, FIRST)),
+    (8, (true, 1, FIRST), (true, 1, FIRST)),
+    (9, (true, 1, FIRST), (true, 1, FIRST)),
+    (10, (true, 1, FIRST), (true, 1, FIRST)),
+    (11, (true, 1, FIRST), (true, 1, FIRST)),
+    (12, (true, 1, FIRST), (true, 1, FIRST)),
+];
+
+fn seen(keeper: &mut MemoryKeeper) -> Result<Seen, KeepFault> {
+    let moment = match keeper.head()? {
+        Some(head) => head.moment,
+        None => -1,
+    };
     let cards = keeper.rows().cards_of(3)?;
-    Ok((keeper.faults(), keeper.marked(), cards.as_slice().len()))
+    Ok((
+        keeper.faults(),
+        keeper.marked(),
+        cards.as_slice().len(),
+        moment,
+    ))
 }
 
-// Whether the listed call failed, what is seen then, and whether the keeper is marked after the same call again.
-// What is to be marked is not marked before.
+// A keeper that is ready for a call of this kind. What is to be marked is not marked before.
+fn get_ready(alloc: Global, keeper: &mut MemoryKeeper, kind: u64) -> Result<(), KeepFault> {
+    set_up(alloc, keeper)?;
+    if kind == 0 {
+        return use_keeper(alloc, keeper, 6);
+    }
+    Ok(())
+}
+
+// Whether the listed call failed, and what is seen then.
 fn fail_once(
     alloc: Global,
     keeper: &mut MemoryKeeper,
     kind: u64,
-) -> Result<(bool, (u64, bool, usize), bool), KeepFault> {
-    set_up(alloc, keeper)?;
-    if kind == 0 {
-        use_keeper(alloc, keeper, 6)?;
-    }
+) -> Result<(bool, Seen), KeepFault> {
+    get_ready(alloc, keeper, kind)?;
     list_call(alloc, keeper, 0)?;
     let failed = is_failed(use_keeper(alloc, keeper, kind));
-    let after = seen(keeper)?;
-    use_keeper(alloc, keeper, kind)?;
-    Ok((failed, after, keeper.marked()))
+    Ok((failed, seen(keeper)?))
 }
 
-// A refused commit leaves the collection of the mark, and any other call what there was.
+// What is seen once the call went.
+fn go_on(alloc: Global, keeper: &mut MemoryKeeper, kind: u64) -> Result<Seen, KeepFault> {
+    get_ready(alloc, keeper, kind)?;
+    use_keeper(alloc, keeper, kind)?;
+    seen(keeper)
+}
+
 #[test]
 fn each_listed_call_fails(rt: HostRuntime) -> Result<(), Fail> {
-    let alloc = rt.alloc();
-    for kind in 0..13 {
-        let mut keeper = MemoryKeeper::new(alloc);
-        let tried = fail_once(alloc, &mut keeper, kind);
+    for (kind, (marked, cards, moment), _) in CALLS {
+        let mut keeper = MemoryKeeper::new(rt.alloc());
+        let tried = fail_once(rt.alloc(), &mut keeper, kind);
         drop(keeper);
-        let (failed, after, marked) = tried?;
-        let wanted = if kind == 6 {
-            (1, false, 0)
-        } else {
-            (1, kind != 0, 1)
-        };
-        assert!(rt; failed && after == wanted, "call {kind}");
-        assert!(rt; marked == (kind != 6), "call {kind} again");
+        let (failed, after) = tried?;
+        assert!(rt;
+            failed && after == (1, marked, cards, moment),
+            "call {kind}"
+        );
     }
     Ok(())
 }
 
 #[test]
 fn each_call_goes_on(rt: HostRuntime) -> Result<(), Fail> {
-    let alloc = rt.alloc();
-    for kind in 1..13 {
-        let mut keeper = MemoryKeeper::new(alloc);
-        let ready = set_up(alloc, &mut keeper);
-        let gone = use_keeper(alloc, &mut keeper, kind);
-        let after = seen(&keeper);
+    for (kind, _, (marked, cards, moment)) in CALLS {
+        let mut keeper = MemoryKeeper::new(rt.alloc());
+        let gone = go_on(rt.alloc(), &mut keeper, kind);
         drop(keeper);
-        let emptied = kind == 3 || kind == 5;
-        let left = if emptied { 0 } else { 1 };
-        ready?;
-        gone?;
-        assert!(rt; after? == (0, kind != 6, left), "call {kind}");
+        assert!(rt; gone? == (0, marked, cards, moment), "call {kind}");
     }
     Ok(())
 }
