@@ -1,5 +1,6 @@
 -- What `parse` gives at a text of decimal digits.
 use Rattle.std.proofs.Common.{◌≡◌, ℕ, ◌^◌, ◌<◌, ◌==◌, Bool, true, false, not, ◌&&◌, List, [], ◌∷◌, length, None, Ok, Err, refl, arith, rules}
+use Rattle.std.specs.Cmp.{second_so}
 use Rattle.std.proofs.lemmas.Grind.{common_steps}
 use Rattle.std.proofs.lemmas.Str.Parse.{IsNumeralModel, numerals_by_value, parse_digits}
 use Rattle.std.specs.Result.{OkIff}
@@ -10,17 +11,13 @@ use Rattle.ak_base.specs.Decimals.{is_decimal, at_most, number_of}
 own : IsNumeralModel (λ ds. all_ascii_digits ds ≡ true) (digits_value 10)
 own = numerals_by_value _ (search rules)
 
-second_true : (a b : Bool) → (a && b) ≡ true → b ≡ true
-second_true true b h = h
-second_true false b h = cc
-
 first_true : (a : Bool) → a ≡ true → (a && true) ≡ true
 first_true a h = rw h refl
 
 are_digits : (text : List ℕ) → is_decimal text ≡ true → (all_ascii_digits text ≡ true) × (0 < length text)
 are_digits [] h = cc
 are_digits (digit ∷ []) h = (first_true _ h, omega arith)
-are_digits (first ∷ second ∷ others) h = (second_true (not (first == 48)) _ h, omega arith)
+are_digits (first ∷ second ∷ others) h = (second_so (not (first == 48)) _ h, omega arith)
 
 -- a text that is no decimal number
 pub unless_decimal : (most : ℕ) (text : List ℕ) → is_decimal text ≡ false → None ≡ number_of most text

@@ -2,6 +2,7 @@
 use Rattle.std.specs.Prelude.{◌≡◌, ◌↔◌, ℕ, ℤ, pos, Bool, true, false, ◌&&◌, ◌==◌, IsTrue, List, [], get_or}
 use Rattle.std.proofs.Common.{refl, sym, ap, ◌∙◌}
 use Rattle.std.specs.Bool.{Decides}
+use Rattle.std.proofs.lemmas.Bool.{and_from}
 use Rattle.std.specs.Cmp.{unsigned_Decides, first_so, second_so}
 use Rattle.std.specs.Cmp.Lexicographic.{pointwise, pointwise_decides, bytes_decides}
 use Rattle.std.specs.Cmp.Rules.{signed_items}
@@ -39,9 +40,6 @@ one_truth true false e = cc
 one_truth false true e = cc
 one_truth false false e = refl
 
-both_so : (s t : Bool) → s ≡ true → t ≡ true → (s && t) ≡ true
-both_so s t first second = ap (λ s. s && t) first ∙ second
-
 -- fields of one name and one rest
 pub one_field : (a b : FieldDef) → a.name ≡ b.name → a.rest.text ≡ b.rest.text → a ≡ b
 one_field a b name rest = λ i. record {
@@ -67,7 +65,7 @@ field_decides a b = (
 )
   where
     field_itself : (a : FieldDef) → same_field a a ≡ true
-    field_itself a = both_so (pointwise ◌==◌ a.name a.name) _ ((bytes_decides a.name a.name).1 refl) ((bytes_decides a.rest.text a.rest.text).1 refl)
+    field_itself a = and_from (pointwise ◌==◌ a.name a.name) _ ((bytes_decides a.name a.name).1 refl) ((bytes_decides a.rest.text a.rest.text).1 refl)
 
 template_decides : (a b : CardTemplate) → Decides (same_template a b) (a ≡ b)
 template_decides a b = (
@@ -84,7 +82,7 @@ template_decides a b = (
   where
     template_itself : (a : CardTemplate) → same_template a a ≡ true
     template_itself a =
-        both_so _ _ (both_so _ _ (both_so _ _ ((bytes_decides a.name a.name).1 refl) ((bytes_decides a.front a.front).1 refl)) ((bytes_decides a.back a.back).1 refl)) ((bytes_decides a.rest.text a.rest.text).1 refl)
+        and_from _ _ (and_from _ _ (and_from _ _ ((bytes_decides a.name a.name).1 refl) ((bytes_decides a.front a.front).1 refl)) ((bytes_decides a.back a.back).1 refl)) ((bytes_decides a.rest.text a.rest.text).1 refl)
 
 -- ---- what rows of one content share
 record Shared (a b : Row) : Type 0 where

@@ -1,5 +1,6 @@
 -- Settings that were read are in their ranges.
 use Rattle.std.proofs.Common.{◌≡◌, ℤ, pos, negsuc, ◌≤ℤ◌, Bool, true, false, Option, Some, None, refl, sym, subst, arith}
+use Rattle.std.specs.Cmp.{first_so, second_so}
 use Rattle.std.specs.Prelude.{int_le, unwrap_or, option_and_then, if◌then◌else◌}
 use Rattle.std.specs.Option.{is_some, option_or}
 use Rattle.std.proofs.lemmas.Int.{ints}
@@ -20,7 +21,6 @@ use Rattle.ak_json.specs.declared.keys.Place.{Place}
 use Rattle.ak_json.specs.declared.keys.Place.TheVariants as places
 use Rattle.ak_json.specs.declared.keys.Word.TheVariants as words
 use Rattle.ak_json.specs.declared.kinds.Kind.TheVariants as kinds
-use Rattle.ak_json.proofs.Kept.{left_true, right_true}
 use Rattle.ak_json.proofs.RowForms.{first_none, none_mapped, when_object, none_at}
 
 low_number : (a b : ℤ) → int_le a b ≡ true → a ≤ℤ b
@@ -30,7 +30,7 @@ low_number a b h = grind (arith, ints)
 number_within : (least most : ℤ) (o : Option ℤ) → is_within least most o ≡ true → IsWithin least most (unwrap_or o (pos 0))
 number_within least most None h = cc
 number_within least most (Some z) h =
-    record { low = low_number least z (left_true _ _ h); high = low_number z most (right_true (int_le least z) _ h) }
+    record { low = low_number least z (first_so _ _ h); high = low_number z most (second_so (int_le least z) _ h) }
 
 when_none : (b : Bool) (flaw : Flaw) → (if b then None else Some flaw) ≡ None → b ≡ true
 when_none true flaw h = refl

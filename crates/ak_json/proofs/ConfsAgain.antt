@@ -1,5 +1,7 @@
 -- What was written of settings in their ranges is read again.
 use Rattle.std.proofs.Common.{◌≡◌, ℕ, ◌<◌, ◌≤◌, ◌^◌, ℤ, pos, negsuc, ◌≤ℤ◌, Bool, true, false, Option, Some, refl, sym, ap, ◌∙◌, arith}
+use Rattle.std.specs.Cmp.{second_so}
+use Rattle.std.proofs.lemmas.Bool.{and_from}
 use Rattle.std.specs.Prelude.{int_le, unwrap_or, option_and_then, option_map}
 use Rattle.std.specs.Option.{option_or}
 use Rattle.std.proofs.lemmas.Int.{ints}
@@ -19,7 +21,6 @@ use Rattle.ak_json.specs.declared.forms.TheConstants.{CONF}
 use Rattle.ak_json.specs.declared.kinds.Kind.TheVariants as kinds
 use Rattle.ak_json.proofs.Again.{IsReadAgain, small_again}
 use Rattle.ak_json.proofs.DecksAgain.{whole_found}
-use Rattle.ak_json.proofs.Kept.{right_true, both_true}
 use Rattle.ak_json.proofs.ObjectForms.{AllFound, all_hold, IsObjectAgain, object_again, nat_most}
 
 least_test : (a b : ℤ) → a ≤ℤ b → int_le a b ≡ true
@@ -27,10 +28,10 @@ least_test a b h = grind (arith, ints)
 
 -- a number that is within passes the test
 within_test : (least most z : ℤ) → IsWithin least most z → is_within least most (Some z) ≡ true
-within_test least most z h = both_true _ _ (least_test least z h.low) (least_test z most h.high)
+within_test least most z h = and_from _ _ (least_test least z h.low) (least_test z most h.high)
 
 within_again : (m : ℕ) (least z : ℤ) → m < 2 ^ 63 → is_within least (pos m) (Some z) ≡ true → IsReadAgain z
-within_again m least (pos n) h w = let k : n ≤ m = nat_most n m (right_true (int_le least (pos n)) _ w) in small_again n (omega arith)
+within_again m least (pos n) h w = let k : n ≤ m = nat_most n m (second_so (int_le least (pos n)) _ w) in small_again n (omega arith)
 within_again m least (negsuc n) h w = refl
 
 holds_within : (least most z : ℤ) → IsReadAgain z → is_within least most (Some z) ≡ true → holds (kinds.Within least most) (whole z) ≡ true

@@ -1,5 +1,7 @@
 -- What an object keeps of its unknown keys is a rest: none of the known keys, and not too deep.
 use Rattle.std.proofs.Common.{◌≡◌, ℕ, suc, ◌-◌, ◌<◌, ◌≤◌, max, List, [], ◌∷◌, Bool, true, false, not, ◌&&◌, ◌||◌, Option, Some, None, is_none, Ordering, Less, Equal, Greater, is_eq, nat_cmp, refl, sym, ap, ◌∙◌, arith}
+use Rattle.std.specs.Cmp.{first_so, second_so}
+use Rattle.std.proofs.lemmas.Bool.{and_from}
 use Rattle.std.specs.Prelude.{nat_lt, nat_le, if◌then◌else◌}
 use Rattle.std.specs.List.{list_all}
 use Rattle.std.proofs.lemmas.Bool.Decides.{nat_tests}
@@ -14,17 +16,6 @@ use Rattle.ak_base.specs.Rests.{lacks, is_plain}
 use Rattle.ak_json.specs.Members.{Form}
 use Rattle.ak_json.specs.Depths.{is_shallow, are_shallow, have_shallow}
 use Rattle.ak_json.specs.Members.{knows, unknown, deep_member}
-
-pub left_true : (a b : Bool) → (a && b) ≡ true → a ≡ true
-left_true true b h = refl
-left_true false b h = cc
-
-pub right_true : (a b : Bool) → (a && b) ≡ true → b ≡ true
-right_true true b h = h
-right_true false b h = cc
-
-pub both_true : (a b : Bool) → a ≡ true → b ≡ true → (a && b) ≡ true
-both_true a b h k = rw h k
 
 -- texts that compare as equal are one
 pub same_key : (k l : List ℕ) → slice_cmp nat_cmp k l ≡ Equal → k ≡ l
@@ -51,8 +42,8 @@ lacking form k (member l d ms) h = one (knows form l) refl (lacking form k ms h)
 pub lacks_known : (keys : List (List ℕ)) (form : Form) (ms : Members) → list_all (knows form) keys ≡ true → lacks keys (unknown form ms) ≡ true
 lacks_known [] form ms h = refl
 lacks_known (k ∷ keys) form ms h =
-    let none : get_member k (unknown form ms) ≡ None = lacking form k ms (left_true _ _ h) in
-    both_true _ _ (ap is_none none) (lacks_known keys form ms (right_true _ _ h))
+    let none : get_member k (unknown form ms) ≡ None = lacking form k ms (first_so _ _ h) in
+    and_from _ _ (ap is_none none) (lacks_known keys form ms (second_so _ _ h))
 
 -- ---- how deep a value nests
 pub record IsWhole (deepest : ℕ) (most : ℕ) (floats : Bool) : Type 0 where
@@ -80,19 +71,19 @@ mutual
   whole_inside most (number n) h = record { nests = omega arith; whole = not_true (is_float n) h }
   whole_inside most (string s) h = record { nests = omega arith; whole = refl }
   whole_inside most (array ds) h =
-      deeper (items_depth ds) most (items_have_float ds) (left_true _ _ h) (wholes_inside (most - 1) ds (right_true (nat_lt 0 most) _ h))
+      deeper (items_depth ds) most (items_have_float ds) (first_so _ _ h) (wholes_inside (most - 1) ds (second_so (nat_lt 0 most) _ h))
   whole_inside most (object ms) h =
-      deeper (members_depth ms) most (members_have_float ms) (left_true _ _ h) (members_inside (most - 1) ms (right_true (nat_lt 0 most) _ h))
+      deeper (members_depth ms) most (members_have_float ms) (first_so _ _ h) (members_inside (most - 1) ms (second_so (nat_lt 0 most) _ h))
 
   wholes_inside : (most : ℕ) (ds : Items) → are_shallow most ds ≡ true → IsWhole (items_depth ds) most (items_have_float ds)
   wholes_inside most no_items h = record { nests = omega arith; whole = refl }
   wholes_inside most (item d ds) h =
-      beside (depth d) (items_depth ds) most (has_float d) (items_have_float ds) (whole_inside most d (left_true _ _ h)) (wholes_inside most ds (right_true (is_shallow most d) _ h))
+      beside (depth d) (items_depth ds) most (has_float d) (items_have_float ds) (whole_inside most d (first_so _ _ h)) (wholes_inside most ds (second_so (is_shallow most d) _ h))
 
   members_inside : (most : ℕ) (ms : Members) → have_shallow most ms ≡ true → IsWhole (members_depth ms) most (members_have_float ms)
   members_inside most no_members h = record { nests = omega arith; whole = refl }
   members_inside most (member k d ms) h =
-      beside (depth d) (members_depth ms) most (has_float d) (members_have_float ms) (whole_inside most d (left_true _ _ h)) (members_inside most ms (right_true (is_shallow most d) _ h))
+      beside (depth d) (members_depth ms) most (has_float d) (members_have_float ms) (whole_inside most d (first_so _ _ h)) (members_inside most ms (second_so (is_shallow most d) _ h))
 
 none_deep : (ms : Members) → deep_member ms ≡ None → have_shallow 63 ms ≡ true
 none_deep no_members h = refl
@@ -100,14 +91,14 @@ none_deep (member k d ms) h = one (is_shallow 63 d) refl h (none_deep ms)
   where
     one : (shallow : Bool) → is_shallow 63 d ≡ shallow → (if shallow then deep_member ms else Some k) ≡ None → (deep_member ms ≡ None → have_shallow 63 ms ≡ true)
         → (is_shallow 63 d && have_shallow 63 ms) ≡ true
-    one true e h later = both_true _ _ e (later h)
+    one true e h later = and_from _ _ e (later h)
     one false e h later = cc
 
 -- members of which none is deep are plain
 pub plain_kept : (ignores : Members → Bool) (ms : Members) → deep_member ms ≡ None → ignores ms ≡ true → (is_plain ms && ignores ms) ≡ true
 plain_kept ignores ms h i =
     let w : IsWhole (members_depth ms) 63 (members_have_float ms) = members_inside 63 ms (none_deep ms h) in
-    both_true _ _ (both_true _ _ (short (members_depth ms) w.nests) (ap not w.whole)) i
+    and_from _ _ (and_from _ _ (short (members_depth ms) w.nests) (ap not w.whole)) i
   where
     short : (n : ℕ) → n ≤ 63 → nat_le (suc n) 64 ≡ true
     short n h = grind (arith, nat_tests)

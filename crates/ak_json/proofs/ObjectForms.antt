@@ -1,5 +1,7 @@
 -- What was put where the columns of a form stand is found there, and the other members stay.
-use Rattle.std.proofs.Common.{◌≡◌, ℕ, suc, ◌-◌, ◌≤◌, List, [], ◌∷◌, Bool, true, false, not, ◌&&◌, ◌||◌, ◌==◌, Option, Some, None, is_none, Ordering, Less, Equal, Greater, is_eq, nat_cmp, refl, sym, ap, ◌∙◌, arith}
+use Rattle.std.proofs.Common.{◌≡◌, ℕ, suc, ◌-◌, ◌≤◌, List, [], ◌∷◌, Bool, true, false, not, ◌&&◌, ◌==◌, Option, Some, None, is_none, Ordering, Less, Equal, Greater, is_eq, nat_cmp, refl, sym, ap, ◌∙◌, arith}
+use Rattle.std.specs.Cmp.{first_so, second_so}
+use Rattle.std.proofs.lemmas.Bool.{and_from, or_from, or_parts}
 use Rattle.std.specs.Prelude.{if◌then◌else◌, nat_lt, nat_le, unwrap_or, option_and_then, option_map}
 use Rattle.std.specs.Option.{option_or, option_map_or}
 use Rattle.std.proofs.lemmas.Bool.Decides.{nat_tests}
@@ -27,7 +29,7 @@ use Rattle.ak_json.specs.declared.flaws.Flaw.TheVariants.{WrongKind}
 use Rattle.ak_json.specs.declared.keys.Place.{Place}
 use Rattle.ak_json.specs.declared.keys.Place.TheVariants as places
 use Rattle.ak_json.specs.declared.kinds.Kind.{Kind}
-use Rattle.ak_json.proofs.Kept.{left_true, right_true, both_true, same_key, not_true}
+use Rattle.ak_json.proofs.Kept.{same_key, not_true}
 
 -- each cell stands where its column does
 abbrev pub AllFound : Form → List Data → Data → Type 0
@@ -45,14 +47,6 @@ abbrev pub are_apart : Form → Bool
 are_apart [] = true
 are_apart (column ∷ columns) = is_new columns column.0 && are_apart columns
 
-pub no_left : (a b : Bool) → (a || b) ≡ false → a ≡ false
-no_left true b h = cc
-no_left false b h = refl
-
-pub no_right : (a b : Bool) → (a || b) ≡ false → b ≡ false
-no_right true b h = cc
-no_right false b h = h
-
 unlike : (a b : List ℕ) → pointwise ◌==◌ a b ≡ false → b ≡ a → ⊥
 unlike a b h e = let same : pointwise ◌==◌ a b ≡ pointwise ◌==◌ a a = ap (λ (x : List ℕ). pointwise ◌==◌ a x) e in let k : pointwise ◌==◌ a a ≡ true = same_bytes a in cc
 
@@ -65,7 +59,7 @@ stays : (columns : Form) (cells : List Data) (k : List ℕ) (ms : Members) → k
 stays [] cells k ms h = refl
 stays (column ∷ columns) [] k ms h = refl
 stays (column ∷ columns) (cell ∷ cells) k ms h =
-    stays columns cells k (put_at column.0 cell ms) (no_right (is_place column.0 k) _ h) ∙ put_other column.0 k cell ms (no_left _ _ h)
+    stays columns cells k (put_at column.0 cell ms) (((or_parts (is_place column.0 k) _ h).1)) ∙ put_other column.0 k cell ms (((or_parts _ _ h).0))
 
 found_here : (columns : Form) (cells : List Data) (place : Place) (x : Data) (ms : Members) → is_new columns place ≡ true → find place (object (put_cells columns cells (put_at place x ms))) ≡ Some x
 found_here columns cells (places.Own word) x ms h =
@@ -76,7 +70,7 @@ pub found_all : (form : Form) (cells : List Data) (ms : Members) → are_apart f
 found_all [] cells ms h = tt
 found_all (column ∷ columns) [] ms h = tt
 found_all (column ∷ columns) (cell ∷ cells) ms h =
-    (found_here columns cells column.0 cell ms (left_true _ _ h), found_all columns cells (put_at column.0 cell ms) (right_true (is_new columns column.0) _ h))
+    (found_here columns cells column.0 cell ms (first_so _ _ h), found_all columns cells (put_at column.0 cell ms) (second_so (is_new columns column.0) _ h))
 
 -- ---- the unknown members
 
@@ -107,7 +101,7 @@ pub unknown_cells : (form columns : Form) (cells : List Data) (ms : Members) →
 unknown_cells form [] cells ms h = refl
 unknown_cells form (column ∷ columns) [] ms h = refl
 unknown_cells form (column ∷ columns) (cell ∷ cells) ms h =
-    unknown_cells form columns cells (put_at column.0 cell ms) (right_true (knows_place form column.0) _ h) ∙ unknown_at form column.0 cell ms (left_true _ _ h)
+    unknown_cells form columns cells (put_at column.0 cell ms) (second_so (knows_place form column.0) _ h) ∙ unknown_at form column.0 cell ms (first_so _ _ h)
 
 -- ---- members of which no column is one
 
@@ -133,29 +127,26 @@ unequal Greater x d h = refl
 lacks_later : (keys : List (List ℕ)) (l : List ℕ) (d : Data) (ms : Members) → lacks keys (member l d ms) ≡ true → lacks keys ms ≡ true
 lacks_later [] l d ms h = refl
 lacks_later (k ∷ keys) l d ms h =
-    both_true _ _
-    (none_later (slice_cmp nat_cmp k l) (get_member k ms) d (left_true _ _ h))
-    (lacks_later keys l d ms (right_true (is_none (get_member k (member l d ms))) _ h))
+    and_from _ _
+    (none_later (slice_cmp nat_cmp k l) (get_member k ms) d (first_so _ _ h))
+    (lacks_later keys l d ms (second_so (is_none (get_member k (member l d ms))) _ h))
 
 -- texts that are one compare as equal
 pub differs : (a l : List ℕ) → is_eq (slice_cmp nat_cmp a l) ≡ false → pointwise ◌==◌ a l ≡ false
 differs a l h = sym (is_eq-slice_cmp a l) ∙ h
 
 absent_at : (place : Place) (l : List ℕ) (d : Data) (ms : Members) (keys : List (List ℕ)) → lacks (place_keys place keys) (member l d ms) ≡ true → is_place place l ≡ false
-absent_at (places.Own word) l d ms keys h = differs (word_text word) l (unequal (slice_cmp nat_cmp (word_text word) l) (get_member (word_text word) ms) d (left_true _ _ h))
+absent_at (places.Own word) l d ms keys h = differs (word_text word) l (unequal (slice_cmp nat_cmp (word_text word) l) (get_member (word_text word) ms) d (first_so _ _ h))
 absent_at (places.At place) l d ms keys h = refl
 
 lacks_others : (place : Place) (keys : List (List ℕ)) (ms : Members) → lacks (place_keys place keys) ms ≡ true → lacks keys ms ≡ true
-lacks_others (places.Own word) keys ms h = right_true (is_none (get_member (word_text word) ms)) _ h
+lacks_others (places.Own word) keys ms h = second_so (is_none (get_member (word_text word) ms)) _ h
 lacks_others (places.At place) keys ms h = h
-
-neither : (a b : Bool) → a ≡ false → b ≡ false → (a || b) ≡ false
-neither a b h k = rw h k
 
 absent : (form : Form) (l : List ℕ) (d : Data) (ms : Members) → lacks (keys_of form) (member l d ms) ≡ true → knows form l ≡ false
 absent [] l d ms h = refl
 absent (column ∷ columns) l d ms h =
-    neither _ _ (absent_at column.0 l d ms (keys_of columns) h) (absent columns l d ms (lacks_others column.0 (keys_of columns) (member l d ms) h))
+    or_from _ _ (absent_at column.0 l d ms (keys_of columns) h) (absent columns l d ms (lacks_others column.0 (keys_of columns) (member l d ms) h))
 
 -- members that lack the keys of a form are all unknown to it
 pub all_unknown : (form : Form) (ms : Members) → lacks (keys_of form) ms ≡ true → unknown form ms ≡ ms
@@ -184,7 +175,7 @@ kept_in passes text (number n) true w h = no_rest h
 kept_in passes text (string s) true w h = no_rest h
 kept_in passes text (array ds) true w h = no_rest h
 kept_in passes text (object ms) true w h =
-    record { plain = left_true _ _ h; unknown = right_true (is_plain ms) _ h; written = (bytes_eq-Decides (compact_text (object ms)) text).0 w }
+    record { plain = first_so _ _ h; unknown = second_so (is_plain ms) _ h; written = (bytes_eq-Decides (compact_text (object ms)) text).0 w }
 
 of_read : (passes : Members → Bool) (text : List ℕ) (o : Option Data)
     → option_map_or (λ ms. is_plain ms && passes ms) (option_and_then (λ value. if is_written_as text value then as_object value else None) o) false ≡ true
@@ -216,9 +207,9 @@ pub flawless : (form : Form) (cells : List Data) (d : Data) → AllFound form ce
 flawless [] cells d f h = refl
 flawless (column ∷ columns) [] d f h = no_rest h
 flawless (column ∷ columns) (cell ∷ cells) d f h =
-    let inside = right_true (holds column.1 cell) _ h in
-    let here : column_flaw column d ≡ None = flawless_column column cell d f.0 (left_true _ _ h) (none_of _ (left_true _ _ inside)) in
-    ap (λ (o : Option Flaw). option_or o (first_flaw columns d)) here ∙ flawless columns cells d f.1 (right_true (is_none (flaw_inside column.1 cell)) _ inside)
+    let inside = second_so (holds column.1 cell) _ h in
+    let here : column_flaw column d ≡ None = flawless_column column cell d f.0 (first_so _ _ h) (none_of _ (first_so _ _ inside)) in
+    ap (λ (o : Option Flaw). option_or o (first_flaw columns d)) here ∙ flawless columns cells d f.1 (second_so (is_none (flaw_inside column.1 cell)) _ inside)
 
 -- ---- plain members are not deep
 
@@ -234,27 +225,27 @@ mutual
   shallow_inside most (boolean b) h f = refl
   shallow_inside most (number n) h f = ap not f
   shallow_inside most (string s) h f = refl
-  shallow_inside most (array ds) h f = both_true _ _ (shallower (items_depth ds) most h) (all_shallow (most - 1) ds (omega (arith, h)) f)
-  shallow_inside most (object ms) h f = both_true _ _ (shallower (members_depth ms) most h) (members_shallow (most - 1) ms (omega (arith, h)) f)
+  shallow_inside most (array ds) h f = and_from _ _ (shallower (items_depth ds) most h) (all_shallow (most - 1) ds (omega (arith, h)) f)
+  shallow_inside most (object ms) h f = and_from _ _ (shallower (members_depth ms) most h) (members_shallow (most - 1) ms (omega (arith, h)) f)
 
   all_shallow : (most : ℕ) (ds : Items) → items_depth ds ≤ most → items_have_float ds ≡ false → are_shallow most ds ≡ true
   all_shallow most no_items h f = refl
   all_shallow most (item d ds) h f =
-      both_true _ _ (shallow_inside most d (omega (arith, h)) (no_left _ _ f)) (all_shallow most ds (omega (arith, h)) (no_right (has_float d) _ f))
+      and_from _ _ (shallow_inside most d (omega (arith, h)) (((or_parts _ _ f).0))) (all_shallow most ds (omega (arith, h)) (((or_parts (has_float d) _ f).1)))
 
   members_shallow : (most : ℕ) (ms : Members) → members_depth ms ≤ most → members_have_float ms ≡ false → have_shallow most ms ≡ true
   members_shallow most no_members h f = refl
   members_shallow most (member k d ms) h f =
-      both_true _ _ (shallow_inside most d (omega (arith, h)) (no_left _ _ f)) (members_shallow most ms (omega (arith, h)) (no_right (has_float d) _ f))
+      and_from _ _ (shallow_inside most d (omega (arith, h)) (((or_parts _ _ f).0))) (members_shallow most ms (omega (arith, h)) (((or_parts (has_float d) _ f).1)))
 
 never_deep : (ms : Members) → have_shallow 63 ms ≡ true → deep_member ms ≡ None
 never_deep no_members h = refl
-never_deep (member k d ms) h = let e : is_shallow 63 d ≡ true = left_true _ _ h in rw e (never_deep ms (right_true (is_shallow 63 d) _ h))
+never_deep (member k d ms) h = let e : is_shallow 63 d ≡ true = first_so _ _ h in rw e (never_deep ms (second_so (is_shallow 63 d) _ h))
 
 pub plain_is_shallow : (ms : Members) → is_plain ms ≡ true → deep_member ms ≡ None
 plain_is_shallow ms h =
-    let n : suc (members_depth ms) ≤ 64 = nat_most _ _ (left_true _ _ h) in
-    never_deep ms (members_shallow 63 ms (omega (arith, n)) (not_true _ (right_true (nat_le (suc (members_depth ms)) 64) _ h)))
+    let n : suc (members_depth ms) ≤ 64 = nat_most _ _ (first_so _ _ h) in
+    never_deep ms (members_shallow 63 ms (omega (arith, n)) (not_true _ (second_so (nat_le (suc (members_depth ms)) 64) _ h)))
 
 -- ---- an object of cells and a rest
 

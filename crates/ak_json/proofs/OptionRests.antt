@@ -1,5 +1,7 @@
 -- What an option group keeps of its unknown keys is a rest.
 use Rattle.std.proofs.Common.{◌≡◌, ℕ, List, [], ◌∷◌, length, true, false, not, Option, None, is_none, arith, BTreeMap, String, Global, bytes_eq, refl, ap, ◌∙◌}
+use Rattle.std.specs.Cmp.{first_so, second_so}
+use Rattle.std.proofs.lemmas.Bool.{and_from}
 use Rattle.std.specs.Prelude.{unwrap_or}
 use Rattle.std.specs.List.{list_all}
 use Rattle.std.specs.Option.{option_map_or}
@@ -16,7 +18,7 @@ use Rattle.ak_json.specs.Groups.{put_group, options_kept, new_in, rev_in, lapse_
 use Rattle.ak_json.specs.declared.keys.Word.{Word}
 use Rattle.ak_json.specs.declared.keys.Word.TheVariants as words
 use Rattle.ak_json.specs.declared.forms.TheConstants.{OPTIONS, NEW, REV, LAPSE}
-use Rattle.ak_json.proofs.Kept.{left_true, right_true, both_true, lacking, lacks_known, not_true}
+use Rattle.ak_json.proofs.Kept.{lacking, lacks_known, not_true}
 
 pub group_none : (own : Word) (es : List Entry) (ms : Members) → length es ≡ 0 → put_group own (members_view es) ms ≡ ms
 group_none own [] ms h = refl
@@ -41,10 +43,10 @@ lacks_put : (keys : List (List ℕ)) (own : Word) (group ms : Members) → bytes
     → list_all (λ k. not (bytes_eq k (word_text own))) keys ≡ true → lacks keys ms ≡ true → lacks keys (put_group own group ms) ≡ true
 lacks_put [] own group ms s h l = refl
 lacks_put (k ∷ keys) own group ms s h l =
-    let other : bytes_eq k (word_text own) ≡ false = not_true _ (left_true _ _ h) in
-    both_true _ _
-    (ap is_none (other_key k own group ms (unlike k (word_text own) other s)) ∙ left_true _ _ l)
-    (lacks_put keys own group ms s (right_true _ _ h) (right_true _ _ l))
+    let other : bytes_eq k (word_text own) ≡ false = not_true _ (first_so _ _ h) in
+    and_from _ _
+    (ap is_none (other_key k own group ms (unlike k (word_text own) other s)) ∙ first_so _ _ l)
+    (lacks_put keys own group ms s (second_so _ _ h) (second_so _ _ l))
 
 -- a group keeps what is put under its key
 keeps_own : (own : Word) (keys : List (List ℕ)) (group ms : Members) → get_member (word_text own) ms ≡ None → lacks keys group ≡ true → keeps_unknown (word_text own) keys (put_group own group ms) ≡ true
@@ -62,15 +64,15 @@ options_lack all new rev lapse =
     let base = unknown OPTIONS all in
     let with_new = put_group words.New (unknown NEW new) base in
     let with_rev = put_group words.Rev (unknown REV rev) with_new in
-    both_true _ _
+    and_from _ _
     (lacks_put options_keys words.Lapse (unknown LAPSE lapse) with_rev refl refl
     (lacks_put options_keys words.Rev (unknown REV rev) with_new refl refl
     (lacks_put options_keys words.New (unknown NEW new) base refl refl (lacks_known options_keys OPTIONS all refl))))
-    (both_true _ _
+    (and_from _ _
     (keeps_other (word_text words.New) new_keys words.Lapse (unknown LAPSE lapse) with_rev (unlike _ _ refl refl)
     (keeps_other (word_text words.New) new_keys words.Rev (unknown REV rev) with_new (unlike _ _ refl refl)
     (keeps_own words.New new_keys (unknown NEW new) base (lacking OPTIONS (word_text words.New) all refl) (lacks_known new_keys NEW new refl))))
-    (both_true _ _
+    (and_from _ _
     (keeps_other (word_text words.Rev) rev_keys words.Lapse (unknown LAPSE lapse) with_rev (unlike _ _ refl refl)
     (keeps_own words.Rev rev_keys (unknown REV rev) with_new
     (other_key (word_text words.Rev) words.New (unknown NEW new) base (unlike _ _ refl refl) ∙ lacking OPTIONS (word_text words.Rev) all refl)

@@ -1,5 +1,7 @@
 -- What was written of an option group in its ranges is read again.
 use Rattle.std.proofs.Common.{◌≡◌, ℕ, ℤ, pos, negsuc, List, [], ◌∷◌, ◌++◌, length, map, take, drop, codes, Bool, true, false, ◌==◌, Option, Some, None, is_none, Ok, Ordering, Less, Equal, Greater, is_eq, nat_cmp, refl, sym, ap, subst, ◌∙◌, arith}
+use Rattle.std.specs.Cmp.{first_so, second_so}
+use Rattle.std.proofs.lemmas.Bool.{and_from}
 use Rattle.std.specs.Prelude.{if◌then◌else◌, unwrap_or, option_and_then, option_map}
 use Rattle.std.specs.Option.{option_map_or, is_some}
 use Rattle.std.specs.Cmp.Lexicographic.{slice_cmp, pointwise}
@@ -28,7 +30,7 @@ use Rattle.ak_json.specs.declared.keys.Word.TheVariants as words
 use Rattle.ak_json.proofs.Again.{IsReadAgain, AllNone, all_none, id_again, stamp_again, code_again}
 use Rattle.ak_json.proofs.ConfsAgain.{truth_found}
 use Rattle.ak_json.proofs.DecksAgain.{whole_found, words_found, part_found}
-use Rattle.ak_json.proofs.Kept.{left_true, right_true, both_true, same_key}
+use Rattle.ak_json.proofs.Kept.{same_key}
 use Rattle.ak_json.proofs.NoteTypesAgain.{inner_none}
 use Rattle.ak_json.proofs.ObjectForms.{AllFound, found_all, are_apart, knows_all, keys_of, unknown_cells, all_unknown, IsKept, rest_kept, all_hold, flawless, plain_is_shallow, none_later, unequal, differs, no_rest}
 use Rattle.ak_json.proofs.OptionRests.{put_together}
@@ -148,13 +150,13 @@ record KeepsUnknown (ms : Members) : Type 0 where
 
 keeps_each : (ms : Members) → lacks_options ms ≡ true → KeepsUnknown ms
 keeps_each ms h =
-    let groups = right_true (lacks options_keys ms) _ h in
-    let later = right_true (keeps_unknown (codes "new") new_keys ms) _ groups in
+    let groups = second_so (lacks options_keys ms) _ h in
+    let later = second_so (keeps_unknown (codes "new") new_keys ms) _ groups in
     record {
-      own = left_true _ _ h;
-      new = left_true _ _ groups;
-      rev = left_true _ _ later;
-      lapse = right_true (keeps_unknown (codes "rev") rev_keys ms) _ later;
+      own = first_so _ _ h;
+      new = first_so _ _ groups;
+      rev = first_so _ _ later;
+      lapse = second_so (keeps_unknown (codes "rev") rev_keys ms) _ later;
     }
 
 -- what the groups keep and the other unknown members are together all that the rest keeps
@@ -186,7 +188,7 @@ steps_again column zs h = each_step column zs (second_none (long_fault column (l
 
 steps_hold : (zs : List ℤ) → AllRead zs → are_whole (items_of (map whole zs)) ≡ true
 steps_hold [] r = refl
-steps_hold (z ∷ zs) r = both_true _ _ (ap is_some r.0) (steps_hold zs r.1)
+steps_hold (z ∷ zs) r = and_from _ _ (ap is_some r.0) (steps_hold zs r.1)
 
 steps_read : (zs : List ℤ) → AllRead zs → zs ≡ wholes (items_of (map whole zs))
 steps_read [] r = refl

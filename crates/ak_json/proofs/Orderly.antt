@@ -1,5 +1,7 @@
 -- A value that was read, of whole numbers alone, has a compact text that is read as that value.
 use Rattle.std.proofs.Common.{◌≡◌, ℕ, suc, zero, ◌^◌, ◌<◌, ◌≤◌, pos, negsuc, neg_ℤ, List, [], Bool, true, false, Option, Some, None, IfSome, Ordering, Less, Equal, Greater, nat_cmp, refl, sym, ap, ◌∙◌, subst, arith, append-nil}
+use Rattle.std.specs.Cmp.{first_so, second_so}
+use Rattle.std.proofs.lemmas.Bool.{or_parts}
 use Rattle.std.specs.Prelude.{if◌then◌else◌, nat_lt, nat_le, ◌&&◌, option_map, option_and_then, slice_index, ◌==◌, drop}
 use Rattle.std.proofs.lemmas.Cmp.{nat_list_cmp_total}
 use Rattle.std.proofs.lemmas.Bool.Decides.{nat_tests}
@@ -21,8 +23,7 @@ use Rattle.serde_json.specs.Read.{read, max_depth, number_of, number_from, float
 use Rattle.serde_json.specs.Written.{compact_text, number_text, outline, items_outline, members_outline, has_float, items_have_float, members_have_float}
 use Rattle.serde_json.proofs.Numbers.{number_of-decimal, number_of-negative}
 use Rattle.serde_json.proofs.Texts.{print-outline}
-use Rattle.ak_json.proofs.Kept.{left_true, right_true}
-use Rattle.ak_json.proofs.ObjectForms.{no_left, no_right, nat_most}
+use Rattle.ak_json.proofs.ObjectForms.{nat_most}
 use Rattle.ak_json.proofs.Sorted.{AllBehind, AreSorted, put_sorted}
 
 -- a number as it is read
@@ -80,10 +81,10 @@ own_negative (suc n) h k = let most : suc n ≤ 2 ^ 63 = nat_most (suc n) (2 ^ 6
 
 own_from : (sign : Bool) (p : Parts) → IfSome (number_from sign p) IsOwn
 own_from false p =
-    where_true IsOwn (is_integer p && nat_lt (numeral_digits p) (2 ^ 64)) (unsigned (numeral_digits p)) (float_of false p) (λ h. below_most (numeral_digits p) (2 ^ 64) (right_true (is_integer p) _ h)) (own_float false p)
+    where_true IsOwn (is_integer p && nat_lt (numeral_digits p) (2 ^ 64)) (unsigned (numeral_digits p)) (float_of false p) (λ h. below_most (numeral_digits p) (2 ^ 64) (second_so (is_integer p) _ h)) (own_float false p)
 own_from true p =
     where_true IsOwn (is_integer p && nat_lt 0 (numeral_digits p) && nat_le (numeral_digits p) (2 ^ 63)) (negative (neg_ℤ (pos (numeral_digits p)))) (float_of true p)
-    (λ h. own_negative (numeral_digits p) (right_true (is_integer p) _ (left_true _ _ h)) (right_true (is_integer p && nat_lt 0 (numeral_digits p)) _ h))
+    (λ h. own_negative (numeral_digits p) (second_so (is_integer p) _ (first_so _ _ h)) (second_so (is_integer p && nat_lt 0 (numeral_digits p)) _ h))
     (own_float true p)
 
 either : {A : Type 0} (P : A → Type 0) (b : Bool) (x y : Option A) → IfSome x P → IfSome y P → IfSome (if b then x else y) P
@@ -181,15 +182,15 @@ mutual
   items_again : (ds : Items) → AreOrderly ds → items_have_float ds ≡ false → of_items (items_outline ds) ≡ Some ds
   items_again no_items h f = refl
   items_again (item d ds) h f =
-      ap (option_and_then (λ d. option_map (item d) (of_items (items_outline ds)))) (again d h.0 (no_left _ _ f))
-      ∙ ap (option_map (item d)) (items_again ds h.1 (no_right (has_float d) _ f))
+      ap (option_and_then (λ d. option_map (item d) (of_items (items_outline ds)))) (again d h.0 (((or_parts _ _ f).0)))
+      ∙ ap (option_map (item d)) (items_again ds h.1 (((or_parts (has_float d) _ f).1)))
 
   members_again : (found ms : Members) → AreSorted (join found ms) → HaveOrderly ms → members_have_float ms ≡ false → of_members (members_outline ms) found ≡ Some (join found ms)
   members_again found no_members s h f = ap Some (sym (join_none found))
   members_again found (member k d ms) s h f =
-      ap (option_and_then (λ d. of_members (members_outline ms) (put k d found))) (again d h.0 (no_left _ _ f))
+      ap (option_and_then (λ d. of_members (members_outline ms) (put k d found))) (again d h.0 (((or_parts _ _ f).0)))
       ∙ (ap (of_members (members_outline ms)) (put_last found k d ms s)
-      ∙ (members_again (join found (member k d no_members)) ms (subst AreSorted (sym (join_more found k d ms)) s) h.1 (no_right (has_float d) _ f)
+      ∙ (members_again (join found (member k d no_members)) ms (subst AreSorted (sym (join_more found k d ms)) s) h.1 (((or_parts (has_float d) _ f).1))
       ∙ ap Some (join_more found k d ms)))
 
 own_text : (n : Num) → IsOwn n → is_float n ≡ false → IsNumber (number_text n)
@@ -209,11 +210,11 @@ mutual
 
   items_numbers : (ds : Items) → AreOrderly ds → items_have_float ds ≡ false → tree.ItemsHaveNumbers (items_outline ds)
   items_numbers no_items h f = tt
-  items_numbers (item d ds) h f = (numbers d h.0 (no_left _ _ f), items_numbers ds h.1 (no_right (has_float d) _ f))
+  items_numbers (item d ds) h f = (numbers d h.0 (((or_parts _ _ f).0)), items_numbers ds h.1 (((or_parts (has_float d) _ f).1)))
 
   members_numbers : (ms : Members) → HaveOrderly ms → members_have_float ms ≡ false → tree.MembersHaveNumbers (members_outline ms)
   members_numbers no_members h f = tt
-  members_numbers (member k d ms) h f = (numbers d h.0 (no_left _ _ f), members_numbers ms h.1 (no_right (has_float d) _ f))
+  members_numbers (member k d ms) h f = (numbers d h.0 (((or_parts _ _ f).0)), members_numbers ms h.1 (((or_parts (has_float d) _ f).1)))
 
 mutual
   same_depth : (d : Data) → tree.depth (outline d) ≡ depth d

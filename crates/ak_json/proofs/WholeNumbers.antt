@@ -1,5 +1,7 @@
 -- What is written for a row holds whole numbers alone.
-use Rattle.std.proofs.Common.{◌≡◌, ℕ, ◌+◌, ℤ, pos, negsuc, List, [], ◌∷◌, map, Bool, true, false, T, not, ◌&&◌, ◌||◌, Option, Some, None, IfSome, Ordering, Less, Equal, Greater, refl, sym, subst}
+use Rattle.std.proofs.Common.{◌≡◌, ℕ, ◌+◌, ℤ, pos, negsuc, List, [], ◌∷◌, map, Bool, true, false, not, ◌&&◌, Option, Some, None, IfSome, Ordering, Less, Equal, Greater, refl, sym}
+use Rattle.std.specs.Cmp.{first_so, second_so}
+use Rattle.std.proofs.lemmas.Bool.{or_from, or_parts}
 use Rattle.std.specs.List.{AllByRecursion}
 use Rattle.std.specs.Option.{option_map_or, option_and_then, unwrap_or}
 use Rattle.std.specs.Cmp.Lexicographic.{slice_cmp}
@@ -35,7 +37,6 @@ use Rattle.ak_json.specs.declared.keys.Place.{Place}
 use Rattle.ak_json.specs.declared.keys.Place.TheVariants as places
 use Rattle.ak_json.specs.declared.keys.Word.{Word}
 use Rattle.ak_json.specs.declared.keys.Word.TheVariants as words
-use Rattle.ak_json.proofs.Kept.{left_true, right_true}
 
 -- the value holds whole numbers alone
 abbrev IsWhole : Data → Type 0
@@ -44,24 +45,13 @@ IsWhole d = has_float d ≡ false
 abbrev AreWhole : List Data → Type 0
 AreWhole ds = AllByRecursion IsWhole ds
 
-neither : (a b : Bool) → a ≡ false → b ≡ false → (a || b) ≡ false
-neither a b h k = rw h k
-
-first_of : (a b : Bool) → (a || b) ≡ false → a ≡ false
-first_of true b h = h
-first_of false b h = refl
-
-second_of : (a b : Bool) → (a || b) ≡ false → b ≡ false
-second_of true b h = absurd (subst (λ t. T (not t)) (sym h) tt)
-second_of false b h = h
-
 number_whole : (z : ℤ) → IsWhole (whole z)
 number_whole (pos n) = refl
 number_whole (negsuc n) = refl
 
 items_whole : (ds : List Data) → AreWhole ds → items_have_float (items_of ds) ≡ false
 items_whole [] h = refl
-items_whole (d ∷ ds) h = neither _ _ h.0 (items_whole ds h.1)
+items_whole (d ∷ ds) h = or_from _ _ h.0 (items_whole ds h.1)
 
 steps_whole : (steps : List ℤ) → AreWhole (map whole steps)
 steps_whole [] = tt
@@ -69,14 +59,14 @@ steps_whole (step ∷ steps) = (number_whole step, steps_whole steps)
 
 -- a whole value put among whole ones
 put_whole : (key : List ℕ) (d : Data) (ms : Members) → IsWhole d → members_have_float ms ≡ false → members_have_float (put key d ms) ≡ false
-put_whole key d no_members h k = neither _ _ h refl
+put_whole key d no_members h k = or_from _ _ h refl
 put_whole key d (member l e ms) h k =
     at_place (λ rest. put_whole key d ms h rest) (slice_cmp nat_cmp key l)
   where
     at_place : (members_have_float ms ≡ false → members_have_float (put key d ms) ≡ false) → (o : Ordering) → members_have_float (match_ordering o (member key d (member l e ms)) (member l d ms) (member l e (put key d ms))) ≡ false
-    at_place later Less = neither _ _ h k
-    at_place later Equal = neither _ _ h (second_of (has_float e) _ k)
-    at_place later Greater = neither _ _ (first_of (has_float e) _ k) (later (second_of (has_float e) _ k))
+    at_place later Less = or_from _ _ h k
+    at_place later Equal = or_from _ _ h (((or_parts (has_float e) _ k).1))
+    at_place later Greater = or_from _ _ (((or_parts (has_float e) _ k).0)) (later (((or_parts (has_float e) _ k).1)))
 
 place_whole : (place : Place) (d : Data) (ms : Members) → IsWhole d → members_have_float ms ≡ false → members_have_float (put_at place d ms) ≡ false
 place_whole (places.Own own) d ms h k = put_whole _ d ms h k
@@ -98,7 +88,7 @@ rest_whole passes text is = among (members_of text) is
   where
     among : (found : Option Members) → option_map_or (λ members. is_plain members && passes members) found false ≡ true → members_have_float (unwrap_or found no_members) ≡ false
     among None is = refl
-    among (Some ms) is = none_float _ (right_true _ _ (left_true (is_plain ms) (passes ms) is))
+    among (Some ms) is = none_float _ (second_so _ _ (first_so (is_plain ms) (passes ms) is))
 
 object_whole : (form : Form) (cells : List Data) (passes : Members → Bool) (text : List ℕ) → AreWhole cells → is_rest passes text ≡ true → IsWhole (object_json form cells text)
 object_whole form cells passes text h is = cells_whole form cells (rest_members text) h (rest_whole passes text is)
@@ -106,11 +96,11 @@ object_whole form cells passes text h is = cells_whole form cells (rest_members 
 -- what stands under a key of whole members is whole
 found_whole : (key : List ℕ) (ms : Members) → members_have_float ms ≡ false → IfSome (get_member key ms) IsWhole
 found_whole key no_members h = tt
-found_whole key (member l e ms) h = at_place (found_whole key ms (second_of (has_float e) _ h)) (slice_cmp nat_cmp key l)
+found_whole key (member l e ms) h = at_place (found_whole key ms (((or_parts (has_float e) _ h).1))) (slice_cmp nat_cmp key l)
   where
     at_place : IfSome (get_member key ms) IsWhole → (o : Ordering) → IfSome (match_ordering o (get_member key ms) (Some e) (get_member key ms)) IsWhole
     at_place later Less = later
-    at_place later Equal = first_of (has_float e) _ h
+    at_place later Equal = ((or_parts (has_float e) _ h).0)
     at_place later Greater = later
 
 inner_whole : (d : Data) → IsWhole d → members_have_float (unwrap_or (as_object d) no_members) ≡ false
@@ -141,7 +131,7 @@ bit_whole true = refl
 bit_whole false = refl
 
 pair_whole : (c : Count) → IsWhole (pair c)
-pair_whole c = neither _ _ (number_whole c.day) (neither _ _ (number_whole c.count) refl)
+pair_whole c = or_from _ _ (number_whole c.day) (or_from _ _ (number_whole c.count) refl)
 
 note_type_whole : (t : NoteType) → AreWhole (note_type_cells t)
 note_type_whole t =

@@ -1,5 +1,6 @@
 -- How many rows each table has, kept beside the rows.
 use Rattle.std.specs.Prelude.{◌≡◌, ℕ, suc, ◌+◌, ◌-◌, ◌<◌, ◌≤◌, Bool, true, false, T, cond, ◌==◌, Some, None, is_some, List, [], ◌∷◌, filter, length, slice_index, slice_set}
+use Rattle.std.proofs.lemmas.Option.{none-some}
 use Rattle.std.proofs.Common.{refl, sym, ap, subst, ◌∙◌, arith}
 use Rattle.std.proofs.lemmas.List.{length-set, get_or-set_same, get_or-set_other}
 use Rattle.std.specs.BTreeMap.{is_at, insert_entry}
@@ -12,7 +13,7 @@ use Rattle.ak_base.specs.declared.names.Name.{Name}
 use Rattle.ak_base.specs.declared.names.Table.{Table}
 use Rattle.ak_base.specs.declared.names.Table.TheVariants as tables
 use Rattle.ak_base.specs.declared.rows.Row.{Row}
-use Rattle.ak_keep.specs.Entries.{row_at, none_some, none_of, same_of_tied}
+use Rattle.ak_keep.specs.Entries.{row_at, none_of, same_of_tied}
 
 -- how many of the names are of the table
 abbrev pub count_among : Table → List Name → ℕ
@@ -48,7 +49,7 @@ counted-new p k v (e ∷ es) none =
     elim (name_cmp k e.0) as (λ r. cond (is_eq r) (Some e.1) (row_at es k) ≡ None
     → length (filter p (keys_of (match_ordering r ((k, v) ∷ e ∷ es) ((e.0, v) ∷ es) (e ∷ more)))) ≡ one_if (p k) + length (filter p (keys_of (e ∷ es)))) [
       | Less ↦ λ _. length-cons_if (p k) k (filter p (keys_of (e ∷ es)))
-      | Equal ↦ λ none. absurd (none_some e.1 (sym none))
+      | Equal ↦ λ none. absurd (none-some e.1 (sym none))
       | Greater ↦ λ none.
           let rest = counted-new p k v es none in
           omega (arith, rest, length-cons_if (p e.0) e.0 (filter p (keys_of more)), length-cons_if (p e.0) e.0 (filter p (keys_of es)))

@@ -1,5 +1,6 @@
 -- A keeper's entries, as the finite map of them.
 use Rattle.std.specs.Prelude.{◌≡◌, Bool, true, false, T, not, ◌&&◌, Option, Some, None, is_some, List, [], ◌∷◌, ◌++◌, map, cond, length}
+use Rattle.std.proofs.lemmas.Option.{none-some, same_Some}
 use Rattle.std.proofs.Common.{refl, sym, ap, subst, ◌∙◌, arith}
 use Rattle.std.specs.BTreeMap.{is_at}
 use Rattle.std.specs.Cmp.{eq_by_cmp_equiv, tied_itself}
@@ -8,7 +9,7 @@ use Rattle.std.specs.FinMap.Entries.{by_order, below_all, same_entries}
 use Rattle.std.specs.List.{AllByRecursion}
 use Rattle.std.specs.List.Sorted.{IsStrictlySortedBy}
 use Rattle.std.specs.Map.{lookup, keys_of}
-use Rattle.std.specs.Option.{option_or, unwrap_or}
+use Rattle.std.specs.Option.{option_or}
 use Rattle.std.specs.Ordering.{eq_by_cmp, is_eq, is_lt, ordering_reverse}
 use Rattle.std.specs.declared.cmp.Ordering.{Ordering}
 use Rattle.std.specs.declared.cmp.Ordering.TheVariants.{Less, Equal, Greater}
@@ -167,19 +168,13 @@ named-rows_of rows = named-from_entries (map (λ row. (name_of row, row)) rows) 
 pub named-union : (a b : Rows) → StandsUnderNames a → StandsUnderNames b → StandsUnderNames (union a b)
 named-union a b g h = named-from_entries (entries a ++ entries b) (named-append (entries a) (entries b) g h)
 
-pub none_some : (row : Row) → None ≡ Some row → ⊥
-none_some row is = subst (λ (o : Option Row). T (not (is_some o))) is tt
-
-pub same_some : (x y : Row) → Some x ≡ Some y → x ≡ y
-same_some x y is = ap (λ o. unwrap_or o x) is
-
 named-find : (q : Name) (row : Row) (es : List (Name × Row)) → AllByRecursion IsNamed es → find name_cmp q es ≡ Some row → name_of row ≡ q
 named-find q row [] h is =
-    absurd (none_some row is)
+    absurd (none-some row is)
 named-find q row (e ∷ es) h is =
     elim (name_cmp q e.0) as (λ r. name_cmp q e.0 ≡ r → cond (is_eq r) (Some e.1) (find name_cmp q es) ≡ Some row → name_of row ≡ q) [
       | Less ↦ λ t is. named-find q row es h.1 is
-      | Equal ↦ λ t is. ap name_of (sym (same_some e.1 row is)) ∙ h.0 ∙ sym (names_exact _ _ t)
+      | Equal ↦ λ t is. ap name_of (sym (same_Some e.1 row is)) ∙ h.0 ∙ sym (names_exact _ _ t)
       | Greater ↦ λ t is. named-find q row es h.1 is
     ] refl is
 
@@ -240,11 +235,11 @@ pub all_from_gets : (P : Name × Row → Type 0) (rows : Rows) → ((q : Name) (
 all_from_gets P rows h = all_from P rows (entries rows) h (entries_found rows)
 
 pub all_find : (P : Name × Row → Type 0) (q : Name) (row : Row) (es : List (Name × Row)) → AllByRecursion P es → find name_cmp q es ≡ Some row → P (q, row)
-all_find P q row [] h is = absurd (none_some row is)
+all_find P q row [] h is = absurd (none-some row is)
 all_find P q row (e ∷ es) h is =
     elim (name_cmp q e.0) as (λ r. name_cmp q e.0 ≡ r → cond (is_eq r) (Some e.1) (find name_cmp q es) ≡ Some row → P (q, row)) [
       | Less ↦ λ t is. all_find P q row es h.1 is
-      | Equal ↦ λ t is. subst (λ (x : Row). P (q, x)) (same_some e.1 row is) (subst (λ (x : Name). P (x, e.1)) (sym (names_exact _ _ t)) h.0)
+      | Equal ↦ λ t is. subst (λ (x : Row). P (q, x)) (same_Some e.1 row is) (subst (λ (x : Name). P (x, e.1)) (sym (names_exact _ _ t)) h.0)
       | Greater ↦ λ t is. all_find P q row es h.1 is
     ] refl is
 
@@ -252,7 +247,7 @@ pub all_gets : (P : Name × Row → Type 0) (rows : Rows) (q : Name) (row : Row)
 all_gets P rows q row h is = all_find P q row (entries rows) h (sym (get-entries rows q) ∙ is)
 
 some_where : (b : Bool) (o : Option Row) (row : Row) → cond b None o ≡ Some row → o ≡ Some row
-some_where true o row is = absurd (none_some row is)
+some_where true o row is = absurd (none-some row is)
 some_where false o row is = is
 
 pub all-remove : (P : Name × Row → Type 0) (rows : Rows) (name : Name) → AllByRecursion P (entries rows) → AllByRecursion P (entries (remove rows name))

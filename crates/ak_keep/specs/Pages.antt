@@ -4,7 +4,7 @@ use Rattle.std.proofs.Common.{refl, sym, ap, subst, ◌∙◌, arith, length-app
 use Rattle.std.proofs.lemmas.Bool.{ne_eqb}
 use Rattle.std.proofs.lemmas.List.{length-take, take-append-drop, take_all}
 use Rattle.std.specs.BTreeMap.Range.{entries_between}
-use Rattle.std.specs.Cmp.{ranked, unsigned_Decides, int_cmp_total, tied_itself}
+use Rattle.std.specs.Cmp.{ranked, unsigned_Decides, int_cmp_total, tied_itself, first_so, second_so}
 use Rattle.std.specs.FinMap.{entries, entries_sorted, from_entries, is_sorted}
 use Rattle.std.specs.FinMap.Entries.{below_all}
 use Rattle.std.proofs.lemmas.List.Elements.{All-take, filter_passes}
@@ -66,14 +66,6 @@ page_fits w limit page row room =
     ]
 
 -- ---- numbers and names
-and_first : (a b : Bool) → (a && b) ≡ true → a ≡ true
-and_first true b is = refl
-and_first false b is = is
-
-pub and_second : (a b : Bool) → (a && b) ≡ true → b ≡ true
-and_second true b is = is
-and_second false b is = absurd (subst T (sym is) tt)
-
 and_false : (a b : Bool) → b ≡ false → (a && b) ≡ false
 and_false true b is = is
 and_false false b is = refl
@@ -242,9 +234,9 @@ first_and_rest table past (e ∷ es) row rows sorted named is =
           subst (λ (n : Name). picked table n.id (e ∷ es) ≡ rows) (sym name)
           (subst (λ b. map (λ (entry : Name × Row). entry.1) (cond b (e ∷ filter (λ (entry : Name × Row). is_past table e.0.id entry.0) es) (filter (λ (entry : Name × Row). is_past table e.0.id entry.0) es)) ≡ rows)
           (sym (and_false _ _ (not_below_itself e.0.id)))
-          (same_picks table past e.0 es (both_first _ _ sorted) (and_first _ _ passes) (and_second _ _ passes) ∙ same_rest is))
+          (same_picks table past e.0 es (both_first _ _ sorted) (first_so _ _ passes) (second_so _ _ passes) ∙ same_rest is))
       | false ↦ λ fails is.
-          let over : int_lt past (name_of row).id ≡ true = and_second _ _ (first_is_past table past es row rows named.1 is) in
+          let over : int_lt past (name_of row).id ≡ true = second_so _ _ (first_is_past table past es row rows named.1 is) in
           subst (λ b. map (λ (entry : Name × Row). entry.1) (cond b (e ∷ high) high) ≡ rows)
           (sym (past_both _ past (name_of row).id e.0.id over fails))
           (first_and_rest table past es row rows (both_second _ _ sorted) named.1 is)
@@ -284,7 +276,7 @@ page_rest table past rows page limit named is =
 -- ---- the wanted rows past an id
 past_too : (table : Table) (past mid : ℤ) (name : Name) → int_lt past mid ≡ true → is_past table mid name ≡ true → is_past table past name ≡ true
 past_too table past mid name over is =
-    ap (λ b. b && int_lt past name.id) (and_first _ _ is) ∙ int_chain past mid name.id over (and_second _ _ is)
+    ap (λ b. b && int_lt past name.id) (first_so _ _ is) ∙ int_chain past mid name.id over (second_so _ _ is)
 
 -- they are any first part of them, and then what is past the last of the part
 pub wanted-append : (w : Row → Bool) (table : Table) (past : ℤ) (rows : Rows) (xs front rest : List Row) → StandsUnderNames rows → rows_past table past rows ≡ xs → filter w xs ≡ front ++ rest
@@ -314,7 +306,7 @@ wanted-ascend w table past rows (x ∷ xs) (row ∷ front) rest named is parts =
           (passes, wanted-ascend w table (name_of x).id rows xs front rest named behind (same_rest parts))
       | false ↦ λ parts.
           let later = wanted-ascend w table (name_of x).id rows xs (row ∷ front) rest named behind parts in
-          (past_too table past (name_of x).id (name_of row) (and_second _ _ passes) later.0, later.1)
+          (past_too table past (name_of x).id (name_of row) (second_so _ _ passes) later.0, later.1)
     ] parts
 
 whole_of : (limit : ℕ) (all page : List Row) → page ≡ take limit all → all ≡ page ++ drop limit all

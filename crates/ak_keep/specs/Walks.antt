@@ -1,5 +1,6 @@
 -- A walk over the rows of a table, page by page.
 use Rattle.std.specs.Prelude.{◌≡◌, ℕ, suc, ℤ, pos, ◌<◌, ◌<ℤ◌, ◌^◌, true, T, if◌then◌else◌, int_lt, negsuc, List, [], ◌∷◌, length}
+use Rattle.std.specs.Cmp.{second_so}
 use Rattle.std.proofs.Common.{arith, sym, subst}
 use Rattle.std.proofs.lemmas.Int.{ints}
 use Rattle.std.specs.Int.{int_gap}
@@ -7,7 +8,7 @@ use Rattle.ak_base.specs.Rows.{name_of}
 use Rattle.ak_base.specs.declared.names.Table.{Table}
 use Rattle.ak_base.specs.declared.rows.Row.{Row}
 use Rattle.ak_keep.specs.Collections.{Rows, AscendsPast, rows_past, last_id}
-use Rattle.ak_keep.specs.Pages.{and_second, int_chain}
+use Rattle.ak_keep.specs.Pages.{int_chain}
 use Rattle.ak_keep.specs.declared.walks.Walk.{Walk}
 
 -- the rows that are still to come
@@ -26,8 +27,8 @@ gap_falls (negsuc a) (negsuc b) top less high = omega (arith, ints, less, high)
 
 -- the last id of some rows is over all that they are past
 last_rises : (table : Table) (past : ℤ) (row : Row) (rows : List Row) → AscendsPast table past (row ∷ rows) → int_lt past (last_id past (row ∷ rows)) ≡ true
-last_rises table past row [] ascends = and_second _ _ (ascends.0)
-last_rises table past row (next ∷ rows) ascends = int_chain past (name_of row).id _ (and_second _ _ ascends.0) (last_rises table (name_of row).id next rows ascends.1)
+last_rises table past row [] ascends = second_so _ _ (ascends.0)
+last_rises table past row (next ∷ rows) ascends = int_chain past (name_of row).id _ (second_so _ _ ascends.0) (last_rises table (name_of row).id next rows ascends.1)
 
 -- behind a page with rows there are fewer pages
 pub fewer_pages : (table : Table) (past : ℤ) (page : List Row) → AscendsPast table past page → 0 < length page → last_id past page <ℤ pos (2 ^ 63)

@@ -1,5 +1,6 @@
 -- What keeps a collection well formed, and what is known of the rows that it gives.
 use Rattle.std.specs.Prelude.{◌≡◌, ℕ, ℤ, Bool, true, false, cond, List, map, filter, take, Option, Some, None, IfSome}
+use Rattle.std.proofs.lemmas.Option.{none-some, same_Some}
 use Rattle.std.proofs.Common.{sym, subst, ◌∙◌}
 use Rattle.std.proofs.lemmas.List.Elements.{All-take, All-filter, All-map, All-from_recursion, recursion_from_All}
 use Rattle.std.specs.FinMap.{get, insert, empty, entries, get-empty, get-insert, get-from_entries}
@@ -13,7 +14,7 @@ use Rattle.ak_base.specs.declared.names.Name.{Name}
 use Rattle.ak_base.specs.declared.names.Table.{Table}
 use Rattle.ak_base.specs.declared.rows.Row.{Row}
 use Rattle.ak_keep.specs.Collections.{Rows, Collection, IsChecked, IsWellFormed, union, rows_of, is_past, rows_past, wanted_past, is_wanted, with_row, without, with_head, with_rows_of, made_of}
-use Rattle.ak_keep.specs.Entries.{IsNamed, none_some, same_some, named-empty, named-insert, named-union, named-rows_of, all_from_gets, all_find, all_gets, all-remove, get-union}
+use Rattle.ak_keep.specs.Entries.{IsNamed, named-empty, named-insert, named-union, named-rows_of, all_from_gets, all_find, all_gets, all-remove, get-union}
 use Rattle.ak_keep.specs.declared.keepers.Wanted.{Wanted}
 
 checked_gets : (rows : Rows) (q : Name) (row : Row) → AllByRecursion (λ (entry : Name × Row). IsChecked entry.1) (entries rows) → get rows q ≡ Some row → IsChecked row
@@ -25,12 +26,12 @@ checked_from_gets rows h = all_from_gets (λ entry. IsChecked entry.1) rows h
 pub formed-empty : IsWellFormed (record { rows = empty; head = None })
 formed-empty = record {
   named = named-empty;
-  checked = checked_from_gets empty (λ q row is. absurd (none_some row (sym (get-empty name_cmp q) ∙ is)));
+  checked = checked_from_gets empty (λ q row is. absurd (none-some row (sym (get-empty name_cmp q) ∙ is)));
   head = tt;
 }
 
 checked_where : (b : Bool) (o : Option Row) (row other : Row) → IsChecked row → (o ≡ Some other → IsChecked other) → cond b (Some row) o ≡ Some other → IsChecked other
-checked_where true o row other h k is = subst IsChecked (same_some row other is) h
+checked_where true o row other h k is = subst IsChecked (same_Some row other is) h
 checked_where false o row other h k is = k is
 
 pub formed-with_row : (row : Row) (c : Collection) → IsChecked row → IsWellFormed c → IsWellFormed (with_row row c)

@@ -2,7 +2,7 @@
 use Rattle.std.specs.Prelude.{◌≡◌, ◌↔◌, ◌==◌, ℕ, suc, ◌<◌, ◌≤◌, pos, Bool, true, false, T, not, ◌&&◌, IsTrue, ⊤, int_lt, List, [], ◌∷◌, Option, Some, None}
 use Rattle.std.proofs.Common.{refl, sym, ap, subst, ◌∙◌, inl, inr, arith}
 use Rattle.std.proofs.Math.Nat.{eq-or-lt_of_le}
-use Rattle.std.specs.Cmp.{ranked, signed_Decides, unsigned_Decides}
+use Rattle.std.specs.Cmp.{ranked, signed_Decides, unsigned_Decides, first_so, second_so}
 use Rattle.std.specs.FinMap.{get}
 use Rattle.std.specs.List.{AllByRecursion}
 use Rattle.std.specs.Option.{option_map, option_or}
@@ -16,8 +16,7 @@ use Rattle.ak_base.specs.declared.names.Table.{Table}
 use Rattle.ak_base.specs.declared.names.Table.TheVariants as tables
 use Rattle.ak_base.specs.declared.rows.Row.{Row}
 use Rattle.ak_keep.specs.Collections.{Rows, IsChecked, is_past}
-use Rattle.ak_keep.specs.Pages.{and_second}
-use Rattle.ak_merge.proofs.Finding.{IsFirstIn, first_in_table, id_over_zero, is_first, neither, none_in_table, none_mapped, not_both, not_none, table_has_none}
+use Rattle.ak_merge.proofs.Finding.{IsFirstIn, first_in_table, id_over_zero, neither, none_in_table, none_mapped, not_both, not_none, table_has_none}
 use Rattle.ak_merge.specs.Holdings.{At, AreNamed, AreChecked}
 use Rattle.ak_merge.specs.Joins.{AreApart}
 use Rattle.ak_merge.specs.Parting.{AreTornUnder, IsLeastTorn, all_tables, first_torn, first_torn_in, first_torn_of, is_parted, is_torn}
@@ -136,8 +135,8 @@ torn_under b name x at has is_named torn =
         y,
         has,
         held,
-        (signed_Decides (stamp_of x) (stamp_of y)).0 (is_first (int_eq (stamp_of x) (stamp_of y)) (not (same_content x y)) torn),
-        is_not (same_content x y) (and_second (int_eq (stamp_of x) (stamp_of y)) (not (same_content x y)) torn),
+        (signed_Decides (stamp_of x) (stamp_of y)).0 (first_so (int_eq (stamp_of x) (stamp_of y)) (not (same_content x y)) torn),
+        is_not (same_content x y) (second_so (int_eq (stamp_of x) (stamp_of y)) (not (same_content x y)) torn),
       )
     ] refl (ap (λ (n : Name). is_parted x (get b n)) (sym is_named) ∙ torn)
   where
@@ -156,7 +155,7 @@ least_in a b name table are_named checked (some, clear) = of_first (first_in_tab
   where
     of_first : ((row : Row) × IsFirstIn (is_torn b) table a name row) → IsLeastTorn (get a) (get b) name
     of_first (row, first) =
-        let own : table_place name.table ≡ table_place table = (unsigned_Decides (table_place name.table) (table_place table)).0 (is_first (table_place name.table == table_place table) (int_lt (pos 0) name.id) first.inside) in
+        let own : table_place name.table ≡ table_place table = (unsigned_Decides (table_place name.table) (table_place table)).0 (first_so (table_place name.table == table_place table) (int_lt (pos 0) name.id) first.inside) in
         record {
           torn = torn_under b name row (get a) first.stands (are_named name row first.stands) first.passes;
           below = λ q less. clear_under a b q are_named (λ x has.

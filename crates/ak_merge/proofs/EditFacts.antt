@@ -3,7 +3,6 @@ use Rattle.std.specs.Prelude.{◌≡◌, ℕ, ℤ, pos, negsuc, ◌≤ℤ◌, �
 use Rattle.std.proofs.Common.{cond, inl, inr, refl, sym, ap, subst, ◌∙◌, arith}
 use Rattle.std.proofs.Math.Path.{fun_ext}
 use Rattle.std.proofs.lemmas.Int.{ints, clamps}
-use Rattle.std.specs.Option.{unwrap_or}
 use Rattle.std.specs.Ordering.{int_eq}
 use Rattle.ak_base.specs.Contents.{same_content_equiv}
 use Rattle.ak_base.specs.Rows.{name_of, stamp_of, usn_of}
@@ -27,9 +26,6 @@ none_held {X} is = absurd (subst (λ (o : Option X). T (not (is_some o))) is tt)
 
 pub held_none : {X Y : Type 0} {x : X} → Some x ≡ None → Y
 held_none {X} is = absurd (subst (λ (o : Option X). T (is_some o)) is tt)
-
-pub one_held : {X : Type 0} {x y : X} → Some x ≡ Some y → x ≡ y
-one_held {x = x} is = ap (λ o. unwrap_or o x) is
 
 pub either_way : {X : Type 0} (t : Bool) → (t ≡ true → X) → (t ≡ false → X) → X
 either_way true f g = f refl

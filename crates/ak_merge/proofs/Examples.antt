@@ -1,5 +1,6 @@
 -- Worked examples: what the definitions say of small collections.
 use Rattle.std.specs.Prelude.{◌≡◌, ℕ, ℤ, pos, negsuc, codes, true, false, cond, if◌then◌else◌, is_some, IsTrue, IfSome, ⊤, ◌⊎◌, List, [], ◌∷◌, Option, Some, None}
+use Rattle.std.proofs.lemmas.Option.{same_Some}
 use Rattle.std.proofs.Common.{refl, sym, ap, subst, ◌∙◌, inl, inr, arith}
 use Rattle.std.proofs.Math.Path.{fun_ext}
 use Rattle.std.proofs.lemmas.Int.{ints}
@@ -19,7 +20,7 @@ use Rattle.ak_base.specs.declared.notes.Note.{Note}
 use Rattle.ak_base.specs.declared.rows.Row.{Row}
 use Rattle.ak_base.specs.declared.rows.Row.TheVariants as rows
 use Rattle.ak_keep.specs.Collections.{rows_of}
-use Rattle.ak_keep.specs.Entries.{same_of_tied, same_some}
+use Rattle.ak_keep.specs.Entries.{same_of_tied}
 use Rattle.ak_merge.proofs.Finding.{not_none, not_both}
 use Rattle.ak_base.proofs.RowFacts.{same-turned, same-through}
 use Rattle.ak_merge.proofs.SoundLaws.{has_place}
@@ -138,7 +139,7 @@ each_standing : (P : Row → Type 0) (xs : List Row) → AllByRecursion P xs →
 each_standing P [] all name row is = absurd (not_none (sym is))
 each_standing P (x ∷ xs) all name row is =
     elim (is_name name (name_of x)) as (λ b. (if b then Some x else standing xs name) ≡ Some row → P row) [
-      | true ↦ λ is. subst P (same_some x row is) all.0
+      | true ↦ λ is. subst P (same_Some x row is) all.0
       | false ↦ λ is. each_standing P xs all.1 name row is
     ] is
 

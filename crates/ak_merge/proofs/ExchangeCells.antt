@@ -1,5 +1,6 @@
 -- What an exchange leaves under one name, on both sides.
 use Rattle.std.specs.Prelude.{◌≡◌, ℤ, ◌<ℤ◌, Bool, true, false, not, ◌||◌, if◌then◌else◌, int_lt, IsTrue, IfSome, List, Option, Some, None, is_some}
+use Rattle.std.proofs.lemmas.Option.{none-some, same_Some}
 use Rattle.std.proofs.Common.{refl, sym, ap, subst, ◌∙◌, inl, inr, arith}
 use Rattle.std.proofs.lemmas.Int.{ints}
 use Rattle.std.proofs.lemmas.List.Elements.{recursion_from_All}
@@ -11,7 +12,6 @@ use Rattle.ak_base.specs.declared.rows.Row.{Row}
 use Rattle.ak_keep.specs.Collections.{is_pending, is_settled, is_wanted}
 use Rattle.ak_keep.specs.declared.keepers.Wanted.{Wanted}
 use Rattle.ak_keep.specs.declared.keepers.Wanted.TheVariants.{Unsent, From}
-use Rattle.ak_keep.specs.Entries.{none_some, same_some}
 use Rattle.ak_merge.specs.Commits.{wanted_under, IsSent, settled}
 use Rattle.ak_merge.specs.Holdings.{At, AreNamed, same_held}
 use Rattle.ak_merge.specs.Joins.{newest}
@@ -29,8 +29,8 @@ only_wanted want o = option_and_then (λ (row : Row). if is_wanted want row then
 pub only_is : (want : Wanted) (x r : Row) → only_wanted want (Some x) ≡ Some r → (x ≡ r) × IsTrue (is_wanted want x)
 only_is want x r is =
     elim (is_wanted want x) as (λ b. is_wanted want x ≡ b → (if b then Some x else None) ≡ Some r → (x ≡ r) × IsTrue (is_wanted want x)) [
-      | true ↦ λ meets is. (same_some x r is, meets)
-      | false ↦ λ meets is. absurd (none_some r is)
+      | true ↦ λ meets is. (same_Some x r is, meets)
+      | false ↦ λ meets is. absurd (none-some r is)
     ] refl is
 
 pub is_only : (want : Wanted) (x : Row) → IsTrue (is_wanted want x) → only_wanted want (Some x) ≡ Some x
@@ -39,7 +39,7 @@ is_only want x meets = rw meets refl
 pub wanted_named : (want : Wanted) (at : At) → AreNamed at → AreNamed (wanted_under want at)
 wanted_named want at named name row is =
     elim (at name) as (λ o. at name ≡ o → only_wanted want o ≡ Some row → name_of row ≡ name) [
-      | None ↦ λ held is. absurd (none_some row is)
+      | None ↦ λ held is. absurd (none-some row is)
       | Some x ↦ λ held is. named name row (held ∙ ap (λ (r : Row). Some r) (only_is want x row is).0)
     ] refl is
 
@@ -130,21 +130,21 @@ like_sent usn x r is = subst (λ (z : Row). IsTrue (same_content (with_usn r usn
 
 neither_holds : (least usn : ℤ) (w p : Option Row) → Meets least usn None None None None w None p None → Agrees usn None None None None w None p None
 neither_holds least usn None None m = record { device = refl; server = refl }
-neither_holds least usn (Some w) p m = absurd (none_some w m.came)
-neither_holds least usn None (Some p) m = absurd (none_some p m.sent)
+neither_holds least usn (Some w) p m = absurd (none-some w m.came)
+neither_holds least usn None (Some p) m = absurd (none-some p m.sent)
 
 server_holds : (least usn : ℤ) (y : Row) (w p : Option Row) → Meets least usn None None (Some y) None w None p None → Agrees usn None None (Some y) None w None p None
-server_holds least usn y w (Some p) m = absurd (none_some p m.sent)
+server_holds least usn y w (Some p) m = absurd (none-some p m.sent)
 server_holds least usn y (Some w) None m = record { device = like_sent usn y w (only_is (From least) y w m.came).0; server = same-itself y }
 server_holds least usn y None None m = absurd (wanted_or_below least y ⊥
-    (λ wanted. none_some y (m.came_all y (is_only (From least) y wanted) refl))
+    (λ wanted. none-some y (m.came_all y (is_only (From least) y wanted) refl))
     (λ below. elim (m.taken below) [ inl none ↦ absurd none | inr (inl none) ↦ absurd none | inr (inr none) ↦ absurd none ]))
 
 device_holds : (least usn : ℤ) (x : Row) (w p : Option Row) → Meets least usn (Some x) None None None w None p None → Agrees usn (Some x) None None None w None p None
-device_holds least usn x (Some w) p m = absurd (none_some w m.came)
+device_holds least usn x (Some w) p m = absurd (none-some w m.came)
 device_holds least usn x None (Some p) m = record { device = same-itself x; server = like_sent usn x p (only_is Unsent x p m.sent).0 }
 device_holds least usn x None None m = absurd (pending_or_settled x ⊥
-    (λ pending. none_some x (m.sent_all x (is_only Unsent x pending) refl))
+    (λ pending. none-some x (m.sent_all x (is_only Unsent x pending) refl))
     (λ settled. elim (m.known settled) [ inl none ↦ absurd none | inr (inl none) ↦ absurd none | inr (inr none) ↦ absurd none ]))
 
 -- a row that is not newer leaves what is held
@@ -169,7 +169,7 @@ device_takes least usn x y (Some w) p newer stays m =
     let same : int_lt (stamp_of x) (stamp_of w) ≡ true = ap (λ (r : Row). int_lt (stamp_of x) (stamp_of r)) (sym is) ∙ newer in
     rw same (like_sent usn y w is)
 device_takes least usn x y None p newer stays m = absurd (wanted_or_below least y ⊥
-    (λ wanted. none_some y (m.came_all y (is_only (From least) y wanted) stays))
+    (λ wanted. none-some y (m.came_all y (is_only (From least) y wanted) stays))
     (λ below. elim (m.taken below) [
       | inl like ↦ let one = like_stamp y x like in absurd (omega (arith, ints, one, newer))
       | inr (inl held) ↦ absurd (omega (arith, ints, held.newer, newer))

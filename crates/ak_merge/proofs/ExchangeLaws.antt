@@ -1,5 +1,6 @@
 -- What an exchange of a device with a server leaves: the join on both sides, linked.
 use Rattle.std.specs.Prelude.{◌≡◌, ℤ, pos, negsuc, ◌+ℤ◌, ◌≤ℤ◌, ◌<ℤ◌, Bool, true, false, not, ◌||◌, if◌then◌else◌, int_lt, IsTrue, IfSome, List, Option, Some, None, is_some}
+use Rattle.std.proofs.lemmas.Option.{none-some}
 use Rattle.std.proofs.Common.{refl, sym, ap, subst, ◌∙◌, inl, inr, arith}
 use Rattle.std.proofs.Math.Path.{fun_ext}
 use Rattle.std.proofs.lemmas.Int.{ints}
@@ -14,20 +15,19 @@ use Rattle.ak_base.specs.declared.rows.Row.{Row}
 use Rattle.ak_keep.specs.Collections.{is_pending, is_settled, is_wanted}
 use Rattle.ak_keep.specs.declared.keepers.Wanted.{Wanted}
 use Rattle.ak_keep.specs.declared.keepers.Wanted.TheVariants.{Unsent, From}
-use Rattle.ak_keep.specs.Entries.{none_some}
 use Rattle.ak_merge.specs.Commits.{IsListOf, unsent_tags, tags_from, wanted_under, IsSent, is_unsent_tag, is_tag_from, settled, settled_number, IsExchange, AreExchanged}
 use Rattle.ak_merge.specs.Holdings.{At, Held, under, AreNamed, graves_of, grave_under, IsSingle, tag_usn, content_of, same_held, SameContent}
 use Rattle.ak_merge.specs.Joins.{AreApart, joined_under, join}
 use Rattle.ak_merge.specs.Links.{has_stamps, IsGiven, IsOwn, AreNumbered, IsHeldLike, HasTaken, IsKnown, IsShared, IsTagShared, AreLinkedParts}
 use Rattle.ak_base.proofs.RowFacts.{name_of-with_usn, usn_of-with_usn, same-with_usn, same-itself, same-turned, same-through}
-use Rattle.ak_merge.proofs.HeldFacts.{held-turned, held-through}
+use Rattle.ak_merge.proofs.HeldFacts.{held-alike, held-turned, held-through}
 use Rattle.ak_merge.proofs.TakingLaws.{received, received_under, grave_in, newest_in, all_taken_at}
 use Rattle.ak_merge.proofs.CommitLaws.{of_some, named_received, when_some, if_weaker, each_by, all_some, newest_named, grave_received, single_received, commit_under, given_more, given_now, commit_given, no_stamps, unstamped_graves, unstamped, stays_unstamped}
 use Rattle.ak_merge.proofs.ExchangeCells.{only_wanted, is_only, wanted_named, sent_each, sent_whole, Meets, agree}
 
 -- ---- an exchange: under each name
 only_some : (want : Wanted) (o : Option Row) (row : Row) → only_wanted want o ≡ Some row → is_some o ≡ true
-only_some want None row is = absurd (none_some row is)
+only_some want None row is = absurd (none-some row is)
 only_some want (Some x) row is = refl
 
 -- a grave that was sent is held
@@ -282,13 +282,7 @@ tag_same usn (Some m) (Some n) same = record { sent = λ settled. refl; came = �
 same_graves : (a b : At) (name : Name) (graves : Option Table) → ((name : Name) → IsTrue (same_held (a name) (b name)))
     → is_some (grave_in a name graves) ≡ is_some (grave_in b name graves)
 same_graves a b name None same = refl
-same_graves a b name (Some graves) same = same_some_held (a (record { table = graves; id = name.id })) (b (record { table = graves; id = name.id })) (same (record { table = graves; id = name.id }))
-  where
-    same_some_held : (x y : Option Row) → IsTrue (same_held x y) → is_some x ≡ is_some y
-    same_some_held None None same = refl
-    same_some_held None (Some y) same = absurd (grind (arith, same))
-    same_some_held (Some x) None same = absurd (grind (arith, same))
-    same_some_held (Some x) (Some y) same = refl
+same_graves a b name (Some graves) same = held-alike (a (record { table = graves; id = name.id })) (b (record { table = graves; id = name.id })) (same (record { table = graves; id = name.id }))
 
 none_held : (x : Option Row) → IsTrue (same_held x None) → x ≡ None
 none_held None same = refl

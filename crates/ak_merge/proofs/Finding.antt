@@ -1,5 +1,6 @@
 -- What a search among the rows of a table finds, said of what stands under names.
 use Rattle.std.specs.Prelude.{◌≡◌, ℤ, pos, Bool, true, false, T, cond, ◌&&◌, ◌||◌, int_lt, List, [], ◌∷◌, ◌++◌, map, filter, find, Option, Some, None, is_some}
+use Rattle.std.specs.Cmp.{first_so, second_so}
 use Rattle.std.proofs.Common.{refl, sym, ap, subst, ◌∙◌, arith}
 use Rattle.std.proofs.lemmas.Int.{ints}
 use Rattle.std.specs.FinMap as finite
@@ -27,7 +28,7 @@ use Rattle.ak_base.specs.declared.rows.Row.{Row}
 use Rattle.ak_base.specs.declared.rows.Row.TheVariants as rows
 use Rattle.ak_keep.specs.Collections.{Collection, Rows, IsChecked, IsWellFormed, is_past, rows_past}
 use Rattle.ak_keep.specs.Entries.{all_from_gets, all_gets, below_more, both_first, both_second, entries_found, named-get, none_below}
-use Rattle.ak_keep.specs.Pages.{and_second, picked}
+use Rattle.ak_keep.specs.Pages.{picked}
 use Rattle.ak_merge.proofs.CheckedRows.{faultless_of}
 use Rattle.ak_merge.specs.Holdings.{AreNamed, AreChecked}
 
@@ -45,10 +46,6 @@ none_mapped f (Some x) is = absurd (not_none is)
 pub neither : {A : Type 0} (o p : Option A) → option_or o p ≡ None → (o ≡ None) × (p ≡ None)
 neither None p is = (refl, is)
 neither (Some x) p is = absurd (not_none is)
-
-pub is_first : (a b : Bool) → (a && b) ≡ true → a ≡ true
-is_first true b is = refl
-is_first false b is = is
 
 -- ---- a search over entries
 -- an entry of the table with an id over `past` does not pass the test
@@ -169,8 +166,8 @@ first_entry p table held e is =
     let one = found_passes (λ (entry : Name × Row). get held entry.0 ≡ Some entry.1) t (entries held) e (entries_found held) is in
     record {
       stands = one.0;
-      inside = is_first (is_past table (pos 0) e.0) (p e.1) one.1;
-      passes = and_second (is_past table (pos 0) e.0) (p e.1) one.1;
+      inside = first_so (is_past table (pos 0) e.0) (p e.1) one.1;
+      passes = second_so (is_past table (pos 0) e.0) (p e.1) one.1;
       below = λ q x less has inside. ap (λ b. b && p x) (sym inside) ∙ lesser_fails t (entries held) e q x (entries_sorted held) is less (sym (get-entries held q) ∙ has);
     }
 

@@ -1,5 +1,5 @@
 -- Of what is held under a name: to have one content.
-use Rattle.std.specs.Prelude.{IsTrue, Option, Some, None}
+use Rattle.std.specs.Prelude.{◌≡◌, IsTrue, Option, Some, None, is_some}
 use Rattle.std.proofs.Common.{refl, arith}
 use Rattle.ak_base.proofs.RowFacts.{same-itself, same-turned, same-through}
 use Rattle.ak_base.specs.declared.rows.Row.{Row}
@@ -21,3 +21,10 @@ held-through None (Some y) z one other = grind (arith, one)
 held-through (Some x) None z one other = grind (arith, one)
 held-through (Some x) (Some y) None one other = other
 held-through (Some x) (Some y) (Some z) one other = same-through x y z one other
+
+-- what has one content is held on both sides, or on neither
+pub held-alike : (x y : Option Row) → IsTrue (same_held x y) → is_some x ≡ is_some y
+held-alike None None same = refl
+held-alike None (Some y) same = grind (arith, same)
+held-alike (Some x) None same = grind (arith, same)
+held-alike (Some x) (Some y) same = refl

@@ -14,7 +14,7 @@ use Rattle.ak_merge.specs.Holdings.{At, Held, under, graves_of, is_dead, has_tag
 use Rattle.ak_merge.specs.Joins.{AreApart, newest, joined_under, newest_head, join}
 use Rattle.ak_base.proofs.RowFacts.{same-itself, same-turned}
 use Rattle.ak_base.proofs.SameRows.{like_stamp}
-use Rattle.ak_merge.proofs.HeldFacts.{held-itself, held-turned}
+use Rattle.ak_merge.proofs.HeldFacts.{held-alike, held-itself, held-turned}
 
 or-turned : (s t : Bool) → (s || t) ≡ (t || s)
 or-turned true true = refl
@@ -78,12 +78,6 @@ newest_held None (Some y) = refl
 newest_held (Some x) None = refl
 newest_held (Some x) (Some y) = elim (int_lt (stamp_of x) (stamp_of y)) as (λ s. is_some (if s then Some y else Some x) ≡ true) [ true ↦ refl | false ↦ refl ]
 
-same_some : (x y : Option Row) → IsTrue (same_held x y) → is_some x ≡ is_some y
-same_some None None same = refl
-same_some None (Some y) same = grind (arith, same)
-same_some (Some x) None same = grind (arith, same)
-same_some (Some x) (Some y) same = refl
-
 -- graves leave no graves
 pub no_graves : (table graves : Table) → graves_of table ≡ Some graves → graves_of graves ≡ None
 no_graves tables.Note graves is = sym (ap (λ o. option_and_then graves_of o) is)
@@ -108,7 +102,7 @@ dead_join a b j name joins =
       | None ↦ λ is. refl
       | Some graves ↦ λ is.
           let grave : Name = record { table = graves; id = name.id } in
-          same_some _ _ (joins grave) ∙ ap (λ s. is_some (if s || is_dead b grave then None else newest (a grave) (b grave))) (undead a name graves is)
+          held-alike _ _ (joins grave) ∙ ap (λ s. is_some (if s || is_dead b grave then None else newest (a grave) (b grave))) (undead a name graves is)
           ∙ ap (λ s. is_some (if s then None else newest (a grave) (b grave))) (undead b name graves is) ∙ newest_held (a grave) (b grave)
     ] refl
 

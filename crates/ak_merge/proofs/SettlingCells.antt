@@ -1,5 +1,6 @@
 -- What an edit does at one name, with its grave, keeps what linked says of the name.
 use Rattle.std.specs.Prelude.{◌≡◌, ℤ, ◌≤ℤ◌, ◌<ℤ◌, Bool, true, false, not, IsTrue, Option, Some, None, IfSome, is_some}
+use Rattle.std.proofs.lemmas.Option.{same_Some}
 use Rattle.std.proofs.Common.{cond, inl, inr, refl, sym, ap, subst, ◌∙◌}
 use Rattle.std.proofs.lemmas.Int.{by_lt_z}
 use Rattle.std.specs.Option.{option_map_or, unwrap_or}
@@ -7,7 +8,7 @@ use Rattle.ak_base.specs.Rows.{name_of, stamp_of, usn_of}
 use Rattle.ak_base.specs.declared.names.Name.{Name}
 use Rattle.ak_base.specs.declared.rows.Row.{Row}
 use Rattle.ak_keep.specs.Collections.{is_pending}
-use Rattle.ak_merge.proofs.EditFacts.{edited_name, false_true, true_false, none_held, held_none, one_held, edited_usn, edited_pending, pending_unsettled, edited_unsettled, edited_stamp, own_fields, by_three, risen_past, same_least, less_least}
+use Rattle.ak_merge.proofs.EditFacts.{edited_name, false_true, true_false, none_held, held_none, edited_usn, edited_pending, pending_unsettled, edited_unsettled, edited_stamp, own_fields, by_three, risen_past, same_least, less_least}
 use Rattle.ak_base.proofs.SameRows.{like_stamp}
 use Rattle.ak_merge.specs.Links.{has_stamps, IsOwn, IsThere, IsNewerUnsent, HasTaken, IsKnown, IsShared, IsTagShared}
 use Rattle.ak_merge.specs.Settling.{edited, risen, has_fields, settled_row, goes, changes_row, settled_tag}
@@ -110,7 +111,7 @@ review_shared u now None (Some row) None stays l = record { sent = λ settled. e
 review_shared u now None (Some row) (Some other) stays l = record { sent = λ settled. edited_unsettled now row settled; came = λ below. absurd (l.came below) }
 review_shared u now (Some b) None y stays l = none_held (stays b refl)
 review_shared u now (Some b) (Some row) y stays l =
-    let same : IsTrue (has_fields row b) = subst (λ (r : Row). IsTrue (has_fields r b)) (sym (one_held (stays b refl))) (own_fields b) in
+    let same : IsTrue (has_fields row b) = subst (λ (r : Row). IsTrue (has_fields r b)) (sym (same_Some _ _ (stays b refl))) (own_fields b) in
     subst (λ (t : Bool). IsShared u (cond t (Some b) (Some (edited (risen now (stamp_of b)) row))) y) (sym same) l
 
 -- the grave of a row that goes was not sent yet, and the server holds none of its name that the device took, since the row stood
@@ -161,12 +162,12 @@ taken_older u x g None before is single taken = tt
 taken_older u None g (Some y) before is single taken = none_held is
 taken_older u (Some row) (Some grave) (Some y) before is single taken = held_none (single refl)
 taken_older u (Some row) None (Some y) before is single taken = λ below.
-    subst (λ (r : Row). stamp_of y ≤ℤ stamp_of r) (one_held is)
+    subst (λ (r : Row). stamp_of y ≤ℤ stamp_of r) (same_Some _ _ is)
     (by_three (λ like. same_least (like_stamp y row like)) (λ newer. less_least newer.newer) (λ grave. absurd grave) (taken below))
 
 -- ---- what a step holds
 pub entry_of : (t : Bool) (x e : Option Row) → cond t (Some x) None ≡ Some e → (t ≡ true) × (x ≡ e)
-entry_of true x e is = (refl, one_held is)
+entry_of true x e is = (refl, same_Some _ _ is)
 entry_of false x e is = none_held is
 
 pub new_if : (x m : Option Row) → x ≡ None → changes_row x m ≡ true → is_some m ≡ true
@@ -238,12 +239,12 @@ back_grave false new g = refl
 pub row_named : (now : ℤ) (name : Name) (x m : Option Row) → ((row : Row) → x ≡ Some row → name_of row ≡ name) → ((row : Row) → m ≡ Some row → name_of row ≡ name)
     → (row : Row) → settled_row now x m ≡ Some row → name_of row ≡ name
 row_named now name None None stood made row is = none_held is
-row_named now name None (Some new) stood made row is = sym (ap name_of (one_held is)) ∙ edited_name now new ∙ made new refl
+row_named now name None (Some new) stood made row is = sym (ap name_of (same_Some _ _ is)) ∙ edited_name now new ∙ made new refl
 row_named now name (Some b) None stood made row is = none_held is
 row_named now name (Some b) (Some new) stood made row is =
     elim (has_fields new b) as (λ (t : Bool). cond t (Some b) (Some (edited (risen now (stamp_of b)) new)) ≡ Some row → name_of row ≡ name) [
-      | true ↦ λ is. sym (ap name_of (one_held is)) ∙ stood b refl
-      | false ↦ λ is. sym (ap name_of (one_held is)) ∙ edited_name (risen now (stamp_of b)) new ∙ made new refl
+      | true ↦ λ is. sym (ap name_of (same_Some _ _ is)) ∙ stood b refl
+      | false ↦ λ is. sym (ap name_of (same_Some _ _ is)) ∙ edited_name (risen now (stamp_of b)) new ∙ made new refl
     ] is
 
 pub grave_named : (name : Name) (left : Bool) (new g : Option Row) → ((row : Row) → new ≡ Some row → name_of row ≡ name) → ((row : Row) → g ≡ Some row → name_of row ≡ name)

@@ -1,5 +1,6 @@
 -- An edit keeps a device's collection linked.
 use Rattle.std.specs.Prelude.{◌≡◌, ℕ, ℤ, Bool, true, false, IsTrue, List, Option, Some, None, IfSome, is_some}
+use Rattle.std.proofs.lemmas.Option.{same_Some}
 use Rattle.std.proofs.Common.{cond, inl, inr, refl, sym, ap, subst, ◌∙◌}
 use Rattle.std.proofs.Math.Path.{fun_ext}
 use Rattle.ak_base.specs.Rows.{name_of, usn_of}
@@ -7,7 +8,7 @@ use Rattle.ak_base.specs.declared.names.Name.{Name}
 use Rattle.ak_base.specs.declared.names.Table.{Table}
 use Rattle.ak_base.specs.declared.names.Table.TheVariants as tables
 use Rattle.ak_base.specs.declared.rows.Row.{Row}
-use Rattle.ak_merge.proofs.EditFacts.{false_true, true_false, one_held, LinkedParts, parts_of, linked_of}
+use Rattle.ak_merge.proofs.EditFacts.{false_true, true_false, LinkedParts, parts_of, linked_of}
 use Rattle.ak_merge.specs.Holdings.{At, Held, AreNamed, under, grave_under, is_dead, IsSingle, tag_usn}
 use Rattle.ak_merge.specs.Links.{has_stamps, IsOwn, IsShared, AreLinked}
 use Rattle.ak_merge.specs.Settling.{Edit, risen, second_of, settled_row, goes, grave_left, name_in, settled_under, settled_tag, is_wanted_tag, Admits, IsSettled, GivesFreshSchema}
@@ -94,9 +95,9 @@ module _ (second : ℤ) (c : Held) (edit : Edit) (admits : Admits c edit) where
   named_in named tables.NoteType id = row_in named (name_in tables.NoteType id)
   named_in named tables.Deck id = row_in named (name_in tables.Deck id)
   named_in named tables.Options id = row_in named (name_in tables.Options id)
-  named_in named tables.NoteGrave id = grave_in named (name_in tables.NoteGrave id) (name_in tables.Note id) (λ grave is. ap name_of (one_held (sym is)))
-  named_in named tables.CardGrave id = grave_in named (name_in tables.CardGrave id) (name_in tables.Card id) (λ grave is. ap name_of (one_held (sym is)))
-  named_in named tables.DeckGrave id = grave_in named (name_in tables.DeckGrave id) (name_in tables.Deck id) (λ grave is. ap name_of (one_held (sym is)))
+  named_in named tables.NoteGrave id = grave_in named (name_in tables.NoteGrave id) (name_in tables.Note id) (λ grave is. ap name_of (same_Some _ _ (sym is)))
+  named_in named tables.CardGrave id = grave_in named (name_in tables.CardGrave id) (name_in tables.Card id) (λ grave is. ap name_of (same_Some _ _ (sym is)))
+  named_in named tables.DeckGrave id = grave_in named (name_in tables.DeckGrave id) (name_in tables.Deck id) (λ grave is. ap name_of (same_Some _ _ (sym is)))
 
   -- ---- linked with a collection of a server
   module _ (same : edit.schema ≡ false) (s : Held) (l : LinkedParts c.head.usn (under c) (tag_usn c.head.tags) s) where

@@ -1,5 +1,6 @@
 -- An undo keeps a device's collection linked, and gives the collection before the edit.
 use Rattle.std.specs.Prelude.{◌≡◌, ℤ, ◌≤ℤ◌, ◌<ℤ◌, Bool, true, false, not, IsTrue, List, ◌∷◌, Option, Some, None, IfSome, is_some}
+use Rattle.std.proofs.lemmas.Option.{same_Some}
 use Rattle.std.proofs.Common.{cond, inl, inr, refl, sym, ap, subst, ◌∙◌}
 use Rattle.std.specs.Int.Signed.{clash_ℤ}
 use Rattle.std.specs.Option.{option_map_or}
@@ -9,7 +10,7 @@ use Rattle.ak_base.specs.declared.names.Name.{Name}
 use Rattle.ak_base.specs.declared.names.Table.{Table}
 use Rattle.ak_base.specs.declared.names.Table.TheVariants as tables
 use Rattle.ak_base.specs.declared.rows.Row.{Row}
-use Rattle.ak_merge.proofs.EditFacts.{edited_name, edited_fields, own_fields, true_false, none_held, held_none, one_held, edited_usn, edited_pending, edited_unsettled, edited_stamp, risen_past, least_risen, LinkedParts, parts_of, linked_of}
+use Rattle.ak_merge.proofs.EditFacts.{edited_name, edited_fields, own_fields, true_false, none_held, held_none, edited_usn, edited_pending, edited_unsettled, edited_stamp, risen_past, least_risen, LinkedParts, parts_of, linked_of}
 use Rattle.ak_merge.specs.Holdings.{At, Held, under, AreNamed, grave_under, IsSingle, tag_usn}
 use Rattle.ak_merge.specs.Links.{has_stamps, IsOwn, IsNewerUnsent, HasTaken, IsKnown, IsShared, IsTagShared, AreLinked}
 use Rattle.ak_merge.specs.Settling.{Edit, has_fields, changes_row, goes, grave_left, settled_row, edited, risen, second_of, Step, IsSettled, step_of, settled_under, name_in}
@@ -145,7 +146,7 @@ undone_named : (now : ℤ) (name : Name) (e : Option (Option Row)) (x : Option R
 undone_named now name None x stands held row is = stands row is
 undone_named now name (Some None) x stands held row is = none_held is
 undone_named now name (Some (Some before)) x stands held row is =
-    sym (ap name_of (one_held is)) ∙ edited_name (undone_stamp now before x) before ∙ held before refl
+    sym (ap name_of (same_Some _ _ is)) ∙ edited_name (undone_stamp now before x) before ∙ held before refl
 
 -- after an undo each row stands under its name, and none beside its own grave
 pub undos_keep_names : (at : ℤ) (c after : Held) (step : Step) (steps : List Step) → IsUndone at c step after → StepsSuit (step ∷ steps) (under c) c.head.tags → AreNamed (under c)

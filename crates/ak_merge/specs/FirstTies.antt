@@ -1,11 +1,12 @@
 -- The first tie is the least, and where there is none, the collections are apart.
-use Rattle.std.specs.Prelude.{◌≡◌, IfSome, Bool, true, false, not, T, ◌&&◌, cond, IsTrue, Option, Some, None, is_some, List, [], ◌∷◌, find}
+use Rattle.std.specs.Prelude.{◌≡◌, IfSome, Bool, true, false, not, T, ◌&&◌, cond, IsTrue, Option, Some, None, List, [], ◌∷◌, find}
+use Rattle.std.proofs.lemmas.Option.{none-some, same_Some}
 use Rattle.std.proofs.Common.{refl, sym, ap, subst, ◌∙◌}
 use Rattle.std.specs.FinMap as map
 use Rattle.std.specs.FinMap.{get, entries, entries_sorted, get-entries, is_sorted}
 use Rattle.std.specs.FinMap.Entries.{below_all}
 use Rattle.std.specs.List.{AllByRecursion}
-use Rattle.std.specs.Option.{option_map, option_map_or, unwrap_or}
+use Rattle.std.specs.Option.{option_map, option_map_or}
 use Rattle.std.specs.Ordering.{is_eq, is_lt}
 use Rattle.std.specs.declared.cmp.Ordering.TheVariants.{Less, Equal, Greater}
 use Rattle.ak_base.specs.Contents.{same_content}
@@ -21,19 +22,13 @@ not_tied b entry y is has =
     let apart : not (same_content entry.1 y) ≡ false = sym (ap (λ o. option_map_or (λ held. not (same_content entry.1 held)) o false) has) ∙ is in
     elim (same_content entry.1 y) as (λ t. not t ≡ false → t ≡ true) [ true ↦ λ _. refl | false ↦ λ h. sym h ] apart
 
-none_some : {X : Type 0} (x : X) → None ≡ Some x → ⊥
-none_some {X} x is = subst (λ (o : Option X). T (not (is_some o))) is tt
-
-same_some : {X : Type 0} {x y : X} → Some x ≡ Some y → x ≡ y
-same_some {x = x} is = ap (λ o. unwrap_or o x) is
-
 turned_false : (t : Bool) → not t ≡ true → t ≡ false
 turned_false true is = sym is
 turned_false false is = refl
 
 none_mapped : (o : Option (Name × Row)) → option_map (λ (e : Name × Row). e.0) o ≡ None → o ≡ None
 none_mapped None is = refl
-none_mapped (Some e) is = absurd (none_some e.0 (sym is))
+none_mapped (Some e) is = absurd (none-some e.0 (sym is))
 
 -- a row found behind an entry that is no tie, or in it
 passed : (b : Rows) (e : Name × Row) (es : List (Name × Row)) (q : Name) (x y : Row) → is_tie b e ≡ false → get b q ≡ Some y
@@ -41,16 +36,16 @@ passed : (b : Rows) (e : Name × Row) (es : List (Name × Row)) (q : Name) (x y 
 passed b e es q x y clear held behind has =
     elim (name_cmp q e.0) as (λ r. name_cmp q e.0 ≡ r → cond (is_eq r) (Some e.1) (map.find name_cmp q es) ≡ Some x → IsTrue (same_content x y)) [
       | Less ↦ λ _ has. behind has
-      | Equal ↦ λ tied has. subst (λ (row : Row). IsTrue (same_content row y)) (same_some has) (not_tied b e y clear (ap (get b) (sym (names_exact q e.0 tied)) ∙ held))
+      | Equal ↦ λ tied has. subst (λ (row : Row). IsTrue (same_content row y)) (same_Some _ _ has) (not_tied b e y clear (ap (get b) (sym (names_exact q e.0 tied)) ∙ held))
       | Greater ↦ λ _ has. behind has
     ] refl has
 
 -- where no entry is a tie, the rows agree
 no_tie : (b : Rows) (es : List (Name × Row)) (q : Name) (x y : Row) → find (is_tie b) es ≡ None → map.find name_cmp q es ≡ Some x → get b q ≡ Some y → IsTrue (same_content x y)
-no_tie b [] q x y none has held = absurd (none_some x has)
+no_tie b [] q x y none has held = absurd (none-some x has)
 no_tie b (e ∷ es) q x y none has held =
     elim (is_tie b e) as (λ t. is_tie b e ≡ t → cond t (Some e) (find (is_tie b) es) ≡ None → IsTrue (same_content x y)) [
-      | true ↦ λ _ none. absurd (none_some e (sym none))
+      | true ↦ λ _ none. absurd (none-some e (sym none))
       | false ↦ λ clear none. passed b e es q x y clear held (λ has. no_tie b es q x y none has held) has
     ] refl none
 
@@ -79,10 +74,10 @@ tied_entry a b e tie has =
 
 -- under the first tie's name the two differ
 tie_differs : (a b : Rows) (es : List (Name × Row)) (name : Name) → AllByRecursion (λ e. get a e.0 ≡ Some e.1) es → option_map (λ (e : Name × Row). e.0) (find (is_tie b) es) ≡ Some name → DifferUnder a b name
-tie_differs a b [] name found is = absurd (none_some name is)
+tie_differs a b [] name found is = absurd (none-some name is)
 tie_differs a b (e ∷ es) name found is =
     elim (is_tie b e) as (λ t. is_tie b e ≡ t → option_map (λ (e : Name × Row). e.0) (cond t (Some e) (find (is_tie b) es)) ≡ Some name → DifferUnder a b name) [
-      | true ↦ λ tie is. subst (λ (n : Name). DifferUnder a b n) (same_some is) (tied_entry a b e tie found.0)
+      | true ↦ λ tie is. subst (λ (n : Name). DifferUnder a b n) (same_Some _ _ is) (tied_entry a b e tie found.0)
       | false ↦ λ _ is. tie_differs a b es name found.1 is
     ] refl is
 
@@ -92,13 +87,13 @@ below_first q e es less h = subst (λ r. T (is_lt r && below_all name_cmp q es))
 -- under a lesser name they agree
 below_tie : (b : Rows) (es : List (Name × Row)) (name q : Name) (x y : Row) → T (is_sorted name_cmp es) → option_map (λ (e : Name × Row). e.0) (find (is_tie b) es) ≡ Some name
     → name_cmp q name ≡ Less → map.find name_cmp q es ≡ Some x → get b q ≡ Some y → IsTrue (same_content x y)
-below_tie b [] name q x y sorted is less has held = absurd (none_some x has)
+below_tie b [] name q x y sorted is less has held = absurd (none-some x has)
 below_tie b (e ∷ es) name q x y sorted is less has held =
     elim (is_tie b e) as (λ t. is_tie b e ≡ t → option_map (λ (e : Name × Row). e.0) (cond t (Some e) (find (is_tie b) es)) ≡ Some name → IsTrue (same_content x y)) [
       | true ↦ λ _ is.
-          let before : name_cmp q e.0 ≡ Less = ap (name_cmp q) (same_some is) ∙ less in
+          let before : name_cmp q e.0 ≡ Less = ap (name_cmp q) (same_Some _ _ is) ∙ less in
           let none : map.find name_cmp q (e ∷ es) ≡ None = none_below q (e ∷ es) (below_first q e es before (both_first _ _ sorted)) in
-          absurd (none_some x (sym none ∙ has))
+          absurd (none-some x (sym none ∙ has))
       | false ↦ λ clear is. passed b e es q x y clear held (λ has. below_tie b es name q x y (both_second _ _ sorted) is less has held) has
     ] refl is
 

@@ -21,22 +21,16 @@ pub record IsJoin (a b j : Rows) : Type 0 where
 abbrev pub AreSame : Rows → Rows → Type 0
 AreSame a b = (name : Name) → IsTrue (same_held (get a name) (get b name))
 
-same-itself : (x : Row) → IsTrue (same_content x x)
-same-itself = same_content_equiv.refl
-
-same-turned : (x y : Row) → same_content x y ≡ same_content y x
-same-turned = same_content_equiv.symm
-
 held-either : (x y : Option Row) → is_some (option_or x y) ≡ (is_some x || is_some y)
 held-either None y = refl
 held-either (Some x) y = refl
 
 first_held : (x y : Option Row) (row : Row) → x ≡ Some row → IfSome (option_or x y) (λ joined. IsTrue (same_content row joined))
-first_held x y row is = subst (λ (o : Option Row). IfSome (option_or o y) (λ joined. IsTrue (same_content row joined))) (sym is) (same-itself row)
+first_held x y row is = subst (λ (o : Option Row). IfSome (option_or o y) (λ joined. IsTrue (same_content row joined))) (sym is) (same_content_equiv.refl row)
 
 second_held : (x y : Option Row) (row : Row) → ((held : Row) → x ≡ Some held → IsTrue (same_content held row)) → y ≡ Some row → IfSome (option_or x y) (λ joined. IsTrue (same_content row joined))
-second_held None y row apart is = subst (λ (o : Option Row). IfSome o (λ joined. IsTrue (same_content row joined))) (sym is) (same-itself row)
-second_held (Some held) y row apart is = same-turned row held ∙ apart held refl
+second_held None y row apart is = subst (λ (o : Option Row). IfSome o (λ joined. IsTrue (same_content row joined))) (sym is) (same_content_equiv.refl row)
+second_held (Some held) y row apart is = same_content_equiv.symm row held ∙ apart held refl
 
 pub union_joins : (a b : Rows) → DoAgree a b → IsJoin a b (union a b)
 union_joins a b apart = record {
@@ -47,8 +41,8 @@ union_joins a b apart = record {
 
 either_way : (x y : Option Row) → ((p q : Row) → x ≡ Some p → y ≡ Some q → IsTrue (same_content p q)) → IsTrue (same_held (option_or x y) (option_or y x))
 either_way None None apart = refl
-either_way None (Some q) apart = same-itself q
-either_way (Some p) None apart = same-itself p
+either_way None (Some q) apart = same_content_equiv.refl q
+either_way (Some p) None apart = same_content_equiv.refl p
 either_way (Some p) (Some q) apart = apart p q refl refl
 
 pub union_commutes : (a b : Rows) → DoAgree a b → AreSame (union a b) (union b a)
