@@ -190,7 +190,12 @@ fn put_moments<K: Keeper>(keeper: &mut K) -> Result<(), KeepFault>
 fn replace<K: Keeper>(alloc: Global, keeper: &mut K) -> Result<(), KeepFault>
     requires { is_marked (K.keeping keeper.old) ≡ true }
 {
-    let rows = List::new(alloc);
+    let card = card(alloc, 7, 3)?;
+    if card.check().is_err() {
+        return Ok(());
+    }
+    let mut rows = List::new(alloc);
+    rows.push(Row::Card(card))?;
     let head = head(alloc, LATER)?;
     keeper.replace_all(rows, head)
 }

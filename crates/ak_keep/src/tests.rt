@@ -124,27 +124,27 @@ fn list_call(alloc: Global, keeper: &mut MemoryKeeper, call: u64) -> Result<(), 
     Ok(())
 }
 
-// What is seen of a keeper: how many faults are counted, whether it is marked, how many cards note 3 has, and
-// the moment of the head.
-type Seen = (u64, bool, usize, i64);
+// What is seen of a keeper: how many faults are counted, whether it is marked, the id of the last card of
+// note 3 or 0, and the moment of the head.
+type Seen = (u64, bool, i64, i64);
 
-// Each kind of call; then whether the keeper is marked, how many cards note 3 has and the moment, after the
+// Each kind of call; then whether the keeper is marked, the last card of note 3 and the moment, after the
 // call was refused and after it went.
-const CALLS: [(u64, (bool, usize, i64), (bool, usize, i64)); 13] = [
-    (0, (false, 1, FIRST), (true, 1, FIRST)),
-    (1, (true, 1, FIRST), (true, 1, LATER)),
-    (2, (true, 1, FIRST), (true, 2, FIRST)),
-    (3, (true, 1, FIRST), (true, 0, FIRST)),
-    (4, (true, 1, FIRST), (true, 1, 4)),
-    (5, (true, 1, FIRST), (true, 0, LATER)),
+const CALLS: [(u64, (bool, i64, i64), (bool, i64, i64)); 13] = [
+    (0, (false, 5, FIRST), (true, 5, FIRST)),
+    (1, (true, 5, FIRST), (true, 5, LATER)),
+    (2, (true, 5, FIRST), (true, 6, FIRST)),
+    (3, (true, 5, FIRST), (true, 0, FIRST)),
+    (4, (true, 5, FIRST), (true, 5, 4)),
+    (5, (true, 5, FIRST), (true, 7, LATER)),
     // A refused commit leaves the collection of the mark, and any other refused call what there was.
-    (6, (false, 0, FIRST), (false, 1, FIRST)),
-    (7, (true, 1, FIRST), (true, 1, FIRST)),
-    (8, (true, 1, FIRST), (true, 1, FIRST)),
-    (9, (true, 1, FIRST), (true, 1, FIRST)),
-    (10, (true, 1, FIRST), (true, 1, FIRST)),
-    (11, (true, 1, FIRST), (true, 1, FIRST)),
-    (12, (true, 1, FIRST), (true, 1, FIRST)),
+    (6, (false, 0, FIRST), (false, 5, FIRST)),
+    (7, (true, 5, FIRST), (true, 5, FIRST)),
+    (8, (true, 5, FIRST), (true, 5, FIRST)),
+    (9, (true, 5, FIRST), (true, 5, FIRST)),
+    (10, (true, 5, FIRST), (true, 5, FIRST)),
+    (11, (true, 5, FIRST), (true, 5, FIRST)),
+    (12, (true, 5, FIRST), (true, 5, FIRST)),
 ];
 
 fn seen(keeper: &mut MemoryKeeper) -> Result<Seen, KeepFault> {
@@ -153,12 +153,11 @@ fn seen(keeper: &mut MemoryKeeper) -> Result<Seen, KeepFault> {
         None => -1,
     };
     let cards = keeper.rows().cards_of(3)?;
-    Ok((
-        keeper.faults(),
-        keeper.marked(),
-        cards.as_slice().len(),
-        moment,
-    ))
+    let last = match cards.as_slice().last() {
+        Some(id) => *id,
+        None => 0,
+    };
+    Ok((keeper.faults(), keeper.marked(), last, moment))
 }
 
 // A keeper that is ready for a call of this kind. What is to be marked is not marked before.
@@ -191,26 +190,23 @@ fn go_on(alloc: Global, keeper: &mut MemoryKeeper, kind: u64) -> Result<Seen, Ke
 
 #[test]
 fn each_listed_call_fails(rt: HostRuntime) -> Result<(), Fail> {
-    for (kind, (marked, cards, moment), _) in CALLS {
+    for (kind, (marked, card, moment), _) in CALLS {
         let mut keeper = MemoryKeeper::new(rt.alloc());
         let tried = fail_once(rt.alloc(), &mut keeper, kind);
         drop(keeper);
         let (failed, after) = tried?;
-        assert!(rt;
-            failed && after == (1, marked, cards, moment),
-            "call {kind}"
-        );
+        assert!(rt; failed && after == (1, marked, card, moment), "call {kind}");
     }
     Ok(())
 }
 
 #[test]
 fn each_call_goes_on(rt: HostRuntime) -> Result<(), Fail> {
-    for (kind, _, (marked, cards, moment)) in CALLS {
+    for (kind, _, (marked, card, moment)) in CALLS {
         let mut keeper = MemoryKeeper::new(rt.alloc());
         let gone = go_on(rt.alloc(), &mut keeper, kind);
         drop(keeper);
-        assert!(rt; gone? == (0, marked, cards, moment), "call {kind}");
+        assert!(rt; gone? == (0, marked, card, moment), "call {kind}");
     }
     Ok(())
 }
