@@ -35,7 +35,8 @@ all_none (Some fault ∷ faults) good e = cc
 pub small_again : (n : ℕ) → n < 2 ^ 63 → IsReadAgain (pos n)
 small_again n h = grind (arith, nat_tests, common_steps)
 
-below : (low high : Bool) (fault : RowFault) → (if low || high then Some fault else None) ≡ None → high ≡ false
+-- a number in its range is not over it
+pub below : (low high : Bool) (fault : RowFault) → (if low || high then Some fault else None) ≡ None → high ≡ false
 below true high fault e = cc
 below false true fault e = cc
 below false false fault e = refl

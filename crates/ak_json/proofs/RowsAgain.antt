@@ -1,18 +1,21 @@
 -- What was written of a row in its ranges is read again.
-use Rattle.std.proofs.Common.{◌≡◌, Option, Result, Ok, Err, refl, sym, ap, ◌∙◌}
-use Rattle.std.specs.Prelude.{option_map}
+use Rattle.std.proofs.Common.{◌≡◌, zero, suc, ◌≤◌, ℤ, pos, negsuc, Bool, true, false, Option, None, Result, Ok, Err, refl, sym, ap, ◌∙◌, arith}
+use Rattle.std.specs.Prelude.{if◌then◌else◌, option_map}
 use Rattle.std.specs.Option.{option_or}
 use Rattle.ak_base.specs.Cards.{card_faults}
 use Rattle.ak_base.specs.Decks.{deck_faults}
-use Rattle.ak_base.specs.Graves.{grave_faults}
+use Rattle.ak_base.specs.Graves.{grave_faults, grave_table}
 use Rattle.ak_base.specs.Notes.{note_faults}
 use Rattle.ak_base.specs.NoteTypes.{note_type_faults}
 use Rattle.ak_base.specs.OptionGroups.{options_faults}
 use Rattle.ak_base.specs.Reviews.{review_faults}
-use Rattle.ak_base.specs.Columns.{first_fault}
+use Rattle.std.specs.Ordering.{int_eq}
+use Rattle.ak_base.specs.Columns.{first_fault, code_fault}
+use Rattle.ak_base.specs.Rows.{check_of, name_of}
 use Rattle.ak_base.specs.declared.cards.Card.{Card}
 use Rattle.ak_base.specs.declared.decks.Deck.{Deck}
 use Rattle.ak_base.specs.declared.errors.RowFault.{RowFault}
+use Rattle.ak_base.specs.declared.errors.RowFault.TheVariants.{BadCode}
 use Rattle.ak_base.specs.declared.graves.Grave.{Grave}
 use Rattle.ak_base.specs.declared.names.Table.{Table}
 use Rattle.ak_base.specs.declared.names.Table.TheVariants as tables
@@ -22,7 +25,7 @@ use Rattle.ak_base.specs.declared.option_groups.Options.{Options}
 use Rattle.ak_base.specs.declared.reviews.Review.{Review}
 use Rattle.ak_base.specs.declared.rows.Row.{Row}
 use Rattle.ak_base.specs.declared.rows.Row.TheVariants as rows
-use Rattle.ak_json.specs.Rows.{StandsIn, checked_then, kind_check, row_check, row_json, ReadsRow}
+use Rattle.ak_json.specs.Rows.{StandsIn, checked_then, kind_of, kind_check, row_check, row_json, ReadsRow}
 use Rattle.ak_json.specs.Decks.{deck_json}
 use Rattle.ak_json.specs.Faults.{told}
 use Rattle.ak_json.specs.Groups.{options_kept, options_json}
@@ -33,7 +36,7 @@ use Rattle.ak_json.specs.declared.forms.TheConstants.{DECK, NOTE_TYPE}
 use Rattle.ak_json.proofs.DecksAgain.{IsDeckAgain, deck_again}
 use Rattle.ak_json.proofs.OptionsAgain.{IsOptionsAgain, options_again}
 use Rattle.ak_json.proofs.NoteTypesAgain.{IsNoteTypeAgain, note_type_again}
-use Rattle.ak_json.proofs.Again.{IsNote, IsCard, IsReview, IsGrave, note_again, card_again, review_again, grave_again}
+use Rattle.ak_json.proofs.Again.{AllNone, all_none, at_most, below, IsNote, IsCard, IsReview, IsGrave, note_again, card_again, review_again, grave_again}
 
 in_range : (first later : Result (Unit {0}) RowFault) → checked_then first later ≡ Ok tt → first ≡ Ok tt
 in_range (Ok good) later h = refl
@@ -108,3 +111,39 @@ rows_again table (rows.NoteType n) s h = note_type_in table n s h
 rows_again table (rows.Deck k) s h = deck_in table k s h
 rows_again table (rows.Grave g) s h = grave_in table g s h
 rows_again table (rows.Options o) s h = options_in table o s h
+
+-- ---- a row in the table of its own name
+
+-- a grave in its ranges is of the kind of its own table
+own_kind : (kind : ℤ) → code_fault 2 kind (pos 0) (pos 2) ≡ None → int_eq kind (kind_of (grave_table kind)) ≡ true
+unfolding code_fault
+own_kind (pos zero) e = refl
+own_kind (pos (suc zero)) e = refl
+own_kind (pos (suc (suc zero))) e = refl
+own_kind (pos (suc (suc (suc n)))) e = let few : suc (suc (suc n)) ≤ 2 = at_most 2 (suc (suc (suc n))) (below _ _ _ e) in absurd (omega (arith, few))
+own_kind (negsuc n) e = cc
+
+among_graves : (g : Grave) (card note : Bool) → StandsIn (if card then tables.CardGrave else if note then tables.NoteGrave else tables.DeckGrave) (rows.Grave g)
+among_graves g true note = tt
+among_graves g false true = tt
+among_graves g false false = tt
+
+own_grave : (g : Grave) → first_fault (grave_faults g) ≡ Ok tt → row_check (grave_table g.kind) (rows.Grave g) ≡ Ok tt
+own_grave g h =
+    let all : AllNone (grave_faults g) = all_none (grave_faults g) tt h in
+    ap (λ c. checked_then c (kind_check (grave_table g.kind) g)) h
+    ∙ ap (λ (own : Bool). if own then Ok tt else Err (BadCode 2 g.kind)) (own_kind g.kind all.1.1.0)
+
+free : (check : Result (Unit {0}) RowFault) → check ≡ Ok tt → checked_then check (Ok tt) ≡ Ok tt
+free check h = ap (λ c. checked_then c (Ok tt)) h
+
+-- what was written of a row that passes its check is read in its own table as that row
+pub own_again : (row : Row) → check_of row ≡ Ok tt → ReadsRow (name_of row).table (row_json row) row
+own_again (rows.Note n) h = note_in tables.Note n tt (free (first_fault (note_faults n)) h)
+own_again (rows.Card c) h = card_in tables.Card c tt (free (first_fault (card_faults c)) h)
+own_again (rows.Review r) h = review_in tables.Review r tt (free (first_fault (review_faults r)) h)
+own_again (rows.NoteType n) h = note_type_in tables.NoteType n tt (free (first_fault (note_type_faults n)) h)
+own_again (rows.Deck k) h = deck_in tables.Deck k tt (free (first_fault (deck_faults k)) h)
+own_again (rows.Options o) h = options_in tables.Options o tt (free (first_fault (options_faults o)) h)
+own_again (rows.Grave g) h =
+    grave_in (grave_table g.kind) g (among_graves g (int_eq g.kind (pos 0)) (int_eq g.kind (pos 1))) (own_grave g h)

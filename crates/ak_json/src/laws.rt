@@ -4,6 +4,7 @@ ghost use Rattle.serde_json.specs.Data.{Data};
 ghost use Rattle.serde_json.specs.Read.{read};
 ghost use Rattle.serde_json.specs.Written.{has_float};
 ghost use Rattle.ak_base.specs.Heads.{IsConfInRange};
+ghost use Rattle.ak_base.specs.Rows.{check_of, name_of};
 ghost use Rattle.ak_base.specs.declared.heads.Conf.{Conf};
 ghost use Rattle.ak_base.specs.declared.names.Table.{Table};
 ghost use Rattle.ak_base.specs.declared.rows.Row.{Row};
@@ -13,9 +14,11 @@ ghost use Rattle.ak_json.specs.Rows.{StandsIn, row_check, row_json, ReadsRow, Re
 ghost use Rattle.ak_json.specs.declared.faults.JsonFault.{JsonFault};
 ghost use Rattle.ak_json.specs.declared.faults.JsonFault.TheVariants as faults;
 
-/// What is written of a row in its ranges is read as that row.
+/// What is written of a row that passes its check is read, in its own table, as that row. So it is in any
+/// table in which the row stands, a grave's kind being that of the table.
 pub fn rows_are_read_again()
-    ensures { (table : Table) (row : Row) → StandsIn table row → row_check table row ≡ Ok tt → ReadsRow table (row_json row) row }
+    ensures own { (row : Row) → check_of row ≡ Ok tt → ReadsRow (name_of row).table (row_json row) row }
+    ensures any { (table : Table) (row : Row) → StandsIn table row → row_check table row ≡ Ok tt → ReadsRow table (row_json row) row }
 {}
 
 /// What is written of settings in their ranges is read as these settings.
