@@ -14,16 +14,13 @@ next_template : (templates : List CardTemplate) (template : CardTemplate) (at : 
 next_template templates template at h is =
     drop-cons templates at template h ∙ ap (λ (t : CardTemplate). t ∷ drop (suc at) templates) (sym is) ∙ ap (λ (n : ℕ). template ∷ drop n templates) (sym (add-one at))
 
-none_left : (templates : List CardTemplate) (at : ℕ) → length templates ≤ at → drop at templates ≡ []
-none_left templates at h = drop_all at templates h
-
 -- what the ords so far are to all of them
 abbrev pub Goes : Face → ℕ → ℕ → List CardTemplate → List ℤ → Type 0
 Goes face place at templates ords = (rest : List ℤ) → AreShown face place (drop at templates) rest → AreShown face 0 templates (ords ++ rest)
 
 pub shown_end : (face : Face) (place at : ℕ) (templates : List CardTemplate) (ords : List ℤ) → length templates ≤ at → Goes face place at templates ords → AreShown face 0 templates ords
 shown_end face place at templates ords h goes =
-    let none : AreShown face place (drop at templates) [] = subst (λ (ts : List CardTemplate). AreShown face place ts []) (sym (none_left templates at h)) refl in
+    let none : AreShown face place (drop at templates) [] = subst (λ (ts : List CardTemplate). AreShown face place ts []) (sym (drop_all at templates h)) refl in
     subst (λ (os : List ℤ). AreShown face 0 templates os) (append-nil ords) (goes [] none)
 
 pub shown_step : (face : Face) (place at : ℕ) (templates : List CardTemplate) (template : CardTemplate) (ords made : List ℤ) (tree : Tree) → at < length templates → template ≡ get_or templates at template → IsTemplate template.front tree → made ≡ ords ++ place_of face place tree → Goes face place at templates ords → Goes face (place + 1) (at + 1) templates made
