@@ -2,11 +2,11 @@
 use Rattle.std.proofs.Common.{◌≤◌, ◌≡◌, ℕ, ◌-◌, ◌<◌, ℤ, pos, ◌≤ℤ◌, ◌<ℤ◌, List, [], ◌∷◌, ◌++◌, length, refl, arith}
 use Rattle.std.proofs.lemmas.Int.{ints}
 use Rattle.std.specs.Prelude.{Option, Some, None, Ok}
-use Rattle.std.specs.Option.{option_or}
 use Rattle.ak_base.specs.Columns.{first_fault, code_fault, long_fault}
 use Rattle.ak_base.specs.NoteTypes.{note_type_faults, title_faults, form_faults, place_fault, entries_fault, fields_fault, templates_fault}
 use Rattle.ak_base.specs.declared.errors.RowFault.{RowFault}
 use Rattle.ak_base.specs.declared.note_types.NoteType.{NoteType}
+use Rattle.ak_template.proofs.Grammars.{neither_fault}
 
 -- where no column has a fault, neither have the last ones
 good_behind : (fs gs : List (Option RowFault)) → first_fault (fs ++ gs) ≡ Ok tt → first_fault gs ≡ Ok tt
@@ -22,10 +22,6 @@ good_first (Some f) fs e = cc
 good_after : (o : Option RowFault) (fs : List (Option RowFault)) → first_fault (o ∷ fs) ≡ Ok tt → first_fault fs ≡ Ok tt
 good_after None fs e = e
 good_after (Some f) fs e = cc
-
-good_left : (o p : Option RowFault) → option_or o p ≡ None → o ≡ None
-good_left None p e = refl
-good_left (Some f) p e = cc
 
 place_low : (column : ℕ) (place : ℤ) (entries : ℕ) → place_fault column place entries ≡ None → pos 0 ≤ℤ place
 unfolding place_fault code_fault
@@ -58,7 +54,7 @@ sortf_low n e = place_low 5 n.sortf (length n.fields) (sortf_good n (form_good n
 pub sortf_high : (n : NoteType) → first_fault (note_type_faults n) ≡ Ok tt → n.sortf <ℤ pos (length n.fields)
 sortf_high n e =
     let high = place_high 5 n.sortf (length n.fields) (sortf_good n (form_good n e)) in
-    let some = some_entry 6 (length n.fields) (good_left _ _ (fields_good n (form_good n e))) in
+    let some = some_entry 6 (length n.fields) (neither_fault _ _ (fields_good n (form_good n e))).0 in
     omega (arith, ints)
 
 templates_good : (n : NoteType) → first_fault (form_faults n) ≡ Ok tt → templates_fault n.templates ≡ None
@@ -73,4 +69,4 @@ unfolding entries_fault long_fault
 few_entries column entries e = grind arith
 
 pub templates_few : (n : NoteType) → first_fault (note_type_faults n) ≡ Ok tt → length n.templates ≤ 100
-templates_few n e = few_entries 7 (length n.templates) (good_left _ _ (templates_good n (form_good n e)))
+templates_few n e = few_entries 7 (length n.templates) (neither_fault _ _ (templates_good n (form_good n e))).0

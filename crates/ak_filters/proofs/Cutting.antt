@@ -2,6 +2,7 @@
 use Rattle.std.proofs.Common.{◌≡◌, ℕ, zero, suc, ◌+◌, ◌<◌, ◌≤◌, true, false, ◌||◌, cond, Option, Some, None, IfSome, IfNone, List, [], ◌∷◌, ◌++◌, length, take, drop, refl, ap, sym, ◌∙◌, arith}
 use Rattle.std.specs.Option.{MatchOption}
 use Rattle.std.specs.Str.Pattern.{LacksTextAt, FindsText}
+use Rattle.std.proofs.Math.Seq.{drop-append_seam}
 use denote.Ref.{Bor}
 use Rattle.ak_filters.specs.Cuts.{begins, has, front, behind}
 
@@ -20,17 +21,13 @@ begins_with (sign ∷ mark) (byte ∷ bytes) h =
 not_begun : (mark bytes : List ℕ) → ((rest : List ℕ) → bytes ≡ mark ++ rest → ⊥) → begins mark bytes ≡ false
 not_begun mark bytes lacks = elim (begins mark bytes) as (λ v. begins mark bytes ≡ v → v ≡ false) [ true ↦ λ h. absurd (let found = begins_with mark bytes h in lacks found.0 found.1) | false ↦ λ h. refl ] refl
 
-pub behind_mark : (mark rest : List ℕ) → drop (length mark) (mark ++ rest) ≡ rest
-behind_mark [] rest = refl
-behind_mark (sign ∷ mark) rest = behind_mark mark rest
-
 pub found : (mark bytes rest : List ℕ) (i : ℕ) → 0 < length mark → ((k : ℕ) → k < i → LacksTextAt mark bytes k) → drop i bytes ≡ mark ++ rest → (has mark bytes ≡ true) × (front mark bytes ≡ take i bytes) × (behind mark bytes ≡ rest)
 found [] [] rest i n lacks e = absurd (omega (arith, n))
 found (sign ∷ mark) [] rest zero n lacks e = grind (arith, e)
 found (sign ∷ mark) [] rest (suc i) n lacks e = grind (arith, e)
 found mark (byte ∷ bytes) rest zero n lacks e =
     let yes : begins mark (byte ∷ bytes) ≡ true = ap (begins mark) e ∙ begins_itself mark rest in
-    (ap (λ v. v || has mark bytes) yes, ap (λ v. cond v [] (byte ∷ front mark bytes)) yes, ap (λ v. cond v (drop (length mark) (byte ∷ bytes)) (behind mark bytes)) yes ∙ ap (drop (length mark)) e ∙ behind_mark mark rest)
+    (ap (λ v. v || has mark bytes) yes, ap (λ v. cond v [] (byte ∷ front mark bytes)) yes, ap (λ v. cond v (drop (length mark) (byte ∷ bytes)) (behind mark bytes)) yes ∙ ap (drop (length mark)) e ∙ drop-append_seam mark rest)
 found mark (byte ∷ bytes) rest (suc i) n lacks e =
     let no : begins mark (byte ∷ bytes) ≡ false = not_begun mark (byte ∷ bytes) (lacks 0 (omega arith)) in
     let later = found mark bytes rest i n (λ k l. lacks (suc k) (omega arith)) e in

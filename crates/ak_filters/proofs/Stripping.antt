@@ -1,12 +1,9 @@
 -- A text is stripped piece by piece.
-use Rattle.std.proofs.Common.{◌≡◌, ℕ, zero, suc, Bool, true, false, ◌&&◌, ◌||◌, cond, List, [], ◌∷◌, ◌++◌, drop, refl, ap, sym, ◌∙◌, arith}
+use Rattle.std.proofs.Common.{◌≡◌, ℕ, zero, suc, true, false, ◌&&◌, ◌||◌, cond, List, [], ◌∷◌, ◌++◌, drop, refl, ap, sym, ◌∙◌, arith}
 use Rattle.std.specs.Prelude.{codes}
+use Rattle.std.proofs.lemmas.Bool.{or_parts}
 use Rattle.ak_filters.specs.Cuts.{begins, has, front, behind}
 use Rattle.ak_filters.specs.Strips.{removed, spaced}
-
-neither : (v w : Bool) → (v || w) ≡ false → (v ≡ false) × (w ≡ false)
-neither true w h = grind (arith, h)
-neither false w h = (refl, h)
 
 past_piece : (xs : List ℕ) → removed true xs ≡ removed false (behind (codes ">") xs)
 past_piece [] = refl
@@ -22,7 +19,7 @@ piece_removed xs h = up_to_piece xs h ∙ ap (λ ys. front (codes "<") xs ++ ys)
 none_behind : (xs : List ℕ) → has (codes ">") xs ≡ false → has (codes ">") (behind (codes "<") xs) ≡ false
 none_behind [] h = refl
 none_behind (b ∷ bs) h =
-    let later = (neither (begins (codes ">") (b ∷ bs)) (has (codes ">") bs) h).1 in
+    let later = (or_parts (begins (codes ">") (b ∷ bs)) (has (codes ">") bs) h).1 in
     elim (begins (codes "<") (b ∷ bs)) as (λ v. has (codes ">") (cond v bs (behind (codes "<") bs)) ≡ false) [ true ↦ later | false ↦ none_behind bs later ]
 
 pub unclosed_stays : (xs : List ℕ) → has (codes ">") (behind (codes "<") xs) ≡ false → removed false xs ≡ xs
@@ -32,7 +29,7 @@ unclosed_stays (b ∷ bs) h = elim (begins (codes "<") (b ∷ bs)) as (λ v. has
 pub plain_stays : (xs : List ℕ) → has (codes "<") xs ≡ false → removed false xs ≡ xs
 plain_stays [] h = refl
 plain_stays (b ∷ bs) h =
-    let both = neither (begins (codes "<") (b ∷ bs)) (has (codes "<") bs) h in
+    let both = or_parts (begins (codes "<") (b ∷ bs)) (has (codes "<") bs) h in
     ap (λ v. cond (v && has (codes ">") bs) (removed true bs) (b ∷ removed false bs)) both.0 ∙ ap (λ ys. b ∷ ys) (plain_stays bs both.1)
 
 past_mark : (n : ℕ) (xs : List ℕ) → spaced n xs ≡ spaced 0 (drop n xs)
@@ -47,7 +44,7 @@ mark_replaced (b ∷ bs) h = elim (begins (codes "&nbsp;") (b ∷ bs)) as (λ v.
 pub unmarked_stays : (xs : List ℕ) → has (codes "&nbsp;") xs ≡ false → spaced 0 xs ≡ xs
 unmarked_stays [] h = refl
 unmarked_stays (b ∷ bs) h =
-    let both = neither (begins (codes "&nbsp;") (b ∷ bs)) (has (codes "&nbsp;") bs) h in
+    let both = or_parts (begins (codes "&nbsp;") (b ∷ bs)) (has (codes "&nbsp;") bs) h in
     ap (λ v. cond v (32 ∷ spaced 5 bs) (b ∷ spaced 0 bs)) both.0 ∙ ap (λ ys. b ∷ ys) (unmarked_stays bs both.1)
 
 pub unclosed_piece : (xs piece : List ℕ) → piece ≡ behind (codes "<") xs → has (codes ">") piece ≡ false → removed false xs ≡ xs

@@ -1,6 +1,7 @@
 -- There is one answer.
-use Rattle.std.proofs.Common.{◌≡◌, ◌≢◌, ℕ, zero, suc, ℤ, pos, negsuc, ◌<◌, ◌≤◌, min, ◌⊎◌, inl, inr, ◌↔◌, Bool, true, false, IsTrue, List, [], ◌∷◌, refl, sym, subst, ap, ◌∙◌, arith}
+use Rattle.std.proofs.Common.{◌≡◌, ◌≢◌, ℕ, zero, suc, ℤ, pos, negsuc, ◌<◌, ◌≤◌, min, ◌⊎◌, inl, inr, ◌↔◌, false, IsTrue, List, [], ◌∷◌, refl, sym, subst, ap, ◌∙◌, arith}
 use Rattle.std.proofs.lemmas.Bool.{cases_lt, cases_Bool}
+use Rattle.std.proofs.lemmas.Bool.Decides.{same_from_decides}
 use Rattle.ak_base.specs.declared.cards.Card.{Card}
 use Rattle.ak_base.specs.declared.days.Day.{Day}
 use Rattle.ak_base.specs.declared.option_groups.Options.{Options}
@@ -62,12 +63,6 @@ one_easy o word s i j h k =
     let same = one_of_milliards _ h.raw k.raw h.whole k.whole in
     h.days_are ∙ ap (λ d. limited o word d h.raw) below ∙ ap (limited o word k.good) same ∙ sym k.days_are
 
-one_bit : (P : Type 0) (a b : Bool) → (IsTrue a ↔ P) → (IsTrue b ↔ P) → a ≡ b
-one_bit P true true h k = refl
-one_bit P true false h k = let e : false ≡ true = k.1 (h.0 refl) in sym e
-one_bit P false true h k = h.1 (k.0 refl)
-one_bit P false false h k = refl
-
 one_restart : (ds : List ℕ) (seconds : ℕ) (s : Standing) (days : ℕ) (a b : Outcome) → IsRestart ds seconds s days a → IsRestart ds seconds s days b → a ≡ b
 one_restart ds seconds s days a b h k =
     let same = one_left ds seconds _ h.left k.left h.all k.all in
@@ -105,9 +100,9 @@ lapse_steps_are o day s a b h k leech ha kb (step ∷ steps) some =
 
 one_lapse : (o : Options) (day : Day) (s : Standing) (a b : Outcome) → IsLapse o day s a → IsLapse o day s b → a ≡ b
 one_lapse o day s a b h k =
-    let leech = one_bit _ a.leech b.leech h.leech k.leech in
+    let leech = same_from_decides a.leech b.leech h.leech k.leech in
     let acts : IsTrue b.suspended ↔ (IsTrue a.leech × (o.leech_action ≡ pos 0)) = rw (leech) k.suspended in
-    let suspended = one_bit _ a.suspended b.suspended h.suspended acts in
+    let suspended = same_from_decides a.suspended b.suspended h.suspended acts in
     elim (cases_Bool a.suspended) [
       | inl e ↦
           let one = h.when_suspended e in

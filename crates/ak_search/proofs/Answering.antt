@@ -2,10 +2,10 @@
 use Rattle.std.proofs.Common.{◌≡◌, true, false, ◌&&◌, ◌||◌, cond, Bool, ℤ, int_lt, Option, Some, List, [], ◌∷◌, ◌++◌, refl, ap, sym, ◌∙◌, arith}
 use Rattle.std.proofs.lemmas.Int.{ints}
 use Rattle.std.specs.BTreeMap.{get}
-use Rattle.std.specs.Cmp.{signed_Decides}
-use Rattle.std.specs.Ordering.{int_cmp, int_eq, is_eq, ordering_then}
-use Rattle.std.specs.declared.cmp.Ordering.{Ordering}
-use Rattle.std.specs.declared.cmp.Ordering.TheVariants.{Less, Equal, Greater}
+use Rattle.std.specs.Cmp.{signed_Decides, tied_then}
+use Rattle.std.specs.Ordering.{int_cmp, int_eq, is_eq}
+use Rattle.std.proofs.lemmas.Bool.{and_parts, or_parts}
+use Rattle.std.proofs.Math.Bool.{or_assoc, or-false}
 use Rattle.ak_base.specs.declared.cards.Card.{Card}
 use Rattle.ak_base.specs.declared.days.Day.{Day}
 use Rattle.ak_base.specs.declared.rows.Row.{Row}
@@ -31,14 +31,10 @@ pub earlier_since : (one other least : ℤ) → int_lt one other ≡ false → i
 earlier_since one other least h = grind (arith, ints)
 
 -- ---- rows of reviews
-or_apart : (v w x : Bool) → ((v || w) || x) ≡ v || (w || x)
-or_apart true w x = refl
-or_apart false w x = refl
-
 pub in_append : (card ease least : ℤ) (front rest : List Row) → is_answer_in card ease least (front ++ rest) ≡ (is_answer_in card ease least front || is_answer_in card ease least rest)
 in_append card ease least [] rest = refl
 in_append card ease least (row ∷ front) rest =
-    ap (λ v. is_answer card ease least row || v) (in_append card ease least front rest) ∙ sym (or_apart (is_answer card ease least row) (is_answer_in card ease least front) (is_answer_in card ease least rest))
+    ap (λ v. is_answer card ease least row || v) (in_append card ease least front rest) ∙ sym (or_assoc (is_answer card ease least row) (is_answer_in card ease least front) (is_answer_in card ease least rest))
 
 -- ---- a term that asks for no answers holds whatever they are
 same_unless : (day : Day) (s : Seen) (f : ℤ → ℤ → Bool) (term : Term) → is_on_answers term ≡ false → holds day s term ≡ holds day (record s { answered = f }) term
@@ -59,10 +55,6 @@ same_unless day s f (terms.Added days) h = refl
 same_unless day s f (terms.Edited days) h = refl
 same_unless day s f (terms.NoteIds ids) h = refl
 same_unless day s f (terms.CardIds ids) h = refl
-
-neither : (v w : Bool) → (v || w) ≡ false → (v ≡ false) × (w ≡ false)
-neither true w h = grind (arith, h)
-neither false w h = (refl, h)
 
 -- a term that asks for the card alone holds whatever is around it
 same_around : (day : Day) (answers : Answers) (c : Card) (one other : Around) (term : Term) → is_on_around term ≡ false → holds day (seen_by answers c one) term ≡ holds day (seen_by answers c other) term
@@ -88,7 +80,7 @@ same_around day answers c one other (terms.CardIds ids) h = refl
 same_walk : (apart f g : Term → Bool) → ((term : Term) → apart term ≡ false → f term ≡ g term) → (outer : List Outer) (either all : Bool) (ps : List Piece) → some_term apart ps ≡ false → walk f outer either all ps ≡ walk g outer either all ps
 same_walk apart f g same outer either all [] h = refl
 same_walk apart f g same outer either all (Test negated term ∷ ps) h =
-    let both = neither (apart term) (some_term apart ps) h in
+    let both = or_parts (apart term) (some_term apart ps) h in
     ap (λ v. walk f outer either (all && negated_by negated v) ps) (same term both.0) ∙ same_walk apart f g same outer either (all && negated_by negated (g term)) ps both.1
 same_walk apart f g same outer either all (BadValue ∷ ps) h = same_walk apart f g same outer either all ps h
 same_walk apart f g same outer either all (Open negated ∷ ps) h = same_walk apart f g same (record { negated = negated; either = either; all = all } ∷ outer) false true ps h
@@ -122,19 +114,6 @@ pub serves : (day : Day) (held : Rows) (asking : Asking) (c : Card) (around : Ar
 serves day held asking c around ps serve is = by_around day held asking c around ps serve.around is ∙ by_answers day held asking.answers c ps serve.answers
 
 -- ---- one more review
-or_false : (v : Bool) → v ≡ (v || false)
-or_false true = refl
-or_false false = refl
-
-and_both : (v w : Bool) → (v && w) ≡ true → (v ≡ true) × (w ≡ true)
-and_both true w h = (refl, h)
-and_both false w h = grind (arith, h)
-
-both_equal : (r s : Ordering) → is_eq (ordering_then r s) ≡ (is_eq r && is_eq s)
-both_equal Less s = refl
-both_equal Equal s = refl
-both_equal Greater s = refl
-
 pub added : (old new : Answers) (cid own last id cid' own' last' : ℤ) → cid' ≡ cid → own' ≡ own → last' ≡ last
     → ((q : ℤ × ℤ) → get pair_cmp new.last q ≡ cond (is_eq (pair_cmp (cid', own') q)) (Some last') (get pair_cmp old.last q))
     → ((least : ℤ) → is_since last least ≡ (is_shown old cid own least || is_since id least))
@@ -145,17 +124,17 @@ added old new cid own last id cid' own' last' cid_is own_is last_is puts since c
     ∙ ap (λ (x : ℤ). held_and test (cond (is_eq (pair_cmp (x, own') (card, ease))) (Some last') (get pair_cmp old.last (card, ease)))) cid_is
     ∙ ap (λ (x : ℤ). held_and test (cond (is_eq (pair_cmp (cid, x) (card, ease))) (Some last') (get pair_cmp old.last (card, ease)))) own_is
     ∙ ap (λ (x : ℤ). held_and test (cond (is_eq (pair_cmp (cid, own) (card, ease))) (Some x) (get pair_cmp old.last (card, ease)))) last_is
-    ∙ ap (λ b. held_and test (cond b (Some last) (get pair_cmp old.last (card, ease)))) (both_equal (int_cmp cid card) (int_cmp own ease))
+    ∙ ap (λ b. held_and test (cond b (Some last) (get pair_cmp old.last (card, ease)))) (sym (tied_then (int_cmp cid card) (int_cmp own ease)))
     ∙ elim (int_eq cid card && int_eq own ease) as (λ b. (int_eq cid card && int_eq own ease) ≡ b
     → held_and test (cond b (Some last) (get pair_cmp old.last (card, ease))) ≡ (is_shown old card ease least || (b && is_since id least))) [
       | true ↦ λ e.
-          let same = and_both (int_eq cid card) (int_eq own ease) e in
+          let same = and_parts (int_eq cid card) (int_eq own ease) e in
           let card_is : cid ≡ card = (signed_Decides cid card).0 same.0 in
           let ease_is : own ≡ ease = (signed_Decides own ease).0 same.1 in
           since least
           ∙ ap (λ (x : ℤ). is_shown old x own least || is_since id least) card_is
           ∙ ap (λ (x : ℤ). is_shown old card x least || is_since id least) ease_is
-      | false ↦ λ e. or_false (is_shown old card ease least)
+      | false ↦ λ e. sym (or-false (is_shown old card ease least))
     ] refl
 
 -- what a look-up by such numbers found
@@ -169,7 +148,7 @@ looked_up answers card ease least card' ease' found card_is ease_is is =
 
 -- one more row, and one more page
 pub row_added : (old new test rest total : Bool) → new ≡ (old || test) → (old || (test || rest)) ≡ total → (new || rest) ≡ total
-row_added old new test rest total h g = ap (λ v. v || rest) h ∙ or_apart old test rest ∙ g
+row_added old new test rest total h g = ap (λ v. v || rest) h ∙ or_assoc old test rest ∙ g
 
 pub page_added : (old new total : Bool) (card ease least : ℤ) (all page rest : List Row) → new ≡ (old || is_answer_in card ease least page) → all ≡ page ++ rest
     → (old || is_answer_in card ease least all) ≡ total → (new || is_answer_in card ease least rest) ≡ total

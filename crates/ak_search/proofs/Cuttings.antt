@@ -1,5 +1,5 @@
 -- Signs are cut token by token.
-use Rattle.std.proofs.Common.{◌≡◌, ℕ, zero, suc, ◌-◌, ◌==◌, Bool, true, false, not, cond, List, [], ◌∷◌, ◌++◌, length, take, drop, refl, ap, sym, ◌∙◌, arith, length-drop}
+use Rattle.std.proofs.Common.{◌≡◌, ℕ, zero, suc, ◌-◌, ◌==◌, Bool, true, false, not, cond, List, [], ◌∷◌, ◌++◌, length, take, drop, refl, ap, sym, ◌∙◌, arith, length-drop, append_assoc}
 use Rattle.std.proofs.lemmas.List.{take_all}
 use Rattle.ak_search.specs.declared.signs.Sign.{Sign}
 use Rattle.ak_search.specs.declared.tokens.Token.{Token}
@@ -10,16 +10,12 @@ taken_signs zero minus negated ss = refl
 taken_signs (suc skip) minus negated [] = refl
 taken_signs (suc skip) minus negated (s ∷ ss) = taken_signs skip minus negated ss
 
-assoc : {A : Type 0} (xs ys zs : List A) → (xs ++ ys) ++ zs ≡ xs ++ (ys ++ zs)
-assoc [] ys zs = refl
-assoc (x ∷ xs) ys zs = ap (λ rest. x ∷ rest) (assoc xs ys zs)
-
 pub one_token : (done : List Token) (minus negated : Bool) (s : Sign) (ss : List Sign) (skip : ℕ) → (s.letter == 32) ≡ false → is_negated_by s ss ≡ false → skip ≡ (first_cut minus negated s ss).size - 1
     → (done ++ (placed (first_cut minus negated s ss) ∷ [])) ++ tokens_from 0 false false (take (length ss - skip) (drop skip ss)) ≡ done ++ tokens_from 0 minus negated (s ∷ ss)
 one_token done minus negated s ss skip space dash e =
     let token = placed (first_cut minus negated s ss) in
     let left = take_all (length ss - skip) (drop skip ss) (omega (arith, length-drop skip ss)) in
-    assoc done (token ∷ []) (tokens_from 0 false false (take (length ss - skip) (drop skip ss)))
+    append_assoc done (token ∷ []) (tokens_from 0 false false (take (length ss - skip) (drop skip ss)))
     ∙ ap (λ rest. done ++ (token ∷ tokens_from 0 false false rest)) left
     ∙ ap (λ rest. done ++ (token ∷ rest)) (sym (taken_signs skip false false ss))
     ∙ ap (λ n. done ++ (token ∷ tokens_from n false false ss)) e

@@ -1,8 +1,9 @@
 -- A text has a tree exactly where its tokens have no fault, and then one alone.
-use Rattle.std.proofs.Common.{◌≡◌, ℕ, zero, suc, ◌-◌, ◌<◌, Bool, true, false, ◌==◌, nat_lt, ◌&&◌, cond, Option, Some, None, List, [], ◌∷◌, ◌++◌, append_assoc, get_or, drop, refl, ap, sym, subst, ◌∙◌, arith}
+use Rattle.std.proofs.Common.{◌≡◌, ℕ, zero, suc, ◌-◌, ◌<◌, Bool, true, false, ◌==◌, nat_lt, ◌&&◌, cond, Some, None, List, [], ◌∷◌, ◌++◌, append_assoc, refl, ap, sym, subst, ◌∙◌, arith, append-nil}
 use Rattle.std.specs.Prelude.{⊤}
 use Rattle.std.specs.Option.{option_or}
-use Rattle.std.proofs.lemmas.Bool.{ltb-true, lt-ltb}
+use Rattle.std.proofs.lemmas.Bool.{ltb-true, lt-ltb, and_parts}
+use Rattle.ak_template.proofs.Grammars.{head_same, neither_fault, tail_same, test_passed}
 use Rattle.ak_search.specs.declared.tokens.Token.{Token}
 use Rattle.ak_search.specs.declared.tokens.Piece.{Piece}
 use Rattle.ak_search.specs.declared.tokens.Piece.TheVariants.{Test, BadValue, Open, Close, Or, And, OpenQuote}
@@ -39,10 +40,6 @@ laid_back (Group negated inside after) pieces others h =
 
 nothing_back : read_back [] ≡ (End, [])
 nothing_back = refl
-
-nil_right : {A : Type 0} (xs : List A) → xs ++ [] ≡ xs
-nil_right [] = refl
-nil_right (x ∷ xs) = ap (λ ys. x ∷ ys) (nil_right xs)
 
 own_tree : (tree : Tree) → (read_back (laid tree ++ [])).0 ≡ tree
 own_tree tree = ap (λ (p : Tree × List Tree). p.0) (laid_back tree [] [] nothing_back)
@@ -92,18 +89,6 @@ fill_group zero before negated ps few some (inside, rest, e, w, n, b, (after, f,
 fill_group (suc depth) before negated ps few some (inside, rest, e, w, n, b, (after, others, f, v, m, a, later)) =
     (Group negated inside after, others, ap (λ ys. Open negated ∷ ys) (e ∙ ap (λ ys. laid inside ++ (Close ∷ ys)) f ∙ sym (append_assoc (laid inside) (Close ∷ laid after) (Close ∷ others))), (b ∙ some, w, v), (few, n, m), refl, later)
 
-neither_fault : (one other : Option SearchFault) → option_or one other ≡ None → (one ≡ None) × (other ≡ None)
-neither_fault None other h = (refl, h)
-neither_fault (Some fault) other h = grind (arith, h)
-
-test_passed : (v : Bool) (fault : SearchFault) → cond v None (Some fault) ≡ None → v ≡ true
-test_passed true fault h = refl
-test_passed false fault h = grind (arith, h)
-
-both_true : (v w : Bool) → (v && w) ≡ true → (v ≡ true) × (w ≡ true)
-both_true true w h = (refl, h)
-both_true false w h = grind (arith, h)
-
 group_passed : (v w : Bool) (few : Bool) (empty deep unclosed : SearchFault) → cond v (cond w (Some empty) (cond few None (Some deep))) (Some unclosed) ≡ None → (v ≡ true) × (w ≡ false) × (few ≡ true)
 group_passed true true few empty deep unclosed h = grind (arith, h)
 group_passed true false few empty deep unclosed h = (refl, refl, test_passed few deep h)
@@ -139,10 +124,10 @@ fill_one (suc depth) before place Close ts h g c later =
     let behind = subst (λ n. CloseAll n (pieces_in ts) → Fills n true (pieces_in ts)) e later in
     (End, pieces_in ts, refl, tt, tt, refl, behind (all_outside depth (pieces_in ts) c))
 fill_one depth before place Or ts h g c later =
-    let both = both_true before (begins_part (pieces_in ts)) (test_passed (before && begins_part (pieces_in ts)) (faults.LoneOr place) h) in
+    let both = and_parts before (begins_part (pieces_in ts)) (test_passed (before && begins_part (pieces_in ts)) (faults.LoneOr place) h) in
     fill_part depth before Or (pieces_in ts) Either (λ tree. refl) (λ k tree n. n) (λ tree b w. (both.0, b ∙ both.1, w)) (λ tree. refl) (later (all_behind depth Or (pieces_in ts) (λ k. refl) c))
 fill_one depth before place And ts h g c later =
-    let both = both_true before (begins_part (pieces_in ts)) (test_passed (before && begins_part (pieces_in ts)) (faults.LoneOr place) h) in
+    let both = and_parts before (begins_part (pieces_in ts)) (test_passed (before && begins_part (pieces_in ts)) (faults.LoneOr place) h) in
     fill_part depth before And (pieces_in ts) Also (λ tree. refl) (λ k tree n. n) (λ tree b w. (both.0, b ∙ both.1, w)) (λ tree. refl) (later (all_behind depth And (pieces_in ts) (λ k. refl) c))
 fill_one depth before place OpenQuote ts h g c later = grind (arith, h)
 
@@ -157,12 +142,6 @@ pub has_tree : (text : List ℕ) → first_fault text ≡ None → (tree : Tree)
 has_tree text h = let found = fills 0 false (tokens text) h tt in (found.0, record { pieces = found.1; whole = found.2; nests = found.3 })
 
 -- ---- a text with a tree has no fault
-
-head_same : {A : Type 0} (x y : A) (xs ys : List A) → ◌≡◌ {A = List A} (x ∷ xs) (y ∷ ys) → x ≡ y
-head_same x y xs ys h = ap (λ l. get_or l 0 x) h
-
-tail_same : {A : Type 0} (x y : A) (xs ys : List A) → ◌≡◌ {A = List A} (x ∷ xs) (y ∷ ys) → xs ≡ ys
-tail_same x y xs ys h = ap (drop 1) h
 
 closes_laid : (tree : Tree) (depth : ℕ) (rest : List Piece) → closes depth (laid tree ++ rest) ≡ closes depth rest
 closes_laid End depth rest = refl
@@ -269,5 +248,5 @@ none_left (t ∷ ts) h = grind (arith, h)
 pub no_fault : (text : List ℕ) (tree : Tree) → ReadsSearch text tree → first_fault text ≡ None
 unfolding Passes
 no_fault text tree h =
-    let passed = passes tree 0 false (tokens text) [] h.nests h.whole (h.pieces ∙ sym (nil_right (laid tree))) in
+    let passed = passes tree 0 false (tokens text) [] h.nests h.whole (h.pieces ∙ sym (append-nil (laid tree))) in
     passed.3 ∙ ap (fault_in 0 passed.1) (none_left passed.0 passed.2)

@@ -1,6 +1,7 @@
 -- A pattern is matched in one pass.
 use Rattle.std.proofs.Common.{◌≡◌, ℕ, zero, suc, ◌+◌, ◌<◌, Bool, true, false, ◌&&◌, ◌||◌, List, [], ◌∷◌, ◌++◌, length, take, drop, get_or, set, refl, ap, ◌∙◌, arith, rules, append-nil}
-use Rattle.std.proofs.Math.Seq.{drop-cons}
+use Rattle.std.proofs.Math.Bool.{or-false}
+use Rattle.std.proofs.lemmas.List.{drop_all, drop_more}
 use Rattle.ak_search.specs.declared.marks.Mark.{Mark}
 use Rattle.ak_search.specs.declared.marks.Mark.TheVariants.{Any, One, Apart, Is}
 use Rattle.ak_search.specs.Patterns.{is_any, takes, fits}
@@ -9,17 +10,6 @@ use Rattle.ak_search.specs.Matching.{falses, advanced, advanced_by, ended}
 pub more_falses : (count : ℕ) → falses count ++ (false ∷ []) ≡ falses (suc count)
 more_falses zero = refl
 more_falses (suc count) = ap (λ row. false ∷ row) (more_falses count)
-
-next_left : {A : Type 0} (xs : List A) (place : ℕ) (x : A) → place < length xs → drop place xs ≡ get_or xs place x ∷ drop (place + 1) xs
-next_left xs place x h =
-    let e : suc place ≡ place + 1 = omega arith in
-    drop-cons xs place x h ∙ ap (λ n. get_or xs place x ∷ drop n xs) e
-
-none_left : {A : Type 0} (place : ℕ) (xs : List A) → length xs ≡ place → drop place xs ≡ []
-none_left zero [] e = refl
-none_left zero (x ∷ xs) e = grind (arith, e)
-none_left (suc place) [] e = refl
-none_left (suc place) (x ∷ xs) e = none_left place xs (omega (arith, e))
 
 pub advance_end : (letter place : ℕ) (taken skipped : Bool) (row : List Bool) (marks : List Mark) → length marks ≡ place → length row ≡ length marks + 1
     → take place row ++ advanced letter taken skipped (drop place row) (drop place marks) ≡ set row place taken
@@ -34,14 +24,14 @@ advance_end letter (suc place) taken skipped (live ∷ row) (mark ∷ marks) h e
 pub end_step : (place : ℕ) (skipped : Bool) (row : List Bool) (marks : List Mark) → place < length marks → length row ≡ length marks + 1
     → ended skipped (drop place row) (drop place marks) ≡ ended (is_any (get_or marks place Any) && (get_or row place false || skipped)) (drop (place + 1) row) (drop (place + 1) marks)
 end_step place skipped row marks h e =
-    ap (λ xs. ended skipped xs (drop place marks)) (next_left row place false (omega (arith, h, e)))
-    ∙ ap (λ ms. ended skipped (get_or row place false ∷ drop (place + 1) row) ms) (next_left marks place Any h)
+    ap (λ xs. ended skipped xs (drop place marks)) (drop_more row place false (omega (arith, h, e)))
+    ∙ ap (λ ms. ended skipped (get_or row place false ∷ drop (place + 1) row) ms) (drop_more marks place Any h)
 
 pub end_last : (place : ℕ) (skipped : Bool) (row : List Bool) (marks : List Mark) → length marks ≡ place → length row ≡ length marks + 1
     → ended skipped (drop place row) (drop place marks) ≡ get_or row place false || skipped
 end_last place skipped row marks h e =
-    ap (λ xs. ended skipped xs (drop place marks)) (next_left row place false (omega (arith, h, e)))
-    ∙ ap (λ ms. ended skipped (get_or row place false ∷ drop (place + 1) row) ms) (none_left place marks h)
+    ap (λ xs. ended skipped xs (drop place marks)) (drop_more row place false (omega (arith, h, e)))
+    ∙ ap (λ ms. ended skipped (get_or row place false ∷ drop (place + 1) row) ms) (drop_all place marks (omega (arith, h)))
 
 pub size_advanced : (letter : ℕ) (taken skipped : Bool) (row : List Bool) (marks : List Mark) → length (advanced letter taken skipped row marks) ≡ length row
 size_advanced letter taken skipped [] marks = refl
@@ -67,14 +57,10 @@ none_fits zero marks letters = refl
 none_fits (suc count) [] letters = refl
 none_fits (suc count) (mark ∷ marks) letters = none_fits count marks letters
 
-or_false : (v : Bool) → (v || false) ≡ v
-or_false true = refl
-or_false false = refl
-
 first_fits : (marks : List Mark) (letters : List ℕ) → fits_some (true ∷ falses (length marks)) marks letters ≡ fits marks letters
 unfolding fits_some
 first_fits [] letters = refl
-first_fits (mark ∷ marks) letters = ap (λ v. fits (mark ∷ marks) letters || v) (none_fits (suc (length marks)) marks letters) ∙ or_false (fits (mark ∷ marks) letters)
+first_fits (mark ∷ marks) letters = ap (λ v. fits (mark ∷ marks) letters || v) (none_fits (suc (length marks)) marks letters) ∙ or-false (fits (mark ∷ marks) letters)
 
 -- at a mark that stands for any characters
 over_any : (taken skipped live here next after more : Bool) → ((taken || (live || skipped)) && next) || (false || (((live || skipped) && here) || more)) ≡ (taken && next) || ((skipped && (here || next)) || ((live && (here || next)) || more))

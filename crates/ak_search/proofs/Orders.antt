@@ -1,6 +1,5 @@
 -- The places of signs, tokens and faults ascend.
 use Rattle.std.proofs.Common.{◌≡◌, ℕ, zero, suc, ◌+◌, ◌-◌, ◌<◌, ◌≤◌, ◌==◌, ◌⊎◌, inl, inr, nat_lt, Bool, true, false, not, ◌&&◌, cond, Option, Some, None, List, [], ◌∷◌, ◌++◌, map, length, take, drop, refl, ap, sym, subst, ◌∙◌, arith, length-drop}
-use Rattle.std.proofs.lemmas.Bool.Decides.{nat_tests}
 use Rattle.std.proofs.lemmas.List.{length-take}
 use Rattle.std.proofs.lemmas.Str.{len_utf8_bounds}
 use Rattle.std.specs.Char.{len_utf8}
@@ -10,7 +9,8 @@ use Rattle.std.specs.Option.{option_or, option_to_list}
 use Rattle.std.specs.Ordering.{nat_cmp}
 use Rattle.std.specs.Prelude.{⊤, slice_get}
 use Rattle.std.specs.Str.{chars}
-use Rattle.std.specs.declared.cmp.Ordering.TheVariants.{Less, Equal, Greater}
+use Rattle.std.specs.declared.cmp.Ordering.TheVariants.{Less}
+use Rattle.std.specs.Cmp.{nat_cmp_is}
 use Rattle.ak_search.specs.declared.signs.Sign.{Sign}
 use Rattle.ak_search.specs.declared.tokens.Token.{Token}
 use Rattle.ak_search.specs.declared.tokens.Piece.{Piece}
@@ -194,12 +194,9 @@ faults_ascend low depth before (t ∷ ts) f =
     one_more low t.place (fault_at depth before t.place t.piece (pieces_in ts)) (faults_in (depth_behind depth t.piece) (ends_part t.piece) ts) f.0
     (fault_stands depth before t.place t.piece (pieces_in ts)) (faults_ascend (t.place + 1) (depth_behind depth t.piece) (ends_part t.piece) ts f.1)
 
-below : (m n : ℕ) → m < n → nat_cmp m n ≡ Less
-below m n h = let test : nat_lt m n ≡ true = grind (arith, nat_tests) in ap (λ v. cond v Less (cond (m == n) Equal Greater)) test
-
 over_all : (place : ℕ) (fs : List SearchFault) → Ascend (place + 1) fs → AllByRecursion (λ n. nat_cmp place n ≡ Less) (map place_of fs)
 over_all place [] a = tt
-over_all place (f ∷ fs) a = (below place (place_of f) (omega (arith, a.0)), over_all place fs (ascend_lower (place + 1) (place_of f + 1) fs (omega (arith, a.0)) a.1))
+over_all place (f ∷ fs) a = (sym (nat_cmp_is place (place_of f) Less (omega (arith, a.0))), over_all place fs (ascend_lower (place + 1) (place_of f + 1) fs (omega (arith, a.0)) a.1))
 
 sorted : (low : ℕ) (fs : List SearchFault) → Ascend low fs → IsStrictlySortedBy nat_cmp (map place_of fs)
 unfolding IsStrictlySortedBy

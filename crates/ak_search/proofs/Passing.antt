@@ -1,28 +1,19 @@
 -- One pass over the cards: what was found, and that it ascends.
-use Rattle.std.proofs.Common.{◌≡◌, true, false, ◌&&◌, cond, Bool, ℤ, pos, int_lt, List, [], ◌∷◌, ◌++◌, map, filter, Option, Some, None, IfSome, refl, ap, sym, subst, ◌∙◌, arith, append_assoc}
-use Rattle.std.proofs.lemmas.Int.{ints}
+use Rattle.std.proofs.Common.{◌≡◌, true, false, cond, Bool, ℤ, pos, int_lt, List, [], ◌∷◌, ◌++◌, map, filter, refl, ap, sym, subst, ◌∙◌, append_assoc, append-nil}
 use Rattle.std.specs.List.{AllByRecursion}
 use Rattle.std.specs.List.Sorted.{IsStrictlySortedBy}
 use Rattle.std.specs.Ordering.{int_cmp}
 use Rattle.std.specs.declared.cmp.Ordering.TheVariants.{Less}
+use Rattle.std.specs.Cmp.{second_so}
 use Rattle.ak_base.specs.Rows.{name_of}
 use Rattle.ak_base.specs.declared.days.Day.{Day}
 use Rattle.ak_base.specs.declared.names.Table.TheVariants as tables
 use Rattle.ak_base.specs.declared.rows.Row.{Row}
 use Rattle.ak_keep.specs.Collections.{Rows, is_past}
-use Rattle.ak_keep.specs.Pages.{compared_less}
+use Rattle.ak_keep.specs.Pages.{compared_less, int_chain}
 use Rattle.ak_search.specs.Holds.{is_hit, ids_of_hits}
 use Rattle.ak_search.specs.Passes.{AscendFrom, TakesFrom}
 use Rattle.ak_search.specs.declared.terms.Term.{Term}
-
--- ---- facts where a collection is told
-pub if_told : {A : Type 0} (o : Option A) (P Q : A → Type 0) → ((a : A) → P a → Q a) → IfSome o P → IfSome o Q
-if_told None P Q f h = tt
-if_told (Some a) P Q f h = f a h
-
-pub both_told : {A : Type 0} (o : Option A) (P Q R : A → Type 0) → ((a : A) → P a → Q a → R a) → IfSome o P → IfSome o Q → IfSome o R
-both_told None P Q R f h g = tt
-both_told (Some a) P Q R f h g = f a h g
 
 -- ---- the ids of hits, row by row
 ids_first : (asks : (Term → Bool) → Bool) (held : Rows) (day : Day) (row : Row) (rest : List Row) → ids_of_hits asks held day (row ∷ rest) ≡ ids_of_hits asks held day (row ∷ []) ++ ids_of_hits asks held day rest
@@ -54,12 +45,9 @@ page_taken asks held day whole found more all page rest is split taken =
     ∙ ap (λ ids. ids ++ ids_of_hits asks held day rest) (sym taken)
 
 -- ---- ids ascend
-chain : (a b c : ℤ) → int_lt a b ≡ true → int_lt b c ≡ true → int_lt a c ≡ true
-chain a b c h g = grind (arith, ints)
-
 pub from_lower : (low past : ℤ) (ids : List ℤ) → int_lt low past ≡ true → AscendFrom past ids → AscendFrom low ids
 from_lower low past [] h a = tt
-from_lower low past (id ∷ ids) h a = (chain low past id h a.0, a.1)
+from_lower low past (id ∷ ids) h a = (int_chain low past id h a.0, a.1)
 
 over_all : (past : ℤ) (ids : List ℤ) → AscendFrom past ids → AllByRecursion (λ id. int_cmp past id ≡ Less) ids
 over_all past [] a = tt
@@ -70,23 +58,15 @@ unfolding IsStrictlySortedBy
 sorted past [] a = tt
 sorted past (id ∷ ids) a = (over_all id ids a.1, sorted id ids a.1)
 
-pub no_more : {A : Type 0} (xs : List A) → xs ++ [] ≡ xs
-no_more [] = refl
-no_more (x ∷ xs) = ap (λ ys. x ∷ ys) (no_more xs)
-
 pub taken_sorted : (past : ℤ) (found : List ℤ) → TakesFrom found past → IsStrictlySortedBy int_cmp found
-taken_sorted past found h = subst (IsStrictlySortedBy int_cmp) (no_more found) (sorted (pos 0) (found ++ []) (h [] tt))
-
-and_second : (v w : Bool) → (v && w) ≡ true → w ≡ true
-and_second true w h = h
-and_second false w h = grind (arith, h)
+taken_sorted past found h = subst (IsStrictlySortedBy int_cmp) (append-nil found) (sorted (pos 0) (found ++ []) (h [] tt))
 
 -- a row that is passed over, and one whose id is found
 pub row_passed : (past : ℤ) (row : Row) (found : List ℤ) → is_past tables.Card past (name_of row) ≡ true → TakesFrom found past → TakesFrom found (name_of row).id
-row_passed past row found h takes = λ ids a. takes ids (from_lower past (name_of row).id ids (and_second _ _ h) a)
+row_passed past row found h takes = λ ids a. takes ids (from_lower past (name_of row).id ids (second_so _ _ h) a)
 
 pub row_found : (past : ℤ) (row : Row) (found : List ℤ) → is_past tables.Card past (name_of row) ≡ true → TakesFrom found past → TakesFrom (found ++ ((name_of row).id ∷ [])) (name_of row).id
-row_found past row found h takes = λ ids a. subst (AscendFrom (pos 0)) (sym (append_assoc found ((name_of row).id ∷ []) ids)) (takes ((name_of row).id ∷ ids) (and_second _ _ h, a))
+row_found past row found h takes = λ ids a. subst (AscendFrom (pos 0)) (sym (append_assoc found ((name_of row).id ∷ []) ids)) (takes ((name_of row).id ∷ ids) (second_so _ _ h, a))
 
 -- before any id was found
 pub takes_first : (found : List ℤ) (past : ℤ) → found ≡ [] → past ≡ pos 0 → TakesFrom found past

@@ -1,8 +1,9 @@
 -- The hits of searches that are made of others, as sets of ids.
-use Rattle.std.proofs.Common.{◌≡◌, true, false, ◌&&◌, ◌||◌, cond, not, Bool, ℤ, pos, int_lt, List, [], ◌∷◌, ◌++◌, map, filter, refl, ap, sym, ◌∙◌, arith}
+use Rattle.std.proofs.Common.{◌≡◌, true, false, ◌&&◌, ◌||◌, cond, not, Bool, ℤ, pos, int_lt, List, [], ◌∷◌, map, filter, refl, ap, sym, ◌∙◌, arith, append-nil}
 use Rattle.std.proofs.lemmas.Int.{ints}
 use Rattle.std.specs.Ordering.{int_eq, is_eq}
 use Rattle.std.specs.declared.cmp.Ordering.TheVariants.{Less, Equal, Greater}
+use Rattle.std.specs.Cmp.{second_so}
 use Rattle.ak_base.specs.Rows.{name_of}
 use Rattle.ak_base.specs.declared.days.Day.{Day}
 use Rattle.ak_base.specs.declared.names.Table.TheVariants as tables
@@ -26,10 +27,6 @@ apart past id other h g =
     let above : int_lt id other ≡ true = grind (arith, ints) in
     (ap (λ v. is_eq (cond v Less (cond (int_lt id other) Greater Equal))) not_below ∙ ap (λ v. is_eq (cond v Greater Equal)) above, not_below)
 
-and_second : (v w : Bool) → (v && w) ≡ true → w ≡ true
-and_second true w h = h
-and_second false w h = grind (arith, h)
-
 first_apart : (p : Row → Bool) (id : ℤ) (row : Row) (rest : List Row) → int_eq (name_of row).id id ≡ false → picks p id (row ∷ rest) ≡ picks p id rest
 first_apart p id row rest h =
     elim (p row) as (λ b. is_listed id (map (λ (r : Row). (name_of r).id) (cond b (row ∷ filter p rest) (filter p rest))) ≡ picks p id rest) [
@@ -48,7 +45,7 @@ first_picked p id row rest h none =
 none_over : (p : Row → Bool) (past id : ℤ) (rs : List Row) → int_lt past id ≡ false → AscendsPast tables.Card past rs → picks p id rs ≡ false
 none_over p past id [] h a = refl
 none_over p past id (row ∷ rest) h a =
-    let over : int_lt past (name_of row).id ≡ true = and_second _ _ a.0 in
+    let over : int_lt past (name_of row).id ≡ true = second_so _ _ a.0 in
     let both = apart past id (name_of row).id h over in
     first_apart p id row rest both.0 ∙ none_over p (name_of row).id id rest both.1 a.1
 
@@ -75,12 +72,8 @@ picks_as p q r op none each past id (row ∷ rest) a =
           ∙ ap (λ v. op (picks p id (row ∷ rest)) v) (sym (first_apart q id row rest e))
     ] refl
 
-no_more : {A : Type 0} (xs : List A) → xs ++ [] ≡ xs
-no_more [] = refl
-no_more (x ∷ xs) = ap (λ ys. x ∷ ys) (no_more xs)
-
 ascending : (held : Rows) → StandsUnderNames held → AscendsPast tables.Card (pos 0) (rows_past tables.Card (pos 0) held)
-ascending held named = rows_past-ascend tables.Card (pos 0) held (rows_past tables.Card (pos 0) held) [] named (sym (no_more (rows_past tables.Card (pos 0) held)))
+ascending held named = rows_past-ascend tables.Card (pos 0) held (rows_past tables.Card (pos 0) held) [] named (sym (append-nil (rows_past tables.Card (pos 0) held)))
 
 each_either : (held : Rows) (day : Day) (one other : Tree) (row : Row) → is_hit (asked_by (followed one (Either other))) held day row ≡ (is_hit (asked_by one) held day row || is_hit (asked_by other) held day row)
 each_either held day one other (rows.Note n) = refl

@@ -1,5 +1,5 @@
 -- What is known where a keeper tells its collection: one more row, one more page.
-use Rattle.std.proofs.Common.{◌≡◌, true, false, cond, ◌||◌, ◌∙◌, ap, sym, Bool, ℤ, pos, List, [], ◌∷◌, ◌++◌, Option, Some, None, IfSome, Result, Ok, Err, IfOk}
+use Rattle.std.proofs.Common.{◌≡◌, true, false, cond, ◌||◌, ◌∙◌, ap, sym, Bool, ℤ, pos, List, [], ◌∷◌, ◌++◌, Option, Some, None, IfSome, Result, Ok, Err, IfOk, append-nil}
 use Rattle.ak_base.specs.declared.cards.Card.{Card}
 use Rattle.ak_base.specs.declared.days.Day.{Day}
 use Rattle.ak_base.specs.declared.names.Table.TheVariants as tables
@@ -19,7 +19,7 @@ use Rattle.ak_search.specs.Passes.{AreAnswersOf, Serves, around_in, asked, is_on
 use Rattle.ak_search.specs.Trees.{Tree, laid}
 use Rattle.ak_search.specs.declared.terms.Term.{Term}
 use Rattle.ak_search.proofs.Answering.{page_added, serves}
-use Rattle.ak_search.proofs.Passing.{no_more, page_taken, row_taken}
+use Rattle.ak_search.proofs.Passing.{page_taken, row_taken}
 use Rattle.ak_search.proofs.Walking.{walked}
 
 -- whether a card is a hit, from what was read of it
@@ -67,7 +67,7 @@ pub all_told : (told : Option Collection) (day : Day) (asking : Asking) (ps : Li
     → IfSome told (λ held. Serves asking ps held.rows → found ≡ ids_of_hits (asked ps) held.rows day (rows_past tables.Card (pos 0) held.rows))
 all_told None day asking ps found walk done so_far = tt
 all_told (Some held) day asking ps found walk done so_far = λ serve.
-    sym (so_far serve ∙ ap (λ b. found ++ ids_of_hits (asked ps) held.rows day (cond b [] (rows_past walk.past.table walk.past.id held.rows))) done ∙ no_more found)
+    sym (so_far serve ∙ ap (λ b. found ++ ids_of_hits (asked ps) held.rows day (cond b [] (rows_past walk.past.table walk.past.id held.rows))) done ∙ append-nil found)
 
 -- one more page of reviews was read
 pub reviews_told : (told : Option Collection) (answers more : Answers) (walk next : Walk) (page : List Row)

@@ -1,5 +1,6 @@
 -- What a search asks: walked through piece by piece, and of trees that are made of others.
-use Rattle.std.proofs.Common.{◌≡◌, Bool, true, false, not, ◌&&◌, ◌||◌, List, [], ◌∷◌, ◌++◌, append_assoc, refl, ap, sym, ◌∙◌, arith}
+use Rattle.std.proofs.Common.{◌≡◌, Bool, true, false, not, ◌&&◌, ◌||◌, List, [], ◌∷◌, ◌++◌, append_assoc, refl, ap, sym, ◌∙◌, arith, append-nil}
+use Rattle.std.proofs.Math.Bool.{and_assoc, or_assoc}
 use Rattle.ak_search.specs.declared.terms.Term.{Term}
 use Rattle.ak_search.specs.declared.tokens.Piece.{Piece}
 use Rattle.ak_search.specs.declared.tokens.Piece.TheVariants.{Close}
@@ -27,21 +28,13 @@ walked_tree holds (Group negated inside after) outer either all =
       λ ps. ap (walk holds (group ∷ outer) false true) (append_assoc (laid inside) (Close ∷ laid after) ps) ∙ inner.3 (Close ∷ (laid after ++ ps)) ∙ later.3 ps,
     )
 
-no_more : {A : Type 0} (xs : List A) → xs ++ [] ≡ xs
-no_more [] = refl
-no_more (x ∷ xs) = ap (λ ys. x ∷ ys) (no_more xs)
-
 pub walked : (holds : Term → Bool) (tree : Tree) → walk holds [] false true (laid tree) ≡ meets holds tree
 unfolding Walked
 walked holds tree =
     let whole = walked_tree holds tree [] false true in
-    ap (walk holds [] false true) (sym (no_more (laid tree))) ∙ whole.3 [] ∙ whole.2
+    ap (walk holds [] false true) (sym (append-nil (laid tree))) ∙ whole.3 [] ∙ whole.2
 
 -- ---- union, intersection, complement
-
-or_apart : (v w x : Bool) → ((v || w) || x) ≡ v || (w || x)
-or_apart true w x = refl
-or_apart false w x = refl
 
 either_apart : (holds : Term → Bool) (tree : Tree) (either all : Bool) → meets_from holds either all tree ≡ either || meets_from holds false all tree
 either_apart holds End either all = refl
@@ -50,7 +43,7 @@ either_apart holds (Group negated inside after) either all = either_apart holds 
 either_apart holds (Also after) either all = either_apart holds after either all
 either_apart holds (Either after) either all =
     either_apart holds after (either || all) true
-    ∙ or_apart either all (meets_from holds false true after)
+    ∙ or_assoc either all (meets_from holds false true after)
     ∙ ap (λ v. either || v) (sym (either_apart holds after all true))
 
 or_from : (holds : Term → Bool) (one other : Tree) (either all : Bool) → meets_from holds either all (followed one (Either other)) ≡ meets_from holds either all one || meets_from holds false true other
@@ -63,17 +56,13 @@ or_from holds (Also after) other either all = or_from holds after other either a
 pub either_meets : (holds : Term → Bool) (one other : Tree) → meets holds (followed one (Either other)) ≡ meets holds one || meets holds other
 either_meets holds one other = or_from holds one other false true
 
-and_apart : (v w x : Bool) → ((v && w) && x) ≡ v && (w && x)
-and_apart true w x = refl
-and_apart false w x = refl
-
 all_apart : (holds : Term → Bool) (tree : Tree) (all : Bool) → has_no_or tree ≡ true → meets_from holds false all tree ≡ all && meets_from holds false true tree
 all_apart holds End true h = refl
 all_apart holds End false h = refl
-all_apart holds (Asks negated term after) all h = all_apart holds after (all && negated_by negated (holds term)) h ∙ and_apart all (negated_by negated (holds term)) (meets_from holds false true after) ∙ ap (λ v. all && v) (sym (all_apart holds after (negated_by negated (holds term)) h))
+all_apart holds (Asks negated term after) all h = all_apart holds after (all && negated_by negated (holds term)) h ∙ and_assoc all (negated_by negated (holds term)) (meets_from holds false true after) ∙ ap (λ v. all && v) (sym (all_apart holds after (negated_by negated (holds term)) h))
 all_apart holds (Group negated inside after) all h =
     let part = negated_by negated (meets_from holds false true inside) in
-    all_apart holds after (all && part) h ∙ and_apart all part (meets_from holds false true after) ∙ ap (λ v. all && v) (sym (all_apart holds after part h))
+    all_apart holds after (all && part) h ∙ and_assoc all part (meets_from holds false true after) ∙ ap (λ v. all && v) (sym (all_apart holds after part h))
 all_apart holds (Either after) all h = grind (arith, h)
 all_apart holds (Also after) all h = all_apart holds after all h
 

@@ -5,6 +5,8 @@ use Rattle.ak_base.specs.declared.errors.Memory.{Memory}
 use Rattle.std.specs.Prelude.{⊤}
 use Rattle.std.specs.List.{slice_set}
 use Rattle.std.specs.Cmp.Lexicographic.{pointwise}
+use Rattle.std.proofs.Math.ListN.{get_or-map}
+use Rattle.std.proofs.lemmas.List.{length-map}
 use Rattle.ak_filters.specs.Meanings.{Meaning, filtered, turned}
 use Rattle.ak_template.specs.declared.faces.PageFault.TheVariants.{NoFilter}
 use Rattle.ak_template.specs.Pages.{Page, filter_text, applied_at, behind_filter}
@@ -62,19 +64,10 @@ leads_suc meant (suc place) name (x ∷ xs) d h l e = (h.0, leads_suc meant plac
 pub leads_past : {X : Type 0} (meant : X → Meaning) (place : ℕ) (name : List ℕ) (xs : List X) (x : X) → Leads place name (map meant xs) → place < length xs → x ≡ get_or xs place x → pointwise ◌==◌ (meant x).name name ≡ false → Leads (place + 1) name (map meant xs)
 leads_past meant place name xs x h l i e = let next : place + 1 ≡ suc place = omega arith in rw next (leads_suc meant place name xs x h l (ap (λ z. pointwise ◌==◌ (meant z).name name) (sym i) ∙ e))
 
-get_map : {X : Type 0} (meant : X → Meaning) (place : ℕ) (xs : List X) (d : X) → get_or (map meant xs) place (meant d) ≡ meant (get_or xs place d)
-get_map meant place [] d = refl
-get_map meant zero (x ∷ xs) d = refl
-get_map meant (suc place) (x ∷ xs) d = get_map meant place xs d
-
-length_map : {X : Type 0} (meant : X → Meaning) (xs : List X) → length (map meant xs) ≡ length xs
-length_map meant [] = refl
-length_map meant (x ∷ xs) = ap (λ n. suc n) (length_map meant xs)
-
 pub first_at : {X : Type 0} (meant : X → Meaning) (place : ℕ) (name text made : List ℕ) (xs : List X) (later : List Meaning) (x : X) → Leads place name (map meant xs) → place < length xs → x ≡ get_or xs place x → pointwise ◌==◌ (meant x).name name ≡ true → ◌≡◌ {A = List ℕ × List Meaning} (made, later) (applied_at place text (map meant xs)) → ◌≡◌ {A = Page} (filter_text name text (map meant xs)) (Ok made, later)
 first_at meant place name text made xs later x h l i e a =
-    first_named place name text made (map meant xs) later (meant x) h (omega (arith, l, length_map meant xs))
-    (ap (λ m. pointwise ◌==◌ m.name name) (get_map meant place xs x ∙ ap meant (sym i)) ∙ e) a
+    first_named place name text made (map meant xs) later (meant x) h (omega (arith, l, length-map xs meant))
+    (ap (λ m. pointwise ◌==◌ m.name name) (get_or-map meant xs place x ∙ ap meant (sym i)) ∙ e) a
 
 pub none_at : {X : Type 0} (meant : X → Meaning) (place : ℕ) (name copied text : List ℕ) (xs : List X) → Leads place name (map meant xs) → length xs ≤ place → copied ≡ name → ◌≡◌ {A = Page} (filter_text name text (map meant xs)) (Err (NoFilter copied), map meant xs)
-none_at meant place name copied text xs h l e = none_named place name text (map meant xs) h (omega (arith, l, length_map meant xs)) ∙ ap {B = Page} (λ n. (Err (NoFilter n), map meant xs)) (sym e)
+none_at meant place name copied text xs h l e = none_named place name text (map meant xs) h (omega (arith, l, length-map xs meant)) ∙ ap {B = Page} (λ n. (Err (NoFilter n), map meant xs)) (sym e)

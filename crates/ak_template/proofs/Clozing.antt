@@ -1,12 +1,11 @@
 -- The parts of a field with clozes, one by one.
-use Rattle.std.proofs.Common.{◌≡◌, ℕ, zero, suc, ◌+◌, ◌-◌, ◌*◌, ◌≤◌, true, false, ◌&&◌, ◌||◌, nat_lt, cond, Option, Some, None, IfSome, IfNone, List, [], ◌∷◌, ◌++◌, length, drop, length-drop, append_assoc, refl, ap, sym, ◌∙◌, arith}
+use Rattle.std.proofs.Common.{◌≡◌, ℕ, zero, suc, ◌+◌, ◌-◌, ◌*◌, ◌≤◌, true, false, ◌&&◌, ◌||◌, nat_lt, cond, Option, Some, None, IfSome, IfNone, List, [], ◌∷◌, ◌++◌, length, drop, length-drop, append_assoc, refl, ap, sym, ◌∙◌, arith, append-nil}
 use Rattle.std.specs.Prelude.{codes, pos}
 use Rattle.std.specs.Option.{MatchOption}
 use Rattle.std.specs.Str.Pattern.{FindsTextPrefix}
 use denote.Ref.{Bor}
 use Rattle.std.proofs.lemmas.Option.{IfSome_then}
 use Rattle.ak_template.proofs.Parsing.{behind_le}
-use Rattle.ak_template.proofs.Grammars.{append_nil}
 use Rattle.ak_filters.proofs.Cutting.{begins_itself, begins_with}
 use Rattle.ak_filters.specs.Cuts.{begins, has, front, behind}
 use Rattle.ak_template.specs.declared.clozes.Part.{Part}
@@ -116,7 +115,7 @@ pub parts_some : (made then later : List Part) (rest before after others : List 
 parts_some made then later rest before after others whole h b a t l w e = ap (λ left. later ++ left_in parts left) (sym e) ∙ parts_on made then later rest before after whole h b a t l w
 
 pub parts_end : (made then later : List Part) (rest before after : List ℕ) (whole : List Part) → has (codes "{{c") rest ≡ true → before ≡ front (codes "{{c") rest → after ≡ behind (codes "{{c") rest → then ≡ made ++ (Bare before ∷ []) → later ≡ then ++ (mark_parts after).0 → made ++ parts rest ≡ whole → (mark_parts after).1 ≡ None → later ≡ whole
-parts_end made then later rest before after whole h b a t l w e = sym (append_nil later) ∙ ap (λ left. later ++ left_in parts left) (sym e) ∙ parts_on made then later rest before after whole h b a t l w
+parts_end made then later rest before after whole h b a t l w e = sym (append-nil later) ∙ ap (λ left. later ++ left_in parts left) (sym e) ∙ parts_on made then later rest before after whole h b a t l w
 
 pub parts_all : (made later : List Part) (rest : List ℕ) (whole : List Part) → has (codes "{{c") rest ≡ false → later ≡ made ++ (Bare rest ∷ []) → made ++ parts rest ≡ whole → later ≡ whole
 parts_all made later rest whole h l w = l ∙ ap (λ xs. made ++ xs) (sym (parts_plain rest h)) ∙ w

@@ -2,14 +2,13 @@
 use Rattle.std.proofs.Common.{◌≡◌, ℕ, ◌+◌, ◌==◌, Bool, true, false, cond, Option, Some, None, Ok, Err, List, [], ◌∷◌, ◌++◌, refl, ap, sym, subst, ◌∙◌, arith}
 use Rattle.std.specs.Prelude.{⊤, codes, is_some}
 use Rattle.std.specs.Option.{option_map}
-use Rattle.std.specs.Cmp.Lexicographic.{pointwise}
+use Rattle.std.specs.Cmp.Lexicographic.{pointwise, same_text}
 use Rattle.std.proofs.lemmas.List.Sums.{sum_by-append, sum_by-cons}
 use Rattle.ak_filters.specs.Meanings.{Meaning, filtered, turned}
 use Rattle.ak_template.specs.declared.faces.Face.{Face}
 use Rattle.ak_template.specs.Clozes.{clozed}
 use Rattle.ak_template.specs.Trees.{Tree, End, Plain, Value, Section}
 use Rattle.ak_template.specs.Pages.{Page, prefixed, followed, passed, behind_filter, filter_text, one_text, tag_text, value_text, field_value, section_page, is_shown, page, turned_by, tag_filters, section_filters, shown_filters, filter_named, occurrences}
-use Rattle.ak_template.proofs.Grammars.{same_names}
 use Rattle.ak_template.proofs.Running.{turned_more}
 
 -- each filter that a name stands for was turned once for each occurrence of the name
@@ -41,10 +40,10 @@ other_than name other h = once name other ∙ ap (λ v. cond v 1 0) h
 
 -- two names of which one filter has the first alone are not the same
 not_both : (given one other : List ℕ) → pointwise ◌==◌ given one ≡ true → pointwise ◌==◌ given other ≡ false → pointwise ◌==◌ one other ≡ false
-not_both given one other h k = ap (λ n. pointwise ◌==◌ n other) (sym (same_names given one h)) ∙ k
+not_both given one other h k = ap (λ n. pointwise ◌==◌ n other) (sym (same_text given one (sym h))) ∙ k
 
 not_either : (given one other : List ℕ) → pointwise ◌==◌ given one ≡ false → pointwise ◌==◌ given other ≡ true → pointwise ◌==◌ one other ≡ false
-not_either given one other h k = elim (pointwise ◌==◌ one other) as (λ v. pointwise ◌==◌ one other ≡ v → v ≡ false) [ true ↦ λ e. sym (ap (λ n. pointwise ◌==◌ given n) (same_names one other e) ∙ k) ∙ h | false ↦ λ e. refl ] refl
+not_either given one other h k = elim (pointwise ◌==◌ one other) as (λ v. pointwise ◌==◌ one other ≡ v → v ≡ false) [ true ↦ λ e. sym (ap (λ n. pointwise ◌==◌ given n) (same_text one other (sym e)) ∙ k) ∙ h | false ↦ λ e. refl ] refl
 
 -- a page after which the filters have those turns, if it has no fault
 abbrev Lands : List (List ℕ) → List Meaning → Page → Type 0
@@ -62,7 +61,7 @@ lands_behind name filter filters (Err fault, later) n h = tt
 first_turns : (name : List ℕ) (filter : Meaning) (filters : List Meaning) → pointwise ◌==◌ filter.name name ≡ true → Turns (name ∷ []) (filter ∷ filters) (turned filter ∷ filters)
 first_turns name filter filters y = λ other.
     elim (pointwise ◌==◌ filter.name other) as (λ v. pointwise ◌==◌ filter.name other ≡ v → cond v (Some (turned filter)) (filter_named other filters) ≡ option_map (turned_by (occurrences other (name ∷ []))) (cond v (Some filter) (filter_named other filters))) [
-      | true ↦ λ e. sym (ap (λ times. Some (turned_by times filter)) (once other name ∙ ap (λ v. cond v 1 0) (ap (λ n. pointwise ◌==◌ n other) (sym (same_names filter.name name y)) ∙ e)))
+      | true ↦ λ e. sym (ap (λ times. Some (turned_by times filter)) (once other name ∙ ap (λ v. cond v 1 0) (ap (λ n. pointwise ◌==◌ n other) (sym (same_text filter.name name (sym y))) ∙ e)))
       | false ↦ λ e. turned_none (filter_named other filters) ∙ sym (ap (λ times. option_map (turned_by times) (filter_named other filters)) (other_than other name (not_both filter.name name other y e)))
     ] refl
 

@@ -1,13 +1,13 @@
 -- A text has a tree exactly where its pieces have no fault, and then one alone.
-use Rattle.std.proofs.Common.{◌≡◌, ℕ, suc, ◌-◌, ◌<◌, Bool, true, false, ◌==◌, nat_lt, cond, Option, Some, None, List, [], ◌∷◌, ◌++◌, length, map, drop, get_or, append_assoc, refl, ap, sym, ◌∙◌, arith}
+use Rattle.std.proofs.Common.{◌≡◌, ℕ, suc, ◌-◌, ◌<◌, Bool, true, false, ◌==◌, nat_lt, cond, Option, Some, None, List, [], ◌∷◌, ◌++◌, length, map, drop, get_or, append_assoc, refl, ap, sym, ◌∙◌, arith, append-nil}
 use Rattle.std.specs.Option.{option_map, option_or}
-use Rattle.std.specs.Cmp.Lexicographic.{pointwise}
+use Rattle.std.specs.Cmp.Lexicographic.{pointwise, same_text}
 use Rattle.std.proofs.lemmas.List.{map-append}
 use Rattle.std.proofs.lemmas.Bool.{ltb-true, lt-ltb}
-use Rattle.std.proofs.lemmas.Option.{slice_get-get_or}
+use Rattle.std.proofs.lemmas.Option.{slice_get-get_or, same_Some}
+use Rattle.ak_base.proofs.Resting.{same_bytes}
 use Rattle.ak_template.specs.declared.steps.Step.{Step}
 use Rattle.ak_template.specs.declared.steps.Step.TheVariants.{Words, Field, Open, Close}
-use Rattle.ak_template.specs.declared.faults.TemplateFault.{TemplateFault}
 use Rattle.ak_template.specs.declared.faults.TemplateFault.TheVariants as faults
 use Rattle.ak_template.specs.declared.builders.Opened.{Opened}
 use Rattle.ak_template.specs.Pieces.{Piece, pieces}
@@ -37,10 +37,6 @@ laid_back (Section inverted name inside after) steps others h =
     ap (λ xs. grown (Open inverted name) (read_back xs)) (append_assoc (laid inside) (Close name ∷ laid after) steps)
     ∙ ap (grown (Open inverted name)) (laid_back inside (Close name ∷ (laid after ++ steps)) (after ∷ others) (ap (grown (Close name)) (laid_back after steps others h)))
 
-pub append_nil : {A : Type 0} (xs : List A) → xs ++ [] ≡ xs
-append_nil [] = refl
-append_nil (x ∷ xs) = ap (λ ys. x ∷ ys) (append_nil xs)
-
 nothing_back : read_back [] ≡ (End, [])
 nothing_back = refl
 
@@ -56,15 +52,12 @@ head_same x y xs ys h = ap (λ l. get_or l 0 x) h
 pub tail_same : {A : Type 0} (x y : A) (xs ys : List A) → ◌≡◌ {A = List A} (x ∷ xs) (y ∷ ys) → xs ≡ ys
 tail_same x y xs ys h = ap (drop 1) h
 
-pub some_same : {A : Type 0} (x y : A) → Some x ≡ Some y → x ≡ y
-some_same x y h = grind (arith, h)
-
 pub somes_once : (xs ys : List Step) → map Some xs ≡ map Some ys → xs ≡ ys
 somes_once [] [] h = refl
 somes_once [] (y ∷ ys) h = grind (arith, h)
 somes_once (x ∷ xs) [] h = grind (arith, h)
 somes_once (x ∷ xs) (y ∷ ys) h =
-    ap (λ z. z ∷ xs) (some_same x y (head_same (Some x) (Some y) (map Some xs) (map Some ys) h))
+    ap (λ z. z ∷ xs) (same_Some x y (head_same (Some x) (Some y) (map Some xs) (map Some ys) h))
     ∙ ap (λ zs. y ∷ zs) (somes_once xs ys (tail_same (Some x) (Some y) (map Some xs) (map Some ys) h))
 
 pub one_tree : (text : List ℕ) (one other : Tree) → IsTemplate text one → IsTemplate text other → one ≡ other
@@ -94,21 +87,13 @@ fill_section (section ∷ sections) inverted name inside steps rest few n e h = 
   h.4,
 )
 
-neither_fault : (one other : Option TemplateFault) → option_or one other ≡ None → (one ≡ None) × (other ≡ None)
+pub neither_fault : {A : Type 0} (one other : Option A) → option_or one other ≡ None → (one ≡ None) × (other ≡ None)
 neither_fault None other h = (refl, h)
 neither_fault (Some fault) other h = grind (arith, h)
 
-test_passed : (v : Bool) (fault : TemplateFault) → cond v None (Some fault) ≡ None → v ≡ true
+pub test_passed : {A : Type 0} (v : Bool) (fault : A) → cond v None (Some fault) ≡ None → v ≡ true
 test_passed true fault h = refl
 test_passed false fault h = grind (arith, h)
-
-pub same_names : (xs ys : List ℕ) → pointwise ◌==◌ xs ys ≡ true → xs ≡ ys
-same_names [] [] h = refl
-same_names [] (y ∷ ys) h = grind (arith, h)
-same_names (x ∷ xs) [] h = grind (arith, h)
-same_names (x ∷ xs) (y ∷ ys) h =
-    let both : (x ≡ y) × (pointwise ◌==◌ xs ys ≡ true) = grind (arith, h) in
-    ap (λ z. z ∷ xs) both.0 ∙ ap (λ zs. y ∷ zs) (same_names xs ys both.1)
 
 none_open : (sections : List Opened) → unclosed sections ≡ None → sections ≡ []
 none_open [] h = refl
@@ -132,17 +117,13 @@ fills sections ((place, Some (Open inverted name)) ∷ ps) h =
 fills [] ((place, Some (Close name)) ∷ ps) h = grind (arith, h)
 fills (section ∷ sections) ((place, Some (Close name)) ∷ ps) h =
     let both = neither_fault (cond (pointwise ◌==◌ section.name name) None (Some (faults.WrongClose place))) (fault_in sections ps) h in
-    let same = same_names section.name name (test_passed (pointwise ◌==◌ section.name name) (faults.WrongClose place) both.0) in
+    let same = same_text section.name name (sym (test_passed (pointwise ◌==◌ section.name name) (faults.WrongClose place) both.0)) in
     (End, map (λ (piece : Piece). piece.1) ps, tt, ap (λ n. Some (Close n) ∷ map (λ (piece : Piece). piece.1) ps) (sym same), fills sections ps both.1)
 
 pub has_tree : (text : List ℕ) → first_fault text ≡ None → (tree : Tree) × IsTemplate text tree
 has_tree text h = let found = fills [] (pieces text) h in (found.0, record { pieces = found.2; nests = found.1 })
 
 -- ---- a text with a tree has no fault
-
-pub names_equal : (xs : List ℕ) → pointwise ◌==◌ xs xs ≡ true
-names_equal [] = refl
-names_equal (x ∷ xs) = grind (arith, names_equal xs)
 
 -- behind a close tag of the innermost open section
 closing : (after : Tree) (sections : List Opened) (name : List ℕ) (place : ℕ) (ps : List Piece) (rest : List (Option Step)) → Nests (length sections) after → map (λ (piece : Piece). piece.1) ps ≡ Some (Close name) ∷ (map Some (laid after) ++ rest)
@@ -156,7 +137,7 @@ closing after sections name place (p ∷ ps) rest n e later =
       found.0,
       found.1,
       ap (λ s. fault_in (record { place = place; name = name } ∷ sections) ((p.0, s) ∷ ps)) head
-          ∙ ap (λ v. option_or (cond v None (Some (faults.WrongClose p.0))) (fault_in sections ps)) (names_equal name)
+          ∙ ap (λ v. option_or (cond v None (Some (faults.WrongClose p.0))) (fault_in sections ps)) (same_bytes name)
           ∙ found.2,
     )
 
@@ -194,5 +175,5 @@ none_left (p ∷ ps) h = grind (arith, h)
 
 pub no_fault : (text : List ℕ) (tree : Tree) → IsTemplate text tree → first_fault text ≡ None
 no_fault text tree h =
-    let passed = passes tree [] (pieces text) [] h.nests (h.pieces ∙ sym (append_nil (map Some (laid tree)))) in
+    let passed = passes tree [] (pieces text) [] h.nests (h.pieces ∙ sym (append-nil (map Some (laid tree)))) in
     passed.2 ∙ ap (fault_in []) (none_left passed.0 passed.1)

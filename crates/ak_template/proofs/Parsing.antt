@@ -6,11 +6,12 @@ use Rattle.ak_template.specs.declared.faults.TemplateFault.{TemplateFault}
 use Rattle.ak_template.specs.declared.steps.Step.{Step}
 use Rattle.ak_template.specs.Pieces.{Piece, has_tag, before_tag, inside_tag, behind_tag, pieces_in, pieces, words_at, steps_in, tag_of, trimmed}
 use Rattle.std.proofs.Common.{Result, Ok, Err, IfOk, IfErr, OnOk, ◌⊎◌, map}
+use Rattle.std.proofs.lemmas.Option.{same_Some}
 use Rattle.ak_template.specs.declared.faults.TemplateFault.TheVariants as faults
 use Rattle.ak_template.specs.declared.steps.Template.{Template}
 use Rattle.ak_template.specs.Grammar.{IsTemplate, first_fault}
 use Rattle.ak_template.specs.Trees.{Tree, laid}
-use Rattle.ak_template.proofs.Grammars.{has_tree, no_fault, head_same, tail_same, some_same}
+use Rattle.ak_template.proofs.Grammars.{has_tree, no_fault, head_same, tail_same}
 
 pub behind_le : (mark xs : List ℕ) → length (behind mark xs) ≤ length xs
 behind_le mark [] = omega arith
@@ -58,7 +59,7 @@ steps_laid [] (step ∷ steps) h = grind (arith, h)
 steps_laid (p ∷ ps) [] h = grind (arith, h)
 steps_laid ((place, None) ∷ ps) (step ∷ steps) h = grind (arith, head_same None (Some step) (map (λ (piece : Piece). piece.1) ps) (map Some steps) h)
 steps_laid ((place, Some first) ∷ ps) (step ∷ steps) h =
-    ap (λ s. s ∷ steps_in ps) (some_same first step (head_same (Some first) (Some step) (map (λ (piece : Piece). piece.1) ps) (map Some steps) h))
+    ap (λ s. s ∷ steps_in ps) (same_Some first step (head_same (Some first) (Some step) (map (λ (piece : Piece). piece.1) ps) (map Some steps) h))
     ∙ ap (λ xs. step ∷ xs) (steps_laid ps steps (tail_same (Some first) (Some step) (map (λ (piece : Piece). piece.1) ps) (map Some steps) h))
 
 pub tree_read : (text : List ℕ) (r : Result Template TemplateFault) → OnOk r (first_fault text ≡ None) → IfOk r (λ template. template.steps ≡ steps_in (pieces text)) → IfOk r (λ template. (tree : Tree) × IsTemplate text tree × (template.steps ≡ laid tree))

@@ -2,6 +2,7 @@
 use Rattle.std.proofs.Common.{◌≡◌, ℕ, zero, suc, ◌+◌, ◌-◌, ◌<◌, ◌≤◌, ◌==◌, true, false, cond, Option, Some, None, Result, Ok, Err, IfOk, IfErr, IsErrAnd, ◌⊎◌, inl, inr, List, [], ◌∷◌, length, take, take_all, drop, get_or, refl, ap, sym, ◌∙◌, arith}
 use Rattle.std.specs.Prelude.{codes, is_some}
 use Rattle.std.specs.Cmp.Lexicographic.{pointwise}
+use Rattle.std.proofs.lemmas.List.{drop_more}
 use Rattle.ak_filters.specs.Meanings.{Meaning, Form, filtered, turned}
 use Rattle.ak_template.specs.declared.faces.Face.{Face}
 use Rattle.ak_template.specs.declared.faces.PageFault.{PageFault}
@@ -145,10 +146,9 @@ one_goes face name text made filters later o = rw (← ap {A = Page} (λ p. p.1)
 
 -- ---- the steps of a page
 
-first_left : (steps : List Step) (place : ℕ) (step : Step) → place < length steps → step ≡ get_or steps place step → drop place steps ≡ step ∷ drop (place + 1) steps
-first_left [] place step l i = absurd (omega (arith, l))
-first_left (first ∷ steps) zero step l i = ap (λ s. s ∷ steps) (sym i)
-first_left (first ∷ steps) (suc place) step l i = let next : suc place + 1 ≡ suc (place + 1) = omega arith in first_left steps place step (omega arith) i ∙ sym (ap (λ n. step ∷ drop n (first ∷ steps)) next)
+-- what is left of a list from an element on
+pub first_left : {A : Type 0} (xs : List A) (place : ℕ) (x : A) → place < length xs → x ≡ get_or xs place x → drop place xs ≡ x ∷ drop (place + 1) xs
+first_left xs place x h is = drop_more xs place x h ∙ ap (λ y. y ∷ drop (place + 1) xs) (sym is)
 
 -- one step more
 pub walk_goes : (face : Face) (hidden after : ℕ) (steps : List Step) (place : ℕ) (step : Step) (made more : List ℕ) (filters later : List Meaning) (whole : Page) → place < length steps → step ≡ get_or steps place step → prefixed made (walk face hidden (drop place steps) filters) ≡ whole → prefixed made (step_page face hidden step filters) ≡ (Ok more, later) → after ≡ hidden_after face hidden step → prefixed more (walk face after (drop (place + 1) steps) later) ≡ whole

@@ -1,19 +1,11 @@
 -- Step by step, a tree shows what it shows as a whole.
-use Rattle.std.proofs.Common.{◌≡◌, ℕ, suc, Bool, true, false, not, ◌&&◌, ◌||◌, cond, List, [], ◌∷◌, ◌++◌, append_assoc, refl, ap, sym, ◌∙◌}
+use Rattle.std.proofs.Common.{◌≡◌, ℕ, suc, true, false, not, ◌&&◌, ◌||◌, cond, List, [], ◌∷◌, ◌++◌, append_assoc, refl, ap, sym, ◌∙◌, append-nil}
+use Rattle.std.proofs.Math.Bool.{or_assoc, or-false}
 use Rattle.ak_template.specs.declared.faces.Face.{Face}
 use Rattle.ak_template.specs.declared.steps.Step.{Step}
 use Rattle.ak_template.specs.declared.steps.Step.TheVariants.{Close}
 use Rattle.ak_template.specs.Trees.{Tree, End, Plain, Value, Section, laid}
 use Rattle.ak_template.specs.Pages.{is_filled, shows_in, walk_shows}
-use Rattle.ak_template.proofs.Grammars.{append_nil}
-
-or_assoc : (u v w : Bool) → ((u || v) || w) ≡ (u || (v || w))
-or_assoc true v w = refl
-or_assoc false v w = refl
-
-or_false : (v : Bool) → (v || false) ≡ v
-or_false true = refl
-or_false false = refl
 
 idle_tree : (face : Face) (tree : Tree) (idle : ℕ) (rest : List Step) → walk_shows face (suc idle) (laid tree ++ rest) ≡ walk_shows face (suc idle) rest
 idle_tree face End idle rest = refl
@@ -34,4 +26,4 @@ shown_tree face (Section inverted name inside after) rest =
     ]
 
 pub shows_tree : (face : Face) (tree : Tree) (steps : List Step) → steps ≡ laid tree → walk_shows face 0 steps ≡ shows_in face tree
-shows_tree face tree steps h = ap (walk_shows face 0) (h ∙ sym (append_nil (laid tree))) ∙ shown_tree face tree [] ∙ or_false (shows_in face tree)
+shows_tree face tree steps h = ap (walk_shows face 0) (h ∙ sym (append-nil (laid tree))) ∙ shown_tree face tree [] ∙ or-false (shows_in face tree)

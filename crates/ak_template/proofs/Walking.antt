@@ -1,12 +1,11 @@
 -- Step by step, a tree's page is the page of the whole.
-use Rattle.std.proofs.Common.{◌≡◌, ℕ, suc, true, false, cond, Some, None, Ok, Err, List, [], ◌∷◌, ◌++◌, append_assoc, refl, ap, sym, ◌∙◌}
+use Rattle.std.proofs.Common.{◌≡◌, ℕ, suc, true, false, cond, Some, None, Ok, Err, List, [], ◌∷◌, ◌++◌, append_assoc, refl, ap, sym, ◌∙◌, append-nil}
 use Rattle.ak_filters.specs.Meanings.{Meaning}
 use Rattle.ak_template.specs.declared.faces.Face.{Face}
 use Rattle.ak_template.specs.declared.steps.Step.{Step}
 use Rattle.ak_template.specs.declared.steps.Step.TheVariants.{Close}
 use Rattle.ak_template.specs.Trees.{Tree, End, Plain, Value, Section, laid}
 use Rattle.ak_template.specs.Pages.{Page, prefixed, followed, page, walk, field_text, field_value, section_page, open_page, hidden_section, is_shown}
-use Rattle.ak_template.proofs.Grammars.{append_nil}
 
 pub prefixed_nil : (p : Page) → prefixed [] p ≡ p
 prefixed_nil (Ok text, filters) = refl
@@ -58,8 +57,8 @@ walked_tree face (Section inverted name inside after) rest filters =
     ]
 
 followed_by_nothing : (p : Page) → followed p (λ filters. (Ok [], filters)) ≡ p
-followed_by_nothing (Ok text, filters) = ap {B = Page} (λ xs. (Ok xs, filters)) (append_nil text)
+followed_by_nothing (Ok text, filters) = ap {B = Page} (λ xs. (Ok xs, filters)) (append-nil text)
 followed_by_nothing (Err fault, filters) = refl
 
 pub walked : (face : Face) (tree : Tree) (filters : List Meaning) → walk face 0 (laid tree) filters ≡ page face tree filters
-walked face tree filters = ap (λ xs. walk face 0 xs filters) (sym (append_nil (laid tree))) ∙ walked_tree face tree [] filters ∙ followed_by_nothing (page face tree filters)
+walked face tree filters = ap (λ xs. walk face 0 xs filters) (sym (append-nil (laid tree))) ∙ walked_tree face tree [] filters ∙ followed_by_nothing (page face tree filters)

@@ -1,15 +1,19 @@
 -- A tree that some text has, written out, is the tree of what was written.
-use Rattle.std.proofs.Common.{◌≡◌, ℕ, zero, suc, ◌+◌, ◌-◌, ◌≤◌, ◌<◌, Bool, true, false, ◌&&◌, ◌||◌, ◌==◌, cond, Option, Some, None, List, [], ◌∷◌, ◌++◌, length, map, drop, append_assoc, length-append, refl, ap, sym, ◌∙◌, arith}
+use Rattle.std.proofs.Common.{◌≡◌, ℕ, zero, suc, ◌+◌, ◌-◌, ◌≤◌, ◌<◌, true, false, ◌&&◌, ◌||◌, ◌==◌, cond, Option, Some, None, List, [], ◌∷◌, ◌++◌, length, map, drop, append_assoc, length-append, refl, ap, sym, ◌∙◌, arith, append-nil}
 use Rattle.std.specs.Prelude.{codes}
 use Rattle.std.proofs.lemmas.List.{map-append}
+use Rattle.std.proofs.lemmas.Bool.{or_parts}
+use Rattle.std.proofs.Math.Bool.{and-false}
+use Rattle.std.proofs.lemmas.Option.{same_Some}
+use Rattle.std.proofs.Math.Seq.{drop-append_seam}
 use Rattle.ak_filters.specs.Cuts.{begins, has, front, behind}
-use Rattle.ak_filters.proofs.Cutting.{begins_itself, begins_with, behind_mark}
+use Rattle.ak_filters.proofs.Cutting.{begins_itself, begins_with}
 use Rattle.ak_template.specs.declared.steps.Step.{Step}
 use Rattle.ak_template.specs.declared.steps.Step.TheVariants.{Words, Field, Open, Close}
 use Rattle.ak_template.specs.Pieces.{Piece, has_tag, before_tag, inside_tag, behind_tag, without_front, without_back, joined, trimmed, named, field_tag, tag_of, words_at, pieces_in, words_step}
 use Rattle.ak_template.specs.Trees.{Tree, End, Plain, Value, Section, laid, tagged, field_inside, open_inside, close_inside, written}
 use Rattle.ak_template.specs.Grammar.{IsTemplate}
-use Rattle.ak_template.proofs.Grammars.{append_nil, head_same, tail_same, some_same, somes_once}
+use Rattle.ak_template.proofs.Grammars.{head_same, tail_same, somes_once}
 use Rattle.ak_template.proofs.Parsing.{tag_shorter}
 use Rattle.ak_template.proofs.Cutting.{front_done, back_step, no_opening}
 
@@ -28,10 +32,6 @@ begins_alike [] xs one other l = refl
 begins_alike (sign ∷ mark) [] one other l = absurd (omega (arith, l))
 begins_alike (sign ∷ mark) (b ∷ bs) one other l = ap (λ v. (sign == b) && v) (begins_alike mark bs one other (omega arith))
 
-either_false : (v w : Bool) → (v || w) ≡ false → (v ≡ false) × (w ≡ false)
-either_false true w h = grind (arith, h)
-either_false false w h = (refl, h)
-
 not_begun_before : (mark xs rest : List ℕ) → begins mark (xs ++ rest) ≡ false → begins mark xs ≡ false
 not_begun_before mark xs rest h = elim (begins mark xs) as (λ v. begins mark xs ≡ v → v ≡ false) [ true ↦ λ e. sym (begins_longer mark xs rest e) ∙ h | false ↦ λ e. refl ] refl
 
@@ -39,7 +39,7 @@ not_begun_before mark xs rest h = elim (begins mark xs) as (λ v. begins mark xs
 pub none_before : (mark xs rest : List ℕ) → has mark (xs ++ rest) ≡ false → has mark xs ≡ false
 none_before mark [] rest h = refl
 none_before mark (b ∷ bs) rest h =
-    let both = either_false (begins mark (b ∷ (bs ++ rest))) (has mark (bs ++ rest)) h in
+    let both = or_parts (begins mark (b ∷ (bs ++ rest))) (has mark (bs ++ rest)) h in
     ap (λ v. v || has mark bs) (not_begun_before mark (b ∷ bs) rest both.0) ∙ none_before mark bs rest both.1
 
 front_begins : (mark xs : List ℕ) → (rest : List ℕ) × (xs ≡ front mark xs ++ rest)
@@ -59,7 +59,7 @@ none_in_front mark (b ∷ bs) =
 cut_whole : (mark xs : List ℕ) → has mark xs ≡ true → xs ≡ front mark xs ++ (mark ++ behind mark xs)
 cut_whole mark [] h = grind (arith, h)
 cut_whole mark (b ∷ bs) h = elim (begins mark (b ∷ bs)) as (λ v. begins mark (b ∷ bs) ≡ v → (v || has mark bs) ≡ true → b ∷ bs ≡ cond v [] (b ∷ front mark bs) ++ (mark ++ cond v (drop (length mark) (b ∷ bs)) (behind mark bs))) [
-  | true ↦ λ e k. (let found = begins_with mark (b ∷ bs) e in found.1 ∙ ap (λ ys. mark ++ ys) (sym (ap (drop (length mark)) found.1 ∙ behind_mark mark found.0)))
+  | true ↦ λ e k. (let found = begins_with mark (b ∷ bs) e in found.1 ∙ ap (λ ys. mark ++ ys) (sym (ap (drop (length mark)) found.1 ∙ drop-append_seam mark found.0)))
   | false ↦ λ e k. ap (λ ys. b ∷ ys) (cut_whole mark bs k)
 ] refl h
 
@@ -70,7 +70,7 @@ IsCut mark text before after = (has mark text ≡ true) × (front mark text ≡ 
 cut_at_front : (sign : ℕ) (mark rest : List ℕ) → IsCut (sign ∷ mark) (sign ∷ (mark ++ rest)) [] rest
 cut_at_front sign mark rest =
     let yes = begins_itself (sign ∷ mark) rest in
-    (ap (λ v. v || has (sign ∷ mark) (mark ++ rest)) yes, ap (λ v. cond v [] (sign ∷ front (sign ∷ mark) (mark ++ rest))) yes, ap (λ v. cond v (drop (length (sign ∷ mark)) (sign ∷ (mark ++ rest))) (behind (sign ∷ mark) (mark ++ rest))) yes ∙ behind_mark (sign ∷ mark) rest)
+    (ap (λ v. v || has (sign ∷ mark) (mark ++ rest)) yes, ap (λ v. cond v [] (sign ∷ front (sign ∷ mark) (mark ++ rest))) yes, ap (λ v. cond v (drop (length (sign ∷ mark)) (sign ∷ (mark ++ rest))) (behind (sign ∷ mark) (mark ++ rest))) yes ∙ drop-append_seam (sign ∷ mark) rest)
 
 cut_later : (mark : List ℕ) (b : ℕ) (bs before after : List ℕ) → begins mark (b ∷ bs) ≡ false → IsCut mark bs before after → IsCut mark (b ∷ bs) (b ∷ before) after
 cut_later mark b bs before after n later = (ap (λ v. v || has mark bs) n ∙ later.0, ap (λ v. cond v [] (b ∷ front mark bs)) n ∙ ap (λ ys. b ∷ ys) later.1, ap (λ v. cond v (drop (length mark) (b ∷ bs)) (behind mark bs)) n ∙ later.2)
@@ -89,16 +89,12 @@ cut_again sign mark (b ∷ bs) rest h = elim (begins (sign ∷ mark) (b ∷ bs))
   | false ↦ λ e k. cut_later (sign ∷ mark) b (front (sign ∷ mark) bs ++ ((sign ∷ mark) ++ rest)) (front (sign ∷ mark) bs) rest (alike_up_to (sign ∷ mark) b (front (sign ∷ mark) bs) rest (behind (sign ∷ mark) bs) ∙ ap (λ ys. begins (sign ∷ mark) (b ∷ ys)) (sym (cut_whole (sign ∷ mark) bs k)) ∙ e) (cut_again sign mark bs rest k)
 ] refl h
 
-and_false : (v : Bool) → (v && false) ≡ false
-and_false true = refl
-and_false false = refl
-
 -- a mark of two signs behind a space stands where it is written, if there is none before
 pub cut_written : (sign : ℕ) (xs rest : List ℕ) → (sign == 32) ≡ false → has (sign ∷ (sign ∷ [])) xs ≡ false → IsCut (sign ∷ (sign ∷ [])) (xs ++ (32 ∷ (sign ∷ (sign ∷ rest)))) (xs ++ (32 ∷ [])) rest
 cut_written sign [] rest n h = cut_later (sign ∷ (sign ∷ [])) 32 (sign ∷ (sign ∷ rest)) [] rest (ap (λ v. v && begins (sign ∷ []) (sign ∷ (sign ∷ rest))) n) (cut_at_front sign (sign ∷ []) rest)
-cut_written sign (b ∷ []) rest n h = cut_later (sign ∷ (sign ∷ [])) b (32 ∷ (sign ∷ (sign ∷ rest))) (32 ∷ []) rest (ap (λ v. (sign == b) && (v && true)) n ∙ and_false (sign == b)) (cut_written sign [] rest n refl)
+cut_written sign (b ∷ []) rest n h = cut_later (sign ∷ (sign ∷ [])) b (32 ∷ (sign ∷ (sign ∷ rest))) (32 ∷ []) rest (ap (λ v. (sign == b) && (v && true)) n ∙ and-false (sign == b)) (cut_written sign [] rest n refl)
 cut_written sign (b ∷ (c ∷ cs)) rest n h =
-    let both = either_false (begins (sign ∷ (sign ∷ [])) (b ∷ (c ∷ cs))) (has (sign ∷ (sign ∷ [])) (c ∷ cs)) h in
+    let both = or_parts (begins (sign ∷ (sign ∷ [])) (b ∷ (c ∷ cs))) (has (sign ∷ (sign ∷ [])) (c ∷ cs)) h in
     cut_later (sign ∷ (sign ∷ [])) b ((c ∷ cs) ++ (32 ∷ (sign ∷ (sign ∷ rest)))) ((c ∷ cs) ++ (32 ∷ [])) rest both.0 (cut_written sign (c ∷ cs) rest n both.1)
 
 -- ---- an inside without the spaces at its ends
@@ -136,7 +132,7 @@ none_in_back mark xs h = let found = back_begins xs in none_before mark (without
 
 none_behind_spaces : (mark xs : List ℕ) → has mark xs ≡ false → has mark (without_front xs) ≡ false
 none_behind_spaces mark [] h = refl
-none_behind_spaces mark (b ∷ bs) h = elim (begins (codes " ") (b ∷ bs)) as (λ v. has mark (cond v (without_front bs) (b ∷ bs)) ≡ false) [ true ↦ none_behind_spaces mark bs (either_false (begins mark (b ∷ bs)) (has mark bs) h).1 | false ↦ h ]
+none_behind_spaces mark (b ∷ bs) h = elim (begins (codes " ") (b ∷ bs)) as (λ v. has mark (cond v (without_front bs) (b ∷ bs)) ≡ false) [ true ↦ none_behind_spaces mark bs (or_parts (begins mark (b ∷ bs)) (has mark bs) h).1 | false ↦ h ]
 
 none_trimmed : (mark xs : List ℕ) → has mark xs ≡ false → has mark (trimmed xs) ≡ false
 none_trimmed mark xs h = none_in_back mark (without_front xs) (none_behind_spaces mark xs h)
@@ -179,7 +175,7 @@ steps_written (Section inverted name inside after) rest =
     ∙ sym (append_assoc (tagged (open_inside inverted name)) (written inside ++ (tagged (close_inside name) ++ written after)) (steps_text rest))
 
 named_is : (tag : List ℕ → Step) (name : List ℕ) (step : Step) → named tag name ≡ Some step → step ≡ tag name
-named_is tag name step h = elim (length name == 0) as (λ v. cond v None (Some (tag name)) ≡ Some step → step ≡ tag name) [ true ↦ λ e. grind (arith, e) | false ↦ λ e. sym (some_same (tag name) step e) ] h
+named_is tag name step h = elim (length name == 0) as (λ v. cond v None (Some (tag name)) ≡ Some step → step ≡ tag name) [ true ↦ λ e. grind (arith, e) | false ↦ λ e. sym (same_Some (tag name) step e) ] h
 
 sign_first : (sign : ℕ) (xs : List ℕ) → begins (sign ∷ []) xs ≡ true → sign ∷ drop 1 xs ≡ xs
 sign_first sign xs h = let found = begins_with (sign ∷ []) xs h in ap (λ ys. sign ∷ ys) (ap (drop 1) found.1) ∙ sym found.1
@@ -284,7 +280,7 @@ bare_words (suc m) text h = ap (λ v. cond v (map Some (words_step (before_tag t
 only_words : (m : ℕ) (text : List ℕ) (steps : List Step) → has_tag text ≡ false → map Some (words_step text) ≡ map Some steps → bare m (steps_text steps) ≡ map Some steps
 only_words m text steps h e =
     let same = somes_once (words_step text) steps e in
-    let spelled : steps_text steps ≡ text = ap steps_text (sym same ∙ sym (append_nil (words_step text))) ∙ words_text text [] ∙ append_nil text in
+    let spelled : steps_text steps ≡ text = ap steps_text (sym same ∙ sym (append-nil (words_step text))) ∙ words_text text [] ∙ append-nil text in
     ap (bare m) spelled ∙ bare_words m text h ∙ e
 
 -- the step of a tag that stands behind words, and the steps behind it
@@ -294,7 +290,7 @@ tag_behind [] tag rest (step ∷ steps) e = (step, steps, refl, head_same tag (S
 tag_behind (b ∷ bs) tag rest [] e = grind (arith, e)
 tag_behind (b ∷ bs) tag rest (first ∷ steps) e =
     let begun : ◌≡◌ {A = List (Option Step)} (Some (Words (b ∷ bs)) ∷ (tag ∷ rest)) (Some first ∷ map Some steps) = sym (ap (λ xs. map Some xs ++ (tag ∷ rest)) (one_step b bs)) ∙ e in
-    let head = some_same (Words (b ∷ bs)) first (head_same (Some (Words (b ∷ bs))) (Some first) (tag ∷ rest) (map Some steps) begun) in
+    let head = same_Some (Words (b ∷ bs)) first (head_same (Some (Words (b ∷ bs))) (Some first) (tag ∷ rest) (map Some steps) begun) in
     let later = tag_behind [] tag rest steps (tail_same (Some (Words (b ∷ bs))) (Some first) (tag ∷ rest) (map Some steps) begun) in
     (later.0, later.1, ap (λ s. s ∷ steps) (sym head) ∙ ap (λ xs. Words (b ∷ bs) ∷ xs) later.2 ∙ sym (ap (λ xs. xs ++ (later.0 ∷ later.1)) (one_step b bs)), later.3, later.4)
 
@@ -314,7 +310,7 @@ again (suc n) (b ∷ bs) steps l e m k = elim (has_tag (b ∷ bs)) as (λ v. has
 
 pub read_again : (text : List ℕ) (tree : Tree) → IsTemplate text tree → IsTemplate (written tree) tree
 read_again text tree h =
-    let spelled : steps_text (laid tree) ≡ written tree = ap steps_text (sym (append_nil (laid tree))) ∙ steps_written tree [] ∙ append_nil (written tree) in
+    let spelled : steps_text (laid tree) ≡ written tree = ap steps_text (sym (append-nil (laid tree))) ∙ steps_written tree [] ∙ append-nil (written tree) in
     record {
       pieces = pieces_bare (length (written tree)) (length (written tree)) (written tree) ∙ rw (← spelled) (again (length text) text (laid tree) (omega arith) (sym (pieces_bare (length text) (length text) text) ∙ h.pieces) (length (steps_text (laid tree))) (omega arith));
       nests = h.nests;
