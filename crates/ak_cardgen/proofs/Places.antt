@@ -1,12 +1,12 @@
 -- In a type that passes its check the place `sortf` is that of a field.
 use Rattle.std.proofs.Common.{◌≤◌, ◌≡◌, ℕ, ◌-◌, ◌<◌, ℤ, pos, ◌≤ℤ◌, ◌<ℤ◌, List, [], ◌∷◌, ◌++◌, length, refl, arith}
+use Rattle.ak_base.proofs.Optional.{both_none}
 use Rattle.std.proofs.lemmas.Int.{ints}
 use Rattle.std.specs.Prelude.{Option, Some, None, Ok}
 use Rattle.ak_base.specs.Columns.{first_fault, code_fault, long_fault}
 use Rattle.ak_base.specs.NoteTypes.{note_type_faults, title_faults, form_faults, place_fault, entries_fault, fields_fault, templates_fault}
 use Rattle.ak_base.specs.declared.errors.RowFault.{RowFault}
 use Rattle.ak_base.specs.declared.note_types.NoteType.{NoteType}
-use Rattle.ak_template.proofs.Grammars.{neither_fault}
 
 -- where no column has a fault, neither have the last ones
 good_behind : (fs gs : List (Option RowFault)) → first_fault (fs ++ gs) ≡ Ok tt → first_fault gs ≡ Ok tt
@@ -54,7 +54,7 @@ sortf_low n e = place_low 5 n.sortf (length n.fields) (sortf_good n (form_good n
 pub sortf_high : (n : NoteType) → first_fault (note_type_faults n) ≡ Ok tt → n.sortf <ℤ pos (length n.fields)
 sortf_high n e =
     let high = place_high 5 n.sortf (length n.fields) (sortf_good n (form_good n e)) in
-    let some = some_entry 6 (length n.fields) (neither_fault _ _ (fields_good n (form_good n e))).0 in
+    let some = some_entry 6 (length n.fields) (both_none _ _ (fields_good n (form_good n e))).0 in
     omega (arith, ints)
 
 templates_good : (n : NoteType) → first_fault (form_faults n) ≡ Ok tt → templates_fault n.templates ≡ None
@@ -69,4 +69,4 @@ unfolding entries_fault long_fault
 few_entries column entries e = grind arith
 
 pub templates_few : (n : NoteType) → first_fault (note_type_faults n) ≡ Ok tt → length n.templates ≤ 100
-templates_few n e = few_entries 7 (length n.templates) (neither_fault _ _ (templates_good n (form_good n e))).0
+templates_few n e = few_entries 7 (length n.templates) (both_none _ _ (templates_good n (form_good n e))).0

@@ -1,5 +1,6 @@
 -- Settings that were read are in their ranges.
 use Rattle.std.proofs.Common.{◌≡◌, ℤ, pos, negsuc, ◌≤ℤ◌, Bool, true, false, Option, Some, None, refl, sym, subst, arith}
+use Rattle.ak_base.proofs.Optional.{first_none, none_mapped}
 use Rattle.std.specs.Cmp.{first_so, second_so}
 use Rattle.std.specs.Prelude.{int_le, unwrap_or, option_and_then, if◌then◌else◌}
 use Rattle.std.specs.Option.{is_some, option_or}
@@ -21,7 +22,7 @@ use Rattle.ak_json.specs.declared.keys.Place.{Place}
 use Rattle.ak_json.specs.declared.keys.Place.TheVariants as places
 use Rattle.ak_json.specs.declared.keys.Word.TheVariants as words
 use Rattle.ak_json.specs.declared.kinds.Kind.TheVariants as kinds
-use Rattle.ak_json.proofs.RowForms.{first_none, none_mapped, when_object, none_at}
+use Rattle.ak_json.proofs.RowForms.{when_object, none_at}
 
 low_number : (a b : ℤ) → int_le a b ≡ true → a ≤ℤ b
 low_number a b h = grind (arith, ints)

@@ -1,5 +1,6 @@
 -- What was written of a deck in its ranges is read again.
 use Rattle.std.proofs.Common.{◌≡◌, ℕ, ℤ, pos, negsuc, List, [], Bool, true, false, Option, Some, None, Ok, refl, sym, ap, ◌∙◌, arith}
+use Rattle.ak_base.proofs.Optional.{first_none, second_none}
 use Rattle.std.specs.Prelude.{unwrap_or, option_and_then}
 use Rattle.std.specs.Ordering.{int_eq}
 use Rattle.serde_json.specs.Data.{Data, string}
@@ -19,8 +20,6 @@ use Rattle.ak_json.specs.declared.forms.TheConstants.{DECK}
 use Rattle.ak_json.specs.declared.kinds.Kind.TheVariants as kinds
 use Rattle.ak_json.proofs.Again.{IsReadAgain, AllNone, all_none, id_again, stamp_again, code_again}
 use Rattle.ak_json.proofs.ObjectForms.{AllFound, all_hold, IsObjectAgain, object_again}
-use Rattle.ak_json.proofs.Parts.{second_none}
-use Rattle.ak_json.proofs.RowForms.{first_none}
 
 pub whole_found : (form : Form) (n : ℕ) (d : Data) (z : ℤ) → cell_at form n d ≡ Some (whole z) → IsReadAgain z → z ≡ whole_at form n d
 whole_found form n d z e r = sym (ap (λ (o : Option Data). unwrap_or (option_and_then whole_of o) (pos 0)) e ∙ ap (λ (o : Option ℤ). unwrap_or o (pos 0)) r)

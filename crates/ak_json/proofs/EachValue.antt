@@ -1,5 +1,6 @@
 -- Each value that was read from a text is read as a row, or refused by a fault that is not want of memory.
 use Rattle.std.proofs.Common.{◌≡◌, ℕ, pos, List, [], ◌∷◌, map, Bool, true, false, ◌&&◌, Option, Some, None, IfSome, Result, Ok, Err, ◌⊎◌, inl, inr, Ordering, Less, Equal, Greater, nat_cmp, refl, ap₂, subst}
+use Rattle.ak_base.proofs.Optional.{first_none, second_none, none_mapped}
 use Rattle.std.specs.Prelude.{if◌then◌else◌, unwrap_or, option_map, option_and_then}
 use Rattle.std.specs.Option.{option_or}
 use Rattle.std.specs.List.{list_all}
@@ -45,8 +46,8 @@ use Rattle.ak_json.specs.declared.keys.Word.TheVariants as words
 use Rattle.ak_json.proofs.Kept.{lacks_known, plain_kept}
 use Rattle.ak_json.proofs.OptionRests.{options_ignored}
 use Rattle.ak_json.proofs.Orderly.{IsOrderly, AreOrderly, HaveOrderly, AreMembers, unasked, mapped, put_members, read_orderly, text_reads}
-use Rattle.ak_json.proofs.Parts.{second_none, of_object}
-use Rattle.ak_json.proofs.RowForms.{first_none, none_mapped, fields_flawless, templates_flawless}
+use Rattle.ak_json.proofs.Parts.{of_object}
+use Rattle.ak_json.proofs.RowForms.{fields_flawless, templates_flawless}
 use Rattle.ak_json.proofs.Sorted.{unknown_behind}
 
 -- ---- what stands in an orderly value is orderly

@@ -1,5 +1,6 @@
 -- What was written of a note type in its ranges is read again.
 use Rattle.std.proofs.Common.{◌≡◌, ℕ, ◌+◌, ◌≤◌, ◌-◌, ℤ, pos, negsuc, List, [], ◌∷◌, length, map, Bool, true, false, not, ◌&&◌, ◌||◌, Option, Some, None, Ok, refl, sym, ap, ◌∙◌, arith}
+use Rattle.ak_base.proofs.Optional.{first_none, second_none}
 use Rattle.std.specs.Prelude.{if◌then◌else◌, unwrap_or, option_and_then}
 use Rattle.std.specs.Option.{option_or}
 use Rattle.serde_json.specs.Data.{Data, string, number, unsigned, array, Items, no_items, Members, no_members, member}
@@ -23,8 +24,6 @@ use Rattle.ak_json.specs.declared.forms.TheConstants.{NOTE_TYPE, FIELD, TEMPLATE
 use Rattle.ak_json.proofs.Again.{IsReadAgain, AllNone, all_none, at_most, id_again, stamp_again, code_again}
 use Rattle.ak_json.proofs.DecksAgain.{whole_found, words_found, bit_found, bit_holds}
 use Rattle.ak_json.proofs.ObjectForms.{AllFound, all_hold, IsObjectAgain, object_again}
-use Rattle.ak_json.proofs.Parts.{second_none}
-use Rattle.ak_json.proofs.RowForms.{first_none}
 
 -- ---- an object inside a row
 

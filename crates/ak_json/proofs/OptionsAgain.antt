@@ -1,5 +1,6 @@
 -- What was written of an option group in its ranges is read again.
 use Rattle.std.proofs.Common.{◌≡◌, ℕ, ℤ, pos, negsuc, List, [], ◌∷◌, ◌++◌, length, map, take, drop, codes, Bool, true, false, ◌==◌, Option, Some, None, is_none, Ok, Ordering, Less, Equal, Greater, is_eq, nat_cmp, refl, sym, ap, subst, ◌∙◌, arith}
+use Rattle.ak_base.proofs.Optional.{first_none, second_none}
 use Rattle.std.specs.Cmp.{first_so, second_so}
 use Rattle.std.proofs.lemmas.Bool.{and_from}
 use Rattle.std.specs.Prelude.{if◌then◌else◌, unwrap_or, option_and_then, option_map}
@@ -34,8 +35,6 @@ use Rattle.ak_json.proofs.Kept.{same_key}
 use Rattle.ak_json.proofs.NoteTypesAgain.{inner_none}
 use Rattle.ak_json.proofs.ObjectForms.{AllFound, found_all, are_apart, knows_all, keys_of, unknown_cells, all_unknown, IsKept, rest_kept, all_hold, flawless, plain_is_shallow, none_later, unequal, differs, no_rest}
 use Rattle.ak_json.proofs.OptionRests.{put_together}
-use Rattle.ak_json.proofs.Parts.{second_none}
-use Rattle.ak_json.proofs.RowForms.{first_none}
 use Rattle.ak_json.proofs.ReadSorted.{rest_sorted}
 use Rattle.ak_json.proofs.Sorted.{AllBehind, AreSorted, behind_before, absent_behind, unknown_behind, put_first}
 

@@ -1,7 +1,7 @@
 -- Where an object of a list has no flaw, its rest is refused for want of memory alone.
 use Rattle.std.proofs.Common.{◌≡◌, ℕ, List, Bool, true, false, not, ◌&&◌, ◌||◌, Option, Some, None, refl, ap, subst}
+use Rattle.ak_base.proofs.Optional.{second_none}
 use Rattle.std.specs.Prelude.{if◌then◌else◌, unwrap_or, option_map}
-use Rattle.std.specs.Option.{option_or}
 use Rattle.serde_json.specs.Data.{Data, Members, no_members, member}
 use Rattle.serde_json.specs.Find.{as_object}
 use Rattle.ak_json.specs.Depths.{is_shallow}
@@ -12,10 +12,6 @@ use Rattle.ak_json.specs.Rests.{deep_key}
 use Rattle.ak_json.specs.declared.flaws.Flaw.{Flaw}
 use Rattle.ak_json.specs.declared.faults.JsonFault.{JsonFault}
 use Rattle.ak_json.specs.declared.faults.JsonFault.TheVariants as faults
-
-pub second_none : {T : Type 0} (a b : Option T) → option_or a b ≡ None → b ≡ None
-second_none None b h = h
-second_none (Some x) b h = cc
 
 not_either : (a b : Bool) → (a || b) ≡ false → (a ≡ false) × (b ≡ false)
 not_either true b h = cc

@@ -1,7 +1,8 @@
 -- From the flaws of a row to what is inside it, and from the form's fault to the row's.
 use Rattle.std.proofs.Common.{◌≡◌, ℕ, zero, suc, [], ◌∷◌, Bool, true, false, Option, Some, None, refl, subst}
-use Rattle.std.specs.Prelude.{if◌then◌else◌, unwrap_or, option_and_then, option_map}
-use Rattle.std.specs.Option.{option_or, is_some}
+use Rattle.ak_base.proofs.Optional.{first_none, second_none}
+use Rattle.std.specs.Prelude.{if◌then◌else◌, unwrap_or, option_and_then}
+use Rattle.std.specs.Option.{is_some}
 use Rattle.serde_json.specs.Data.{Data, no_items}
 use Rattle.serde_json.specs.Find.{get, as_array, as_object}
 use Rattle.ak_base.specs.declared.names.Table.{Table}
@@ -22,15 +23,6 @@ use Rattle.ak_json.specs.declared.keys.Place.{Place}
 use Rattle.ak_json.specs.declared.keys.Place.TheVariants as places
 use Rattle.ak_json.specs.declared.keys.Word.TheVariants as words
 use Rattle.ak_json.specs.declared.kinds.Kind.TheVariants as kinds
-use Rattle.ak_json.proofs.Parts.{second_none}
-
-pub first_none : {T : Type 0} (a b : Option T) → option_or a b ≡ None → a ≡ None
-first_none None b h = refl
-first_none (Some x) b h = cc
-
-pub none_mapped : {A B : Type 0} (f : A → B) (o : Option A) → option_map f o ≡ None → o ≡ None
-none_mapped f None h = refl
-none_mapped f (Some x) h = cc
 
 -- the flaw of a column, counted from 0
 abbrev pub flaw_at : Form → ℕ → Data → Option Flaw

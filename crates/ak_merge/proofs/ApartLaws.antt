@@ -1,5 +1,6 @@
 -- A walk over two collections finds no name that is in doubt exactly where they are apart.
 use Rattle.std.specs.Prelude.{◌≡◌, ◌↔◌, ◌==◌, ℕ, suc, ◌<◌, ◌≤◌, pos, Bool, true, false, T, not, ◌&&◌, IsTrue, ⊤, int_lt, List, [], ◌∷◌, Option, Some, None}
+use Rattle.ak_base.proofs.Optional.{both_none, none_mapped}
 use Rattle.std.proofs.Common.{refl, sym, ap, subst, ◌∙◌, inl, inr, arith}
 use Rattle.std.proofs.Math.Nat.{eq-or-lt_of_le}
 use Rattle.std.specs.Cmp.{ranked, signed_Decides, unsigned_Decides, first_so, second_so}
@@ -16,7 +17,7 @@ use Rattle.ak_base.specs.declared.names.Table.{Table}
 use Rattle.ak_base.specs.declared.names.Table.TheVariants as tables
 use Rattle.ak_base.specs.declared.rows.Row.{Row}
 use Rattle.ak_keep.specs.Collections.{Rows, IsChecked, is_past}
-use Rattle.ak_merge.proofs.Finding.{IsFirstIn, first_in_table, id_over_zero, neither, none_in_table, none_mapped, not_both, not_none, table_has_none}
+use Rattle.ak_merge.proofs.Finding.{IsFirstIn, first_in_table, id_over_zero, none_in_table, not_both, not_none, table_has_none}
 use Rattle.ak_merge.specs.Holdings.{At, AreNamed, AreChecked}
 use Rattle.ak_merge.specs.Joins.{AreApart}
 use Rattle.ak_merge.specs.Parting.{AreTornUnder, IsLeastTorn, all_tables, first_torn, first_torn_in, first_torn_of, is_parted, is_torn}
@@ -24,7 +25,7 @@ use Rattle.ak_merge.specs.Parting.{AreTornUnder, IsLeastTorn, all_tables, first_
 -- ---- over the tables
 none_of_each : (a b : Rows) (among : List Table) → first_torn_of among a b ≡ None → AllByRecursion (λ (table : Table). first_torn_in table a b ≡ None) among
 none_of_each a b [] none = tt
-none_of_each a b (table ∷ more) none = let parts = neither _ _ none in (parts.0, none_of_each a b more parts.1)
+none_of_each a b (table ∷ more) none = let parts = both_none _ _ none in (parts.0, none_of_each a b more parts.1)
 
 none_of_all : (a b : Rows) (among : List Table) → ((table : Table) → first_torn_in table a b ≡ None) → first_torn_of among a b ≡ None
 none_of_all a b [] each = refl

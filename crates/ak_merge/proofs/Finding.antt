@@ -7,7 +7,7 @@ use Rattle.std.specs.FinMap as finite
 use Rattle.std.specs.FinMap.{get, get-entries, entries, entries_sorted, is_sorted}
 use Rattle.std.specs.FinMap.Entries.{below_all}
 use Rattle.std.specs.List.{AllByRecursion}
-use Rattle.std.specs.Option.{option_map, option_or, unwrap_or}
+use Rattle.std.specs.Option.{option_map, unwrap_or}
 use Rattle.std.specs.Ordering.{is_eq, is_lt}
 use Rattle.std.specs.declared.cmp.Ordering.TheVariants.{Less, Equal, Greater}
 use Rattle.ak_base.specs.Cards.{place_faults, schedule_faults, mark_faults}
@@ -38,14 +38,6 @@ not_none is = subst (λ (o : Option _). T (is_some o)) is tt
 
 pub not_both : {b : Bool} → b ≡ true → b ≡ false → ⊥
 not_both so other = subst T (sym so ∙ other) tt
-
-pub none_mapped : {A B : Type 0} (f : A → B) (o : Option A) → option_map f o ≡ None → o ≡ None
-none_mapped f None is = refl
-none_mapped f (Some x) is = absurd (not_none is)
-
-pub neither : {A : Type 0} (o p : Option A) → option_or o p ≡ None → (o ≡ None) × (p ≡ None)
-neither None p is = (refl, is)
-neither (Some x) p is = absurd (not_none is)
 
 -- ---- a search over entries
 -- an entry of the table with an id over `past` does not pass the test

@@ -1,5 +1,6 @@
 -- The basic check finds no fault exactly where a collection is sound.
 use Rattle.std.specs.Prelude.{◌≡◌, ◌↔◌, ℤ, pos, Bool, true, false, cond, not, ◌&&◌, ◌<ℤ◌, int_lt, List, [], ◌∷◌, map, filter, find, length, Option, Some, None}
+use Rattle.ak_base.proofs.Optional.{both_none, none_mapped}
 use Rattle.std.proofs.Common.{refl, sym, ap, ◌∙◌, arith}
 use Rattle.std.proofs.lemmas.Int.{ints}
 use Rattle.std.specs.Cmp.{signed_Decides}
@@ -17,7 +18,7 @@ use Rattle.ak_base.specs.declared.rows.Row.{Row}
 use Rattle.ak_base.specs.declared.rows.Row.TheVariants as rows
 use Rattle.ak_keep.specs.Collections.{Rows, is_card_of, cards_among, cards_of, rows_past}
 use Rattle.ak_keep.specs.Entries.{all_gets, entries_found}
-use Rattle.ak_merge.proofs.Finding.{not_both, none_mapped, neither, none_in_table, table_has_none, id_over_zero}
+use Rattle.ak_merge.proofs.Finding.{not_both, none_in_table, table_has_none, id_over_zero}
 use Rattle.ak_merge.specs.Holdings.{At, AreNamed, AreChecked}
 use Rattle.ak_merge.specs.Soundness.{IsSound, type_name, bad_card, bad_note, first_bad, first_fault, first_of, is_bad, is_empty, lacks_template, named, table_of, type_under}
 use Rattle.ak_merge.specs.declared.checks.CheckFault.{CheckFault}
@@ -168,9 +169,9 @@ record FindsNothing (held : Rows) : Type 0 where
 
 finds_nothing : (held : Rows) → first_fault held ≡ None → FindsNothing held
 finds_nothing held none =
-    let one = neither _ _ none in
-    let two = neither _ _ one.1 in
-    let three = neither _ _ two.1 in
+    let one = both_none _ _ none in
+    let two = both_none _ _ one.1 in
+    let three = both_none _ _ two.1 in
     record {
       card_note = none_of_part faults.CardNoNote parts.CardNote held one.0;
       note_card = none_of_part faults.NoteNoCard parts.NoteCard held two.0;

@@ -1,5 +1,6 @@
 -- The first tie is the least, and where there is none, the collections are apart.
 use Rattle.std.specs.Prelude.{◌≡◌, IfSome, Bool, true, false, not, T, ◌&&◌, cond, IsTrue, Option, Some, None, List, [], ◌∷◌, find}
+use Rattle.ak_base.proofs.Optional.{none_mapped}
 use Rattle.std.proofs.lemmas.Option.{none-some, same_Some}
 use Rattle.std.proofs.Common.{refl, sym, ap, subst, ◌∙◌}
 use Rattle.std.specs.FinMap as map
@@ -25,10 +26,6 @@ not_tied b entry y is has =
 turned_false : (t : Bool) → not t ≡ true → t ≡ false
 turned_false true is = sym is
 turned_false false is = refl
-
-none_mapped : (o : Option (Name × Row)) → option_map (λ (e : Name × Row). e.0) o ≡ None → o ≡ None
-none_mapped None is = refl
-none_mapped (Some e) is = absurd (none-some e.0 (sym is))
 
 -- a row found behind an entry that is no tie, or in it
 passed : (b : Rows) (e : Name × Row) (es : List (Name × Row)) (q : Name) (x y : Row) → is_tie b e ≡ false → get b q ≡ Some y
@@ -61,7 +58,7 @@ agree a b (e ∷ es) found apart =
 
 pub first_tie_none : (a b : Rows) → (first_tie a b ≡ None → DoAgree a b) × (DoAgree a b → first_tie a b ≡ None)
 first_tie_none a b = (
-  (λ none name x y has held. no_tie b (entries a) name x y (none_mapped _ none) (sym (get-entries a name) ∙ has) held),
+  (λ none name x y has held. no_tie b (entries a) name x y (none_mapped (λ (e : Name × Row). e.0) _ none) (sym (get-entries a name) ∙ has) held),
   (λ apart. ap (option_map (λ (e : Name × Row). e.0)) (agree a b (entries a) (entries_found a) apart)),
 )
 

@@ -1,6 +1,6 @@
 -- What a check that finds no fault says of the columns.
 use Rattle.std.proofs.Common.{◌≡◌, ℕ, zero, suc, ℤ, pos, ◌<◌, ◌≤◌, List, [], ◌∷◌, ◌++◌, length, get_or, Option, Some, None, IsOk, refl, ◌≤ℤ◌, arith, rules}
-use Rattle.std.specs.Option.{option_or}
+use Rattle.ak_base.proofs.Optional.{first_none, second_none}
 use Rattle.std.proofs.lemmas.Int.{ints}
 use Rattle.std.proofs.lemmas.Bool.Decides.{nat_tests}
 use Rattle.ak_base.specs.Columns.{code_fault, long_fault, first_fault}
@@ -56,25 +56,17 @@ pub long_high : (column length most : ℕ) → long_fault column length most ≡
 unfolding long_fault
 long_high column length most e = grind (arith, nat_tests)
 
-pub or_first : (f g : Option RowFault) → option_or f g ≡ None → f ≡ None
-or_first None g e = refl
-or_first (Some fault) g e = e
-
-pub or_second : (f g : Option RowFault) → option_or f g ≡ None → g ≡ None
-or_second None g e = e
-or_second (Some fault) g e = cc
-
 pub step_high : (column : ℕ) (steps : List ℤ) (i : ℕ) → bad_step column steps ≡ None → i < length steps → natural (get_or steps i (pos 0)) ≤ 1_000_000
 step_high column [] i e h = omega arith
 step_high column (step ∷ steps) zero e h =
-    natural_le step 1_000_000 (code_high column step (pos 1) (pos 1_000_000) (or_first _ (bad_step column steps) e))
+    natural_le step 1_000_000 (code_high column step (pos 1) (pos 1_000_000) (first_none _ (bad_step column steps) e))
 step_high column (step ∷ steps) (suc i) e h =
-    step_high column steps i (or_second (code_fault column step (pos 1) (pos 1_000_000)) _ e) (omega arith)
+    step_high column steps i (second_none (code_fault column step (pos 1) (pos 1_000_000)) _ e) (omega arith)
 
 pub steps_in_range : (column : ℕ) (steps : List ℤ) → steps_fault column steps ≡ None → AreSteps steps
 steps_in_range column steps e =
-    let short : long_fault column (length steps) 50 ≡ None = or_first _ (bad_step column steps) e in
-    let good : bad_step column steps ≡ None = or_second (long_fault column (length steps) 50) _ e in
+    let short : long_fault column (length steps) 50 ≡ None = first_none _ (bad_step column steps) e in
+    let good : bad_step column steps ≡ None = second_none (long_fault column (length steps) 50) _ e in
     record {
       few = long_high column (length steps) 50 short;
       short = λ i h. step_high column steps i good h;

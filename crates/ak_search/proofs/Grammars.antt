@@ -1,9 +1,10 @@
 -- A text has a tree exactly where its tokens have no fault, and then one alone.
 use Rattle.std.proofs.Common.{◌≡◌, ℕ, zero, suc, ◌-◌, ◌<◌, Bool, true, false, ◌==◌, nat_lt, ◌&&◌, cond, Some, None, List, [], ◌∷◌, ◌++◌, append_assoc, refl, ap, sym, subst, ◌∙◌, arith, append-nil}
+use Rattle.ak_base.proofs.Optional.{both_none}
 use Rattle.std.specs.Prelude.{⊤}
 use Rattle.std.specs.Option.{option_or}
 use Rattle.std.proofs.lemmas.Bool.{ltb-true, lt-ltb, and_parts}
-use Rattle.ak_template.proofs.Grammars.{head_same, neither_fault, tail_same, test_passed}
+use Rattle.ak_template.proofs.Grammars.{head_same, tail_same, test_passed}
 use Rattle.ak_search.specs.declared.tokens.Token.{Token}
 use Rattle.ak_search.specs.declared.tokens.Piece.{Piece}
 use Rattle.ak_search.specs.declared.tokens.Piece.TheVariants.{Test, BadValue, Open, Close, Or, And, OpenQuote}
@@ -107,7 +108,7 @@ inside_begins depth ts OpenQuote place e n h = refl
 some_inside : (depth : ℕ) (ts : List Token) → closes 0 (pieces_in ts) ≡ true → begins_close (pieces_in ts) ≡ false → fault_in depth false ts ≡ None → begins_part (pieces_in ts) ≡ true
 some_inside depth [] c n h = grind (arith, c)
 some_inside depth (t ∷ ts) c n h =
-    inside_begins depth ts t.piece t.place refl n (neither_fault (fault_at depth false t.place t.piece (pieces_in ts)) (fault_in (depth_behind depth t.piece) (ends_part t.piece) ts) h).0
+    inside_begins depth ts t.piece t.place refl n (both_none (fault_at depth false t.place t.piece (pieces_in ts)) (fault_in (depth_behind depth t.piece) (ends_part t.piece) ts) h).0
 
 -- by the first piece, with what is known behind it
 fill_one : (depth : ℕ) (before : Bool) (place : ℕ) (p : Piece) (ts : List Token) → fault_at depth before place p (pieces_in ts) ≡ None → fault_in (depth_behind depth p) (ends_part p) ts ≡ None → CloseAll depth (p ∷ pieces_in ts)
@@ -135,7 +136,7 @@ fills : (depth : ℕ) (before : Bool) (ts : List Token) → fault_in depth befor
 fills zero before [] h c = (End, refl, tt, tt, refl)
 fills (suc depth) before [] h c = grind (arith, c)
 fills depth before (t ∷ ts) h c =
-    let both = neither_fault (fault_at depth before t.place t.piece (pieces_in ts)) (fault_in (depth_behind depth t.piece) (ends_part t.piece) ts) h in
+    let both = both_none (fault_at depth before t.place t.piece (pieces_in ts)) (fault_in (depth_behind depth t.piece) (ends_part t.piece) ts) h in
     fill_one depth before t.place t.piece ts both.0 both.1 c (λ d. fills (depth_behind depth t.piece) (ends_part t.piece) ts both.1 d)
 
 pub has_tree : (text : List ℕ) → first_fault text ≡ None → (tree : Tree) × ReadsSearch text tree

@@ -1,5 +1,6 @@
 -- A text has a tree exactly where its pieces have no fault, and then one alone.
 use Rattle.std.proofs.Common.{◌≡◌, ℕ, suc, ◌-◌, ◌<◌, Bool, true, false, ◌==◌, nat_lt, cond, Option, Some, None, List, [], ◌∷◌, ◌++◌, length, map, drop, get_or, append_assoc, refl, ap, sym, ◌∙◌, arith, append-nil}
+use Rattle.ak_base.proofs.Optional.{both_none}
 use Rattle.std.specs.Option.{option_map, option_or}
 use Rattle.std.specs.Cmp.Lexicographic.{pointwise, same_text}
 use Rattle.std.proofs.lemmas.List.{map-append}
@@ -87,10 +88,6 @@ fill_section (section ∷ sections) inverted name inside steps rest few n e h = 
   h.4,
 )
 
-pub neither_fault : {A : Type 0} (one other : Option A) → option_or one other ≡ None → (one ≡ None) × (other ≡ None)
-neither_fault None other h = (refl, h)
-neither_fault (Some fault) other h = grind (arith, h)
-
 pub test_passed : {A : Type 0} (v : Bool) (fault : A) → cond v None (Some fault) ≡ None → v ≡ true
 test_passed true fault h = refl
 test_passed false fault h = grind (arith, h)
@@ -111,12 +108,12 @@ fills sections ((place, None) ∷ ps) h = grind (arith, h)
 fills sections ((place, Some (Words words)) ∷ ps) h = fill_part sections (map (λ (piece : Piece). piece.1) ps) (Words words) (Plain words) (λ tree. refl) (λ depth tree n. n) (fills sections ps h)
 fills sections ((place, Some (Field filters name)) ∷ ps) h = fill_part sections (map (λ (piece : Piece). piece.1) ps) (Field filters name) (Value filters name) (λ tree. refl) (λ depth tree n. n) (fills sections ps h)
 fills sections ((place, Some (Open inverted name)) ∷ ps) h =
-    let both = neither_fault (cond (nat_lt (length sections) 32) None (Some (faults.TooDeep place))) (fault_in (record { place = place; name = name } ∷ sections) ps) h in
+    let both = both_none (cond (nat_lt (length sections) 32) None (Some (faults.TooDeep place))) (fault_in (record { place = place; name = name } ∷ sections) ps) h in
     let later = fills (record { place = place; name = name } ∷ sections) ps both.1 in
     fill_section sections inverted name later.0 (map (λ (piece : Piece). piece.1) ps) later.1 (ltb-true (length sections) 32 (test_passed (nat_lt (length sections) 32) (faults.TooDeep place) both.0)) later.2 later.3 later.4
 fills [] ((place, Some (Close name)) ∷ ps) h = grind (arith, h)
 fills (section ∷ sections) ((place, Some (Close name)) ∷ ps) h =
-    let both = neither_fault (cond (pointwise ◌==◌ section.name name) None (Some (faults.WrongClose place))) (fault_in sections ps) h in
+    let both = both_none (cond (pointwise ◌==◌ section.name name) None (Some (faults.WrongClose place))) (fault_in sections ps) h in
     let same = same_text section.name name (sym (test_passed (pointwise ◌==◌ section.name name) (faults.WrongClose place) both.0)) in
     (End, map (λ (piece : Piece). piece.1) ps, tt, ap (λ n. Some (Close n) ∷ map (λ (piece : Piece). piece.1) ps) (sym same), fills sections ps both.1)
 
