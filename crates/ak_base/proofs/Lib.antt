@@ -1,5 +1,13 @@
 pub mod Numerals
 pub mod Resting
+pub mod FirstFaults
+pub mod NameOrder
+pub mod Cutting
+pub mod ContentLaws
 pub mod RowFacts
 pub mod SameRows
+pub mod Burials
+pub mod Pathways
+pub mod InRange
 pub mod Optional
+pub mod OpeningOptions

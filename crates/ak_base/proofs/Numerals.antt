@@ -1,8 +1,12 @@
 -- What `parse` gives at a text of decimal digits.
-use Rattle.std.proofs.Common.{◌≡◌, ℕ, ◌^◌, ◌<◌, ◌==◌, Bool, true, false, not, ◌&&◌, List, [], ◌∷◌, length, None, Ok, Err, refl, arith, rules}
+use Rattle.std.proofs.Common.{◌≡◌, ℕ, zero, suc, ◌^◌, ◌<◌, ◌≤◌, ◌==◌, Bool, true, false, not, ◌&&◌, List, [], ◌∷◌, length, get_or, Some, None, Ok, Err, refl, ap, arith, rules}
 use Rattle.std.specs.Cmp.{second_so}
 use Rattle.std.proofs.lemmas.Grind.{common_steps}
 use Rattle.std.proofs.lemmas.Str.Parse.{IsNumeralModel, numerals_by_value, parse_digits}
+use Rattle.std.proofs.lemmas.Bool.Decides.{Decides-eqb}
+use Rattle.std.proofs.lemmas.Fmt.{decimal_digit, digits_decimal, decimal_nonempty, first_decimal, digits_value-decimal}
+use Rattle.std.specs.Char.{is_ascii_digit}
+use Rattle.std.specs.Fmt.{decimal}
 use Rattle.std.specs.Result.{OkIff}
 use Rattle.std.specs.Str.{all_ascii_digits}
 use Rattle.std.specs.Str.Parse.{digits_value, ParsesUnsigned}
@@ -44,3 +48,34 @@ not_parsed {E} most text error small given decimal =
   where
     above : (most value : ℕ) → most < 2 ^ 64 → (value < 2 ^ 64 → ⊥) → most < value
     above most value small not_small = omega arith
+
+-- ---- from a number to its digits, and back
+-- digits of which the first is 0 only if it is alone
+decimal_from : (text : List ℕ) → all_ascii_digits text ≡ true → 0 < length text → (get_or text 0 0 ≡ 48 → length text ≡ 1) → is_decimal text ≡ true
+decimal_from [] digits some lone = absurd (omega (arith, some))
+decimal_from (digit ∷ []) digits some lone = second_first (is_ascii_digit digit) digits
+  where
+    second_first : (a : Bool) → (a && true) ≡ true → a ≡ true
+    second_first a h = grind (arith, h)
+decimal_from (first ∷ second ∷ others) digits some lone =
+    elim (first == 48) as (λ b. (first == 48) ≡ b → (not b && all_ascii_digits (first ∷ second ∷ others)) ≡ true) [
+      | true ↦ λ is. absurd (let one : length (first ∷ second ∷ others) ≡ 1 = lone ((Decides-eqb first 48).0 is) in omega (arith, one))
+      | false ↦ λ is. digits
+    ] refl
+
+in_range : (most n : ℕ) → n ≤ most → at_most most n ≡ Some n
+in_range most n h = grind (arith, common_steps, h)
+
+written : (n : ℕ) → n < 2 ^ 64 → is_decimal (decimal n) ≡ true
+written n small =
+    decimal_from (decimal n) (digits_decimal own n small) (decimal_nonempty n small) (lone n small)
+  where
+    lone : (n : ℕ) → n < 2 ^ 64 → get_or (decimal n) 0 0 ≡ 48 → length (decimal n) ≡ 1
+    lone zero small e = ap length (decimal_digit 0 (omega arith))
+    lone (suc n) small e = absurd (omega (arith, first_decimal (suc n) (omega arith) small, e))
+
+pub decimal_read : (most n : ℕ) → n ≤ most → most < 2 ^ 64 → number_of most (decimal n) ≡ Some n
+unfolding number_of
+decimal_read most n h small =
+    let fits : n < 2 ^ 64 = omega (arith, h, small) in
+    rw (written n fits, digits_value-decimal own n fits) (in_range most n h)

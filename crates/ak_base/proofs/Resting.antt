@@ -34,7 +34,8 @@ pub empty_is_rest : (passes : Members → Bool) → passes no_members ≡ true �
 unfolding is_rest
 empty_is_rest passes is = ap (λ members. option_map_or (λ members. is_plain members && passes members) members false) members_of-none ∙ is
 
-no_rest : false ≡ true → ⊥
+-- no test both fails and passes
+pub no_rest : false ≡ true → ⊥
 no_rest is = subst (λ b. T (not b)) is tt
 
 -- a plain object can be written and is read again
@@ -63,6 +64,12 @@ rest_reads text value passes is reads =
           ap (λ read. option_map_or (λ members. is_plain members && passes members) (option_and_then (λ value. if is_written_as text value then as_object value else None) read) false) reads
           ∙ ap (λ b. option_map_or (λ members. is_plain members && passes members) (if b then as_object value else None) false) other) ∙ is))
     ] refl
+
+-- a rest is read
+pub rest_is_read : (text : List ℕ) (passes : Members → Bool) → is_rest passes text ≡ true → read text ≡ None → ⊥
+unfolding is_rest members_of
+rest_is_read text passes is none =
+    no_rest (sym (ap (λ read. option_map_or (λ members. is_plain members && passes members) (option_and_then (λ value. if is_written_as text value then as_object value else None) read) false) none) ∙ is)
 
 -- what shows that rests of one text are rests is one
 pub same_proof : (passes : Members → Bool) {x y : List ℕ} (p : x ≡ y) (u : is_rest passes x ≡ true) (v : is_rest passes y ≡ true) → PathP (λ i. is_rest passes (p i) ≡ true) u v

@@ -1,15 +1,17 @@
--- Rows of one content are equal but for their update sequence number, and only they are.
-use Rattle.std.specs.Prelude.{◌≡◌, ◌↔◌, ℕ, ℤ, pos, Bool, true, false, ◌&&◌, ◌==◌, IsTrue, List, [], get_or}
-use Rattle.std.proofs.Common.{refl, sym, ap, ◌∙◌}
+-- Rows of one content are equal but for their update sequence number, and only they are. So it is of the stamp too.
+use Rattle.std.specs.Prelude.{◌≡◌, ◌↔◌, ℕ, ℤ, pos, Bool, true, false, ◌&&◌, ◌||◌, ◌==◌, if◌then◌else◌, IsTrue, List, [], get_or}
+use Rattle.std.proofs.Common.{refl, sym, ap, subst, ◌∙◌}
 use Rattle.std.specs.Bool.{Decides}
 use Rattle.std.proofs.lemmas.Bool.{and_from}
-use Rattle.std.specs.Cmp.{unsigned_Decides, first_so, second_so}
+use Rattle.std.specs.Cmp.{unsigned_Decides, signed_Decides, first_so, second_so}
+use Rattle.std.specs.Ordering.{int_eq}
 use Rattle.std.specs.Cmp.Lexicographic.{pointwise, pointwise_decides, bytes_decides}
 use Rattle.std.specs.Cmp.Rules.{signed_items}
-use Rattle.ak_base.specs.Contents.{same_content, same_content_equiv, kind_of, numbers_of, texts_of, fields_of, templates_of, same_numbers, same_texts, same_field, same_template, truth}
+use Rattle.ak_base.proofs.ContentLaws.{same_content_equiv}
+use Rattle.ak_base.specs.Contents.{same_content, same_but_stamp_and_usn, kind_of, numbers_of, texts_of, fields_of, templates_of, same_numbers, same_texts, same_field, same_template, truth}
 use Rattle.ak_base.specs.Contents.{note_numbers, card_numbers, review_numbers, grave_numbers, deck_numbers, note_type_numbers, general_numbers, review_options, lapse_numbers}
 use Rattle.ak_base.specs.Rests.{lacks, lacks_options, field_keys, template_keys, note_type_keys, deck_keys}
-use Rattle.ak_base.specs.Rows.{stamp_of, with_usn}
+use Rattle.ak_base.specs.Rows.{stamp_of, with_usn, with_stamp}
 use Rattle.ak_base.specs.declared.cards.Card.{Card}
 use Rattle.ak_base.specs.declared.decks.Deck.{Deck}
 use Rattle.ak_base.specs.declared.graves.Grave.{Grave}
@@ -22,7 +24,7 @@ use Rattle.ak_base.specs.declared.reviews.Review.{Review}
 use Rattle.ak_base.specs.declared.rows.Row.{Row}
 use Rattle.ak_base.specs.declared.rows.Row.TheVariants as rows
 use Rattle.ak_base.proofs.Resting.{same_proof}
-use Rattle.ak_base.proofs.RowFacts.{same-with_usn, stamp_of-with_usn}
+use Rattle.ak_base.proofs.RowFacts.{same-with_usn, same_fields-through, same_fields-turned, same_fields-with_stamp, same_fields-edited}
 
 -- ---- parts of a row
 abbrev number_at : ℕ → List ℤ → ℤ
@@ -84,7 +86,7 @@ template_decides a b = (
     template_itself a =
         and_from _ _ (and_from _ _ (and_from _ _ ((bytes_decides a.name a.name).1 refl) ((bytes_decides a.front a.front).1 refl)) ((bytes_decides a.back a.back).1 refl)) ((bytes_decides a.rest.text a.rest.text).1 refl)
 
--- ---- what rows of one content share
+-- ---- what rows share that are equal but for stamp and update sequence number
 record Shared (a b : Row) : Type 0 where
   pub kind : kind_of a ≡ kind_of b
   pub numbers : numbers_of a ≡ numbers_of b
@@ -92,7 +94,7 @@ record Shared (a b : Row) : Type 0 where
   pub fields : fields_of a ≡ fields_of b
   pub templates : templates_of a ≡ templates_of b
 
-shared : (a b : Row) → same_content a b ≡ true → Shared a b
+shared : (a b : Row) → same_but_stamp_and_usn a b ≡ true → Shared a b
 shared a b same =
     let numbers : Bool = pointwise same_numbers (numbers_of a) (numbers_of b) in
     let texts : Bool = same_texts (texts_of a) (texts_of b) in
@@ -110,44 +112,44 @@ shared a b same =
     }
 
 -- ---- rows of each kind that share all that
-one_note : (a b : Note) (usn : ℤ) → Shared (rows.Note a) (rows.Note b) → with_usn (rows.Note a) usn ≡ with_usn (rows.Note b) usn
-one_note a b usn s =
+one_note : (a b : Note) (usn : ℤ) → Shared (rows.Note a) (rows.Note b) → a.stamp ≡ b.stamp → with_usn (rows.Note a) usn ≡ with_usn (rows.Note b) usn
+one_note a b usn s stamps =
     let numbers : note_numbers a ≡ note_numbers b = ap (numbers_at 0) s.numbers in
     ap rows.Note (λ i. record {
       id = number_at 0 (numbers i);
       guid = text_at 0 (s.texts i);
       mid = number_at 1 (numbers i);
-      stamp = number_at 2 (numbers i);
+      stamp = stamps i;
       usn = usn;
       tags = text_at 1 (s.texts i);
       flds = text_at 2 (s.texts i);
       sfld = text_at 3 (s.texts i);
-      csum = number_at 3 (numbers i);
-      flags = number_at 4 (numbers i);
+      csum = number_at 2 (numbers i);
+      flags = number_at 3 (numbers i);
       extra = text_at 4 (s.texts i);
     })
 
-one_card : (a b : Card) (usn : ℤ) → Shared (rows.Card a) (rows.Card b) → with_usn (rows.Card a) usn ≡ with_usn (rows.Card b) usn
-one_card a b usn s =
+one_card : (a b : Card) (usn : ℤ) → Shared (rows.Card a) (rows.Card b) → a.stamp ≡ b.stamp → with_usn (rows.Card a) usn ≡ with_usn (rows.Card b) usn
+one_card a b usn s stamps =
     let numbers : card_numbers a ≡ card_numbers b = ap (numbers_at 0) s.numbers in
     ap rows.Card (λ i. record {
       id = number_at 0 (numbers i);
       nid = number_at 1 (numbers i);
       did = number_at 2 (numbers i);
       ord = number_at 3 (numbers i);
-      stamp = number_at 4 (numbers i);
+      stamp = stamps i;
       usn = usn;
-      kind = number_at 5 (numbers i);
-      queue = number_at 6 (numbers i);
-      due = number_at 7 (numbers i);
-      ivl = number_at 8 (numbers i);
-      factor = number_at 9 (numbers i);
-      reps = number_at 10 (numbers i);
-      lapses = number_at 11 (numbers i);
-      left = number_at 12 (numbers i);
-      odue = number_at 13 (numbers i);
-      odid = number_at 14 (numbers i);
-      flags = number_at 15 (numbers i);
+      kind = number_at 4 (numbers i);
+      queue = number_at 5 (numbers i);
+      due = number_at 6 (numbers i);
+      ivl = number_at 7 (numbers i);
+      factor = number_at 8 (numbers i);
+      reps = number_at 9 (numbers i);
+      lapses = number_at 10 (numbers i);
+      left = number_at 11 (numbers i);
+      odue = number_at 12 (numbers i);
+      odid = number_at 13 (numbers i);
+      flags = number_at 14 (numbers i);
       extra = text_at 0 (s.texts i);
     })
 
@@ -171,59 +173,59 @@ one_grave a b usn s =
     let numbers : grave_numbers a ≡ grave_numbers b = ap (numbers_at 0) s.numbers in
     ap rows.Grave (λ i. record { usn = usn; oid = number_at 0 (numbers i); kind = number_at 1 (numbers i) })
 
-one_note_type : (a b : NoteType) (usn : ℤ) → Shared (rows.NoteType a) (rows.NoteType b) → with_usn (rows.NoteType a) usn ≡ with_usn (rows.NoteType b) usn
-one_note_type a b usn s =
+one_note_type : (a b : NoteType) (usn : ℤ) → Shared (rows.NoteType a) (rows.NoteType b) → a.stamp ≡ b.stamp → with_usn (rows.NoteType a) usn ≡ with_usn (rows.NoteType b) usn
+one_note_type a b usn s stamps =
     let numbers : note_type_numbers a ≡ note_type_numbers b = ap (numbers_at 0) s.numbers in
-    let cloze : a.cloze ≡ b.cloze = one_truth a.cloze b.cloze (ap (number_at 2) numbers) in
+    let cloze : a.cloze ≡ b.cloze = one_truth a.cloze b.cloze (ap (number_at 1) numbers) in
     let rest : a.rest.text ≡ b.rest.text = ap (text_at 1) s.texts in
     ap rows.NoteType (λ i. record {
       id = number_at 0 (numbers i);
-      stamp = number_at 1 (numbers i);
+      stamp = stamps i;
       usn = usn;
       name = text_at 0 (s.texts i);
       cloze = cloze i;
-      sortf = number_at 3 (numbers i);
+      sortf = number_at 2 (numbers i);
       fields = s.fields i;
       templates = s.templates i;
       rest = record { text = rest i; owner = record {}; unknown = same_proof (lacks note_type_keys) rest a.rest.unknown b.rest.unknown i };
     })
 
-one_deck : (a b : Deck) (usn : ℤ) → Shared (rows.Deck a) (rows.Deck b) → with_usn (rows.Deck a) usn ≡ with_usn (rows.Deck b) usn
-one_deck a b usn s =
+one_deck : (a b : Deck) (usn : ℤ) → Shared (rows.Deck a) (rows.Deck b) → a.stamp ≡ b.stamp → with_usn (rows.Deck a) usn ≡ with_usn (rows.Deck b) usn
+one_deck a b usn s stamps =
     let numbers : deck_numbers a ≡ deck_numbers b = ap (numbers_at 0) s.numbers in
-    let filtered : a.filtered ≡ b.filtered = one_truth a.filtered b.filtered (ap (number_at 3) numbers) in
+    let filtered : a.filtered ≡ b.filtered = one_truth a.filtered b.filtered (ap (number_at 2) numbers) in
     let rest : a.rest.text ≡ b.rest.text = ap (text_at 1) s.texts in
     ap rows.Deck (λ i. record {
       id = number_at 0 (numbers i);
-      stamp = number_at 1 (numbers i);
+      stamp = stamps i;
       usn = usn;
       name = text_at 0 (s.texts i);
-      options = number_at 2 (numbers i);
+      options = number_at 1 (numbers i);
       filtered = filtered i;
-      new_today = record { day = number_at 4 (numbers i); count = number_at 5 (numbers i) };
-      rev_today = record { day = number_at 6 (numbers i); count = number_at 7 (numbers i) };
+      new_today = record { day = number_at 3 (numbers i); count = number_at 4 (numbers i) };
+      rev_today = record { day = number_at 5 (numbers i); count = number_at 6 (numbers i) };
       rest = record { text = rest i; owner = record {}; unknown = same_proof (lacks deck_keys) rest a.rest.unknown b.rest.unknown i };
     })
 
-one_group : (a b : Options) (usn : ℤ) → Shared (rows.Options a) (rows.Options b) → with_usn (rows.Options a) usn ≡ with_usn (rows.Options b) usn
-one_group a b usn s =
+one_group : (a b : Options) (usn : ℤ) → Shared (rows.Options a) (rows.Options b) → a.stamp ≡ b.stamp → with_usn (rows.Options a) usn ≡ with_usn (rows.Options b) usn
+one_group a b usn s stamps =
     let general : general_numbers a ≡ general_numbers b = ap (numbers_at 0) s.numbers in
     let reviews : review_options a ≡ review_options b = ap (numbers_at 2) s.numbers in
     let lapses : lapse_numbers a ≡ lapse_numbers b = ap (numbers_at 3) s.numbers in
-    let new_bury : a.new_bury ≡ b.new_bury = one_truth a.new_bury b.new_bury (ap (number_at 7) general) in
+    let new_bury : a.new_bury ≡ b.new_bury = one_truth a.new_bury b.new_bury (ap (number_at 6) general) in
     let rev_bury : a.rev_bury ≡ b.rev_bury = one_truth a.rev_bury b.rev_bury (ap (number_at 5) reviews) in
     let rest : a.rest.text ≡ b.rest.text = ap (text_at 1) s.texts in
     ap rows.Options (λ i. record {
       id = number_at 0 (general i);
-      stamp = number_at 1 (general i);
+      stamp = stamps i;
       usn = usn;
       name = text_at 0 (s.texts i);
-      max_taken = number_at 2 (general i);
+      max_taken = number_at 1 (general i);
       new_steps = numbers_at 1 (s.numbers i);
-      grad_ivl = number_at 3 (general i);
-      easy_ivl = number_at 4 (general i);
-      initial_factor = number_at 5 (general i);
-      new_per_day = number_at 6 (general i);
+      grad_ivl = number_at 2 (general i);
+      easy_ivl = number_at 3 (general i);
+      initial_factor = number_at 4 (general i);
+      new_per_day = number_at 5 (general i);
       new_bury = new_bury i;
       rev_per_day = number_at 0 (reviews i);
       ease4 = number_at 1 (reviews i);
@@ -246,28 +248,63 @@ other_kind m n e apart = absurd (false_true (sym apart ∙ (unsigned_Decides m n
     false_true : false ≡ true → ⊥
     false_true e = cc
 
-by_kind : (a b : Row) (usn : ℤ) → Shared a b → with_usn a usn ≡ with_usn b usn
-by_kind (rows.Note a) (rows.Note b) usn s = one_note a b usn s
-by_kind (rows.Card a) (rows.Card b) usn s = one_card a b usn s
-by_kind (rows.Review a) (rows.Review b) usn s = one_review a b usn s
-by_kind (rows.NoteType a) (rows.NoteType b) usn s = one_note_type a b usn s
-by_kind (rows.Deck a) (rows.Deck b) usn s = one_deck a b usn s
-by_kind (rows.Options a) (rows.Options b) usn s = one_group a b usn s
-by_kind (rows.Grave a) (rows.Grave b) usn s = one_grave a b usn s
-by_kind a b usn s = other_kind (kind_of a) (kind_of b) s.kind refl
+by_kind : (a b : Row) (usn : ℤ) → Shared a b → stamp_of a ≡ stamp_of b → with_usn a usn ≡ with_usn b usn
+by_kind (rows.Note a) (rows.Note b) usn s stamps = one_note a b usn s stamps
+by_kind (rows.Card a) (rows.Card b) usn s stamps = one_card a b usn s stamps
+by_kind (rows.Review a) (rows.Review b) usn s stamps = one_review a b usn s
+by_kind (rows.NoteType a) (rows.NoteType b) usn s stamps = one_note_type a b usn s stamps
+by_kind (rows.Deck a) (rows.Deck b) usn s stamps = one_deck a b usn s stamps
+by_kind (rows.Options a) (rows.Options b) usn s stamps = one_group a b usn s stamps
+by_kind (rows.Grave a) (rows.Grave b) usn s stamps = one_grave a b usn s
+by_kind a b usn s stamps = other_kind (kind_of a) (kind_of b) s.kind refl
+
+-- ---- content
+-- rows of one content have one stamp
+pub like_stamp : (x y : Row) → IsTrue (same_content x y) → stamp_of x ≡ stamp_of y
+like_stamp x y same = (signed_Decides (stamp_of x) (stamp_of y)).0 (first_so _ (same_but_stamp_and_usn x y) same)
 
 -- rows of one content are one, once their update sequence numbers are
 pub same_is_one : (a b : Row) (usn : ℤ) → same_content a b ≡ true → with_usn a usn ≡ with_usn b usn
-same_is_one a b usn same = by_kind a b usn (shared a b same)
+same_is_one a b usn same = by_kind a b usn (shared a b (second_so (int_eq (stamp_of a) (stamp_of b)) _ same)) (like_stamp a b same)
 
 one_is_same : (a b : Row) (usn : ℤ) → with_usn a usn ≡ with_usn b usn → same_content a b ≡ true
 one_is_same a b usn one =
     sym (same_content_equiv.congr (with_usn a usn) a b (same-with_usn a usn)) ∙ ap (λ x. same_content x b) one ∙ same-with_usn b usn
 
--- rows have one content exactly where they are one, once their update sequence numbers are
+-- rows have one content exactly if they are one, once their update sequence numbers are
 pub same_exactly : (a b : Row) (usn : ℤ) → IsTrue (same_content a b) ↔ (with_usn a usn ≡ with_usn b usn)
 same_exactly a b usn = (same_is_one a b usn, one_is_same a b usn)
 
--- rows of one content have one stamp
-pub like_stamp : (x y : Row) → IsTrue (same_content x y) → stamp_of x ≡ stamp_of y
-like_stamp x y same = sym (stamp_of-with_usn x (pos 0)) ∙ ap stamp_of (same_is_one x y (pos 0) same) ∙ stamp_of-with_usn y (pos 0)
+-- ---- all but stamp and update sequence number
+-- the stamp that a row of a kind has, once it is given one
+stamp_given : ℕ → ℤ → ℤ
+stamp_given kind stamp = if kind == 2 || kind == 6 then pos 0 else stamp
+
+stamp-given : (x : Row) (stamp : ℤ) → stamp_of (with_stamp x stamp) ≡ stamp_given (kind_of x) stamp
+unfolding stamp_given
+stamp-given (rows.Note n) stamp = refl
+stamp-given (rows.Card c) stamp = refl
+stamp-given (rows.Review r) stamp = refl
+stamp-given (rows.NoteType t) stamp = refl
+stamp-given (rows.Deck d) stamp = refl
+stamp-given (rows.Options o) stamp = refl
+stamp-given (rows.Grave g) stamp = refl
+
+-- equal rows but for both are one, once both are
+fields_are_one : (a b : Row) (stamp usn : ℤ) → same_but_stamp_and_usn a b ≡ true → with_usn (with_stamp a stamp) usn ≡ with_usn (with_stamp b stamp) usn
+fields_are_one a b stamp usn same =
+    let kinds : kind_of a ≡ kind_of b = (shared a b same).kind in
+    let stamped : same_but_stamp_and_usn (with_stamp a stamp) (with_stamp b stamp) ≡ true =
+    same_fields-through (with_stamp a stamp) a (with_stamp b stamp) (same_fields-with_stamp a stamp)
+    (same_fields-through a b (with_stamp b stamp) same (same_fields-turned (with_stamp b stamp) b (same_fields-with_stamp b stamp))) in
+    by_kind (with_stamp a stamp) (with_stamp b stamp) usn (shared _ _ stamped)
+    (stamp-given a stamp ∙ ap (λ k. stamp_given k stamp) kinds ∙ sym (stamp-given b stamp))
+
+one_has_fields : (a b : Row) (stamp usn : ℤ) → with_usn (with_stamp a stamp) usn ≡ with_usn (with_stamp b stamp) usn → same_but_stamp_and_usn a b ≡ true
+one_has_fields a b stamp usn one =
+    same_fields-through a (with_usn (with_stamp a stamp) usn) b (same_fields-turned _ a (same_fields-edited a stamp usn))
+    (subst (λ x. IsTrue (same_but_stamp_and_usn x b)) (sym one) (same_fields-edited b stamp usn))
+
+-- rows are equal but for both exactly if they are one, once both are
+pub fields_exactly : (a b : Row) (stamp usn : ℤ) → IsTrue (same_but_stamp_and_usn a b) ↔ (with_usn (with_stamp a stamp) usn ≡ with_usn (with_stamp b stamp) usn)
+fields_exactly a b stamp usn = (fields_are_one a b stamp usn, one_has_fields a b stamp usn)

@@ -1,7 +1,7 @@
 -- The ranges of a card's columns.
-use Rattle.std.specs.Prelude.{pos, negsuc, Option, List, [], ◌∷◌, ◌++◌, length}
-use Rattle.ak_base.specs.Columns.{id_fault, id_or_zero_fault, stamp_fault, code_fault, long_fault}
-use Rattle.ak_base.specs.declared.columns.TheConstants.{LAST_USN}
+use Rattle.std.specs.Prelude.{pos, negsuc, Option, List, [], ◌∷◌, ◌++◌, length, ◌≡◌, Ok}
+use Rattle.ak_base.specs.Columns.{id_fault, id_or_zero_fault, stamp_fault, code_fault, long_fault, first_fault}
+use Rattle.ak_base.specs.Limits.{last_usn}
 use Rattle.ak_base.specs.declared.errors.RowFault.{RowFault}
 use Rattle.ak_base.specs.declared.cards.Card.{Card}
 
@@ -13,7 +13,7 @@ place_faults c =
     ∷ id_fault c.did
     ∷ code_fault 3 c.ord (pos 0) (pos 499)
     ∷ stamp_fault c.stamp
-    ∷ code_fault 5 c.usn (negsuc 0) LAST_USN
+    ∷ code_fault 5 c.usn (negsuc 0) last_usn
     ∷ []
 
 -- what the scheduler keeps
@@ -41,3 +41,7 @@ mark_faults c =
 -- the fault of each column, in the order of schema 11's `cards`
 abbrev pub card_faults : Card → List (Option RowFault)
 card_faults c = place_faults c ++ (schedule_faults c ++ mark_faults c)
+
+-- a card passes its check: every column is in its range
+abbrev pub IsCheckedCard : Card → Type 0
+IsCheckedCard c = first_fault (card_faults c) ≡ Ok tt

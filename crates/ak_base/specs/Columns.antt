@@ -1,21 +1,21 @@
 -- The ranges of a row's columns, and the first fault in the order of the columns.
-use Rattle.std.specs.Prelude.{ℕ, ℤ, pos, ◌||◌, int_lt, nat_lt, if◌then◌else◌, List, [], ◌∷◌, ◌++◌, ◌≡◌, refl}
+use Rattle.std.specs.Prelude.{ℕ, ℤ, pos, ◌||◌, int_lt, nat_lt, if◌then◌else◌, List, [], ◌∷◌}
 use Rattle.std.specs.Prelude.{Option, Some, None, Result, Ok, Err}
-use Rattle.ak_base.specs.declared.columns.TheConstants.{LAST_ID, LAST_STAMP}
+use Rattle.ak_base.specs.Limits.{last_id, last_stamp}
 use Rattle.ak_base.specs.declared.errors.RowFault.{RowFault}
 use Rattle.ak_base.specs.declared.errors.RowFault.TheVariants.{TooLong, StampRange, IdRange, BadCode}
 
 -- an id is 1 to the last id
 unfoldable pub id_fault : ℤ → Option RowFault
-id_fault id = if int_lt id (pos 1) || int_lt LAST_ID id then Some IdRange else None
+id_fault id = if int_lt id (pos 1) || int_lt last_id id then Some IdRange else None
 
 -- 0 stands for no row
 unfoldable pub id_or_zero_fault : ℤ → Option RowFault
-id_or_zero_fault id = if int_lt id (pos 0) || int_lt LAST_ID id then Some IdRange else None
+id_or_zero_fault id = if int_lt id (pos 0) || int_lt last_id id then Some IdRange else None
 
 -- a time of change is 0 to the last stamp, in seconds
 unfoldable pub stamp_fault : ℤ → Option RowFault
-stamp_fault stamp = if int_lt stamp (pos 0) || int_lt LAST_STAMP stamp then Some StampRange else None
+stamp_fault stamp = if int_lt stamp (pos 0) || int_lt last_stamp stamp then Some StampRange else None
 
 -- a text has at most so many bytes, a list so many entries
 unfoldable pub long_fault : ℕ → ℕ → ℕ → Option RowFault
@@ -31,15 +31,3 @@ abbrev pub first_fault : List (Option RowFault) → Result (Unit {0}) RowFault
 first_fault [] = Ok tt
 first_fault (None ∷ faults) = first_fault faults
 first_fault (Some fault ∷ faults) = Err fault
-
--- a fault of the first columns is the fault of the row
-pub fault_of_front : (fs gs : List (Option RowFault)) (fault : RowFault) → first_fault fs ≡ Err fault → first_fault (fs ++ gs) ≡ Err fault
-fault_of_front [] gs fault e = cc
-fault_of_front (None ∷ fs) gs fault e = fault_of_front fs gs fault e
-fault_of_front (Some f ∷ fs) gs fault e = e
-
--- where the first columns have none, the fault of the others is
-pub fault_behind : (fs gs : List (Option RowFault)) (good : Unit {0}) → first_fault fs ≡ Ok good → first_fault (fs ++ gs) ≡ first_fault gs
-fault_behind [] gs good e = refl
-fault_behind (None ∷ fs) gs good e = fault_behind fs gs good e
-fault_behind (Some f ∷ fs) gs good e = cc

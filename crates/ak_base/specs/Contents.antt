@@ -1,8 +1,8 @@
--- What a row says besides its update sequence number: equal rows, but for that number.
+-- What a row says besides its stamp and its update sequence number: rows that are equal but for these.
 use Rattle.std.specs.Prelude.{ℕ, ℤ, pos, Bool, ◌&&◌, ◌==◌, if◌then◌else◌, List, [], ◌∷◌}
-use Rattle.std.specs.Cmp.{IsEquivalence, and_equiv, on_equiv, nat_eq_equiv, int_eq_equiv}
-use Rattle.std.specs.Cmp.Lexicographic.{pointwise, lists_equiv, nat_list_eq_equiv}
+use Rattle.std.specs.Cmp.Lexicographic.{pointwise}
 use Rattle.std.specs.Ordering.{int_eq}
+use Rattle.ak_base.specs.Rows.{stamp_of}
 use Rattle.ak_base.specs.declared.cards.Card.{Card}
 use Rattle.ak_base.specs.declared.decks.Deck.{Deck}
 use Rattle.ak_base.specs.declared.graves.Grave.{Grave}
@@ -15,9 +15,11 @@ use Rattle.ak_base.specs.declared.reviews.Review.{Review}
 use Rattle.ak_base.specs.declared.rows.Row.{Row}
 use Rattle.ak_base.specs.declared.rows.Row.TheVariants as rows
 
+-- equal lists of numbers
 abbrev pub same_numbers : List ℤ → List ℤ → Bool
 same_numbers = pointwise int_eq
 
+-- equal lists of texts
 abbrev pub same_texts : List (List ℕ) → List (List ℕ) → Bool
 same_texts = pointwise (pointwise ◌==◌)
 
@@ -25,46 +27,60 @@ same_texts = pointwise (pointwise ◌==◌)
 abbrev pub truth : Bool → ℤ
 truth b = if b then pos 1 else pos 0
 
+-- ---- the numbers of a row but for its stamp and its update sequence number
+-- of a note
 abbrev pub note_numbers : Note → List ℤ
-note_numbers n = n.id ∷ n.mid ∷ n.stamp ∷ n.csum ∷ n.flags ∷ []
+note_numbers n = n.id ∷ n.mid ∷ n.csum ∷ n.flags ∷ []
 
+-- the texts of a note
 abbrev pub note_texts : Note → List (List ℕ)
 note_texts n = n.guid ∷ n.tags ∷ n.flds ∷ n.sfld ∷ n.extra ∷ []
 
+-- of a card
 abbrev pub card_numbers : Card → List ℤ
 card_numbers c =
-    c.id ∷ c.nid ∷ c.did ∷ c.ord ∷ c.stamp ∷ c.kind ∷ c.queue ∷ c.due ∷ c.ivl ∷ c.factor ∷ c.reps ∷ c.lapses ∷ c.left ∷ c.odue ∷ c.odid ∷ c.flags ∷ []
+    c.id ∷ c.nid ∷ c.did ∷ c.ord ∷ c.kind ∷ c.queue ∷ c.due ∷ c.ivl ∷ c.factor ∷ c.reps ∷ c.lapses ∷ c.left ∷ c.odue ∷ c.odid ∷ c.flags ∷ []
 
+-- of a review
 abbrev pub review_numbers : Review → List ℤ
 review_numbers r = r.id ∷ r.cid ∷ r.ease ∷ r.ivl ∷ r.last_ivl ∷ r.factor ∷ r.time ∷ r.kind ∷ []
 
+-- of a grave
 abbrev pub grave_numbers : Grave → List ℤ
 grave_numbers g = g.oid ∷ g.kind ∷ []
 
+-- of a deck
 abbrev pub deck_numbers : Deck → List ℤ
 deck_numbers d =
-    d.id ∷ d.stamp ∷ d.options ∷ truth d.filtered ∷ d.new_today.day ∷ d.new_today.count ∷ d.rev_today.day ∷ d.rev_today.count ∷ []
+    d.id ∷ d.options ∷ truth d.filtered ∷ d.new_today.day ∷ d.new_today.count ∷ d.rev_today.day ∷ d.rev_today.count ∷ []
 
+-- of an option group: of every card, and of new cards
 abbrev pub general_numbers : Options → List ℤ
-general_numbers o = o.id ∷ o.stamp ∷ o.max_taken ∷ o.grad_ivl ∷ o.easy_ivl ∷ o.initial_factor ∷ o.new_per_day ∷ truth o.new_bury ∷ []
+general_numbers o = o.id ∷ o.max_taken ∷ o.grad_ivl ∷ o.easy_ivl ∷ o.initial_factor ∷ o.new_per_day ∷ truth o.new_bury ∷ []
 
+-- of an option group: of reviews
 abbrev pub review_options : Options → List ℤ
 review_options o = o.rev_per_day ∷ o.ease4 ∷ o.ivl_fct ∷ o.max_ivl ∷ o.hard_factor ∷ truth o.rev_bury ∷ []
 
+-- of an option group: of cards that were forgotten
 abbrev pub lapse_numbers : Options → List ℤ
 lapse_numbers o = o.mult ∷ o.min_int ∷ o.leech_fails ∷ o.leech_action ∷ []
 
+-- of a note type
 abbrev pub note_type_numbers : NoteType → List ℤ
-note_type_numbers t = t.id ∷ t.stamp ∷ truth t.cloze ∷ t.sortf ∷ []
+note_type_numbers t = t.id ∷ truth t.cloze ∷ t.sortf ∷ []
 
+-- equal fields of a note type
 abbrev pub same_field : FieldDef → FieldDef → Bool
 same_field a b = pointwise ◌==◌ a.name b.name && pointwise ◌==◌ a.rest.text b.rest.text
 
+-- equal templates
 abbrev pub same_template : CardTemplate → CardTemplate → Bool
 same_template a b =
     ((pointwise ◌==◌ a.name b.name && pointwise ◌==◌ a.front b.front) && pointwise ◌==◌ a.back b.back) && pointwise ◌==◌ a.rest.text b.rest.text
 
--- ---- of a row: which kind it is of, its numbers in groups, its texts, and a note type's lists
+-- ---- of any row
+-- which kind it is of
 abbrev pub kind_of : Row → ℕ
 kind_of (rows.Note n) = 0
 kind_of (rows.Card c) = 1
@@ -74,6 +90,7 @@ kind_of (rows.Deck d) = 4
 kind_of (rows.Options o) = 5
 kind_of (rows.Grave g) = 6
 
+-- its numbers, in groups
 abbrev pub numbers_of : Row → List (List ℤ)
 numbers_of (rows.Note n) = note_numbers n ∷ []
 numbers_of (rows.Card c) = card_numbers c ∷ []
@@ -83,6 +100,7 @@ numbers_of (rows.Deck d) = deck_numbers d ∷ []
 numbers_of (rows.Options o) = general_numbers o ∷ o.new_steps ∷ review_options o ∷ lapse_numbers o ∷ o.lapse_steps ∷ []
 numbers_of (rows.Grave g) = grave_numbers g ∷ []
 
+-- its texts
 abbrev pub texts_of : Row → List (List ℕ)
 texts_of (rows.Note n) = note_texts n
 texts_of (rows.Card c) = c.extra ∷ []
@@ -92,6 +110,7 @@ texts_of (rows.Deck d) = d.name ∷ d.rest.text ∷ []
 texts_of (rows.Options o) = o.name ∷ o.rest.text ∷ []
 texts_of (rows.Grave g) = []
 
+-- the fields of a note type
 abbrev pub fields_of : Row → List FieldDef
 fields_of (rows.Note n) = []
 fields_of (rows.Card c) = []
@@ -101,6 +120,7 @@ fields_of (rows.Deck d) = []
 fields_of (rows.Options o) = []
 fields_of (rows.Grave g) = []
 
+-- the templates of a note type
 abbrev pub templates_of : Row → List CardTemplate
 templates_of (rows.Note n) = []
 templates_of (rows.Card c) = []
@@ -110,22 +130,12 @@ templates_of (rows.Deck d) = []
 templates_of (rows.Options o) = []
 templates_of (rows.Grave g) = []
 
--- equal but for the update sequence number
-abbrev pub same_content : Row → Row → Bool
-same_content a b =
+-- equal but for the stamp and the update sequence number
+abbrev pub same_but_stamp_and_usn : Row → Row → Bool
+same_but_stamp_and_usn a b =
     (kind_of a == kind_of b && pointwise same_numbers (numbers_of a) (numbers_of b)) && (same_texts (texts_of a) (texts_of b)
     && (pointwise same_field (fields_of a) (fields_of b) && pointwise same_template (templates_of a) (templates_of b)))
 
-field_equiv : IsEquivalence same_field
-field_equiv = and_equiv (on_equiv (λ f. f.name) nat_list_eq_equiv) (on_equiv (λ f. f.rest.text) nat_list_eq_equiv)
-
-template_equiv : IsEquivalence same_template
-template_equiv =
-    and_equiv (and_equiv (and_equiv (on_equiv (λ t. t.name) nat_list_eq_equiv) (on_equiv (λ t. t.front) nat_list_eq_equiv)) (on_equiv (λ t. t.back) nat_list_eq_equiv))
-    (on_equiv (λ t. t.rest.text) nat_list_eq_equiv)
-
--- each row is as itself, and two are as each other whichever comes first
-pub same_content_equiv : IsEquivalence same_content
-same_content_equiv =
-    and_equiv (and_equiv (on_equiv kind_of nat_eq_equiv) (on_equiv numbers_of (lists_equiv (lists_equiv int_eq_equiv))))
-    (and_equiv (on_equiv texts_of (lists_equiv nat_list_eq_equiv)) (and_equiv (on_equiv fields_of (lists_equiv field_equiv)) (on_equiv templates_of (lists_equiv template_equiv))))
+-- equal but for the update sequence number
+abbrev pub same_content : Row → Row → Bool
+same_content a b = int_eq (stamp_of a) (stamp_of b) && same_but_stamp_and_usn a b

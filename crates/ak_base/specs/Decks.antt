@@ -1,8 +1,8 @@
 -- The ranges of a deck's columns.
-use Rattle.std.specs.Prelude.{ℕ, pos, negsuc, Option, List, [], ◌∷◌, ◌++◌, length}
+use Rattle.std.specs.Prelude.{ℕ, pos, negsuc, Option, List, [], ◌∷◌, ◌++◌, length, ◌≡◌, Ok}
 use Rattle.std.specs.Option.{option_or}
-use Rattle.ak_base.specs.Columns.{id_fault, stamp_fault, code_fault, long_fault}
-use Rattle.ak_base.specs.declared.columns.TheConstants.{LAST_USN}
+use Rattle.ak_base.specs.Columns.{id_fault, stamp_fault, code_fault, long_fault, first_fault}
+use Rattle.ak_base.specs.Limits.{last_usn}
 use Rattle.ak_base.specs.declared.errors.RowFault.{RowFault}
 use Rattle.ak_base.specs.declared.decks.Count.{Count}
 use Rattle.ak_base.specs.declared.decks.Deck.{Deck}
@@ -17,7 +17,7 @@ unfoldable pub title_faults : Deck → List (Option RowFault)
 title_faults d =
     id_fault d.id
     ∷ stamp_fault d.stamp
-    ∷ code_fault 2 d.usn (negsuc 0) LAST_USN
+    ∷ code_fault 2 d.usn (negsuc 0) last_usn
     ∷ long_fault 3 (length d.name) 512
     ∷ id_fault d.options
     ∷ []
@@ -33,3 +33,7 @@ taken_faults d =
 -- the fault of each column, in the order of the fields; a truth value has none
 abbrev pub deck_faults : Deck → List (Option RowFault)
 deck_faults d = title_faults d ++ taken_faults d
+
+-- a deck passes its check: every column is in its range
+abbrev pub IsCheckedDeck : Deck → Type 0
+IsCheckedDeck d = first_fault (deck_faults d) ≡ Ok tt

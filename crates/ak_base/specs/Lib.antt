@@ -1,10 +1,15 @@
+pub mod Limits
 pub mod Names
+pub mod Tables
 pub mod Columns
+pub mod Cuts
+pub mod Paths
 pub mod Rests
 pub mod Decimals
 pub mod Reviews
 pub mod Cards
 pub mod OptionGroups
+pub mod NoteTexts
 pub mod Notes
 pub mod NoteTypes
 pub mod Decks

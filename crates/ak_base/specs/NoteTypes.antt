@@ -1,8 +1,8 @@
 -- The ranges of a note type's columns.
-use Rattle.std.specs.Prelude.{ℕ, ℤ, pos, negsuc, ◌-◌, ◌==◌, if◌then◌else◌, Option, Some, None, List, [], ◌∷◌, ◌++◌, length}
+use Rattle.std.specs.Prelude.{ℕ, ℤ, pos, negsuc, ◌-◌, ◌==◌, if◌then◌else◌, Option, Some, None, List, [], ◌∷◌, ◌++◌, length, ◌≡◌, Ok}
 use Rattle.std.specs.Option.{option_or}
-use Rattle.ak_base.specs.Columns.{id_fault, stamp_fault, code_fault, long_fault}
-use Rattle.ak_base.specs.declared.columns.TheConstants.{LAST_USN}
+use Rattle.ak_base.specs.Columns.{id_fault, stamp_fault, code_fault, long_fault, first_fault}
+use Rattle.ak_base.specs.Limits.{last_usn}
 use Rattle.ak_base.specs.declared.errors.RowFault.{RowFault}
 use Rattle.ak_base.specs.declared.errors.RowFault.TheVariants.{BadCode}
 use Rattle.ak_base.specs.declared.note_types.FieldDef.{FieldDef}
@@ -52,7 +52,7 @@ unfoldable pub title_faults : NoteType → List (Option RowFault)
 title_faults n =
     id_fault n.id
     ∷ stamp_fault n.stamp
-    ∷ code_fault 2 n.usn (negsuc 0) LAST_USN
+    ∷ code_fault 2 n.usn (negsuc 0) last_usn
     ∷ long_fault 3 (length n.name) 512
     ∷ []
 
@@ -68,3 +68,7 @@ form_faults n =
 -- the fault of each column, in the order of the fields; a truth value has none
 abbrev pub note_type_faults : NoteType → List (Option RowFault)
 note_type_faults n = title_faults n ++ form_faults n
+
+-- a note type passes its check: every column is in its range
+abbrev pub IsCheckedNoteType : NoteType → Type 0
+IsCheckedNoteType t = first_fault (note_type_faults t) ≡ Ok tt

@@ -1,7 +1,7 @@
 -- The ranges of a note's columns.
-use Rattle.std.specs.Prelude.{pos, negsuc, Option, List, [], ◌∷◌, ◌++◌, length}
-use Rattle.ak_base.specs.Columns.{id_fault, stamp_fault, code_fault, long_fault}
-use Rattle.ak_base.specs.declared.columns.TheConstants.{LAST_USN}
+use Rattle.std.specs.Prelude.{pos, negsuc, Option, List, [], ◌∷◌, ◌++◌, length, ◌≡◌, Ok}
+use Rattle.ak_base.specs.Columns.{id_fault, stamp_fault, code_fault, long_fault, first_fault}
+use Rattle.ak_base.specs.Limits.{last_usn}
 use Rattle.ak_base.specs.declared.errors.RowFault.{RowFault}
 use Rattle.ak_base.specs.declared.notes.Note.{Note}
 
@@ -12,7 +12,7 @@ identity_faults n =
     ∷ long_fault 1 (length n.guid) 64
     ∷ id_fault n.mid
     ∷ stamp_fault n.stamp
-    ∷ code_fault 4 n.usn (negsuc 0) LAST_USN
+    ∷ code_fault 4 n.usn (negsuc 0) last_usn
     ∷ []
 
 -- what the note says, and its marks
@@ -29,3 +29,7 @@ content_faults n =
 -- the fault of each column, in the order of schema 11's `notes`
 abbrev pub note_faults : Note → List (Option RowFault)
 note_faults n = identity_faults n ++ content_faults n
+
+-- a note passes its check: every column is in its range
+abbrev pub IsCheckedNote : Note → Type 0
+IsCheckedNote n = first_fault (note_faults n) ≡ Ok tt

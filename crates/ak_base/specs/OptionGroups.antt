@@ -1,8 +1,8 @@
 -- The ranges of an option group's columns.
-use Rattle.std.specs.Prelude.{ℕ, ℤ, pos, negsuc, Option, List, [], ◌∷◌, ◌++◌, length, None}
+use Rattle.std.specs.Prelude.{ℕ, ℤ, pos, negsuc, Option, List, [], ◌∷◌, ◌++◌, length, None, ◌≡◌, Ok, false, codes}
 use Rattle.std.specs.Option.{option_or}
-use Rattle.ak_base.specs.Columns.{id_fault, stamp_fault, code_fault, long_fault}
-use Rattle.ak_base.specs.declared.columns.TheConstants.{LAST_USN}
+use Rattle.ak_base.specs.Columns.{id_fault, stamp_fault, code_fault, long_fault, first_fault}
+use Rattle.ak_base.specs.Limits.{last_usn}
 use Rattle.ak_base.specs.declared.errors.RowFault.{RowFault}
 use Rattle.ak_base.specs.declared.option_groups.Options.{Options}
 
@@ -20,7 +20,7 @@ unfoldable pub general_faults : Options → List (Option RowFault)
 general_faults o =
     id_fault o.id
     ∷ stamp_fault o.stamp
-    ∷ code_fault 2 o.usn (negsuc 0) LAST_USN
+    ∷ code_fault 2 o.usn (negsuc 0) last_usn
     ∷ long_fault 3 (length o.name) 512
     ∷ code_fault 4 o.max_taken (pos 0) (pos 86_400)
     ∷ []
@@ -59,3 +59,36 @@ lapse_faults o =
 -- the fault of each column, in the order of the fields; a truth value has none
 abbrev pub options_faults : Options → List (Option RowFault)
 options_faults o = general_faults o ++ (new_faults o ++ (rev_faults o ++ lapse_faults o))
+
+-- an option group passes its check: every column is in its range
+abbrev pub IsCheckedOptions : Options → Type 0
+IsCheckedOptions o = first_fault (options_faults o) ≡ Ok tt
+
+-- the options that a collection opens with, which serve too where no others are held: group 1, changed at this second, not sent yet
+pub record AreOpeningOptions (second : ℤ) (o : Options) : Type 0 where
+  pub id : o.id ≡ pos 1
+  pub stamp : o.stamp ≡ second
+  pub usn : o.usn ≡ negsuc 0
+  pub name : o.name ≡ codes "Default"
+  pub max_taken : o.max_taken ≡ pos 60
+  -- new cards: steps of 1 and 10 minutes, then 1 day, or 4 after Easy
+  pub new_steps : o.new_steps ≡ pos 1 ∷ pos 10 ∷ []
+  pub grad_ivl : o.grad_ivl ≡ pos 1
+  pub easy_ivl : o.easy_ivl ≡ pos 4
+  pub initial_factor : o.initial_factor ≡ pos 2_500
+  pub new_per_day : o.new_per_day ≡ pos 20
+  pub new_bury : o.new_bury ≡ false
+  -- reviews
+  pub rev_per_day : o.rev_per_day ≡ pos 200
+  pub ease4 : o.ease4 ≡ pos 1_300
+  pub ivl_fct : o.ivl_fct ≡ pos 1_000
+  pub max_ivl : o.max_ivl ≡ pos 36_500
+  pub hard_factor : o.hard_factor ≡ pos 1_200
+  pub rev_bury : o.rev_bury ≡ false
+  -- cards that were forgotten: a step of 10 minutes, then 1 day; at 8 lapses a leech is suspended
+  pub lapse_steps : o.lapse_steps ≡ pos 10 ∷ []
+  pub mult : o.mult ≡ pos 0
+  pub min_int : o.min_int ≡ pos 1
+  pub leech_fails : o.leech_fails ≡ pos 8
+  pub leech_action : o.leech_action ≡ pos 0
+  pub rest : o.rest.text ≡ codes "{}"

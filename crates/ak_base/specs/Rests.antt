@@ -29,18 +29,23 @@ unfoldable pub is_rest : (Members → Bool) → List ℕ → Bool
 is_rest passes text = option_map_or (λ members. is_plain members && passes members) (members_of text) false
 
 -- ---- the keys that each object knows
+-- of a field of a note type
 abbrev pub field_keys : List (List ℕ)
 field_keys = codes "name" ∷ codes "ord" ∷ []
 
+-- of a template
 abbrev pub template_keys : List (List ℕ)
 template_keys = codes "name" ∷ codes "qfmt" ∷ codes "afmt" ∷ codes "ord" ∷ []
 
+-- of a note type
 abbrev pub note_type_keys : List (List ℕ)
 note_type_keys = codes "id" ∷ codes "mod" ∷ codes "usn" ∷ codes "name" ∷ codes "type" ∷ codes "sortf" ∷ codes "flds" ∷ codes "tmpls" ∷ []
 
+-- of a deck
 abbrev pub deck_keys : List (List ℕ)
 deck_keys = codes "id" ∷ codes "mod" ∷ codes "usn" ∷ codes "name" ∷ codes "conf" ∷ codes "dyn" ∷ codes "newToday" ∷ codes "revToday" ∷ []
 
+-- of the settings
 abbrev pub conf_keys : List (List ℕ)
 conf_keys = codes "newSpread" ∷ codes "collapseTime" ∷ codes "dayLearnFirst" ∷ codes "nextPos" ∷ codes "lastUnburied" ∷ []
 
@@ -48,13 +53,15 @@ conf_keys = codes "newSpread" ∷ codes "collapseTime" ∷ codes "dayLearnFirst"
 abbrev pub options_keys : List (List ℕ)
 options_keys = codes "id" ∷ codes "mod" ∷ codes "usn" ∷ codes "name" ∷ codes "maxTaken" ∷ []
 
--- inside `new`, `rev` and `lapse`
+-- inside `new`
 abbrev pub new_keys : List (List ℕ)
 new_keys = codes "delays" ∷ codes "ints" ∷ codes "initialFactor" ∷ codes "perDay" ∷ codes "bury" ∷ []
 
+-- inside `rev`
 abbrev pub rev_keys : List (List ℕ)
 rev_keys = codes "perDay" ∷ codes "ease4Pm" ∷ codes "ivlFctPm" ∷ codes "maxIvl" ∷ codes "hardFactorPm" ∷ codes "bury" ∷ []
 
+-- inside `lapse`
 abbrev pub lapse_keys : List (List ℕ)
 lapse_keys = codes "delays" ∷ codes "multPm" ∷ codes "minInt" ∷ codes "leechFails" ∷ codes "leechAction" ∷ []
 

@@ -1,9 +1,9 @@
 -- What a row is called, and what its check answers.
-use Rattle.std.specs.Prelude.{ℤ, pos, Result}
+use Rattle.std.specs.Prelude.{◌≡◌, ℤ, pos, Option, Some, None, Result, Ok}
 use Rattle.ak_base.specs.Columns.{first_fault}
 use Rattle.ak_base.specs.Cards.{card_faults}
 use Rattle.ak_base.specs.Decks.{deck_faults}
-use Rattle.ak_base.specs.Graves.{grave_faults, grave_table}
+use Rattle.ak_base.specs.Graves.{grave_faults, grave_table, buried_by}
 use Rattle.ak_base.specs.NoteTypes.{note_type_faults}
 use Rattle.ak_base.specs.Notes.{note_faults}
 use Rattle.ak_base.specs.OptionGroups.{options_faults}
@@ -54,6 +54,30 @@ with_usn (rows.Deck d) usn = rows.Deck (record d { usn = usn })
 with_usn (rows.Options o) usn = rows.Options (record o { usn = usn })
 with_usn (rows.Grave g) usn = rows.Grave (record g { usn = usn })
 
+-- the row with another stamp; a review and a grave have none
+abbrev pub with_stamp : Row → ℤ → Row
+with_stamp (rows.Note n) stamp = rows.Note (record n { stamp = stamp })
+with_stamp (rows.Card c) stamp = rows.Card (record c { stamp = stamp })
+with_stamp (rows.Review r) stamp = rows.Review r
+with_stamp (rows.NoteType t) stamp = rows.NoteType (record t { stamp = stamp })
+with_stamp (rows.Deck d) stamp = rows.Deck (record d { stamp = stamp })
+with_stamp (rows.Options o) stamp = rows.Options (record o { stamp = stamp })
+with_stamp (rows.Grave g) stamp = rows.Grave g
+
+-- the row with another stamp and another update sequence number
+abbrev pub with_stamp_and_usn : Row → ℤ → ℤ → Row
+with_stamp_and_usn row stamp usn = with_usn (with_stamp row stamp) usn
+
+-- the name of the row that was deleted, if this is a grave
+abbrev pub buried_of : Row → Option Name
+buried_of (rows.Grave g) = Some (buried_by g)
+buried_of (rows.Note n) = None
+buried_of (rows.Card c) = None
+buried_of (rows.Review r) = None
+buried_of (rows.NoteType t) = None
+buried_of (rows.Deck d) = None
+buried_of (rows.Options o) = None
+
 -- Ok where every column is in its range, else the first fault
 abbrev pub check_of : Row → Result (Unit {0}) RowFault
 check_of (rows.Note n) = first_fault (note_faults n)
@@ -63,3 +87,7 @@ check_of (rows.NoteType t) = first_fault (note_type_faults t)
 check_of (rows.Deck d) = first_fault (deck_faults d)
 check_of (rows.Options o) = first_fault (options_faults o)
 check_of (rows.Grave g) = first_fault (grave_faults g)
+
+-- a row passes its check: every column is in its range
+abbrev pub IsChecked : Row → Type 0
+IsChecked row = check_of row ≡ Ok tt

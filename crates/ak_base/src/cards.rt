@@ -3,9 +3,9 @@ ghost use Rattle.ak_base.specs.Columns.{first_fault};
 ghost use Rattle.ak_base.specs.Cards.{card_faults, place_faults, schedule_faults, mark_faults};
 
 use crate::columns::{
-    LAST_USN, code_fault, first_fault, id_fault, id_or_zero_fault, long_fault, stamp_fault,
+    code_fault, first_fault, id_fault, id_or_zero_fault, long_fault, stamp_fault,
 };
-use crate::{Memory, RowFault, Text};
+use crate::{EXTRA_BYTES, LAST_COUNT, LAST_ORD, LAST_USN, Memory, RowFault, Text};
 
 /// A card, as schema 11's `cards` keeps it: what one template makes of a note, and when it is due.
 #[derive(Debug, PartialEq, Drop)]
@@ -45,7 +45,17 @@ pub struct Card {
 }
 
 impl Card {
-    /// What the card is called, where it lies and when it was changed.
+    /// The first column that is out of its range.
+    #[tactic(auto, using(crate::proofs::FirstFaults::fault_of_front, crate::proofs::FirstFaults::fault_behind))]
+    pub fn check(&self) -> Result<(), RowFault>
+        ensures { result ≡ first_fault (card_faults self.now) }
+    {
+        self.check_place()?;
+        self.check_schedule()?;
+        self.check_marks()
+    }
+
+    /// The columns that say what the card is called, in which deck it is and when it was changed.
     #[tactic(auto, unfolding(crate::specs::Cards::place_faults))]
     fn check_place(&self) -> Result<(), RowFault>
         ensures { result ≡ first_fault (place_faults self.now) }
@@ -54,7 +64,7 @@ impl Card {
             id_fault(self.id),
             id_fault(self.nid),
             id_fault(self.did),
-            code_fault(3, self.ord, 0, 499),
+            code_fault(3, self.ord, 0, LAST_ORD),
             stamp_fault(self.stamp),
             code_fault(5, self.usn, -1, LAST_USN),
         ])
@@ -71,8 +81,8 @@ impl Card {
             code_fault(8, self.due, -2_147_483_648, 1_099_511_627_776),
             code_fault(9, self.ivl, 0, 1_000_000),
             code_fault(10, self.factor, 0, 100_000),
-            code_fault(11, self.reps, 0, 2_147_483_647),
-            code_fault(12, self.lapses, 0, 2_147_483_647),
+            code_fault(11, self.reps, 0, LAST_COUNT),
+            code_fault(12, self.lapses, 0, LAST_COUNT),
             code_fault(13, self.left, 0, 999_999),
         ])
     }
@@ -86,19 +96,10 @@ impl Card {
             code_fault(14, self.odue, -2_147_483_648, 1_099_511_627_776),
             id_or_zero_fault(self.odid),
             code_fault(16, self.flags, 0, 2_147_483_647),
-            long_fault(17, self.extra.as_str().len() as u64, 32_768),
+            long_fault(17, self.extra.as_str().len() as u64, EXTRA_BYTES),
         ])
     }
 
-    /// The first column that is out of its range.
-    #[tactic(auto, using(crate::specs::Columns::fault_of_front, crate::specs::Columns::fault_behind))]
-    pub fn check(&self) -> Result<(), RowFault>
-        ensures { result ≡ first_fault (card_faults self.now) }
-    {
-        self.check_place()?;
-        self.check_schedule()?;
-        self.check_marks()
-    }
     /// An equal card of its own.
     pub fn copy(&self) -> Result<Card, Memory>
         ensures { IfOk result (λ made. made ≡ self.now) }
@@ -123,37 +124,5 @@ impl Card {
             flags: self.flags,
             extra: self.extra.copy()?,
         })
-    }
-}
-
-#[cfg(test)]
-mod tests {
-    use super::*;
-
-    #[test]
-    fn a_card_is_copied(rt: HostRuntime) -> Result<(), Memory> {
-        let card = Card {
-            id: 1_500_000_000_000,
-            nid: 1_500_000_000_000,
-            did: 1,
-            ord: 0,
-            stamp: 1_600_000_000,
-            usn: -1,
-            kind: 2,
-            queue: 2,
-            due: -9,
-            ivl: 100,
-            factor: 2500,
-            reps: 4,
-            lapses: 0,
-            left: 0,
-            odue: 0,
-            odid: 0,
-            flags: 0,
-            extra: Text::of(rt.alloc(), "")?,
-        };
-        assert!(rt; card.check() == Ok(()));
-        assert!(rt; card.copy()? == card);
-        Ok(())
     }
 }

@@ -1,16 +1,19 @@
 ghost use Rattle.std.specs.Prelude.{◌≡◌};
 ghost use Rattle.ak_base.specs.Columns.{id_fault, id_or_zero_fault, stamp_fault, code_fault, long_fault, first_fault};
 
-use crate::RowFault;
+use crate::{LAST_ID, LAST_STAMP, RowFault};
 
-/// The last id of a row: the last whole number that a double holds exactly. The first is 1.
-pub const LAST_ID: i64 = 9_007_199_254_740_991;
-
-/// The last update sequence number of a row. -1 says that the row was not sent yet.
-pub const LAST_USN: i64 = 2_147_483_647;
-
-/// The last time of change of a row, in seconds. The first is 0.
-pub const LAST_STAMP: i64 = 4_294_967_295;
+/// The first fault of the columns, given in their order.
+pub(crate) fn first_fault(faults: &[Option<RowFault>]) -> Result<(), RowFault>
+    ensures { result ≡ first_fault faults.now }
+{
+    for fault in faults {
+        if let Some(found) = fault {
+            return Err(*found);
+        }
+    }
+    Ok(())
+}
 
 /// The fault of an id column, if there is one.
 #[tactic(auto, unfolding(crate::specs::Columns::id_fault))]
@@ -23,7 +26,7 @@ pub(crate) fn id_fault(id: i64) -> Option<RowFault>
     None
 }
 
-/// The fault of an id column where 0 stands for no row, if there is one.
+/// The fault of an id column in which 0 says that there is no row, if there is one.
 #[tactic(auto, unfolding(crate::specs::Columns::id_or_zero_fault))]
 pub(crate) fn id_or_zero_fault(id: i64) -> Option<RowFault>
     ensures { result ≡ id_or_zero_fault id }
@@ -45,7 +48,7 @@ pub(crate) fn stamp_fault(stamp: i64) -> Option<RowFault>
     None
 }
 
-/// The fault of a text of so many bytes, or a list of so many entries, where the column holds `most`.
+/// The fault of a text of this many bytes, or a list of this many entries, in a column that holds `most`.
 #[tactic(auto, unfolding(crate::specs::Columns::long_fault))]
 pub(crate) fn long_fault(column: u8, length: u64, most: u64) -> Option<RowFault>
     ensures { result ≡ long_fault column length most }
@@ -65,16 +68,4 @@ pub(crate) fn code_fault(column: u8, value: i64, least: i64, most: i64) -> Optio
         return Some(RowFault::BadCode { column, value });
     }
     None
-}
-
-/// The first fault of the columns, given in their order.
-pub(crate) fn first_fault(faults: &[Option<RowFault>]) -> Result<(), RowFault>
-    ensures { result ≡ first_fault faults.now }
-{
-    for fault in faults {
-        if let Some(found) = fault {
-            return Err(*found);
-        }
-    }
-    Ok(())
 }

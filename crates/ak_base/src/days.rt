@@ -5,7 +5,7 @@ ghost use Rattle.ak_base.specs.Days.{IsDay, IsDayOf};
 pub const DAY_SECONDS: i64 = 86_400;
 
 /// How many days before the collection a moment may lie.
-const FIRST_DAY: i64 = 49_711;
+const DAYS_BEFORE: i64 = 49_711;
 
 /// A moment as the scheduler sees it. Its days are counted from when the collection was made, in
 /// blocks of 86,400 seconds: this project's profile knows no time zones.
@@ -17,31 +17,6 @@ pub struct Day {
     pub number: i64,
     /// The second at which the next day begins.
     pub cutoff: i64,
-}
-
-/// The day that a second lies in.
-fn number_at(crt: i64, seconds: i64) -> i64
-    requires crt_low { pos 0 ≤ℤ crt }
-    requires crt_high { crt ≤ℤ pos 4_294_967_295 }
-    requires now_low { pos 0 ≤ℤ seconds }
-    requires now_high { seconds ≤ℤ pos 4_294_967_294 }
-    ensures begun { (crt +ℤ (result *ℤ pos 86_400)) ≤ℤ seconds }
-    ensures lasts { seconds <ℤ ((crt +ℤ (result *ℤ pos 86_400)) +ℤ pos 86_400) }
-{
-    // Counted from a whole number of days before the collection, so that no number is negative.
-    let since = (seconds + FIRST_DAY * DAY_SECONDS - crt) as u64;
-    (since / DAY_SECONDS as u64) as i64 - FIRST_DAY
-}
-
-/// The second at which the day behind a day begins.
-fn cutoff_of(crt: i64, number: i64) -> i64
-    requires crt_low { pos 0 ≤ℤ crt }
-    requires crt_high { crt ≤ℤ pos 4_294_967_295 }
-    requires number_low { negsuc 49_710 ≤ℤ number }
-    requires number_high { number ≤ℤ pos 49_710 }
-    ensures { result ≡ (crt +ℤ (number *ℤ pos 86_400)) +ℤ pos 86_400 }
-{
-    crt + number * DAY_SECONDS + DAY_SECONDS
 }
 
 impl Day {
@@ -65,47 +40,27 @@ impl Day {
     }
 }
 
-#[cfg(test)]
-mod tests {
-    use super::*;
+/// The day that a second lies in.
+fn number_at(crt: i64, seconds: i64) -> i64
+    requires crt_low { pos 0 ≤ℤ crt }
+    requires crt_high { crt ≤ℤ pos 4_294_967_295 }
+    requires now_low { pos 0 ≤ℤ seconds }
+    requires now_high { seconds ≤ℤ pos 4_294_967_294 }
+    ensures begun { (crt +ℤ (result *ℤ pos 86_400)) ≤ℤ seconds }
+    ensures lasts { seconds <ℤ ((crt +ℤ (result *ℤ pos 86_400)) +ℤ pos 86_400) }
+{
+    // Counted from a whole number of days before the collection, so that no number is negative.
+    let since = (seconds + DAYS_BEFORE * DAY_SECONDS - crt) as u64;
+    (since / DAY_SECONDS as u64) as i64 - DAYS_BEFORE
+}
 
-    #[test]
-    fn days_begin_with_the_collection(rt: HostRuntime) {
-        // crt, the moment, and the day: second, number, cutoff
-        let cases = [
-            (
-                1_699_920_000,
-                1_700_000_000_000,
-                1_700_000_000,
-                0,
-                1_700_006_400,
-            ),
-            (
-                1_699_920_000,
-                1_700_006_399_999,
-                1_700_006_399,
-                0,
-                1_700_006_400,
-            ),
-            (
-                1_699_920_000,
-                1_700_006_400_000,
-                1_700_006_400,
-                1,
-                1_700_092_800,
-            ),
-            (
-                1_699_920_000,
-                1_699_919_999_000,
-                1_699_919_999,
-                -1,
-                1_699_920_000,
-            ),
-            (4_294_967_295, 0, 0, -49_711, 23_295),
-        ];
-        for (crt, now, second, number, cutoff) in cases {
-            let day = Day::of(crt, now);
-            assert_eq!(rt; (day.now, day.number, day.cutoff), (second, number, cutoff));
-        }
-    }
+/// The second at which the next day begins.
+fn cutoff_of(crt: i64, number: i64) -> i64
+    requires crt_low { pos 0 ≤ℤ crt }
+    requires crt_high { crt ≤ℤ pos 4_294_967_295 }
+    requires number_low { negsuc 49_710 ≤ℤ number }
+    requires number_high { number ≤ℤ pos 49_710 }
+    ensures { result ≡ (crt +ℤ (number *ℤ pos 86_400)) +ℤ pos 86_400 }
+{
+    crt + number * DAY_SECONDS + DAY_SECONDS
 }

@@ -1,6 +1,6 @@
 use std::alloc::{AllocError, AllocFailed};
 
-/// Want of memory: an allocation was refused. It is merged with no other refusal.
+/// Out of memory: an allocation was refused. It is merged with no other refusal.
 #[derive(Clone, Copy, Debug, PartialEq, Eq)]
 pub struct Memory;
 

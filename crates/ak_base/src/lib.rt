@@ -4,6 +4,7 @@
 mod cards;
 mod columns;
 mod contents;
+mod cuts;
 mod days;
 mod decimals;
 mod decks;
@@ -12,18 +13,20 @@ mod graves;
 mod heads;
 mod keys;
 mod laws;
+mod limits;
 mod lists;
 mod names;
 mod note_types;
 mod notes;
 mod option_groups;
+mod paths;
 mod rests;
 mod reviews;
 mod rows;
 mod texts;
 
 pub use cards::Card;
-pub use columns::{LAST_ID, LAST_STAMP, LAST_USN};
+pub use cuts::cut;
 pub use days::{DAY_SECONDS, Day};
 pub use decimals::read_number;
 pub use decks::{Count, Deck};
@@ -31,12 +34,21 @@ pub use errors::{Memory, RowFault};
 pub use graves::Grave;
 pub use heads::{Conf, Head, Tag};
 pub use keys::{HostKey, SessionKey};
-pub use laws::same_content_is_equality;
+pub use laws::{
+    a_decimal_is_read, codes_of_graves, graves_and_rows, name_and_grave, opening_options_pass,
+    parts_are_cut_at_colons, parts_make_the_path, same_but_stamp_and_usn_is_equality,
+    same_content_is_equality,
+};
+pub use limits::{
+    EXTRA_BYTES, FIRST_DAY, LAST_COUNT, LAST_DAY, LAST_HEAD_USN, LAST_ID, LAST_MOMENT, LAST_ORD,
+    LAST_STAMP, LAST_USN, NAME_BYTES, REST_BYTES, TAGS_BYTES, TEXT_BYTES,
+};
 pub use lists::List;
 pub use names::{Name, Table};
 pub use note_types::{CardTemplate, FieldDef, NoteType};
 pub use notes::Note;
 pub use option_groups::Options;
+pub use paths::{is_in_subtree, next_part, path_parts};
 pub use rests::{OfConf, OfDeck, OfField, OfNoteType, OfOptions, OfTemplate, Owner, Rest};
 pub use reviews::Review;
 pub use rows::Row;

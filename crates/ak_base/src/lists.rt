@@ -19,6 +19,7 @@ impl<T> Model for List<T> {
 }
 
 impl<T> List<T> {
+    /// The empty list. It takes no memory yet.
     pub fn new(alloc: Global) -> List<T>
         ensures { result ≡ [] }
     {
@@ -34,6 +35,7 @@ impl<T> List<T> {
         List { elements: items }
     }
 
+    /// The items, in their order.
     pub fn into_vec(self) -> Vec<T>
         ensures { result.items ≡ self }
     {
@@ -41,11 +43,12 @@ impl<T> List<T> {
         elements
     }
 
-    /// Where a list beside this one takes its memory.
-    pub(crate) fn allocator(&self) -> Global {
+    /// The allocator that a copy takes its memory from.
+    pub fn allocator(&self) -> Global {
         *self.elements.allocator()
     }
 
+    /// The items, in their order.
     pub fn as_slice(&self) -> &[T]
         ensures { result.now ≡ self.now }
     {
@@ -54,6 +57,7 @@ impl<T> List<T> {
 }
 
 impl<T: Drop> List<T> {
+    /// Adds an item at the end. If memory is out, the list stays as it was.
     pub fn push(&mut self, item: T) -> Result<(), Memory>
         ensures ok { OnOk result (self.new ≡ self.old ++ item ∷ []) }
         ensures err { OnErr result (self.new ≡ self.old) }

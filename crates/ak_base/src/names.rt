@@ -1,5 +1,6 @@
 ghost use Rattle.std.specs.Prelude.{◌≡◌};
 ghost use Rattle.ak_base.specs.Names.{table_place, name_cmp};
+ghost use Rattle.ak_base.specs.Tables.{all_tables, buried_in, buried_name, grave_code, grave_name, graves_of, has_stamps, of_grave_code, stored_code};
 
 use std::cmp::Ordering;
 
@@ -18,6 +19,94 @@ pub enum Table {
 }
 
 impl Table {
+    /// Every table, in their order.
+    pub fn all() -> [Table; 9]
+        ensures { result ≡ all_tables }
+    {
+        [
+            Table::Note,
+            Table::Card,
+            Table::Review,
+            Table::NoteType,
+            Table::Deck,
+            Table::Options,
+            Table::NoteGrave,
+            Table::CardGrave,
+            Table::DeckGrave,
+        ]
+    }
+
+    /// Whether its rows have stamps.
+    pub fn has_stamps(self) -> bool
+        ensures { result ≡ has_stamps self }
+    {
+        match self {
+            Table::Note | Table::Card | Table::NoteType | Table::Deck | Table::Options => true,
+            Table::Review | Table::NoteGrave | Table::CardGrave | Table::DeckGrave => false,
+        }
+    }
+
+    /// The table of the graves that its rows leave. Only notes, cards and decks leave graves.
+    pub fn graves(self) -> Option<Table>
+        ensures { result ≡ graves_of self }
+    {
+        match self {
+            Table::Note => Some(Table::NoteGrave),
+            Table::Card => Some(Table::CardGrave),
+            Table::Deck => Some(Table::DeckGrave),
+            Table::Review | Table::NoteType | Table::Options => None,
+            Table::NoteGrave | Table::CardGrave | Table::DeckGrave => None,
+        }
+    }
+
+    /// The table of the rows whose graves it holds: the inverse of `graves`.
+    pub fn buried(self) -> Option<Table>
+        ensures { result ≡ buried_in self }
+    {
+        match self {
+            Table::NoteGrave => Some(Table::Note),
+            Table::CardGrave => Some(Table::Card),
+            Table::DeckGrave => Some(Table::Deck),
+            Table::Note | Table::Card | Table::Deck => None,
+            Table::Review | Table::NoteType | Table::Options => None,
+        }
+    }
+
+    /// The stored code of the graves that its rows leave: 0 for cards, 1 for notes, 2 for decks.
+    pub fn grave_code(self) -> Option<i64>
+        ensures { result ≡ grave_code self }
+    {
+        match self {
+            Table::Card => Some(0),
+            Table::Note => Some(1),
+            Table::Deck => Some(2),
+            Table::Review | Table::NoteType | Table::Options => None,
+            Table::NoteGrave | Table::CardGrave | Table::DeckGrave => None,
+        }
+    }
+
+    /// The stored code of the graves that it holds: 0 for cards, 1 for notes, 2 for decks.
+    pub fn stored_code(self) -> Option<i64>
+        ensures { result ≡ stored_code self }
+    {
+        match self.buried() {
+            Some(table) => table.grave_code(),
+            None => None,
+        }
+    }
+
+    /// The table whose rows leave graves with a stored code: the inverse of `grave_code`.
+    pub fn of_grave_code(code: i64) -> Option<Table>
+        ensures { result ≡ of_grave_code code }
+    {
+        match code {
+            0 => Some(Table::Card),
+            1 => Some(Table::Note),
+            2 => Some(Table::Deck),
+            _ => None,
+        }
+    }
+
     /// Where the table stands in their order, from 0.
     pub fn place(self) -> u8
         ensures { result ≡ table_place self }
@@ -42,6 +131,28 @@ impl Table {
 pub struct Name {
     pub table: Table,
     pub id: i64,
+}
+
+impl Name {
+    /// The name of the grave that a row of this name leaves.
+    pub fn grave(self) -> Option<Name>
+        ensures { result ≡ grave_name self }
+    {
+        match self.table.graves() {
+            Some(table) => Some(Name { table, id: self.id }),
+            None => None,
+        }
+    }
+
+    /// The name of the row whose grave has this name: the inverse of `grave`.
+    pub fn buried(self) -> Option<Name>
+        ensures { result ≡ buried_name self }
+    {
+        match self.table.buried() {
+            Some(table) => Some(Name { table, id: self.id }),
+            None => None,
+        }
+    }
 }
 
 impl PartialEq for Name {

@@ -1,7 +1,10 @@
 ghost use Rattle.std.specs.Prelude.{◌≡◌, IfOk};
 
-use crate::columns::{LAST_USN, code_fault, first_fault, id_fault, long_fault, stamp_fault};
-use crate::{List, Memory, OfField, OfNoteType, OfTemplate, Rest, RowFault, Text};
+use crate::columns::{code_fault, first_fault, id_fault, long_fault, stamp_fault};
+use crate::{
+    LAST_USN, List, Memory, NAME_BYTES, OfField, OfNoteType, OfTemplate, REST_BYTES, Rest,
+    RowFault, TEXT_BYTES, Text,
+};
 
 /// A field that each note of a type has: an object of the key `flds`.
 #[derive(Debug, PartialEq, Drop)]
@@ -43,101 +46,84 @@ pub struct NoteType {
     pub rest: Rest<OfNoteType>,
 }
 
-impl FieldDef {
-    ghost use Rattle.ak_base.specs.NoteTypes.{field_fault, bad_field, fields_fault};
+impl NoteType {
+    ghost use Rattle.ak_base.specs.Columns.{first_fault};
+    ghost use Rattle.ak_base.specs.NoteTypes.{note_type_faults, title_faults, form_faults, place_fault, entries_fault};
 
-    /// The fault of the first field that has one.
-    fn bad_field(fields: &[FieldDef]) -> Option<RowFault>
-        ensures { result ≡ bad_field fields.now }
+    /// The first column that is out of its range. Columns are counted in the order of the fields.
+    #[tactic(auto, using(crate::proofs::FirstFaults::fault_of_front, crate::proofs::FirstFaults::fault_behind))]
+    pub fn check(&self) -> Result<(), RowFault>
+        ensures { result ≡ first_fault (note_type_faults self.now) }
     {
-        for field in fields {
-            if let Some(fault) = field.fault() {
-                return Some(fault);
-            }
+        self.check_title()?;
+        self.check_form()
+    }
+
+    /// What the type is called, and when it was changed.
+    #[tactic(auto, unfolding(crate::specs::NoteTypes::title_faults))]
+    fn check_title(&self) -> Result<(), RowFault>
+        ensures { result ≡ first_fault (title_faults self.now) }
+    {
+        first_fault(&[
+            id_fault(self.id),
+            stamp_fault(self.stamp),
+            code_fault(2, self.usn, -1, LAST_USN),
+            long_fault(3, self.name.as_str().len() as u64, NAME_BYTES),
+        ])
+    }
+
+    /// What notes of the type have, and the rest.
+    #[tactic(auto, unfolding(crate::specs::NoteTypes::form_faults))]
+    fn check_form(&self) -> Result<(), RowFault>
+        ensures { result ≡ first_fault (form_faults self.now) }
+    {
+        first_fault(&[
+            NoteType::place_fault(5, self.sortf, self.fields.as_slice().len() as u64),
+            FieldDef::fields_fault(self.fields.as_slice()),
+            CardTemplate::templates_fault(self.templates.as_slice()),
+            long_fault(8, self.rest.as_str().len() as u64, REST_BYTES),
+        ])
+    }
+
+    /// The fault of a place in a list of this many entries, if there is one.
+    #[tactic(auto, unfolding(crate::specs::NoteTypes::place_fault, crate::specs::Columns::code_fault))]
+    fn place_fault(column: u8, place: i64, entries: u64) -> Option<RowFault>
+        ensures { result ≡ place_fault column place entries }
+    {
+        let last = if entries == 0 { 0 } else { entries - 1 };
+        if place < 0 || place as u64 > last {
+            return Some(RowFault::BadCode {
+                column,
+                value: place,
+            });
         }
         None
     }
 
-    /// The fault of the fields, if there is one.
-    fn fields_fault(fields: &[FieldDef]) -> Option<RowFault>
-        ensures { result ≡ fields_fault fields.now }
+    /// The fault of a list of this many entries in a column that holds 1 to 100, if there is one.
+    #[tactic(auto, unfolding(crate::specs::NoteTypes::entries_fault))]
+    fn entries_fault(column: u8, entries: u64) -> Option<RowFault>
+        ensures { result ≡ entries_fault column entries }
     {
-        match NoteType::entries_fault(6, fields.len() as u64) {
-            Some(fault) => Some(fault),
-            None => FieldDef::bad_field(fields),
+        if entries == 0 {
+            return Some(RowFault::BadCode { column, value: 0 });
         }
+        long_fault(column, entries, 100)
     }
 
-    /// The fault of the field, if there is one.
-    fn fault(&self) -> Option<RowFault>
-        ensures { result ≡ field_fault self.now }
-    {
-        match long_fault(6, self.name.as_str().len() as u64, 512) {
-            Some(fault) => Some(fault),
-            None => long_fault(6, self.rest.as_str().len() as u64, 262_144),
-        }
-    }
-
-    /// An equal field of its own.
-    pub fn copy(&self) -> Result<FieldDef, Memory>
+    /// An equal type of its own.
+    pub fn copy(&self) -> Result<NoteType, Memory>
         ensures { IfOk result (λ made. made ≡ self.now) }
     {
-        Ok(FieldDef {
+        Ok(NoteType {
+            id: self.id,
+            stamp: self.stamp,
+            usn: self.usn,
             name: self.name.copy()?,
-            rest: self.rest.copy()?,
-        })
-    }
-}
-
-impl CardTemplate {
-    ghost use Rattle.ak_base.specs.NoteTypes.{template_fault, bad_template, templates_fault};
-
-    /// The fault of the first template that has one.
-    fn bad_template(templates: &[CardTemplate]) -> Option<RowFault>
-        ensures { result ≡ bad_template templates.now }
-    {
-        for template in templates {
-            if let Some(fault) = template.fault() {
-                return Some(fault);
-            }
-        }
-        None
-    }
-
-    /// The fault of the templates, if there is one.
-    fn templates_fault(templates: &[CardTemplate]) -> Option<RowFault>
-        ensures { result ≡ templates_fault templates.now }
-    {
-        match NoteType::entries_fault(7, templates.len() as u64) {
-            Some(fault) => Some(fault),
-            None => CardTemplate::bad_template(templates),
-        }
-    }
-
-    /// The fault of the template's name and front, if there is one, else that of its back and rest.
-    fn fault(&self) -> Option<RowFault>
-        ensures { result ≡ template_fault self.now }
-    {
-        if let Some(fault) = long_fault(7, self.name.as_str().len() as u64, 512) {
-            return Some(fault);
-        }
-        if let Some(fault) = long_fault(7, self.front.as_str().len() as u64, 65_536) {
-            return Some(fault);
-        }
-        match long_fault(7, self.back.as_str().len() as u64, 65_536) {
-            Some(fault) => Some(fault),
-            None => long_fault(7, self.rest.as_str().len() as u64, 262_144),
-        }
-    }
-
-    /// An equal template of its own.
-    pub fn copy(&self) -> Result<CardTemplate, Memory>
-        ensures { IfOk result (λ made. made ≡ self.now) }
-    {
-        Ok(CardTemplate {
-            name: self.name.copy()?,
-            front: self.front.copy()?,
-            back: self.back.copy()?,
+            cloze: self.cloze,
+            sortf: self.sortf,
+            fields: copy_fields(&self.fields)?,
+            templates: copy_templates(&self.templates)?,
             rest: self.rest.copy()?,
         })
     }
@@ -165,156 +151,102 @@ fn copy_templates(templates: &List<CardTemplate>) -> Result<List<CardTemplate>, 
     Ok(made)
 }
 
-impl NoteType {
-    ghost use Rattle.ak_base.specs.Columns.{first_fault};
-    ghost use Rattle.ak_base.specs.NoteTypes.{note_type_faults, title_faults, form_faults, place_fault, entries_fault};
+impl FieldDef {
+    ghost use Rattle.ak_base.specs.NoteTypes.{field_fault, bad_field, fields_fault};
 
-    /// The fault of a place among so many entries, if there is one.
-    #[tactic(auto, unfolding(crate::specs::NoteTypes::place_fault, crate::specs::Columns::code_fault))]
-    fn place_fault(column: u8, place: i64, entries: u64) -> Option<RowFault>
-        ensures { result ≡ place_fault column place entries }
+    /// An equal field of its own.
+    pub fn copy(&self) -> Result<FieldDef, Memory>
+        ensures { IfOk result (λ made. made ≡ self.now) }
     {
-        let last = if entries == 0 { 0 } else { entries - 1 };
-        if place < 0 || place as u64 > last {
-            return Some(RowFault::BadCode {
-                column,
-                value: place,
-            });
+        Ok(FieldDef {
+            name: self.name.copy()?,
+            rest: self.rest.copy()?,
+        })
+    }
+
+    /// The fault of the fields, if there is one.
+    fn fields_fault(fields: &[FieldDef]) -> Option<RowFault>
+        ensures { result ≡ fields_fault fields.now }
+    {
+        match NoteType::entries_fault(6, fields.len() as u64) {
+            Some(fault) => Some(fault),
+            None => FieldDef::bad_field(fields),
+        }
+    }
+
+    /// The fault of the first field that has one.
+    fn bad_field(fields: &[FieldDef]) -> Option<RowFault>
+        ensures { result ≡ bad_field fields.now }
+    {
+        for field in fields {
+            if let Some(fault) = field.fault() {
+                return Some(fault);
+            }
         }
         None
     }
 
-    /// The fault of a list of so many entries where the column holds 1 to 100, if there is one.
-    #[tactic(auto, unfolding(crate::specs::NoteTypes::entries_fault))]
-    fn entries_fault(column: u8, entries: u64) -> Option<RowFault>
-        ensures { result ≡ entries_fault column entries }
+    /// The fault of the field, if there is one.
+    fn fault(&self) -> Option<RowFault>
+        ensures { result ≡ field_fault self.now }
     {
-        if entries == 0 {
-            return Some(RowFault::BadCode { column, value: 0 });
+        match long_fault(6, self.name.as_str().len() as u64, NAME_BYTES) {
+            Some(fault) => Some(fault),
+            None => long_fault(6, self.rest.as_str().len() as u64, REST_BYTES),
         }
-        long_fault(column, entries, 100)
-    }
-
-    /// What the type is called, and when it was changed.
-    #[tactic(auto, unfolding(crate::specs::NoteTypes::title_faults))]
-    fn check_title(&self) -> Result<(), RowFault>
-        ensures { result ≡ first_fault (title_faults self.now) }
-    {
-        first_fault(&[
-            id_fault(self.id),
-            stamp_fault(self.stamp),
-            code_fault(2, self.usn, -1, LAST_USN),
-            long_fault(3, self.name.as_str().len() as u64, 512),
-        ])
-    }
-
-    /// What notes of the type have, and the rest.
-    #[tactic(auto, unfolding(crate::specs::NoteTypes::form_faults))]
-    fn check_form(&self) -> Result<(), RowFault>
-        ensures { result ≡ first_fault (form_faults self.now) }
-    {
-        first_fault(&[
-            NoteType::place_fault(5, self.sortf, self.fields.as_slice().len() as u64),
-            FieldDef::fields_fault(self.fields.as_slice()),
-            CardTemplate::templates_fault(self.templates.as_slice()),
-            long_fault(8, self.rest.as_str().len() as u64, 262_144),
-        ])
-    }
-
-    /// The first column that is out of its range. Columns are counted in the order of the fields.
-    #[tactic(auto, using(crate::specs::Columns::fault_of_front, crate::specs::Columns::fault_behind))]
-    pub fn check(&self) -> Result<(), RowFault>
-        ensures { result ≡ first_fault (note_type_faults self.now) }
-    {
-        self.check_title()?;
-        self.check_form()
-    }
-
-    /// An equal type of its own.
-    pub fn copy(&self) -> Result<NoteType, Memory>
-        ensures { IfOk result (λ made. made ≡ self.now) }
-    {
-        Ok(NoteType {
-            id: self.id,
-            stamp: self.stamp,
-            usn: self.usn,
-            name: self.name.copy()?,
-            cloze: self.cloze,
-            sortf: self.sortf,
-            fields: copy_fields(&self.fields)?,
-            templates: copy_templates(&self.templates)?,
-            rest: self.rest.copy()?,
-        })
     }
 }
 
-#[cfg(test)]
-mod tests {
-    use super::*;
-    use std::alloc::Global;
+impl CardTemplate {
+    ghost use Rattle.ak_base.specs.NoteTypes.{template_fault, bad_template, templates_fault};
 
-    fn template(alloc: Global) -> Result<CardTemplate, Memory> {
+    /// An equal template of its own.
+    pub fn copy(&self) -> Result<CardTemplate, Memory>
+        ensures { IfOk result (λ made. made ≡ self.now) }
+    {
         Ok(CardTemplate {
-            name: Text::of(alloc, "Card 1")?,
-            front: Text::of(alloc, "{{Front}}")?,
-            back: Text::of(alloc, "{{Back}}")?,
-            rest: Rest::empty(alloc)?,
+            name: self.name.copy()?,
+            front: self.front.copy()?,
+            back: self.back.copy()?,
+            rest: self.rest.copy()?,
         })
     }
 
-    /// A type with so many fields and templates.
-    fn made(alloc: Global, fields: u32, templates: u32, sortf: i64) -> Result<NoteType, Memory> {
-        let mut own_fields = List::new(alloc);
-        for _ in 0..fields {
-            own_fields.push(FieldDef {
-                name: Text::of(alloc, "Front")?,
-                rest: Rest::empty(alloc)?,
-            })?;
+    /// The fault of the templates, if there is one.
+    fn templates_fault(templates: &[CardTemplate]) -> Option<RowFault>
+        ensures { result ≡ templates_fault templates.now }
+    {
+        match NoteType::entries_fault(7, templates.len() as u64) {
+            Some(fault) => Some(fault),
+            None => CardTemplate::bad_template(templates),
         }
-        let mut own_templates = List::new(alloc);
-        for _ in 0..templates {
-            own_templates.push(template(alloc)?)?;
-        }
-        Ok(NoteType {
-            id: 1,
-            stamp: 0,
-            usn: -1,
-            name: Text::of(alloc, "Basic")?,
-            cloze: false,
-            sortf,
-            fields: own_fields,
-            templates: own_templates,
-            rest: Rest::empty(alloc)?,
-        })
     }
 
-    fn bad(column: u8, value: i64) -> Result<(), RowFault> {
-        Err(RowFault::BadCode { column, value })
-    }
-
-    fn long(column: u8, length: u64) -> Result<(), RowFault> {
-        Err(RowFault::TooLong { column, length })
-    }
-
-    #[test]
-    fn the_lists_hold_1_to_100(rt: HostRuntime) -> Result<(), Memory> {
-        // fields, templates, sortf, and what the check answers
-        let cases = [
-            (2, 1, 1, Ok(())),
-            (100, 100, 99, Ok(())),
-            (2, 1, 2, bad(5, 2)),
-            (2, 1, -1, bad(5, -1)),
-            (0, 1, 1, bad(5, 1)),
-            (0, 1, 0, bad(6, 0)),
-            (101, 0, 0, long(6, 101)),
-            (1, 0, 0, bad(7, 0)),
-            (1, 101, 0, long(7, 101)),
-        ];
-        for (fields, templates, sortf, wanted) in cases {
-            let note_type = made(rt.alloc(), fields, templates, sortf)?;
-            assert!(rt; note_type.check() == wanted);
-            assert!(rt; note_type.copy()?.check() == wanted);
+    /// The fault of the first template that has one.
+    fn bad_template(templates: &[CardTemplate]) -> Option<RowFault>
+        ensures { result ≡ bad_template templates.now }
+    {
+        for template in templates {
+            if let Some(fault) = template.fault() {
+                return Some(fault);
+            }
         }
-        Ok(())
+        None
+    }
+
+    /// The fault of the template, if there is one: its name, front, back and rest, in this order.
+    fn fault(&self) -> Option<RowFault>
+        ensures { result ≡ template_fault self.now }
+    {
+        if let Some(fault) = long_fault(7, self.name.as_str().len() as u64, NAME_BYTES) {
+            return Some(fault);
+        }
+        if let Some(fault) = long_fault(7, self.front.as_str().len() as u64, TEXT_BYTES) {
+            return Some(fault);
+        }
+        match long_fault(7, self.back.as_str().len() as u64, TEXT_BYTES) {
+            Some(fault) => Some(fault),
+            None => long_fault(7, self.rest.as_str().len() as u64, REST_BYTES),
+        }
     }
 }

@@ -1,9 +1,12 @@
-ghost use Rattle.std.specs.Prelude.{◌≡◌, IfOk};
+ghost use Rattle.std.specs.Prelude.{◌≡◌, ◌==◌, map, IfOk};
+ghost use Rattle.std.specs.List.{slice_split};
 ghost use Rattle.ak_base.specs.Columns.{first_fault};
+ghost use Rattle.ak_base.specs.NoteTexts.{fields_in, tags_in};
 ghost use Rattle.ak_base.specs.Notes.{note_faults, identity_faults, content_faults};
 
-use crate::columns::{LAST_USN, code_fault, first_fault, id_fault, long_fault, stamp_fault};
-use crate::{Memory, RowFault, Text};
+use crate::columns::{code_fault, first_fault, id_fault, long_fault, stamp_fault};
+use crate::{EXTRA_BYTES, LAST_USN, Memory, RowFault, TAGS_BYTES, TEXT_BYTES, Text};
+use std::alloc::Global;
 
 /// A note, as schema 11's `notes` keeps it: the texts that cards are made of.
 #[derive(Debug, PartialEq, Drop)]
@@ -32,6 +35,15 @@ pub struct Note {
 }
 
 impl Note {
+    /// The first column that is out of its range.
+    #[tactic(auto, using(crate::proofs::FirstFaults::fault_of_front, crate::proofs::FirstFaults::fault_behind))]
+    pub fn check(&self) -> Result<(), RowFault>
+        ensures { result ≡ first_fault (note_faults self.now) }
+    {
+        self.check_identity()?;
+        self.check_content()
+    }
+
     /// What the note is called, its type, and when it was changed.
     #[tactic(auto, unfolding(crate::specs::Notes::identity_faults))]
     fn check_identity(&self) -> Result<(), RowFault>
@@ -52,22 +64,35 @@ impl Note {
         ensures { result ≡ first_fault (content_faults self.now) }
     {
         first_fault(&[
-            long_fault(5, self.tags.as_str().len() as u64, 8_192),
-            long_fault(6, self.flds.as_str().len() as u64, 65_536),
-            long_fault(7, self.sfld.as_str().len() as u64, 65_536),
+            long_fault(5, self.tags.as_str().len() as u64, TAGS_BYTES),
+            long_fault(6, self.flds.as_str().len() as u64, TEXT_BYTES),
+            long_fault(7, self.sfld.as_str().len() as u64, TEXT_BYTES),
             code_fault(8, self.csum, 0, 4_294_967_295),
             code_fault(9, self.flags, 0, 2_147_483_647),
-            long_fault(10, self.extra.as_str().len() as u64, 32_768),
+            long_fault(10, self.extra.as_str().len() as u64, EXTRA_BYTES),
         ])
     }
 
-    /// The first column that is out of its range.
-    #[tactic(auto, using(crate::specs::Columns::fault_of_front, crate::specs::Columns::fault_behind))]
-    pub fn check(&self) -> Result<(), RowFault>
-        ensures { result ≡ first_fault (note_faults self.now) }
+    /// The fields, in their order.
+    pub fn field_list(&self, alloc: Global) -> Result<Vec<&str>, Memory>
+        ensures { IfOk result (λ fields. map (λ field. field.now) fields.items ≡ fields_in self.now.flds) }
     {
-        self.check_identity()?;
-        self.check_content()
+        let fields: Vec<&str> = self.flds.as_str().split('\u{1f}').collect(alloc)?;
+        Ok(fields)
+    }
+
+    /// The tags, in the order in which they are stored.
+    pub fn tag_list(&self, alloc: Global) -> Result<Vec<&str>, Memory>
+        ensures { IfOk result (λ tags. map (λ tag. tag.now) tags.items ≡ tags_in self.now.tags) }
+    {
+        let words = words_of(alloc, self.tags.as_str())?;
+        let mut tags = Vec::new(alloc);
+        for word in words.as_slice() {
+            if !word.is_empty() {
+                tags.push(*word)?;
+            }
+        }
+        Ok(tags)
     }
 
     /// An equal note of its own.
@@ -90,40 +115,10 @@ impl Note {
     }
 }
 
-#[cfg(test)]
-mod tests {
-    use super::*;
-    use std::alloc::Global;
-
-    /// A note whose fields are these.
-    fn note(alloc: Global, flds: &str) -> Result<Note, Memory> {
-        Ok(Note {
-            id: 1_500_000_000_000,
-            guid: Text::of(alloc, "1-0000")?,
-            mid: 1,
-            stamp: 1_600_000_000,
-            usn: -1,
-            tags: Text::of(alloc, "")?,
-            flds: Text::of(alloc, flds)?,
-            sfld: Text::of(alloc, "front")?,
-            csum: 4_294_967_295,
-            flags: 0,
-            extra: Text::of(alloc, "")?,
-        })
-    }
-
-    #[test]
-    fn fields_have_at_most_65536_bytes(rt: HostRuntime) -> Result<(), Memory> {
-        let most = "x".repeat(rt.alloc(), 65_536)?;
-        let good = note(rt.alloc(), most.as_str())?;
-        assert!(rt; good.check() == Ok(()));
-        assert!(rt; good.copy()? == good);
-        let over = "x".repeat(rt.alloc(), 65_537)?;
-        let fault = RowFault::TooLong {
-            column: 6,
-            length: 65_537,
-        };
-        assert!(rt; note(rt.alloc(), over.as_str())?.check() == Err(fault));
-        Ok(())
-    }
+/// The words between spaces, empty ones too.
+fn words_of(alloc: Global, text: &str) -> Result<Vec<&str>, Memory>
+    ensures { IfOk result (λ words. map (λ word. word.now) words.items ≡ slice_split (λ byte. byte == 32) text.now) }
+{
+    let words: Vec<&str> = text.split(' ').collect(alloc)?;
+    Ok(words)
 }

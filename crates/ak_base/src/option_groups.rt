@@ -1,7 +1,8 @@
 ghost use Rattle.std.specs.Prelude.{◌≡◌, IfOk};
 
-use crate::columns::{LAST_USN, code_fault, first_fault, id_fault, long_fault, stamp_fault};
-use crate::{List, Memory, OfOptions, Rest, RowFault, Text};
+use crate::columns::{code_fault, first_fault, id_fault, long_fault, stamp_fault};
+use crate::{LAST_USN, List, Memory, NAME_BYTES, OfOptions, REST_BYTES, Rest, RowFault, Text};
+use std::alloc::Global;
 
 /// How the cards of a deck are scheduled: one of Anki's option groups.
 #[derive(Debug, PartialEq, Drop)]
@@ -43,35 +44,59 @@ pub struct Options {
     pub min_int: i64,
     /// At how many lapses a card is a leech, or 0 for never.
     pub leech_fails: i64,
-    /// 0 where a leech is suspended, else 1.
+    /// 0 if a leech is suspended, else 1.
     pub leech_action: i64,
     pub rest: Rest<OfOptions>,
 }
 
 impl Options {
     ghost use Rattle.ak_base.specs.Columns.{first_fault};
-    ghost use Rattle.ak_base.specs.OptionGroups.{options_faults, general_faults, new_faults, rev_faults, lapse_faults, bad_step, steps_fault};
+    ghost use Rattle.ak_base.specs.OptionGroups.{options_faults, general_faults, new_faults, rev_faults, lapse_faults, bad_step, steps_fault, AreOpeningOptions};
 
-    /// The fault of the first step that is no number of minutes from 1 to 1,000,000.
-    fn bad_step(column: u8, steps: &[i64]) -> Option<RowFault>
-        ensures { result ≡ bad_step column steps.now }
+    /// The options that a collection opens with: group 1, changed at this second. They serve too where no others are held.
+    pub fn opening(alloc: Global, stamp: i64) -> Result<Options, Memory>
+        ensures { IfOk result (AreOpeningOptions stamp) }
     {
-        for step in steps {
-            if let Some(fault) = code_fault(column, *step, 1, 1_000_000) {
-                return Some(fault);
-            }
-        }
-        None
+        let name = Text::of(alloc, "Default")?;
+        let new_steps = List::of(vec![in alloc; 1, 10]?);
+        let lapse_steps = List::of(vec![in alloc; 10]?);
+        let rest = Rest::empty(alloc)?;
+        Ok(Options {
+            id: 1,
+            stamp,
+            usn: -1,
+            name,
+            max_taken: 60,
+            new_steps,
+            grad_ivl: 1,
+            easy_ivl: 4,
+            initial_factor: 2_500,
+            new_per_day: 20,
+            new_bury: false,
+            rev_per_day: 200,
+            ease4: 1_300,
+            ivl_fct: 1_000,
+            max_ivl: 36_500,
+            hard_factor: 1_200,
+            rev_bury: false,
+            lapse_steps,
+            mult: 0,
+            min_int: 1,
+            leech_fails: 8,
+            leech_action: 0,
+            rest,
+        })
     }
 
-    /// The fault of a column of steps, if there is one.
-    fn steps_fault(column: u8, steps: &[i64]) -> Option<RowFault>
-        ensures { result ≡ steps_fault column steps.now }
+    /// The first column that is out of its range. Columns are counted in the order of the fields.
+    #[tactic(auto, using(crate::proofs::FirstFaults::fault_of_front, crate::proofs::FirstFaults::fault_behind))]
+    pub fn check(&self) -> Result<(), RowFault>
+        ensures { result ≡ first_fault (options_faults self.now) }
     {
-        match long_fault(column, steps.len() as u64, 50) {
-            Some(fault) => Some(fault),
-            None => Options::bad_step(column, steps),
-        }
+        self.check_general()?;
+        self.check_new()?;
+        self.check_reviews()?;
+        self.check_lapses()
     }
 
     /// What the group is called, when it was changed, and what serves every card.
@@ -83,7 +108,7 @@ impl Options {
             id_fault(self.id),
             stamp_fault(self.stamp),
             code_fault(2, self.usn, -1, LAST_USN),
-            long_fault(3, self.name.as_str().len() as u64, 512),
+            long_fault(3, self.name.as_str().len() as u64, NAME_BYTES),
             code_fault(4, self.max_taken, 0, 86_400),
         ])
     }
@@ -127,23 +152,45 @@ impl Options {
             code_fault(19, self.min_int, 1, 100_000),
             code_fault(20, self.leech_fails, 0, 999_999),
             code_fault(21, self.leech_action, 0, 1),
-            long_fault(22, self.rest.as_str().len() as u64, 262_144),
+            long_fault(22, self.rest.as_str().len() as u64, REST_BYTES),
         ])
     }
 
-    /// The first column that is out of its range. Columns are counted in the order of the fields.
-    #[tactic(auto, using(crate::specs::Columns::fault_of_front, crate::specs::Columns::fault_behind))]
-    pub fn check(&self) -> Result<(), RowFault>
-        ensures { result ≡ first_fault (options_faults self.now) }
+    /// The fault of a column of steps, if there is one.
+    fn steps_fault(column: u8, steps: &[i64]) -> Option<RowFault>
+        ensures { result ≡ steps_fault column steps.now }
     {
-        self.check_general()?;
-        self.check_new()?;
-        self.check_reviews()?;
-        self.check_lapses()
+        match long_fault(column, steps.len() as u64, 50) {
+            Some(fault) => Some(fault),
+            None => Options::bad_step(column, steps),
+        }
+    }
+
+    /// The fault of the first step that is no number of minutes from 1 to 1,000,000.
+    fn bad_step(column: u8, steps: &[i64]) -> Option<RowFault>
+        ensures { result ≡ bad_step column steps.now }
+    {
+        for step in steps {
+            if let Some(fault) = code_fault(column, *step, 1, 1_000_000) {
+                return Some(fault);
+            }
+        }
+        None
+    }
+
+    /// An equal group of its own.
+    pub fn copy(&self) -> Result<Options, Memory>
+        ensures { IfOk result (λ made. made ≡ self.now) }
+    {
+        let name = self.name.copy()?;
+        let new_steps = self.new_steps.copy()?;
+        let lapse_steps = self.lapse_steps.copy()?;
+        let rest = self.rest.copy()?;
+        Ok(self.assembled(name, new_steps, lapse_steps, rest))
     }
 
     /// An equal group over copies of its texts and steps.
-    fn with_copies(
+    fn assembled(
         &self,
         name: Text,
         new_steps: List<i64>,
@@ -181,70 +228,5 @@ impl Options {
             leech_action: self.leech_action,
             rest,
         }
-    }
-
-    /// An equal group of its own.
-    pub fn copy(&self) -> Result<Options, Memory>
-        ensures { IfOk result (λ made. made ≡ self.now) }
-    {
-        let name = self.name.copy()?;
-        let new_steps = self.new_steps.copy()?;
-        let lapse_steps = self.lapse_steps.copy()?;
-        let rest = self.rest.copy()?;
-        Ok(self.with_copies(name, new_steps, lapse_steps, rest))
-    }
-}
-
-#[cfg(test)]
-mod tests {
-    use super::*;
-    use std::alloc::Global;
-
-    /// The group that a collection opens with, with another number of new cards a day.
-    fn group(alloc: Global, new_per_day: i64) -> Result<Options, Memory> {
-        let mut new_steps = List::new(alloc);
-        new_steps.push(1)?;
-        new_steps.push(10)?;
-        let mut lapse_steps = List::new(alloc);
-        lapse_steps.push(10)?;
-        Ok(Options {
-            id: 1,
-            stamp: 0,
-            usn: -1,
-            name: Text::of(alloc, "Default")?,
-            max_taken: 60,
-            new_steps,
-            grad_ivl: 1,
-            easy_ivl: 4,
-            initial_factor: 2500,
-            new_per_day,
-            new_bury: false,
-            rev_per_day: 200,
-            ease4: 1300,
-            ivl_fct: 1000,
-            max_ivl: 36_500,
-            hard_factor: 1200,
-            rev_bury: false,
-            lapse_steps,
-            mult: 0,
-            min_int: 1,
-            leech_fails: 8,
-            leech_action: 0,
-            rest: Rest::empty(alloc)?,
-        })
-    }
-
-    #[test]
-    fn the_first_fault_has_its_column(rt: HostRuntime) -> Result<(), Memory> {
-        let good = group(rt.alloc(), 20)?;
-        assert!(rt; good.check() == Ok(()));
-        let bad = group(rt.alloc(), 1_000_000)?;
-        let fault = RowFault::BadCode {
-            column: 9,
-            value: 1_000_000,
-        };
-        assert!(rt; bad.check() == Err(fault));
-        assert!(rt; bad.copy()?.check() == Err(fault));
-        Ok(())
     }
 }

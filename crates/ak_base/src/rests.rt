@@ -15,7 +15,7 @@ use serde_json::Value;
 use std::alloc::Global;
 use std::marker::PhantomData;
 
-/// The objects that keep keys which this project does not know: which members are not theirs.
+/// An object that keeps keys which this project does not know: which members are none of its own keys.
 pub trait Owner {
     ghost ignores: { Members → Bool };
 
@@ -116,6 +116,7 @@ impl<O: Owner> Rest<O> {
         })
     }
 
+    /// The compact text of the object.
     pub fn as_str(&self) -> &str
         ensures { result.now ≡ self.now.text }
     {
@@ -128,7 +129,12 @@ impl<O: Owner> Rest<O> {
     {
         match Value::from_str(alloc, self.text.as_str()) {
             Ok(value) => Ok(value),
-            Err(_) => Err(Memory),
+            Err(error) => {
+                // The text is one of an object, so nothing else than memory can be wanting.
+                let memory = error.is_memory();
+                prove!(memory);
+                Err(Memory)
+            }
         }
     }
 

@@ -2,8 +2,8 @@ ghost use Rattle.std.specs.Prelude.{◌≡◌};
 ghost use Rattle.ak_base.specs.Columns.{first_fault};
 ghost use Rattle.ak_base.specs.Reviews.{review_faults};
 
-use crate::RowFault;
-use crate::columns::{LAST_USN, code_fault, first_fault, id_fault};
+use crate::columns::{code_fault, first_fault, id_fault};
+use crate::{LAST_USN, RowFault};
 
 /// One answer of a card, as the review log keeps it: Anki's `revlog`.
 #[derive(Clone, Copy, Debug, PartialEq, Eq)]

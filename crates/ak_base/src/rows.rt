@@ -1,5 +1,5 @@
 ghost use Rattle.std.specs.Prelude.{◌≡◌, IfOk};
-ghost use Rattle.ak_base.specs.Rows.{name_of, stamp_of, usn_of, with_usn, check_of};
+ghost use Rattle.ak_base.specs.Rows.{name_of, stamp_of, usn_of, with_usn, with_stamp, buried_of, check_of};
 
 use crate::{Card, Deck, Grave, Memory, Name, Note, NoteType, Options, Review, RowFault, Table};
 
@@ -13,12 +13,6 @@ pub enum Row {
     Deck(Deck),
     Options(Options),
     Grave(Grave),
-}
-
-fn named(table: Table, id: i64) -> Name
-    ensures { result ≡ record { table = table; id = id } }
-{
-    Name { table, id }
 }
 
 impl Row {
@@ -66,6 +60,7 @@ impl Row {
         }
     }
 
+    /// Puts another update sequence number into the row. It takes no memory.
     pub fn set_usn(&mut self, usn: i64)
         ensures { self.new ≡ with_usn self.old usn }
     {
@@ -77,6 +72,31 @@ impl Row {
             Row::Deck(deck) => deck.usn = usn,
             Row::Options(options) => options.usn = usn,
             Row::Grave(grave) => grave.usn = usn,
+        }
+    }
+
+    /// Puts another time of change, in seconds, into the row. Reviews and graves have none and stay. It takes no memory.
+    pub fn set_stamp(&mut self, stamp: i64)
+        ensures { self.new ≡ with_stamp self.old stamp }
+    {
+        match self {
+            Row::Note(note) => note.stamp = stamp,
+            Row::Card(card) => card.stamp = stamp,
+            Row::NoteType(note_type) => note_type.stamp = stamp,
+            Row::Deck(deck) => deck.stamp = stamp,
+            Row::Options(options) => options.stamp = stamp,
+            Row::Review(_) | Row::Grave(_) => {}
+        }
+    }
+
+    /// The name of the row that was deleted, if this is a grave.
+    pub fn buried(&self) -> Option<Name>
+        ensures { result ≡ buried_of self.now }
+    {
+        match self {
+            Row::Grave(grave) => Some(grave.buried()),
+            Row::Note(_) | Row::Card(_) | Row::Review(_) => None,
+            Row::NoteType(_) | Row::Deck(_) | Row::Options(_) => None,
         }
     }
 
@@ -109,4 +129,11 @@ impl Row {
             Row::Grave(grave) => Ok(Row::Grave(*grave)),
         }
     }
+}
+
+/// The name of a row of a table.
+fn named(table: Table, id: i64) -> Name
+    ensures { result ≡ record { table = table; id = id } }
+{
+    Name { table, id }
 }

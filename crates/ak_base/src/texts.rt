@@ -21,6 +21,7 @@ impl Model for Text {
 }
 
 impl Text {
+    /// A text of its own with these bytes.
     pub fn of(alloc: Global, text: &str) -> Result<Text, Memory>
         ensures { IfOk result (λ made. made ≡ text.now) }
     {
@@ -28,6 +29,7 @@ impl Text {
         Ok(Text { inner })
     }
 
+    /// The text.
     pub fn as_str(&self) -> &str
         ensures { result.now ≡ self.now }
     {

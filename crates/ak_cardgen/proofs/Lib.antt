@@ -1,2 +1,4 @@
-pub mod Places
+pub mod Ascending
+pub mod Emptiness
 pub mod Generating
+pub mod Places

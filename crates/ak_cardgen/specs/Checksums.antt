@@ -8,6 +8,6 @@ use Rattle.ak_filters.specs.Strips.{stripped}
 unfoldable pub first_four : List ℕ → ℕ
 first_four bytes = from_be_bytes w32 (take 4 (sha1 bytes))
 
--- that of the stripped text
+-- the checksum of a text, which is stripped first
 abbrev pub checksum : List ℕ → ℤ
 checksum text = pos (first_four (stripped text))

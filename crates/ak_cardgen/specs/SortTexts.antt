@@ -4,7 +4,7 @@ use Rattle.std.specs.List.{slice_index_or}
 use Rattle.ak_base.specs.declared.note_types.NoteType.{NoteType}
 use Rattle.ak_filters.specs.Strips.{stripped}
 
--- the field at a place, counted from 0
+-- the field at a place, counted from 0; an empty text, if there is none
 abbrev pub field_at : ℤ → List (List ℕ) → List ℕ
 field_at (pos place) fields = slice_index_or fields place []
 field_at (negsuc before) fields = []

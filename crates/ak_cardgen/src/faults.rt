@@ -1,7 +1,7 @@
 use ak_base::Memory;
 use ak_template::TemplateFault;
 
-/// Why the cards of a note cannot be told.
+/// Why the cards of a note can't be told.
 #[derive(Clone, Copy, Debug, PartialEq, Eq)]
 pub enum GenFault {
     /// A front side is no template.

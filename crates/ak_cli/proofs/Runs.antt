@@ -6,16 +6,15 @@ use Rattle.ak_io.specs.Endings.{RunsTo, SoFar}
 use Rattle.ak_io.specs.Lines.{Reading}
 use Rattle.ak_io.specs.Scripts.{output_of}
 use Rattle.ak_io.specs.declared.endings.ScriptEnd.{ScriptEnd}
-use Rattle.ak_io.specs.declared.lines.TheConstants.{INPUT_LIMIT}
 use Rattle.ak_cli.specs.LabRun.{opening_lab, lab_run, run_left}
 use Rattle.ak_cli.specs.Labs.{LabState}
 
 -- at the start the whole script is left
-pub begins_run : (script : Option (List ℕ)) (lab : LabState) (reading : Reading) (w : Option (List ℕ)) → lab ≡ opening_lab → reading ≡ record { ahead = []; room = INPUT_LIMIT; number = 0 }
+pub begins_run : (script : Option (List ℕ)) (lab : LabState) (reading : Reading) (w : Option (List ℕ)) → lab ≡ opening_lab → reading ≡ record { ahead = []; room = 1_073_741_824; number = 0 }
     → SoFar (option_map lab_run script) (run_left lab reading script) w w
 begins_run script lab reading w opens starts = rw (opens, starts) (whole script)
   where
-    whole : (script : Option (List ℕ)) → SoFar (option_map lab_run script) (run_left opening_lab (record { ahead = []; room = INPUT_LIMIT; number = 0 }) script) w w
+    whole : (script : Option (List ℕ)) → SoFar (option_map lab_run script) (run_left opening_lab (record { ahead = []; room = 1_073_741_824; number = 0 }) script) w w
     whole None = tt
     whole (Some script) = (begins w (output_of (lab_run script)), refl)
 

@@ -1,11 +1,11 @@
 -- How a line stops where its printing fails.
 use Rattle.std.proofs.Common.{◌≡◌, ℕ, List, Option, sym, subst}
 use Rattle.ak_io.specs.Scripts.{Step, Goes, AppendsPart, written_lines}
-use Rattle.ak_io.specs.declared.writes.PrintFault.{PrintFault}
-use Rattle.ak_io.specs.declared.writes.PrintFault.TheVariants as prints
 use Rattle.ak_io.specs.Endings.{step_text}
 use Rattle.ak_cli.specs.Steps.{IsOfPrint, Stopped}
 use Rattle.ak_cli.specs.declared.lab.faults.LineFault.{LineFault}
+use Rattle.ak_cli.specs.declared.lab.faults.PrintFault.{PrintFault}
+use Rattle.ak_cli.specs.declared.lab.faults.PrintFault.TheVariants as prints
 
 -- a part of what the step prints was written
 pub print_stopped : {S : Type 0} (step : Step S) (printed : List (List ℕ)) (next : S) (cause : PrintFault) (fault : LineFault) (old new : Option (List ℕ))

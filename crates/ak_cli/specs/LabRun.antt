@@ -4,17 +4,15 @@ use Rattle.std.specs.FinMap.{empty}
 use Rattle.std.specs.Option.{option_map}
 use Rattle.ak_io.specs.Lines.{Reading, lines_within, lines_left}
 use Rattle.ak_io.specs.Scripts.{Run, run_of}
-use Rattle.ak_io.specs.declared.lines.TheConstants.{INPUT_LIMIT}
 use Rattle.ak_cli.specs.Labs.{LabState, lab_step}
-use Rattle.ak_cli.specs.declared.lab.laboratories.TheConstants.{OPENING_MOMENT}
 
--- the clock and the server stand at the first moment; there are no reviews and no devices
+-- the clock and the server's moment are the opening one, in milliseconds; there are no reviews and no devices
 abbrev pub opening_lab : LabState
-opening_lab = record { clock = OPENING_MOMENT; server = record { reviews = empty; moment = OPENING_MOMENT }; devices = [] }
+opening_lab = record { clock = 1_700_000_000_000; server = record { reviews = empty; moment = 1_700_000_000_000 }; devices = [] }
 
--- the run of the script's lines from there
+-- the run of the script's lines from there; a script holds at most so many bytes
 abbrev pub lab_run : List ℕ → Run
-lab_run script = run_of lab_step 1 opening_lab (lines_within INPUT_LIMIT script)
+lab_run script = run_of lab_step 1 opening_lab (lines_within 1_073_741_824 script)
 
 -- the run that is still to come, where the source tells what is left
 abbrev pub run_left : LabState → Reading → Option (List ℕ) → Option Run

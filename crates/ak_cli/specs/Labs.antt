@@ -3,8 +3,8 @@ use Rattle.std.specs.Prelude.{ℕ, Bool, true, not, ◌&&◌, ◌==◌, nat_lt, 
 use Rattle.std.specs.Fmt.{signed_decimal}
 use Rattle.std.specs.Str.{is_utf8}
 use Rattle.ak_io.specs.Scripts.{Step, Goes, Refused}
-use Rattle.ak_io.specs.declared.lines.Taken.{Taken}
-use Rattle.ak_io.specs.declared.lines.Taken.TheVariants.{Line, Long, Past}
+use Rattle.ak_io.specs.declared.lines.Line.{Line}
+use Rattle.ak_io.specs.declared.lines.Line.TheVariants.{Whole, TooLong, PastInput}
 use Rattle.ak_cli.specs.Commands.{words_of, command_of, same_text}
 use Rattle.ak_cli.specs.Devices.{is_device_name, side_of, with_side}
 use Rattle.ak_cli.specs.Sides.{reviewed}
@@ -14,7 +14,6 @@ use Rattle.ak_cli.specs.declared.lab.commands.Command.{Command}
 use Rattle.ak_cli.specs.declared.lab.commands.Command.TheVariants as commands
 use Rattle.ak_cli.specs.declared.lab.devices.Device.{Device}
 use Rattle.ak_cli.specs.declared.lab.laboratories.Lab.{Lab}
-use Rattle.ak_cli.specs.declared.lab.laboratories.TheConstants.{DEVICE_LIMIT}
 use Rattle.ak_cli.specs.declared.lab.sides.Side.{Side}
 use Rattle.ak_cli.specs.declared.lab.syncs.SyncEnd.{SyncEnd}
 use Rattle.ak_cli.specs.declared.lab.syncs.SyncEnd.TheVariants.{Tie, NoChanges, MomentsEnd, Finished}
@@ -25,16 +24,17 @@ pub record LabState : Type 0 where
   pub server : Side
   pub devices : List Device
 
+-- the state of the program's lab
 abbrev pub state_of : Lab → LabState
 state_of lab = record { clock = lab.clock; server = lab.server; devices = lab.devices.items }
 
 abbrev pub bad_line : Step LabState
 bad_line = Refused (codes "bad line")
 
--- `device <name>`: a new device with the server's reviews and moment
+-- `device <name>`: a new device with the server's reviews and moment; there are at most 16
 abbrev pub device_step : List ℕ → LabState → Step LabState
 device_step name lab =
-    if is_device_name name && not (is_some (side_of name lab.devices)) && nat_lt (length lab.devices) DEVICE_LIMIT
+    if is_device_name name && not (is_some (side_of name lab.devices)) && nat_lt (length lab.devices) 16
     then Goes [] (record lab { devices = lab.devices ++ (record { name = name; side = lab.server }) ∷ [] })
     else bad_line
 
@@ -96,7 +96,7 @@ line_step lab bytes =
     else obeyed lab (command_of (words_of bytes))
 
 -- any line
-abbrev pub lab_step : LabState → Taken → Step LabState
-lab_step lab Past = Refused (codes "long input")
-lab_step lab Long = bad_line
-lab_step lab (Line bytes) = line_step lab bytes
+abbrev pub lab_step : LabState → Line → Step LabState
+lab_step lab PastInput = Refused (codes "long input")
+lab_step lab TooLong = bad_line
+lab_step lab (Whole bytes) = line_step lab bytes

@@ -8,8 +8,8 @@ use Rattle.ak_base.specs.declared.names.Table.TheVariants as tables
 use Rattle.ak_base.specs.declared.rows.Row.{Row}
 use Rattle.ak_base.specs.declared.rows.Row.TheVariants as rows
 use Rattle.ak_keep.specs.Collections.{Rows}
-use Rattle.ak_cli.specs.declared.lab.sides.TheConstants.{IDS_END}
 
+-- the name of the review of an id
 abbrev pub review_name : ℕ → Name
 review_name id = record { table = tables.Review; id = pos id }
 
@@ -32,8 +32,9 @@ free_ids (suc left) id (suc count) held =
 
 -- ids begin at 1
 abbrev pub IsId : ℕ → Type 0
-IsId id = (1 ≤ id) × (id < IDS_END)
+IsId id = (1 ≤ id) × (id < 9_007_199_254_740_992)
 
+-- each is an id
 abbrev pub AreIds : List ℕ → Type 0
 AreIds ids = AllByRecursion IsId ids
 

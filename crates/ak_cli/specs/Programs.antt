@@ -7,7 +7,6 @@ use Rattle.ak_io.specs.Scripts.{Run, output_of, AppendsPart}
 use Rattle.ak_cli.specs.Commands.{same_text}
 use Rattle.ak_io.specs.declared.endings.ScriptEnd.{ScriptEnd}
 use Rattle.ak_io.specs.declared.endings.ScriptEnd.TheVariants as ends
-use Rattle.ak_cli.specs.declared.statuses.TheConstants.{DONE, REFUSED, READ_FAILED, WRITE_FAILED, NO_MEMORY}
 
 -- the words are the one word `lab`
 abbrev pub is_lab : List (String Global) → Bool
@@ -19,21 +18,22 @@ is_lab (word ∷ other ∷ others) = false
 abbrev pub usage_line : List ℕ
 usage_line = codes "usage" ++ 10 ∷ []
 
--- the status of a script's end
+-- the status of a script's end: 0 where the input was read to its end, 3 where a line was refused, 4 where the input failed, 5 where
+-- the output failed, 8 where memory ran out
 abbrev pub status_of : ScriptEnd → ℕ
-status_of ends.Done = DONE
-status_of ends.Refused = REFUSED
-status_of ends.ReadFailed = READ_FAILED
-status_of ends.WriteFailed = WRITE_FAILED
-status_of ends.Memory = NO_MEMORY
+status_of ends.Done = 0
+status_of ends.Refused = 3
+status_of ends.ReadFailed = 4
+status_of ends.WriteFailed = 5
+status_of ends.Memory = 8
 
 -- what is written of the script's run by the end with this status
 pub record Prints (status : ℕ) (run : Run) (old new : Option (List ℕ)) : Type 0 where
   -- whatever the status, a front of what the run prints
   pub part : AppendsPart old new (output_of run)
   -- where the work is done, no line is refused, and all is written
-  pub done : status ≡ DONE → (run.refusal ≡ None) × Appends old new (output_of run)
+  pub done : status ≡ 0 → (run.refusal ≡ None) × Appends old new (output_of run)
   -- where a line is refused, all is written, the refusal's text at its end
-  pub refused : status ≡ REFUSED → IsSome run.refusal × Appends old new (output_of run)
+  pub refused : status ≡ 3 → IsSome run.refusal × Appends old new (output_of run)
   -- a run that is refused ends so, unless the input or the output failed or memory was wanting before the text was written
-  pub only_refused : IsSome run.refusal → (status ≡ REFUSED) ⊎ (status ≡ READ_FAILED) ⊎ (status ≡ WRITE_FAILED) ⊎ (status ≡ NO_MEMORY)
+  pub only_refused : IsSome run.refusal → (status ≡ 3) ⊎ (status ≡ 4) ⊎ (status ≡ 5) ⊎ (status ≡ 8)

@@ -1,13 +1,13 @@
 -- How a line of a script went, beside what its step says.
 use Rattle.std.specs.Prelude.{◌≡◌, ℕ, List, Option, Result, ⊤}
 use Rattle.std.specs.Io.KnownBytes.{Appends, Keeps}
-use Rattle.ak_faults.specs.Causes.{HasCauseOf}
+use Rattle.ak_faults.specs.Causes.{Health, HasCauseOf}
 use Rattle.ak_io.specs.Endings.{step_text}
 use Rattle.ak_io.specs.Scripts.{Step, Goes, Refused, AppendsPart, written_lines}
-use Rattle.ak_io.specs.declared.writes.PrintFault.{PrintFault}
-use Rattle.ak_io.specs.declared.writes.PrintFault.TheVariants as prints
 use Rattle.ak_cli.specs.declared.lab.faults.LineFault.{LineFault}
 use Rattle.ak_cli.specs.declared.lab.faults.LineFault.TheVariants as faults
+use Rattle.ak_cli.specs.declared.lab.faults.PrintFault.{PrintFault}
+use Rattle.ak_cli.specs.declared.lab.faults.PrintFault.TheVariants as prints
 
 -- the refusal by the text, or want of memory for it
 abbrev pub IsRefusal : List ℕ → LineFault → Type 0
@@ -37,6 +37,10 @@ Stopped step (faults.Refused text) old new = (step ≡ Refused text) × Keeps ol
 Stopped step faults.Failed old new = AppendsPart old new (step_text step)
 Stopped step faults.Memory old new = AppendsPart old new (step_text step)
 
--- the count of the output never falls, and it rose where the output failed
-abbrev pub LineCause : {T : Type 0} → ℕ → ℕ → Result T LineFault → Type 0
+-- the output failed only if it counted a fault
+abbrev pub PrintCause : {T : Type 0} → Health → Health → Result T PrintFault → Type 0
+PrintCause before now result = HasCauseOf prints.Failed before now result
+
+-- the same of a line
+abbrev pub LineCause : {T : Type 0} → Health → Health → Result T LineFault → Type 0
 LineCause before now result = HasCauseOf faults.Failed before now result

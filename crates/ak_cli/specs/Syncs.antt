@@ -2,8 +2,8 @@
 use Rattle.std.specs.Prelude.{ℕ, max, ◌==◌, if◌then◌else◌, Option, Some, None}
 use Rattle.ak_base.specs.declared.names.Name.{Name}
 use Rattle.ak_keep.specs.Collections.{union}
-use Rattle.ak_merge.specs.Ties.{first_tie}
-use Rattle.ak_cli.specs.Sides.{raised}
+use Rattle.ak_merge.specs.Unions.{first_tie}
+use Rattle.ak_cli.specs.Sides.{advanced}
 use Rattle.ak_cli.specs.declared.lab.sides.Side.{Side}
 use Rattle.ak_cli.specs.declared.lab.syncs.SyncEnd.{SyncEnd}
 use Rattle.ak_cli.specs.declared.lab.syncs.SyncEnd.TheVariants.{Tie, NoChanges, MomentsEnd, Finished}
@@ -22,7 +22,7 @@ joined device server (Some moment) = Finished (joined_side device server moment)
 abbrev pub unless_tied : ℕ → Side → Side → Option Name → SyncEnd
 unless_tied at device server (Some name) = Tie name.id
 unless_tied at device server None =
-    if device.moment == server.moment then NoChanges else joined device server (raised at (max device.moment server.moment))
+    if device.moment == server.moment then NoChanges else joined device server (advanced at (max device.moment server.moment))
 
 -- how the sync ends
 abbrev pub synced : ℕ → Side → Side → SyncEnd

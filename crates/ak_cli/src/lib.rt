@@ -4,9 +4,7 @@
 mod lab;
 mod programs;
 mod statuses;
-#[cfg(test)]
-mod tests;
 
 pub use lab::laws::{a_finished_sync_joins, new_ids_are_the_least};
-pub use programs::run;
+pub use programs::{print_usage, run};
 pub use statuses::{DONE, NO_MEMORY, READ_FAILED, REFUSED, USAGE, WRITE_FAILED};

@@ -1,5 +1,5 @@
-ghost use Rattle.std.specs.Prelude.{◌≡◌, ◌≤◌};
-ghost use Rattle.ak_faults.specs.Calls.{is_named};
+ghost use Rattle.std.specs.Prelude.{◌≡◌, ◌≤◌, true, false};
+ghost use Rattle.ak_faults.specs.Calls.{is_named, names_none};
 ghost use Rattle.ak_faults.specs.Causes.{one_more};
 
 /// The calls that can fail, of an object that does so only where it is told to: how many came, which of
@@ -35,6 +35,7 @@ impl Calls {
     /// Counts a call, and answers whether it is to fail.
     pub fn is_next_named(&mut self) -> bool
         ensures named { result ≡ is_named self.old.count self.old.fails.items }
+        ensures calm { names_none self.old.fails.items ≡ true → result ≡ false }
         ensures count { self.new.count ≡ one_more self.old.count }
         ensures fails { self.new.fails ≡ self.old.fails }
         ensures faults { self.new.faults ≡ self.old.faults }

@@ -3,7 +3,5 @@
 #![tactic(auto)]
 
 mod counters;
-#[cfg(test)]
-mod tests;
 
 pub use counters::Calls;

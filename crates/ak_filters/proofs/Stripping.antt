@@ -2,7 +2,7 @@
 use Rattle.std.proofs.Common.{◌≡◌, ℕ, zero, suc, true, false, ◌&&◌, ◌||◌, cond, List, [], ◌∷◌, ◌++◌, drop, refl, ap, sym, ◌∙◌, arith}
 use Rattle.std.specs.Prelude.{codes}
 use Rattle.std.proofs.lemmas.Bool.{or_parts}
-use Rattle.ak_filters.specs.Cuts.{begins, has, front, behind}
+use Rattle.ak_base.specs.Cuts.{begins, has, front, behind}
 use Rattle.ak_filters.specs.Strips.{removed, spaced}
 
 past_piece : (xs : List ℕ) → removed true xs ≡ removed false (behind (codes ">") xs)

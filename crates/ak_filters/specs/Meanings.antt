@@ -21,6 +21,7 @@ formed Strip turn text = stripped text
 formed Hint turn text = if length text == 0 then [] else codes "<a class=hint id=hint" ++ (decimal turn ++ (codes ">" ++ (text ++ codes "</a>")))
 formed (Wrap before after) turn text = before ++ (text ++ after)
 
+-- the text that the filter makes next of this one
 abbrev pub filtered : Meaning → List ℕ → List ℕ
 filtered meaning text = formed meaning.form meaning.turn text
 

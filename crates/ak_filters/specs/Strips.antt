@@ -1,20 +1,20 @@
 -- A text without its marks of HTML, and when a field is empty.
 use Rattle.std.specs.Prelude.{ℕ, zero, suc, Bool, true, false, ◌&&◌, ◌||◌, ◌==◌, if◌then◌else◌, List, [], ◌∷◌, codes}
-use Rattle.ak_filters.specs.Cuts.{begins, has}
+use Rattle.ak_base.specs.Cuts.{begins, has}
 
--- without each piece from `<` to the next `>`: a `<` with no `>` behind it stays. The truth value says whether
--- the bytes begin inside a piece
+-- without each piece from `<` to the next `>`: a `<` with no `>` after it stays. The truth value says if the bytes begin inside a piece
 abbrev pub removed : Bool → List ℕ → List ℕ
 removed inside [] = []
 removed true (byte ∷ bytes) = if begins (codes ">") (byte ∷ bytes) then removed false bytes else removed true bytes
 removed false (byte ∷ bytes) = if begins (codes "<") (byte ∷ bytes) && has (codes ">") bytes then removed true bytes else byte ∷ removed false bytes
 
--- with a space in place of each `&nbsp;`. The number is how many bytes are still of one that was replaced
+-- with a space in place of each `&nbsp;`. The number is how many bytes still belong to one that was replaced
 abbrev pub spaced : ℕ → List ℕ → List ℕ
 spaced left [] = []
 spaced (suc left) (byte ∷ bytes) = spaced left bytes
 spaced zero (byte ∷ bytes) = if begins (codes "&nbsp;") (byte ∷ bytes) then 32 ∷ spaced 5 bytes else byte ∷ spaced 0 bytes
 
+-- the text without its pieces, and then with a space for each `&nbsp;`
 abbrev pub stripped : List ℕ → List ℕ
 stripped text = spaced 0 (removed false text)
 
@@ -22,10 +22,11 @@ stripped text = spaced 0 (removed false text)
 abbrev pub is_white : ℕ → Bool
 is_white byte = (byte == 32) || (byte == 9) || (byte == 10) || (byte == 12) || (byte == 13)
 
+-- nothing but white space
 abbrev pub blank : List ℕ → Bool
 blank [] = true
 blank (byte ∷ bytes) = is_white byte && blank bytes
 
--- whether a field of that value is empty
+-- a field with this value counts as empty
 abbrev pub empty_value : List ℕ → Bool
 empty_value text = blank (stripped text)

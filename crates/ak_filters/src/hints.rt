@@ -21,6 +21,7 @@ impl HintFilter {
     }
 }
 
+/// The link that hides the text, with its number; an empty text needs none.
 fn hint_of(alloc: Global, turn: u64, text: &str) -> Result<Text, Memory>
     ensures { IfOk result (λ made. made ≡ formed Hint turn text.now) }
 {
@@ -33,7 +34,7 @@ fn hint_of(alloc: Global, turn: u64, text: &str) -> Result<Text, Memory>
 
 impl FieldFilter for HintFilter {
     ghost use Rattle.std.specs.Prelude.{codes};
-    ghost use Rattle.ak_filters.specs.Meanings.{Meaning, Hint};
+    ghost use Rattle.ak_filters.specs.Meanings.{Hint};
 
     ghost meaning = { λ filter. record { name = codes "hint"; form = Hint; turn = filter.turn } };
 

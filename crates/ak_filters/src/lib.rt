@@ -1,14 +1,12 @@
 // The filters of a field's text: the trait by which a page applies them, and the two that every desk has.
 #![tactic(auto)]
 
-mod cuts;
 mod filters;
 mod hints;
+mod laws;
 mod strips;
-#[cfg(test)]
-mod tests;
 
-pub use cuts::cut;
 pub use filters::FieldFilter;
 pub use hints::HintFilter;
+pub use laws::{a_piece_goes, a_space_comes, plain_text_stays, strip_again};
 pub use strips::{TextFilter, is_blank, is_empty_value, strip};

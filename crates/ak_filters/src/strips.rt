@@ -1,21 +1,25 @@
-ghost use Rattle.std.specs.Prelude.{◌≡◌, ◌++◌, ◌∷◌, ◌<◌, length, true, false, IfSome, IfNone, IfOk, OnOk, OnErr, string_bytes, codes};
+ghost use Rattle.std.specs.Prelude.{◌≡◌, ◌++◌, ◌∷◌, ◌<◌, ◌≤◌, length, true, false, IfSome, IfNone, IfOk, string_bytes, codes};
 ghost use Rattle.ak_filters.specs.Strips.{removed, spaced, stripped, blank, empty_value};
-ghost use Rattle.ak_filters.specs.Meanings.{Meaning, Strip};
+ghost use Rattle.ak_filters.specs.Meanings.{Strip};
 
-use crate::{FieldFilter, cut};
-use ak_base::{Memory, Text};
+use crate::FieldFilter;
+use ak_base::{Memory, Text, cut};
 use std::alloc::{AllocError, Global};
 
 /// The text without its pieces from `<` to the next `>`, and then with a space for each `&nbsp;`.
+#[tactic(auto, using(crate::proofs::Stripped::stripped_length))]
 pub fn strip(alloc: Global, text: &str) -> Result<Text, Memory>
-    ensures { IfOk result (λ made. made ≡ stripped text.now) }
+    ensures text { IfOk result (λ made. made ≡ stripped text.now) }
+
+    // It is never longer than the text.
+    ensures length { IfOk result (λ made. length made ≤ length text.now) }
 {
     let kept = remove_pieces(alloc, text)?;
     let made = put_spaces(alloc, &kept)?;
     Text::of(alloc, &made)
 }
 
-// What stands in front of the first piece, and what behind it.
+/// The text before its first piece, and the text after it. A `<` with no `>` after it begins no piece.
 fn around_piece(text: &str) -> Option<(&str, &str)>
     ensures steps { IfSome result (λ parts. removed false text.now ≡ parts.0.now ++ removed false parts.1.now) }
     ensures shorter { IfSome result (λ parts. length parts.1.now < length text.now) }
@@ -26,6 +30,7 @@ fn around_piece(text: &str) -> Option<(&str, &str)>
     Some((kept, others))
 }
 
+/// The text without its pieces.
 fn remove_pieces(alloc: Global, text: &str) -> Result<String, Memory>
     ensures { IfOk result (λ made. string_bytes made ≡ removed false text.now) }
 {
@@ -39,7 +44,7 @@ fn remove_pieces(alloc: Global, text: &str) -> Result<String, Memory>
     Ok(made)
 }
 
-// What stands in front of the first `&nbsp;`, and what behind it.
+/// The text before the first `&nbsp;`, and the text after it.
 fn around_space(text: &str) -> Option<(&str, &str)>
     ensures steps { IfSome result (λ parts. spaced 0 text.now ≡ parts.0.now ++ (32 ∷ spaced 0 parts.1.now)) }
     ensures shorter { IfSome result (λ parts. length parts.1.now < length text.now) }
@@ -51,6 +56,7 @@ fn around_space(text: &str) -> Option<(&str, &str)>
     }
 }
 
+/// The text with a space for each `&nbsp;`.
 fn put_spaces(alloc: Global, text: &str) -> Result<String, Memory>
     ensures { IfOk result (λ made. string_bytes made ≡ spaced 0 text.now) }
 {
@@ -65,7 +71,7 @@ fn put_spaces(alloc: Global, text: &str) -> Result<String, Memory>
     Ok(made)
 }
 
-/// Whether there is nothing but ASCII white space.
+/// Whether there is nothing but ASCII white space: space, tab, line feed, form feed, carriage return.
 pub fn is_blank(text: &str) -> bool
     ensures { result ≡ blank text.now }
 {
@@ -78,7 +84,7 @@ pub fn is_blank(text: &str) -> bool
     true
 }
 
-/// Whether a field of that value is empty.
+/// Whether a field with this value counts as empty: nothing but white space is left when it is stripped.
 pub fn is_empty_value(alloc: Global, text: &str) -> Result<bool, Memory>
     ensures { IfOk result (λ empty. empty ≡ empty_value text.now) }
 {
@@ -104,7 +110,7 @@ impl TextFilter {
 
 impl FieldFilter for TextFilter {
     ghost use Rattle.std.specs.Prelude.{codes};
-    ghost use Rattle.ak_filters.specs.Meanings.{Meaning, Strip};
+    ghost use Rattle.ak_filters.specs.Meanings.{Strip};
 
     ghost meaning = { λ filter. record { name = codes "text"; form = Strip; turn = filter.turn } };
 

@@ -7,8 +7,8 @@ use Rattle.std.proofs.lemmas.Bool.Decides.{nat_tests}
 use Rattle.std.proofs.lemmas.List.{length-append}
 use Rattle.std.proofs.lemmas.List.Sums.{sum_by-append, sum_by-cons}
 use Rattle.std.proofs.Math.Seq.{take-append-add}
-use Rattle.ak_io.specs.declared.lines.Taken.TheVariants.{Past}
-use Rattle.ak_io.specs.Lines.{is_line_feed, begun_with, lines_of, ended_lines, taken, lines_within, has_feed, first_line, behind, first_size}
+use Rattle.ak_io.specs.declared.lines.Line.TheVariants.{PastInput}
+use Rattle.ak_io.specs.Lines.{is_line_feed, begun_with, lines_of, ended_lines, as_read, lines_within, has_feed, first_line, behind, first_size}
 
 -- ---- the first line
 
@@ -180,55 +180,55 @@ no_feed_within (suc room) (x ∷ xs) h =
     [ true ↦ λ e. absurd (omega arith) | false ↦ λ e. no_feed_within room xs (omega arith) ] h
 
 pub none_within : (room : ℕ) → lines_within room [] ≡ []
-none_within room = ap (λ t. if t then map taken (ended_lines (take room [])) ++ Past ∷ [] else []) (le-ltb room 0 (omega arith))
+none_within room = ap (λ t. if t then map as_read (ended_lines (take room [])) ++ PastInput ∷ [] else []) (le-ltb room 0 (omega arith))
 
 -- the input ends within the first line
-pub past_within : (room : ℕ) (xs : List ℕ) → room < first_size xs → lines_within room xs ≡ Past ∷ []
+pub past_within : (room : ℕ) (xs : List ℕ) → room < first_size xs → lines_within room xs ≡ PastInput ∷ []
 past_within room xs h =
-    ap (λ t. if t then map taken (ended_lines (take room xs)) ++ Past ∷ [] else map taken (lines_of xs)) (lt-ltb room (length xs) (omega (arith, size_le xs)))
-    ∙ ap (λ l. map taken l ++ Past ∷ []) (ended_none (take room xs) (no_feed_within room xs h))
+    ap (λ t. if t then map as_read (ended_lines (take room xs)) ++ PastInput ∷ [] else map as_read (lines_of xs)) (lt-ltb room (length xs) (omega (arith, size_le xs)))
+    ∙ ap (λ l. map as_read l ++ PastInput ∷ []) (ended_none (take room xs) (no_feed_within room xs h))
 
 within_ended : (room : ℕ) (line rest : List ℕ) → has_feed line ≡ false → length line + 1 ≤ room
-    → lines_within room (line ++ 10 ∷ rest) ≡ taken line ∷ lines_within (room - (length line + 1)) rest
+    → lines_within room (line ++ 10 ∷ rest) ≡ as_read line ∷ lines_within (room - (length line + 1)) rest
 within_ended room line rest h fits =
     let left = room - (length line + 1) in
     let same : nat_lt room (length (line ++ 10 ∷ rest)) ≡ nat_lt left (length rest) = grind (arith, nat_tests, length-append line (10 ∷ rest)) in
     let whole : room ≡ length line + suc left = omega arith in
     let front : take room (line ++ 10 ∷ rest) ≡ line ++ 10 ∷ take left rest =
     ap (λ n. take n (line ++ 10 ∷ rest)) whole ∙ take-append-add line (10 ∷ rest) (suc left) in
-    ap (λ t. if t then map taken (ended_lines (take room (line ++ 10 ∷ rest))) ++ Past ∷ [] else map taken (lines_of (line ++ 10 ∷ rest))) same
-    ∙ elim (nat_lt left (length rest)) as (λ t. (if t then map taken (ended_lines (take room (line ++ 10 ∷ rest))) ++ Past ∷ [] else map taken (lines_of (line ++ 10 ∷ rest)))
-    ≡ taken line ∷ (if t then map taken (ended_lines (take left rest)) ++ Past ∷ [] else map taken (lines_of rest))) [
-      | true ↦ ap (λ l. map taken (ended_lines l) ++ Past ∷ []) front ∙ ap (λ l. map taken l ++ Past ∷ []) (ended_joined line (take left rest) h)
-      | false ↦ ap (map taken) (lines_joined line rest h)
+    ap (λ t. if t then map as_read (ended_lines (take room (line ++ 10 ∷ rest))) ++ PastInput ∷ [] else map as_read (lines_of (line ++ 10 ∷ rest))) same
+    ∙ elim (nat_lt left (length rest)) as (λ t. (if t then map as_read (ended_lines (take room (line ++ 10 ∷ rest))) ++ PastInput ∷ [] else map as_read (lines_of (line ++ 10 ∷ rest)))
+    ≡ as_read line ∷ (if t then map as_read (ended_lines (take left rest)) ++ PastInput ∷ [] else map as_read (lines_of rest))) [
+      | true ↦ ap (λ l. map as_read (ended_lines l) ++ PastInput ∷ []) front ∙ ap (λ l. map as_read l ++ PastInput ∷ []) (ended_joined line (take left rest) h)
+      | false ↦ ap (map as_read) (lines_joined line rest h)
     ]
 
 -- the first line is within the input
 pub first_within : (room x : ℕ) (xs : List ℕ) → first_size (x ∷ xs) ≤ room
-    → lines_within room (x ∷ xs) ≡ taken (first_line (x ∷ xs)) ∷ lines_within (room - first_size (x ∷ xs)) (behind (x ∷ xs))
+    → lines_within room (x ∷ xs) ≡ as_read (first_line (x ∷ xs)) ∷ lines_within (room - first_size (x ∷ xs)) (behind (x ∷ xs))
 first_within room x xs fits =
     elim (has_feed (x ∷ xs)) as (λ t. has_feed (x ∷ xs) ≡ t
-    → lines_within room (x ∷ xs) ≡ taken (first_line (x ∷ xs)) ∷ lines_within (room - first_size (x ∷ xs)) (behind (x ∷ xs))) [
+    → lines_within room (x ∷ xs) ≡ as_read (first_line (x ∷ xs)) ∷ lines_within (room - first_size (x ∷ xs)) (behind (x ∷ xs))) [
       | true ↦ λ e.
           let size = size_of_ended (x ∷ xs) e in
           ap (lines_within room) (split_ended (x ∷ xs) e)
           ∙ within_ended room (first_line (x ∷ xs)) (behind (x ∷ xs)) (line_has_no_feed (x ∷ xs)) (omega arith)
-          ∙ ap (λ n. taken (first_line (x ∷ xs)) ∷ lines_within (room - n) (behind (x ∷ xs))) (sym size)
+          ∙ ap (λ n. as_read (first_line (x ∷ xs)) ∷ lines_within (room - n) (behind (x ∷ xs))) (sym size)
       | false ↦ λ e.
           let whole = unended (x ∷ xs) e in
-          ap (λ t. if t then map taken (ended_lines (take room (x ∷ xs))) ++ Past ∷ [] else map taken (lines_of (x ∷ xs))) (le-ltb room (length (x ∷ xs)) (omega (arith, whole.size)))
-          ∙ ap (map taken) (lines_single x xs e)
-          ∙ ap (λ line. taken line ∷ []) (sym whole.line)
-          ∙ ap (λ lines. taken (first_line (x ∷ xs)) ∷ lines) (sym (none_within (room - first_size (x ∷ xs))) ∙ ap (lines_within (room - first_size (x ∷ xs))) (sym whole.rest))
+          ap (λ t. if t then map as_read (ended_lines (take room (x ∷ xs))) ++ PastInput ∷ [] else map as_read (lines_of (x ∷ xs))) (le-ltb room (length (x ∷ xs)) (omega (arith, whole.size)))
+          ∙ ap (map as_read) (lines_single x xs e)
+          ∙ ap (λ line. as_read line ∷ []) (sym whole.line)
+          ∙ ap (λ lines. as_read (first_line (x ∷ xs)) ∷ lines) (sym (none_within (room - first_size (x ∷ xs))) ∙ ap (lines_within (room - first_size (x ∷ xs))) (sym whole.rest))
     ] refl
 
 -- the lines of an input that is not empty, from the front
 pub lines_from_front : (room x : ℕ) (xs : List ℕ)
-    → lines_within room (x ∷ xs) ≡ (if nat_lt room (first_size (x ∷ xs)) then Past ∷ []
-    else taken (first_line (x ∷ xs)) ∷ lines_within (room - first_size (x ∷ xs)) (behind (x ∷ xs)))
+    → lines_within room (x ∷ xs) ≡ (if nat_lt room (first_size (x ∷ xs)) then PastInput ∷ []
+    else as_read (first_line (x ∷ xs)) ∷ lines_within (room - first_size (x ∷ xs)) (behind (x ∷ xs)))
 lines_from_front room x xs =
     elim (nat_lt room (first_size (x ∷ xs))) as (λ t. nat_lt room (first_size (x ∷ xs)) ≡ t
-    → lines_within room (x ∷ xs) ≡ (if t then Past ∷ [] else taken (first_line (x ∷ xs)) ∷ lines_within (room - first_size (x ∷ xs)) (behind (x ∷ xs))))
+    → lines_within room (x ∷ xs) ≡ (if t then PastInput ∷ [] else as_read (first_line (x ∷ xs)) ∷ lines_within (room - first_size (x ∷ xs)) (behind (x ∷ xs))))
     [ true ↦ λ e. past_within room (x ∷ xs) (ltb-true _ _ e) | false ↦ λ e. first_within room x xs (ltb-false _ _ e) ] refl
 
 -- what follows makes the first line no shorter
@@ -240,6 +240,6 @@ size_joined_le (x ∷ xs) ys =
 
 -- the first line of any bytes is within the input
 pub within_first : (room : ℕ) (bytes : List ℕ) → 0 < first_size bytes → first_size bytes ≤ room
-    → lines_within room bytes ≡ taken (first_line bytes) ∷ lines_within (room - first_size bytes) (behind bytes)
+    → lines_within room bytes ≡ as_read (first_line bytes) ∷ lines_within (room - first_size bytes) (behind bytes)
 within_first room [] above fits = absurd (omega arith)
 within_first room (x ∷ xs) above fits = first_within room x xs fits

@@ -7,7 +7,7 @@ use Rattle.ak_io.proofs.Readings.{takes_first}
 use Rattle.ak_io.proofs.Scripts.{part_longer, part_after, output_goes}
 use Rattle.ak_io.specs.Lines.{Takes}
 use Rattle.ak_io.specs.Scripts.{Step, Goes, Refused, Run, by_step, printed_before, run_of, written_lines, output_of, AppendsPart, Reached}
-use Rattle.ak_io.specs.declared.lines.Taken.{Taken}
+use Rattle.ak_io.specs.declared.lines.Line.{Line}
 use Rattle.ak_io.specs.Endings.{RunsTo, SoFar, refused_run, step_text}
 use Rattle.ak_io.specs.declared.endings.ScriptEnd.{ScriptEnd}
 use Rattle.ak_io.specs.declared.endings.ScriptEnd.TheVariants as stops_at
@@ -48,7 +48,7 @@ continues (Some whole) (Some mid) (Some rest) w0 w1 w2 ((front, split, so_far), 
 -- ---- the line that stops a run
 
 -- a part of what the line prints is a part of what the run prints
-part_of_line : {S : Type 0} (step : S → Taken → Step S) (number : ℕ) (state : S) (line : Taken) (lines : List Taken) (outcome : Step S) (w0 w1 : Option (List ℕ))
+part_of_line : {S : Type 0} (step : S → Line → Step S) (number : ℕ) (state : S) (line : Line) (lines : List Line) (outcome : Step S) (w0 w1 : Option (List ℕ))
     → step state line ≡ outcome → AppendsPart w0 w1 (step_text outcome) → AppendsPart w0 w1 (output_of (run_of step number state (line ∷ lines)))
 part_of_line step number state line lines (Goes printed next) w0 w1 goes part =
     subst (AppendsPart w0 w1) (sym (output_goes step number state line lines printed next goes))
@@ -56,7 +56,7 @@ part_of_line step number state line lines (Goes printed next) w0 w1 goes part =
 part_of_line step number state line lines (Refused text) w0 w1 refused part =
     part_longer w0 w1 [] (output_of (run_of step number state (line ∷ lines))) part
 
-pub stopped_run : {S : Type 0} (step : S → Taken → Step S) (number : ℕ) (state : S) (line : Taken) (old new : Option (List Taken)) (w0 w1 : Option (List ℕ))
+pub stopped_run : {S : Type 0} (step : S → Line → Step S) (number : ℕ) (state : S) (line : Line) (old new : Option (List Line)) (w0 w1 : Option (List ℕ))
     → Takes old new (Some line) → AppendsPart w0 w1 (step_text (step state line))
     → IfSome (option_map (run_of step number state) old) (λ run. AppendsPart w0 w1 (output_of run))
 stopped_run step number state line None new w0 w1 takes part = tt
@@ -71,14 +71,14 @@ behind_nothing end run w0 w1 w2 kept ran =
     runs_behind end run run w0 w1 w2 (([], refl, Appends-kept w0 w0 w1 [] (Appends-nil w0) kept), refl) ran
 
 -- the run of lines of which the first is refused
-refused_first : {S : Type 0} (step : S → Taken → Step S) (number : ℕ) (state : S) (line : Taken) (lines : List Taken) (text : List ℕ)
+refused_first : {S : Type 0} (step : S → Line → Step S) (number : ℕ) (state : S) (line : Line) (lines : List Line) (text : List ℕ)
     → step state line ≡ Refused text → run_of step number state (line ∷ lines) ≡ refused_run number text
 refused_first {S} step number state line lines text refused =
     ap (λ (outcome : Step S). by_step outcome
     (λ printed next. printed_before printed (run_of step (number + 1) next lines))
     (λ text. record { printed = []; refusal = Some (number, text) })) refused
 
-pub refused_line : {S : Type 0} (step : S → Taken → Step S) (end : ScriptEnd) (number : ℕ) (state : S) (line : Taken) (old new : Option (List Taken)) (text : List ℕ) (w0 w1 w2 : Option (List ℕ))
+pub refused_line : {S : Type 0} (step : S → Line → Step S) (end : ScriptEnd) (number : ℕ) (state : S) (line : Line) (old new : Option (List Line)) (text : List ℕ) (w0 w1 w2 : Option (List ℕ))
     → Takes old new (Some line) → step state line ≡ Refused text → Keeps w0 w1 → RunsTo end (refused_run number text) w1 w2
     → IfSome (option_map (run_of step number state) old) (λ run. RunsTo end run w0 w2)
 refused_line step end number state line None new text w0 w1 w2 takes refused kept ran = tt

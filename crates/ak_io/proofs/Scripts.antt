@@ -5,7 +5,7 @@ use Rattle.std.proofs.lemmas.Grind.{flat_map-append}
 use Rattle.std.specs.Io.KnownBytes.{Appends, Keeps}
 use Rattle.std.specs.Option.{option_map, option_to_list}
 use Rattle.std.proofs.KnownBytes.{Appends-nil, Appends-trans, Appends-kept}
-use Rattle.ak_io.specs.declared.lines.Taken.{Taken}
+use Rattle.ak_io.specs.declared.lines.Line.{Line}
 use Rattle.ak_io.specs.Scripts.{Step, Goes, Refused, Run, by_step, printed_before, run_of, written_lines, refusal_line, output_of, AppendsPart, Reached}
 
 -- ---- a part of what is to be written
@@ -82,7 +82,7 @@ output_before printed run =
     ap written_lines (append_assoc printed run.printed tail) ∙ written_lines_append printed (run.printed ++ tail)
 
 -- the bytes of a run whose first line goes
-pub output_goes : {S : Type 0} (step : S → Taken → Step S) (n : ℕ) (s : S) (line : Taken) (lines : List Taken) (printed : List (List ℕ)) (next : S)
+pub output_goes : {S : Type 0} (step : S → Line → Step S) (n : ℕ) (s : S) (line : Line) (lines : List Line) (printed : List (List ℕ)) (next : S)
     → step s line ≡ Goes printed next
     → output_of (run_of step n s (line ∷ lines)) ≡ written_lines printed ++ output_of (run_of step (n + 1) next lines)
 output_goes {S} step n s line lines printed next e =
@@ -92,7 +92,7 @@ output_goes {S} step n s line lines printed next e =
     ∙ output_before printed (run_of step (n + 1) next lines)
 
 -- the bytes of a run whose first line is refused
-pub output_refused : {S : Type 0} (step : S → Taken → Step S) (n : ℕ) (s : S) (line : Taken) (lines : List Taken) (text : List ℕ)
+pub output_refused : {S : Type 0} (step : S → Line → Step S) (n : ℕ) (s : S) (line : Line) (lines : List Line) (text : List ℕ)
     → step s line ≡ Refused text
     → output_of (run_of step n s (line ∷ lines)) ≡ refusal_line (n, text) ++ 10 ∷ []
 output_refused {S} step n s line lines text e =

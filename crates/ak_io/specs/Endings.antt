@@ -1,7 +1,7 @@
 -- How the run of a script ends, and what is written of it by then.
-use Rattle.std.specs.Prelude.{◌≡◌, ◌≢◌, ℕ, ◌≤◌, Bool, true, false, List, [], Option, Some, None, Result, Err, IsSome, IfSome, ⊤}
+use Rattle.std.specs.Prelude.{◌≡◌, ◌≢◌, ℕ, Bool, true, false, List, [], Option, Some, None, Result, Err, IsSome, IfSome, ⊤}
 use Rattle.std.specs.Io.KnownBytes.{Appends}
-use Rattle.ak_faults.specs.Causes.{Rose}
+use Rattle.ak_faults.specs.Causes.{Health, HasCauseOf}
 use Rattle.ak_io.specs.Scripts.{Step, Goes, Refused, Run, output_of, written_lines, AppendsPart, Reached}
 use Rattle.ak_io.specs.declared.endings.ScriptEnd.{ScriptEnd}
 use Rattle.ak_io.specs.declared.endings.ScriptEnd.TheVariants as ends
@@ -34,17 +34,17 @@ abbrev pub AfterLine : Option Run → Option Run → Option (List ℕ) → Optio
 AfterLine whole rest old new true = SoFar whole rest old new
 AfterLine whole rest old new false = IfSome whole (λ run. RunsTo ends.Done run old new)
 
--- the counts of faults never fall, and that of the end which failed rose
-pub record EndCause (end : ScriptEnd) (reads reads' writes writes' : ℕ) : Type 0 where
-  pub reads_later : reads ≤ reads'
-  pub writes_later : writes ≤ writes'
-  pub read : end ≡ ends.ReadFailed → Rose reads reads'
-  pub written : end ≡ ends.WriteFailed → Rose writes writes'
+-- the end that failed counted a fault, and a calm one did not fail
+pub record EndCause (end : ScriptEnd) (reads reads' writes writes' : Health) : Type 0 where
+  pub read : HasCauseOf {T = Unit {0}} ends.ReadFailed reads reads' (Err end)
+  pub written : HasCauseOf {T = Unit {0}} ends.WriteFailed writes writes' (Err end)
 
--- the same, where a line may have gone; an end that is no line's end is not answered as a fault
-pub record LineEndCause (result : Result Bool ScriptEnd) (reads reads' writes writes' : ℕ) : Type 0 where
-  pub reads_later : reads ≤ reads'
-  pub writes_later : writes ≤ writes'
+-- the same of the output alone
+abbrev pub IsEndCaused : Health → Health → ScriptEnd → Type 0
+IsEndCaused writes writes' end = HasCauseOf {T = Unit {0}} ends.WriteFailed writes writes' (Err end)
+
+-- the same of a line, which may have gone; the end of the input is no refusal
+pub record LineEndCause (result : Result Bool ScriptEnd) (reads reads' writes writes' : Health) : Type 0 where
   pub not_done : result ≢ Err ends.Done
-  pub read : result ≡ Err ends.ReadFailed → Rose reads reads'
-  pub written : result ≡ Err ends.WriteFailed → Rose writes writes'
+  pub read : HasCauseOf ends.ReadFailed reads reads' result
+  pub written : HasCauseOf ends.WriteFailed writes writes' result

@@ -1,7 +1,11 @@
 -- What an end in memory holds, and what each of its calls answers and leaves.
-use Rattle.std.specs.Prelude.{ℕ, ◌-◌, min, Bool, ◌==◌, nat_lt, ◌&&◌, ◌||◌, if◌then◌else◌, List, ◌++◌, length, take, drop, Option, Some, None}
-use Rattle.ak_faults.specs.Calls.{is_named}
-use Rattle.ak_faults.specs.Causes.{one_more}
+use Rattle.std.specs.Prelude.{ℕ, ◌-◌, min, Bool, false, ◌==◌, nat_lt, ◌&&◌, ◌||◌, if◌then◌else◌, List, ◌++◌, length, take, drop, Option, Some, None}
+use Rattle.ak_faults.specs.Calls.{is_named, listed_health}
+use Rattle.ak_faults.specs.Causes.{Health, one_more}
+
+-- the health of an end that may fail at any call
+abbrev pub uncertain : ℕ → Health
+uncertain faults = record { faults = faults; calm = false }
 
 -- the bytes that are left, how many reads came, which reads fail, and how many failed
 pub record SourceState : Type 0 where
@@ -9,6 +13,10 @@ pub record SourceState : Type 0 where
   pub calls : ℕ
   pub fails : List ℕ
   pub fault_count : ℕ
+
+-- it is calm exactly where no read is to fail
+abbrev pub source_health : SourceState → Health
+source_health source = listed_health source.fault_count source.fails
 
 -- how many bytes a read into this room gives, where it does not fail
 abbrev pub gives : SourceState → ℕ → Option ℕ
@@ -27,6 +35,10 @@ pub record SinkState : Type 0 where
   pub calls : ℕ
   pub fails : List ℕ
   pub fault_count : ℕ
+
+-- it is never calm, since its room may end
+abbrev pub sink_health : SinkState → Health
+sink_health sink = uncertain sink.fault_count
 
 -- whether a write of a piece of this length fails: the list names it, or there is no room for a piece that is not empty
 abbrev pub refuses : SinkState → ℕ → Bool

@@ -1,6 +1,7 @@
+pub mod Arrivals
 pub mod Ends
 pub mod Lines
-pub mod Prints
 pub mod Reads
 pub mod Scripts
 pub mod Endings
+pub mod Generator

@@ -4,7 +4,7 @@ use Rattle.std.specs.Fmt.{decimal}
 use Rattle.std.specs.Io.KnownBytes.{Appends}
 use Rattle.std.specs.List.{flat_map}
 use Rattle.std.specs.Option.{option_map, option_to_list}
-use Rattle.ak_io.specs.declared.lines.Taken.{Taken}
+use Rattle.ak_io.specs.declared.lines.Line.{Line}
 
 -- what a line does: it prints lines and leaves a state, or it is refused by a text and leaves all as it was
 pub data Step (S : Type 0) : Type 0 where
@@ -26,7 +26,7 @@ abbrev pub printed_before : List (List ℕ) → Run → Run
 printed_before lines run = record run { printed = lines ++ run.printed }
 
 -- the run from a state over lines, of which the first has this number, up to the first that is refused
-abbrev pub run_of : {S : Type 0} → (S → Taken → Step S) → ℕ → S → List Taken → Run
+abbrev pub run_of : {S : Type 0} → (S → Line → Step S) → ℕ → S → List Line → Run
 run_of step number state [] = record { printed = []; refusal = None }
 run_of step number state (line ∷ lines) =
     by_step (step state line)

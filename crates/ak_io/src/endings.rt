@@ -1,11 +1,11 @@
-ghost use Rattle.std.specs.Prelude.{◌≡◌, ◌≢◌, ◌≤◌, IfOk, string_bytes};
-ghost use Rattle.ak_faults.specs.Causes.{Rose};
-ghost use Rattle.ak_io.specs.Endings.{RunsTo, refused_run};
+ghost use Rattle.std.specs.Prelude.{◌≡◌, ◌≢◌, IfOk, string_bytes};
+ghost use Rattle.std.specs.Io.KnownBytes.{Keeps};
+ghost use Rattle.ak_io.specs.Endings.{RunsTo, IsEndCaused, refused_run};
 ghost use Rattle.ak_io.specs.Scripts.{refusal_line};
 ghost use Rattle.ak_io.specs.declared.endings.ScriptEnd.TheVariants as ends;
 
-use crate::traits::Sink;
-use crate::writes::{PrintFault, print_line};
+use crate::traits::{Failed, Sink};
+use crate::writes::print_line;
 use ak_base::{Memory, Text};
 use std::alloc::Global;
 
@@ -16,16 +16,19 @@ pub enum ScriptEnd {
     Done,
     /// A line was refused, and its text printed.
     Refused,
+    /// The input failed.
     ReadFailed,
+    /// The output failed.
     WriteFailed,
+    /// Out of memory.
     Memory,
 }
 
-/// Prints the text of a refused line, behind the line's number: the last line of a run that is refused.
+/// Prints the text of a refused line, after the line's number: the last line of a run that is refused.
 pub fn print_refusal<O: Sink>(alloc: Global, number: u64, text: &Text, out: &mut O) -> ScriptEnd
     ensures printed { RunsTo result (refused_run number text.now) (O.written out.old) (O.written out.new) }
-    ensures later { O.fault_count out.old ≤ O.fault_count out.new }
-    ensures cause { result ≡ ends.WriteFailed → Rose (O.fault_count out.old) (O.fault_count out.new) }
+    ensures unprinted { result ≡ ends.Memory → Keeps (O.written out.old) (O.written out.new) }
+    ensures cause { IsEndCaused (O.health out.old) (O.health out.new) result }
     ensures not_read { result ≢ ends.ReadFailed }
     ensures not_done { result ≢ ends.Done }
 {
@@ -33,13 +36,13 @@ pub fn print_refusal<O: Sink>(alloc: Global, number: u64, text: &Text, out: &mut
         Ok(line) => line,
         Err(Memory) => return ScriptEnd::Memory,
     };
-    match print_line(alloc, out, line.as_bytes()) {
+    match print_line(out, line.as_bytes()) {
         Ok(()) => ScriptEnd::Refused,
-        Err(PrintFault::Failed) => ScriptEnd::WriteFailed,
-        Err(PrintFault::Memory) => ScriptEnd::Memory,
+        Err(Failed) => ScriptEnd::WriteFailed,
     }
 }
 
+/// `line <number>: <text>`.
 fn refusal_line(alloc: Global, number: u64, text: &str) -> Result<String, Memory>
     ensures { IfOk result (λ line. string_bytes line ≡ refusal_line (number, text.now)) }
 {

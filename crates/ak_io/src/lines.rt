@@ -8,11 +8,11 @@ pub const LINE_LIMIT: u64 = 1_048_576;
 
 /// What the next line of an input is.
 #[derive(Debug, Drop)]
-pub enum Taken {
+pub enum Line {
     /// Its bytes, without the line feed.
-    Line(List<u8>),
+    Whole(List<u8>),
     /// A line of more bytes than a line holds.
-    Long,
+    TooLong,
     /// The line that holds the first byte past what an input holds.
-    Past,
+    PastInput,
 }

@@ -1,26 +1,15 @@
-ghost use Rattle.std.specs.Prelude.{◌≡◌, ℕ, ◌<◌, min, Option, List, [], length, take, IfOk, Some};
+ghost use Rattle.std.specs.Prelude.{◌≡◌, ◌<◌, min, true, false, [], length, take, IfOk, Some};
 ghost use Rattle.std.specs.Io.{ReadsAtMost, WritesAtMost};
 ghost use Rattle.std.specs.Io.KnownBytes.{ReadConsumes, WriteAppends};
 ghost use Rattle.std.specs.Result.{result_ok};
 ghost use Rattle.ak_faults.specs.Causes.{HasCause, Rose};
-ghost use Rattle.ak_io.specs.Ends.{gives, after_read, takes, after_write};
+ghost use Rattle.ak_io.specs.Ends.{gives, after_read, source_health, takes, after_write, sink_health};
 
-use crate::traits::{Failed, Sink, Source};
+use crate::traits::{End, Failed, Sink, Source};
 use ak_base::{List, Memory};
 use ak_faults::Calls;
 use std::alloc::Global;
 use std::marker::Model;
-
-// Copies what fits to the front of `into`, and answers how many bytes that are.
-fn copy_front(from: &[u8], into: &mut [u8]) -> usize
-    ensures count { result ≡ min (length from.now) (length into.old) }
-    ensures front { take result into.new ≡ take result from.now }
-    ensures ended { result ≡ 0 → 0 < length into.new → from.now ≡ [] }
-{
-    let count = from.len().min(into.len());
-    into[..count].copy_from_slice(&from[..count]);
-    count
-}
 
 /// A source of bytes in memory, of which the reads named fail.
 #[derive(Debug, Drop)]
@@ -60,19 +49,21 @@ impl MemorySource {
     }
 }
 
-impl Source for MemorySource {
-    ghost left = { λ source. Some source.left };
-
-    ghost fault_count = { λ source. source.fault_count };
+impl End for MemorySource {
+    ghost health = { source_health };
 
     fn faults(&self) -> u64 {
         self.calls.faults
     }
+}
+
+impl Source for MemorySource {
+    ghost left = { λ source. Some source.left };
 
     fn read(&mut self, into: &mut [u8]) -> Result<usize, Failed>
         ensures bound { ReadsAtMost result into.new }
         ensures bytes { ReadConsumes (Some self.old.left) (Some self.new.left) result into.new }
-        ensures cause { HasCause self.old.fault_count self.new.fault_count result }
+        ensures cause { HasCause (source_health self.old) (source_health self.new) result }
 
         // No other call fails, and each gives all that fits.
         ensures only { result_ok result ≡ gives self.old (length into.old) }
@@ -86,6 +77,17 @@ impl Source for MemorySource {
         self.taken += count;
         Ok(count)
     }
+}
+
+/// Copies what fits to the front of `into`, and answers how many bytes these are.
+fn copy_front(from: &[u8], into: &mut [u8]) -> usize
+    ensures count { result ≡ min (length from.now) (length into.old) }
+    ensures front { take result into.new ≡ take result from.now }
+    ensures ended { result ≡ 0 → 0 < length into.new → from.now ≡ [] }
+{
+    let count = from.len().min(into.len());
+    into[..count].copy_from_slice(&from[..count]);
+    count
 }
 
 /// A sink into memory that was taken when it was made, of which the writes named fail.
@@ -135,20 +137,23 @@ impl MemorySink {
     }
 }
 
-impl Sink for MemorySink {
-    ghost written = { λ sink. Some sink.written };
-
-    ghost fault_count = { λ sink. sink.fault_count };
+impl End for MemorySink {
+    ghost health = { sink_health };
 
     fn faults(&self) -> u64 {
         self.calls.faults
     }
+}
+
+impl Sink for MemorySink {
+    ghost written = { λ sink. Some sink.written };
 
     fn write(&mut self, from: &[u8]) -> Result<usize, Failed>
         ensures bound { WritesAtMost result from.now }
         ensures bytes { WriteAppends (Some self.old.written) (Some self.new.written) result from.now }
-        ensures cause { HasCause self.old.fault_count self.new.fault_count result }
-        ensures stuck { IfOk result (λ n. n ≡ 0 → 0 < length from.now → Rose self.old.fault_count self.new.fault_count) }
+        ensures cause { HasCause (sink_health self.old) (sink_health self.new) result }
+        ensures stuck { IfOk result (λ n. n ≡ 0 → 0 < length from.now → Rose (sink_health self.old) (sink_health self.new)) }
+        ensures moves { (sink_health self.old).calm ≡ true → IfOk result (λ n. 0 < length from.now → 0 < n) }
 
         // No other call fails, and each takes all that fits.
         ensures only { result_ok result ≡ takes self.old (length from.now) }

@@ -1,13 +1,14 @@
-ghost use Rattle.std.specs.Prelude.{◌≡◌, ◌<◌, ◌≤◌, false, length, take, IfOk, OnOk, OnErr};
-ghost use Rattle.std.specs.Io.{ReadsAtMost};
-ghost use Rattle.std.specs.Io.KnownBytes.{ReadConsumes, Appends, Keeps};
-ghost use Rattle.ak_faults.specs.Causes.{HasCause};
+ghost use Rattle.std.specs.Prelude.{◌≡◌, ◌+◌, ◌<◌, ◌≤◌, true, false, length, take, IfOk, OnOk, OnErr};
+ghost use Rattle.std.specs.Io.{ReadsAtMost, WritesAtMost};
+ghost use Rattle.std.specs.Io.KnownBytes.{ReadConsumes, WriteAppends, Appends, Keeps};
+ghost use Rattle.ak_faults.specs.Causes.{HasCause, Rose};
+ghost use Rattle.ak_io.specs.Ends.{uncertain};
 
-use crate::traits::{Failed, Sink, Source};
+use crate::traits::{End, Failed, Sink, Source};
 use std::io::{Error, ErrorKind, Read, Write};
 use std::marker::Model;
 
-// How many times in a row a signal may interrupt a read or a write.
+/// How many times in a row a signal may interrupt a read or a write.
 const TRIES: u32 = 1000;
 
 /// A source over a reader of std.
@@ -26,6 +27,7 @@ impl<R> Model for StdSource<R> {
 }
 
 impl<R> StdSource<R> {
+    /// A source over this reader. It counts no fault yet.
     pub fn new(inner: R) -> StdSource<R>
         ensures { result ≡ (inner, 0) }
     {
@@ -33,19 +35,21 @@ impl<R> StdSource<R> {
     }
 }
 
-impl<R: Read> Source for StdSource<R> {
-    ghost left = { λ source. R.remaining source.0 };
-
-    ghost fault_count = { λ source. source.1 };
+impl<R> End for StdSource<R> {
+    ghost health = { λ source. uncertain source.1 };
 
     fn faults(&self) -> u64 {
         self.faults
     }
+}
+
+impl<R: Read> Source for StdSource<R> {
+    ghost left = { λ source. R.remaining source.0 };
 
     fn read(&mut self, into: &mut [u8]) -> Result<usize, Failed>
         ensures bound { ReadsAtMost result into.new }
         ensures bytes { ReadConsumes (R.remaining self.old.0) (R.remaining self.new.0) result into.new }
-        ensures cause { HasCause self.old.1 self.new.1 result }
+        ensures cause { HasCause (uncertain self.old.1) (uncertain self.new.1) result }
 
         // A fault is counted only where it is answered.
         ensures calm { OnOk result (self.new.1 ≡ self.old.1) }
@@ -60,7 +64,7 @@ impl<R: Read> Source for StdSource<R> {
     }
 }
 
-// A read, made again where a signal interrupted it.
+/// A read, made again if a signal interrupted it.
 fn read_retrying<R: Read>(reader: &mut R, into: &mut [u8]) -> Result<usize, Failed>
     ensures bound { ReadsAtMost result into.new }
     ensures bytes { ReadConsumes (R.remaining reader.old) (R.remaining reader.new) result into.new }
@@ -78,6 +82,7 @@ fn read_retrying<R: Read>(reader: &mut R, into: &mut [u8]) -> Result<usize, Fail
     Err(Failed)
 }
 
+/// Whether a signal interrupted the call, so that it may be made again.
 fn is_interrupted(error: &Error) -> bool {
     error.kind() == ErrorKind::Interrupted
 }
@@ -99,6 +104,7 @@ impl<W> Model for StdSink<W> {
 }
 
 impl<W> StdSink<W> {
+    /// A sink over this writer. It counts no fault yet.
     pub fn new(inner: W) -> StdSink<W>
         ensures { result ≡ (inner, 0) }
     {
@@ -106,16 +112,27 @@ impl<W> StdSink<W> {
     }
 }
 
-impl<W: Write> Sink for StdSink<W> {
-    ghost written = { λ sink. W.contents sink.0 };
-
-    ghost fault_count = { λ sink. sink.1 };
+impl<W> End for StdSink<W> {
+    ghost health = { λ sink. uncertain sink.1 };
 
     fn faults(&self) -> u64 {
         self.faults
     }
+}
 
-    fn write(&mut self, from: &[u8]) -> Result<usize, Failed> {
+impl<W: Write> Sink for StdSink<W> {
+    ghost written = { λ sink. W.contents sink.0 };
+
+    fn write(&mut self, from: &[u8]) -> Result<usize, Failed>
+        ensures bound { WritesAtMost result from.now }
+        ensures bytes { WriteAppends (W.contents self.old.0) (W.contents self.new.0) result from.now }
+        ensures cause { HasCause (uncertain self.old.1) (uncertain self.new.1) result }
+        ensures stuck { IfOk result (λ n. n ≡ 0 → 0 < length from.now → Rose (uncertain self.old.1) (uncertain self.new.1)) }
+        ensures moves { (uncertain self.old.1).calm ≡ true → IfOk result (λ n. 0 < length from.now → 0 < n) }
+
+        // A write counts one fault at most.
+        ensures most { self.new.1 ≤ self.old.1 + 1 }
+    {
         match write_retrying(&mut self.inner, from) {
             Ok((count, is_whole)) => {
                 if !is_whole {
@@ -131,8 +148,8 @@ impl<W: Write> Sink for StdSink<W> {
     }
 }
 
-// A write and a flush, and whether both did what they were to do. The write is made again where a signal
-// interrupted it.
+/// A write and a flush, and whether both did what they were to do. The write is made again if a signal
+/// interrupted it.
 fn write_retrying<W: Write>(writer: &mut W, from: &[u8]) -> Result<(usize, bool), Failed>
     ensures bound { IfOk result (λ taken. taken.0 ≤ length from.now) }
     ensures ok { IfOk result (λ taken. Appends (W.contents writer.old) (W.contents writer.new) (take taken.0 from.now)) }

@@ -7,10 +7,10 @@ use ak_base::Memory;
 use std::alloc::Global;
 use std::marker::Model;
 
-// How many bytes are read at a time.
+/// How many bytes are read at a time.
 const WINDOW_SIZE: usize = 65536;
 
-// The bytes that were read from a source and are not taken yet.
+/// The bytes that were read from a source and are not taken yet.
 #[derive(Debug, Drop)]
 pub struct Window {
     buffer: Vec<u8>,
@@ -29,6 +29,7 @@ impl Model for Window {
 }
 
 impl Window {
+    /// A window with no bytes.
     pub fn new(alloc: Global) -> Result<Window, Memory>
         ensures { IfOk result (λ window. window ≡ []) }
     {
@@ -40,12 +41,14 @@ impl Window {
         })
     }
 
+    /// The bytes ahead.
     pub fn bytes(&self) -> &[u8]
         ensures { result.now ≡ self.now }
     {
         &self.buffer.as_slice()[self.start..self.end]
     }
 
+    /// Takes so many bytes.
     pub fn drop_front(&mut self, count: usize)
         requires { count ≤ length self.old }
         ensures { self.new ≡ drop count self.old }
@@ -53,12 +56,12 @@ impl Window {
         self.start += count;
     }
 
-    // Reads where no byte is ahead, and answers whether one is then.
+    /// Reads if no byte is ahead, and answers whether one is then.
     pub fn fill<I: Source>(&mut self, input: &mut I) -> Result<bool, Failed>
         ensures kept { OnOk result (Keeps (prepend_known self.old (I.left input.old)) (prepend_known self.new (I.left input.new))) }
         ensures some { IfOk result (λ is_some. is_some ≡ true → 0 < length self.new) }
         ensures none { IfOk result (λ is_some. is_some ≡ false → (self.new ≡ []) × IsAtEnd (I.left input.new)) }
-        ensures cause { HasCause (I.fault_count input.old) (I.fault_count input.new) result }
+        ensures cause { HasCause (I.health input.old) (I.health input.new) result }
     {
         if self.start < self.end {
             return Ok(true);

@@ -14,10 +14,10 @@ use Rattle.ak_base.specs.declared.notes.Note.{Note}
 use Rattle.ak_base.specs.declared.cards.Card.{Card}
 use Rattle.ak_base.specs.declared.reviews.Review.{Review}
 use Rattle.ak_base.specs.declared.graves.Grave.{Grave}
-use Rattle.ak_json.specs.Flaws.{array_flaw}
+use Rattle.ak_json.specs.FormFaults.{array_form_fault}
 use Rattle.ak_json.specs.Arrays.{note_at, card_at, review_at, grave_at}
 use Rattle.ak_json.specs.Written.{note_cells, card_cells, review_cells, grave_cells, note_json, card_json, review_json, grave_json}
-use Rattle.ak_json.specs.declared.forms.TheConstants.{NOTE, CARD, REVIEW, GRAVE}
+use Rattle.ak_json.specs.Forms.{note_form, card_form, review_form, grave_form}
 
 -- a number that is read as it was written
 abbrev pub IsReadAgain : ℤ → Type 0
@@ -69,7 +69,7 @@ stamp_again (negsuc n) e = refl
 
 -- an array has the form, and its row is the one that was written
 pub record IsGrave (g : Grave) : Type 0 where
-  pub form : array_flaw GRAVE (grave_json g) ≡ None
+  pub form : array_form_fault grave_form (grave_json g) ≡ None
   pub row : grave_at (grave_json g) ≡ g
 
 pub grave_again : (g : Grave) (good : Unit {0}) → first_fault (grave_faults g) ≡ Ok good → IsGrave g
@@ -82,7 +82,7 @@ grave_again g good e =
     record { form = rw (usn, oid, kind) refl; row = rw (usn, oid, kind) refl }
 
 pub record IsReview (r : Review) : Type 0 where
-  pub form : array_flaw REVIEW (review_json r) ≡ None
+  pub form : array_form_fault review_form (review_json r) ≡ None
   pub row : review_at (review_json r) ≡ r
 
 pub review_again : (r : Review) (good : Unit {0}) → first_fault (review_faults r) ≡ Ok good → IsReview r
@@ -104,7 +104,7 @@ review_again r good e =
     }
 
 pub record IsNote (n : Note) : Type 0 where
-  pub form : array_flaw NOTE (note_json n) ≡ None
+  pub form : array_form_fault note_form (note_json n) ≡ None
   pub row : note_at (note_json n) ≡ n
 
 pub note_again : (n : Note) (good : Unit {0}) → first_fault (note_faults n) ≡ Ok good → IsNote n
@@ -123,7 +123,7 @@ note_again n good e =
     }
 
 pub record IsCard (c : Card) : Type 0 where
-  pub form : array_flaw CARD (card_json c) ≡ None
+  pub form : array_form_fault card_form (card_json c) ≡ None
   pub row : card_at (card_json c) ≡ c
 
 pub card_again : (c : Card) (good : Unit {0}) → first_fault (card_faults c) ≡ Ok good → IsCard c

@@ -1,4 +1,4 @@
--- Each value that was read from a text is read as a row, or refused by a fault that is not want of memory.
+-- Each value that was read from a text is read as a row, or refused by a fault other than out of memory.
 use Rattle.std.proofs.Common.{◌≡◌, ℕ, pos, List, [], ◌∷◌, map, Bool, true, false, ◌&&◌, Option, Some, None, IfSome, Result, Ok, Err, ◌⊎◌, inl, inr, Ordering, Less, Equal, Greater, nat_cmp, refl, ap₂, subst}
 use Rattle.ak_base.proofs.Optional.{first_none, second_none, none_mapped}
 use Rattle.std.specs.Prelude.{if◌then◌else◌, unwrap_or, option_map, option_and_then}
@@ -24,30 +24,30 @@ use Rattle.ak_base.specs.declared.rows.Row.{Row}
 use Rattle.ak_base.specs.declared.rows.Row.TheVariants as rows
 use Rattle.ak_base.proofs.Resting.{members_of-written, plain_value, written_is_rest}
 use Rattle.ak_json.specs.Arrays.{note_at, card_at, review_at, grave_at}
-use Rattle.ak_json.specs.Cells.{whole_at, words_at, truth_at, part_at, count_at, steps_at}
+use Rattle.ak_json.specs.Cells.{integer_at, text_at, bool_at, part_at, count_at, steps_at}
 use Rattle.ak_json.specs.Confs.{ReadsConf, conf_fault}
 use Rattle.ak_json.specs.Decks.{IsDeck}
 use Rattle.ak_json.specs.Faults.{told, Tells}
-use Rattle.ak_json.specs.Flaws.{part_flaw, parts_flaw}
+use Rattle.ak_json.specs.FormFaults.{part_form_fault, parts_form_fault}
 use Rattle.ak_json.specs.Groups.{IsOptions, put_group, new_in, rev_in, lapse_in, options_kept}
-use Rattle.ak_json.specs.Keys.{word_text}
+use Rattle.ak_json.specs.Keys.{key_text}
 use Rattle.ak_json.specs.Members.{Form, knows, unknown, deep_member}
 use Rattle.ak_json.specs.NoteTypes.{IsNoteType, field_of, field_in, fields_in, template_of, template_in, templates_in, items_at}
-use Rattle.ak_json.specs.Objects.{object_flaw}
+use Rattle.ak_json.specs.Objects.{object_form_fault}
 use Rattle.ak_json.specs.Rests.{kept, rest_text, deep_fault, deep_key}
-use Rattle.ak_json.specs.Rows.{row_flaw, deep_in, form_fault, IsRow, row_check, ReadsRow, RefusesRow}
+use Rattle.ak_json.specs.Rows.{row_form_fault, deep_in, form_refusal, IsRow, row_check, ReadsRow, RefusesRow}
 use Rattle.ak_json.specs.declared.faults.JsonFault.{JsonFault}
 use Rattle.ak_json.specs.declared.faults.JsonFault.TheVariants as faults
-use Rattle.ak_json.specs.declared.flaws.Flaw.{Flaw}
-use Rattle.ak_json.specs.declared.flaws.Flaw.TheVariants as flaws
-use Rattle.ak_json.specs.declared.forms.TheConstants.{CONF, DECK, NOTE_TYPE, FIELD, TEMPLATE, OPTIONS, NEW, REV, LAPSE}
-use Rattle.ak_json.specs.declared.keys.Word.{Word}
-use Rattle.ak_json.specs.declared.keys.Word.TheVariants as words
+use Rattle.ak_json.specs.declared.form_faults.FormFault.{FormFault}
+use Rattle.ak_json.specs.declared.form_faults.FormFault.TheVariants as form_faults
+use Rattle.ak_json.specs.Forms.{conf_form, deck_form, note_type_form, field_form, template_form, options_form, new_form, rev_form, lapse_form}
+use Rattle.ak_json.specs.declared.keys.Key.{Key}
+use Rattle.ak_json.specs.declared.keys.Key.TheVariants as keys
 use Rattle.ak_json.proofs.Kept.{lacks_known, plain_kept}
 use Rattle.ak_json.proofs.OptionRests.{options_ignored}
 use Rattle.ak_json.proofs.Orderly.{IsOrderly, AreOrderly, HaveOrderly, AreMembers, unasked, mapped, put_members, read_orderly, text_reads}
 use Rattle.ak_json.proofs.Parts.{of_object}
-use Rattle.ak_json.proofs.RowForms.{fields_flawless, templates_flawless}
+use Rattle.ak_json.proofs.RowForms.{fields_faultless, templates_faultless}
 use Rattle.ak_json.proofs.Sorted.{unknown_behind}
 
 -- ---- what stands in an orderly value is orderly
@@ -104,16 +104,16 @@ unknown_members form (member k d ms) h = one (knows form k) (unknown_members for
 kept_members : (form : Form) (d : Data) → IsOrderly d → AreMembers (kept form d)
 kept_members form d h = unknown_members form (unwrap_or (as_object d) no_members) (object_members d h)
 
-group_members : (own : Word) (group ms : Members) → AreMembers group → AreMembers ms → AreMembers (put_group own group ms)
+group_members : (own : Key) (group ms : Members) → AreMembers group → AreMembers ms → AreMembers (put_group own group ms)
 group_members own no_members ms g h = h
-group_members own (member k d group) ms g h = put_members (word_text own) (object (member k d group)) ms g h
+group_members own (member k d group) ms g h = put_members (key_text own) (object (member k d group)) ms g h
 
 options_members : (d : Data) → IsOrderly d → AreMembers (options_kept d)
 options_members d h =
-    let new = kept_members NEW (new_in d) (found_or (get (word_text words.New) d) d (get_orderly (word_text words.New) d h) h) in
-    let rev = kept_members REV (rev_in d) (found_or (get (word_text words.Rev) d) d (get_orderly (word_text words.Rev) d h) h) in
-    let lapse = kept_members LAPSE (lapse_in d) (found_or (get (word_text words.Lapse) d) d (get_orderly (word_text words.Lapse) d h) h) in
-    group_members words.Lapse _ _ lapse (group_members words.Rev _ _ rev (group_members words.New _ _ new (kept_members OPTIONS d h)))
+    let new = kept_members new_form (new_in d) (found_or (get (key_text keys.New) d) d (get_orderly (key_text keys.New) d h) h) in
+    let rev = kept_members rev_form (rev_in d) (found_or (get (key_text keys.Rev) d) d (get_orderly (key_text keys.Rev) d h) h) in
+    let lapse = kept_members lapse_form (lapse_in d) (found_or (get (key_text keys.Lapse) d) d (get_orderly (key_text keys.Lapse) d h) h) in
+    group_members keys.Lapse _ _ lapse (group_members keys.Rev _ _ rev (group_members keys.New _ _ new (kept_members options_form d h)))
 
 -- ---- the rest of an orderly value
 
@@ -130,68 +130,68 @@ kept_is_rest keys form d known h shallow = text_is_rest (lacks keys) (kept form 
 
 -- ---- the row of an orderly value of its form
 
-deck_made : (d : Data) → IsOrderly d → deep_key DECK d ≡ None → (k : Deck) × IsDeck d k
+deck_made : (d : Data) → IsOrderly d → deep_key deck_form d ≡ None → (k : Deck) × IsDeck d k
 deck_made d h shallow = (
   record {
-    id = whole_at DECK 0 d;
-    stamp = whole_at DECK 1 d;
-    usn = whole_at DECK 2 d;
-    name = words_at DECK 3 d;
-    options = whole_at DECK 4 d;
-    filtered = int_eq (whole_at DECK 5 d) (pos 1);
-    new_today = count_at DECK 6 d;
-    rev_today = count_at DECK 7 d;
-    rest = record { text = rest_text DECK d; owner = record {}; unknown = kept_is_rest deck_keys DECK d refl h (none_mapped faults.WrongKind _ shallow) };
+    id = integer_at deck_form 0 d;
+    stamp = integer_at deck_form 1 d;
+    usn = integer_at deck_form 2 d;
+    name = text_at deck_form 3 d;
+    options = integer_at deck_form 4 d;
+    filtered = int_eq (integer_at deck_form 5 d) (pos 1);
+    new_today = count_at deck_form 6 d;
+    rev_today = count_at deck_form 7 d;
+    rest = record { text = rest_text deck_form d; owner = record {}; unknown = kept_is_rest deck_keys deck_form d refl h (none_mapped faults.WrongKind _ shallow) };
   },
   record { id = refl; stamp = refl; usn = refl; name = refl; options = refl; filtered = refl; new_today = refl; rev_today = refl; rest = refl },
 )
 
-field_made : (d : Data) → IsOrderly d → part_flaw FIELD d ≡ None → (f : FieldDef) × (field_of f ≡ field_in d)
+field_made : (d : Data) → IsOrderly d → part_form_fault field_form d ≡ None → (f : FieldDef) × (field_of f ≡ field_in d)
 field_made d h e = (
   record {
-    name = words_at FIELD 0 d;
-    rest = record { text = rest_text FIELD d; owner = record {}; unknown = kept_is_rest field_keys FIELD d refl h (of_object FIELD d (as_object d) e) };
+    name = text_at field_form 0 d;
+    rest = record { text = rest_text field_form d; owner = record {}; unknown = kept_is_rest field_keys field_form d refl h (of_object field_form d (as_object d) e) };
   },
   refl,
 )
 
-fields_made : (ds : Items) → AreOrderly ds → parts_flaw FIELD ds ≡ None → (fs : List FieldDef) × (map field_of fs ≡ fields_in ds)
+fields_made : (ds : Items) → AreOrderly ds → parts_form_fault field_form ds ≡ None → (fs : List FieldDef) × (map field_of fs ≡ fields_in ds)
 fields_made no_items h e = ([], refl)
 fields_made (item d ds) h e =
-    let first = field_made d h.0 (first_none (part_flaw FIELD d) _ e) in
-    let later = fields_made ds h.1 (second_none (part_flaw FIELD d) _ e) in (first.0 ∷ later.0, ap₂ (λ f fs. f ∷ fs) first.1 later.1)
+    let first = field_made d h.0 (first_none (part_form_fault field_form d) _ e) in
+    let later = fields_made ds h.1 (second_none (part_form_fault field_form d) _ e) in (first.0 ∷ later.0, ap₂ (λ f fs. f ∷ fs) first.1 later.1)
 
-template_made : (d : Data) → IsOrderly d → part_flaw TEMPLATE d ≡ None → (t : CardTemplate) × (template_of t ≡ template_in d)
+template_made : (d : Data) → IsOrderly d → part_form_fault template_form d ≡ None → (t : CardTemplate) × (template_of t ≡ template_in d)
 template_made d h e = (
   record {
-    name = words_at TEMPLATE 0 d;
-    front = words_at TEMPLATE 1 d;
-    back = words_at TEMPLATE 2 d;
-    rest = record { text = rest_text TEMPLATE d; owner = record {}; unknown = kept_is_rest template_keys TEMPLATE d refl h (of_object TEMPLATE d (as_object d) e) };
+    name = text_at template_form 0 d;
+    front = text_at template_form 1 d;
+    back = text_at template_form 2 d;
+    rest = record { text = rest_text template_form d; owner = record {}; unknown = kept_is_rest template_keys template_form d refl h (of_object template_form d (as_object d) e) };
   },
   refl,
 )
 
-templates_made : (ds : Items) → AreOrderly ds → parts_flaw TEMPLATE ds ≡ None → (ts : List CardTemplate) × (map template_of ts ≡ templates_in ds)
+templates_made : (ds : Items) → AreOrderly ds → parts_form_fault template_form ds ≡ None → (ts : List CardTemplate) × (map template_of ts ≡ templates_in ds)
 templates_made no_items h e = ([], refl)
 templates_made (item d ds) h e =
-    let first = template_made d h.0 (first_none (part_flaw TEMPLATE d) _ e) in
-    let later = templates_made ds h.1 (second_none (part_flaw TEMPLATE d) _ e) in (first.0 ∷ later.0, ap₂ (λ t ts. t ∷ ts) first.1 later.1)
+    let first = template_made d h.0 (first_none (part_form_fault template_form d) _ e) in
+    let later = templates_made ds h.1 (second_none (part_form_fault template_form d) _ e) in (first.0 ∷ later.0, ap₂ (λ t ts. t ∷ ts) first.1 later.1)
 
-note_type_made : (d : Data) → IsOrderly d → row_flaw tables.NoteType d ≡ None → deep_key NOTE_TYPE d ≡ None → (n : NoteType) × IsNoteType d n
-note_type_made d h flawless shallow =
-    let fields = fields_made (items_at 6 d) (list_orderly (get (word_text words.Flds) d) (get_orderly (word_text words.Flds) d h)) (fields_flawless tables.NoteType d refl flawless) in
-    let templates = templates_made (items_at 7 d) (list_orderly (get (word_text words.Tmpls) d) (get_orderly (word_text words.Tmpls) d h)) (templates_flawless tables.NoteType d refl flawless) in (
+note_type_made : (d : Data) → IsOrderly d → row_form_fault tables.NoteType d ≡ None → deep_key note_type_form d ≡ None → (n : NoteType) × IsNoteType d n
+note_type_made d h faultless shallow =
+    let fields = fields_made (items_at 6 d) (list_orderly (get (key_text keys.Flds) d) (get_orderly (key_text keys.Flds) d h)) (fields_faultless tables.NoteType d refl faultless) in
+    let templates = templates_made (items_at 7 d) (list_orderly (get (key_text keys.Tmpls) d) (get_orderly (key_text keys.Tmpls) d h)) (templates_faultless tables.NoteType d refl faultless) in (
       record {
-        id = whole_at NOTE_TYPE 0 d;
-        stamp = whole_at NOTE_TYPE 1 d;
-        usn = whole_at NOTE_TYPE 2 d;
-        name = words_at NOTE_TYPE 3 d;
-        cloze = int_eq (whole_at NOTE_TYPE 4 d) (pos 1);
-        sortf = whole_at NOTE_TYPE 5 d;
+        id = integer_at note_type_form 0 d;
+        stamp = integer_at note_type_form 1 d;
+        usn = integer_at note_type_form 2 d;
+        name = text_at note_type_form 3 d;
+        cloze = int_eq (integer_at note_type_form 4 d) (pos 1);
+        sortf = integer_at note_type_form 5 d;
         fields = fields.0;
         templates = templates.0;
-        rest = record { text = rest_text NOTE_TYPE d; owner = record {}; unknown = kept_is_rest note_type_keys NOTE_TYPE d refl h (none_mapped faults.WrongKind _ shallow) };
+        rest = record { text = rest_text note_type_form d; owner = record {}; unknown = kept_is_rest note_type_keys note_type_form d refl h (none_mapped faults.WrongKind _ shallow) };
       },
       record { id = refl; stamp = refl; usn = refl; name = refl; cloze = refl; sortf = refl; fields = fields.1; templates = templates.1; rest = refl },
     )
@@ -199,28 +199,28 @@ note_type_made d h flawless shallow =
 options_made : (d : Data) → IsOrderly d → deep_fault (options_kept d) ≡ None → (o : Options) × IsOptions d o
 options_made d h shallow = (
   record {
-    id = whole_at OPTIONS 0 d;
-    stamp = whole_at OPTIONS 1 d;
-    usn = whole_at OPTIONS 2 d;
-    name = words_at OPTIONS 3 d;
-    max_taken = whole_at OPTIONS 4 d;
-    new_steps = steps_at NEW 0 (new_in d);
-    grad_ivl = part_at NEW 1 0 (new_in d);
-    easy_ivl = part_at NEW 1 1 (new_in d);
-    initial_factor = whole_at NEW 2 (new_in d);
-    new_per_day = whole_at NEW 3 (new_in d);
-    new_bury = truth_at NEW 4 (new_in d);
-    rev_per_day = whole_at REV 0 (rev_in d);
-    ease4 = whole_at REV 1 (rev_in d);
-    ivl_fct = whole_at REV 2 (rev_in d);
-    max_ivl = whole_at REV 3 (rev_in d);
-    hard_factor = whole_at REV 4 (rev_in d);
-    rev_bury = truth_at REV 5 (rev_in d);
-    lapse_steps = steps_at LAPSE 0 (lapse_in d);
-    mult = whole_at LAPSE 1 (lapse_in d);
-    min_int = whole_at LAPSE 2 (lapse_in d);
-    leech_fails = whole_at LAPSE 3 (lapse_in d);
-    leech_action = whole_at LAPSE 4 (lapse_in d);
+    id = integer_at options_form 0 d;
+    stamp = integer_at options_form 1 d;
+    usn = integer_at options_form 2 d;
+    name = text_at options_form 3 d;
+    max_taken = integer_at options_form 4 d;
+    new_steps = steps_at new_form 0 (new_in d);
+    grad_ivl = part_at new_form 1 0 (new_in d);
+    easy_ivl = part_at new_form 1 1 (new_in d);
+    initial_factor = integer_at new_form 2 (new_in d);
+    new_per_day = integer_at new_form 3 (new_in d);
+    new_bury = bool_at new_form 4 (new_in d);
+    rev_per_day = integer_at rev_form 0 (rev_in d);
+    ease4 = integer_at rev_form 1 (rev_in d);
+    ivl_fct = integer_at rev_form 2 (rev_in d);
+    max_ivl = integer_at rev_form 3 (rev_in d);
+    hard_factor = integer_at rev_form 4 (rev_in d);
+    rev_bury = bool_at rev_form 5 (rev_in d);
+    lapse_steps = steps_at lapse_form 0 (lapse_in d);
+    mult = integer_at lapse_form 1 (lapse_in d);
+    min_int = integer_at lapse_form 2 (lapse_in d);
+    leech_fails = integer_at lapse_form 3 (lapse_in d);
+    leech_action = integer_at lapse_form 4 (lapse_in d);
     rest = record {
       text = compact_text (object (options_kept d));
       owner = record {};
@@ -254,16 +254,16 @@ options_made d h shallow = (
   },
 )
 
-row_made : (table : Table) (d : Data) → IsOrderly d → row_flaw table d ≡ None → deep_in table d ≡ None → (row : Row) × IsRow table d row
-row_made tables.Note d h flawless shallow = (rows.Note (note_at d), (tt, refl))
-row_made tables.Card d h flawless shallow = (rows.Card (card_at d), (tt, refl))
-row_made tables.Review d h flawless shallow = (rows.Review (review_at d), (tt, refl))
-row_made tables.NoteType d h flawless shallow = let made = note_type_made d h flawless shallow in (rows.NoteType made.0, (tt, made.1))
-row_made tables.Deck d h flawless shallow = let made = deck_made d h shallow in (rows.Deck made.0, (tt, made.1))
-row_made tables.Options d h flawless shallow = let made = options_made d h shallow in (rows.Options made.0, (tt, made.1))
-row_made tables.NoteGrave d h flawless shallow = (rows.Grave (grave_at d), (tt, refl))
-row_made tables.CardGrave d h flawless shallow = (rows.Grave (grave_at d), (tt, refl))
-row_made tables.DeckGrave d h flawless shallow = (rows.Grave (grave_at d), (tt, refl))
+row_made : (table : Table) (d : Data) → IsOrderly d → row_form_fault table d ≡ None → deep_in table d ≡ None → (row : Row) × IsRow table d row
+row_made tables.Note d h faultless shallow = (rows.Note (note_at d), (tt, refl))
+row_made tables.Card d h faultless shallow = (rows.Card (card_at d), (tt, refl))
+row_made tables.Review d h faultless shallow = (rows.Review (review_at d), (tt, refl))
+row_made tables.NoteType d h faultless shallow = let made = note_type_made d h faultless shallow in (rows.NoteType made.0, (tt, made.1))
+row_made tables.Deck d h faultless shallow = let made = deck_made d h shallow in (rows.Deck made.0, (tt, made.1))
+row_made tables.Options d h faultless shallow = let made = options_made d h shallow in (rows.Options made.0, (tt, made.1))
+row_made tables.NoteGrave d h faultless shallow = (rows.Grave (grave_at d), (tt, refl))
+row_made tables.CardGrave d h faultless shallow = (rows.Grave (grave_at d), (tt, refl))
+row_made tables.DeckGrave d h faultless shallow = (rows.Grave (grave_at d), (tt, refl))
 
 -- ---- the fault of a form
 
@@ -274,17 +274,17 @@ IsOfForm (faults.WrongKind text) = Unit {0}
 IsOfForm (faults.Row fault) = ⊥
 IsOfForm faults.Memory = ⊥
 
-flaw_of_form : (flaw : Flaw) → IsOfForm (told flaw)
-flaw_of_form flaws.WholeValue = tt
-flaw_of_form (flaws.Missing place) = tt
-flaw_of_form (flaws.WrongKind place) = tt
+form_fault_of_form : (fault : FormFault) → IsOfForm (told fault)
+form_fault_of_form form_faults.WholeValue = tt
+form_fault_of_form (form_faults.Missing place) = tt
+form_fault_of_form (form_faults.WrongKind place) = tt
 
 deep_of_form : (ms : Members) → IfSome (deep_fault ms) IsOfForm
 deep_of_form ms = mapped (λ _. Unit {0}) IsOfForm faults.WrongKind (λ k _. tt) (deep_member ms) (unasked _)
 
 key_of_form : (table : Table) (d : Data) → IfSome (deep_in table d) IsOfForm
-key_of_form tables.NoteType d = deep_of_form (kept NOTE_TYPE d)
-key_of_form tables.Deck d = deep_of_form (kept DECK d)
+key_of_form tables.NoteType d = deep_of_form (kept note_type_form d)
+key_of_form tables.Deck d = deep_of_form (kept deck_form d)
 key_of_form tables.Options d = deep_of_form (options_kept d)
 key_of_form table d = tt
 
@@ -292,9 +292,9 @@ either_of_form : (a b : Option JsonFault) → IfSome a IsOfForm → IfSome b IsO
 either_of_form None b h k = k
 either_of_form (Some fault) b h k = h
 
-fault_of_form : (table : Table) (d : Data) → IfSome (form_fault table d) IsOfForm
+fault_of_form : (table : Table) (d : Data) → IfSome (form_refusal table d) IsOfForm
 fault_of_form table d =
-    either_of_form _ _ (mapped (λ _. Unit {0}) IsOfForm told (λ flaw _. flaw_of_form flaw) (row_flaw table d) (unasked _)) (key_of_form table d)
+    either_of_form _ _ (mapped (λ _. Unit {0}) IsOfForm told (λ fault _. form_fault_of_form fault) (row_form_fault table d) (unasked _)) (key_of_form table d)
 
 -- ---- each value
 
@@ -302,11 +302,11 @@ fault_of_form table d =
 abbrev IsDecided : Table → Data → Type 0
 IsDecided table d = ((row : Row) × ReadsRow table d row) ⊎ ((fault : JsonFault) × RefusesRow table d fault × (fault ≡ faults.Memory → ⊥))
 
-of_row : (table : Table) (d : Data) (row : Row) → form_fault table d ≡ None → IsRow table d row → (checked : Result (Unit {0}) RowFault) → row_check table row ≡ checked → IsDecided table d
+of_row : (table : Table) (d : Data) (row : Row) → form_refusal table d ≡ None → IsRow table d row → (checked : Result (Unit {0}) RowFault) → row_check table row ≡ checked → IsDecided table d
 of_row table d row form is (Ok good) e = inl (row, record { form = form; is = is; good = e })
 of_row table d row form is (Err fault) e = inr (faults.Row fault, (row, record { form = form; is = is; bad = e }), λ m. cc)
 
-of_fault : (table : Table) (d : Data) (fault : JsonFault) → IsOfForm fault → form_fault table d ≡ Some fault → IsDecided table d
+of_fault : (table : Table) (d : Data) (fault : JsonFault) → IsOfForm fault → form_refusal table d ≡ Some fault → IsDecided table d
 of_fault table d faults.NotJson h e = absurd h
 of_fault table d (faults.Missing text) h e = inr (faults.Missing text, e, λ m. cc)
 of_fault table d (faults.WrongKind text) h e = inr (faults.WrongKind text, e, λ m. cc)
@@ -316,13 +316,13 @@ of_fault table d faults.Memory h e = absurd h
 -- each value that was read from a text is read as a row, or refused
 pub each_value : (table : Table) (text : List ℕ) (d : Data) → read text ≡ Some d
     → ((row : Row) × ReadsRow table d row) ⊎ ((fault : JsonFault) × RefusesRow table d fault × (fault ≡ faults.Memory → ⊥))
-each_value table text d reads = one (form_fault table d) refl
+each_value table text d reads = one (form_refusal table d) refl
   where
-    one : (o : Option JsonFault) → form_fault table d ≡ o → IsDecided table d
+    one : (o : Option JsonFault) → form_refusal table d ≡ o → IsDecided table d
     one None e =
-        let flawless : row_flaw table d ≡ None = none_mapped told (row_flaw table d) (first_none _ (deep_in table d) e) in
-        let shallow : deep_in table d ≡ None = second_none (option_map told (row_flaw table d)) _ e in
-        let made = row_made table d (read_orderly text d reads) flawless shallow in
+        let faultless : row_form_fault table d ≡ None = none_mapped told (row_form_fault table d) (first_none _ (deep_in table d) e) in
+        let shallow : deep_in table d ≡ None = second_none (option_map told (row_form_fault table d)) _ e in
+        let made = row_made table d (read_orderly text d reads) faultless shallow in
         of_row table d made.0 e made.1 (row_check table made.0) refl
     one (Some fault) e = of_fault table d fault (subst (λ (o : Option JsonFault). IfSome o IsOfForm) e (fault_of_form table d)) e
 
@@ -331,15 +331,15 @@ each_value table text d reads = one (form_fault table d) refl
 conf_made : (d : Data) → IsOrderly d → conf_fault d ≡ None → (c : Conf) × ReadsConf d c
 conf_made d h e = (
   record {
-    new_spread = whole_at CONF 0 d;
-    collapse = whole_at CONF 1 d;
-    day_learn_first = truth_at CONF 2 d;
-    next_pos = whole_at CONF 3 d;
-    last_unburied = whole_at CONF 4 d;
+    new_spread = integer_at conf_form 0 d;
+    collapse = integer_at conf_form 1 d;
+    day_learn_first = bool_at conf_form 2 d;
+    next_pos = integer_at conf_form 3 d;
+    last_unburied = integer_at conf_form 4 d;
     rest = record {
-      text = rest_text CONF d;
+      text = rest_text conf_form d;
       owner = record {};
-      unknown = kept_is_rest conf_keys CONF d refl h (none_mapped faults.WrongKind _ (second_none (option_map told (object_flaw CONF d)) _ e));
+      unknown = kept_is_rest conf_keys conf_form d refl h (none_mapped faults.WrongKind _ (second_none (option_map told (object_form_fault conf_form d)) _ e));
     };
   },
   record { form = e; new_spread = refl; collapse = refl; day_learn_first = refl; next_pos = refl; last_unburied = refl; rest = refl },
@@ -358,7 +358,7 @@ conf_told d faults.Memory h e = absurd h
 
 fault_of_conf : (d : Data) → IfSome (conf_fault d) IsOfForm
 fault_of_conf d =
-    either_of_form _ _ (mapped (λ _. Unit {0}) IsOfForm told (λ flaw _. flaw_of_form flaw) (object_flaw CONF d) (unasked _)) (deep_of_form (kept CONF d))
+    either_of_form _ _ (mapped (λ _. Unit {0}) IsOfForm told (λ fault _. form_fault_of_form fault) (object_form_fault conf_form d) (unasked _)) (deep_of_form (kept conf_form d))
 
 -- each value that was read from a text is read as settings, or refused
 pub each_conf : (text : List ℕ) (d : Data) → read text ≡ Some d

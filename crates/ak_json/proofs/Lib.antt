@@ -18,3 +18,4 @@ pub mod ConfRanges
 pub mod OneRow
 pub mod Orderly
 pub mod EachValue
+mod CellPlaces

@@ -17,15 +17,15 @@ use Rattle.serde_json.proofs.Views.{get_member-put, get_member-put_other}
 use Rattle.ak_base.specs.Rests.{is_written_as, members_of, lacks, is_plain, is_rest}
 use Rattle.ak_base.proofs.Resting.{same_bytes}
 use Rattle.ak_json.specs.Depths.{is_shallow, are_shallow, have_shallow}
-use Rattle.ak_json.specs.Flaws.{found_flaw, flaw_inside, told_at, flaw_within, column_flaw, first_flaw}
-use Rattle.ak_json.specs.Keys.{word_text, find}
+use Rattle.ak_json.specs.FormFaults.{found_form_fault, form_fault_inside, told_at, form_fault_within, column_form_fault, first_form_fault}
+use Rattle.ak_json.specs.Keys.{key_text, find}
 use Rattle.ak_json.specs.Kinds.{holds}
 use Rattle.ak_json.specs.Members.{Form, is_place, knows, unknown, deep_member}
 use Rattle.ak_json.specs.Objects.{put_at, put_cells}
 use Rattle.ak_json.specs.Rests.{rest_members, rest_text, deep_key, object_json}
 use Rattle.ak_json.specs.declared.faults.JsonFault.TheVariants as faults
-use Rattle.ak_json.specs.declared.flaws.Flaw.{Flaw}
-use Rattle.ak_json.specs.declared.flaws.Flaw.TheVariants.{WrongKind}
+use Rattle.ak_json.specs.declared.form_faults.FormFault.{FormFault}
+use Rattle.ak_json.specs.declared.form_faults.FormFault.TheVariants.{WrongKind}
 use Rattle.ak_json.specs.declared.keys.Place.{Place}
 use Rattle.ak_json.specs.declared.keys.Place.TheVariants as places
 use Rattle.ak_json.specs.declared.kinds.Kind.{Kind}
@@ -39,7 +39,7 @@ AllFound (column ∷ columns) (cell ∷ cells) d = (find column.0 d ≡ Some cel
 
 -- the place is a member of which no column is one
 abbrev pub is_new : Form → Place → Bool
-is_new columns (places.Own word) = not (knows columns (word_text word))
+is_new columns (places.Key word) = not (knows columns (key_text word))
 is_new columns (places.At place) = false
 
 -- no two columns are the same member
@@ -52,7 +52,7 @@ unlike a b h e = let same : pointwise ◌==◌ a b ≡ pointwise ◌==◌ a a = 
 
 -- what is put at one place leaves the others
 put_other : (place : Place) (k : List ℕ) (x : Data) (ms : Members) → is_place place k ≡ false → get_member k (put_at place x ms) ≡ get_member k ms
-put_other (places.Own word) k x ms h = get_member-put_other k (word_text word) x ms (unlike (word_text word) k h)
+put_other (places.Key word) k x ms h = get_member-put_other k (key_text word) x ms (unlike (key_text word) k h)
 put_other (places.At place) k x ms h = refl
 
 stays : (columns : Form) (cells : List Data) (k : List ℕ) (ms : Members) → knows columns k ≡ false → get_member k (put_cells columns cells ms) ≡ get_member k ms
@@ -62,8 +62,8 @@ stays (column ∷ columns) (cell ∷ cells) k ms h =
     stays columns cells k (put_at column.0 cell ms) (((or_parts (is_place column.0 k) _ h).1)) ∙ put_other column.0 k cell ms (((or_parts _ _ h).0))
 
 found_here : (columns : Form) (cells : List Data) (place : Place) (x : Data) (ms : Members) → is_new columns place ≡ true → find place (object (put_cells columns cells (put_at place x ms))) ≡ Some x
-found_here columns cells (places.Own word) x ms h =
-    stays columns cells (word_text word) (put (word_text word) x ms) (not_true _ h) ∙ get_member-put (word_text word) x ms
+found_here columns cells (places.Key word) x ms h =
+    stays columns cells (key_text word) (put (key_text word) x ms) (not_true _ h) ∙ get_member-put (key_text word) x ms
 found_here columns cells (places.At place) x ms h = cc
 
 pub found_all : (form : Form) (cells : List Data) (ms : Members) → are_apart form ≡ true → AllFound form cells (object (put_cells form cells ms))
@@ -86,7 +86,7 @@ unknown_put form k d (member l e ms) h = one (slice_cmp nat_cmp k l) refl (unkno
 
 -- the member of each column is one that the form knows
 abbrev pub knows_place : Form → Place → Bool
-knows_place form (places.Own word) = knows form (word_text word)
+knows_place form (places.Key word) = knows form (key_text word)
 knows_place form (places.At place) = true
 
 abbrev pub knows_all : Form → Form → Bool
@@ -94,7 +94,7 @@ knows_all form [] = true
 knows_all form (column ∷ columns) = knows_place form column.0 && knows_all form columns
 
 unknown_at : (form : Form) (place : Place) (x : Data) (ms : Members) → knows_place form place ≡ true → unknown form (put_at place x ms) ≡ unknown form ms
-unknown_at form (places.Own word) x ms h = unknown_put form (word_text word) x ms h
+unknown_at form (places.Key word) x ms h = unknown_put form (key_text word) x ms h
 unknown_at form (places.At place) x ms h = refl
 
 pub unknown_cells : (form columns : Form) (cells : List Data) (ms : Members) → knows_all form columns ≡ true → unknown form (put_cells columns cells ms) ≡ unknown form ms
@@ -106,7 +106,7 @@ unknown_cells form (column ∷ columns) (cell ∷ cells) ms h =
 -- ---- members of which no column is one
 
 abbrev pub place_keys : Place → List (List ℕ) → List (List ℕ)
-place_keys (places.Own word) keys = word_text word ∷ keys
+place_keys (places.Key word) keys = key_text word ∷ keys
 place_keys (places.At place) keys = keys
 
 -- the keys of a form's columns
@@ -136,11 +136,11 @@ pub differs : (a l : List ℕ) → is_eq (slice_cmp nat_cmp a l) ≡ false → p
 differs a l h = sym (is_eq-slice_cmp a l) ∙ h
 
 absent_at : (place : Place) (l : List ℕ) (d : Data) (ms : Members) (keys : List (List ℕ)) → lacks (place_keys place keys) (member l d ms) ≡ true → is_place place l ≡ false
-absent_at (places.Own word) l d ms keys h = differs (word_text word) l (unequal (slice_cmp nat_cmp (word_text word) l) (get_member (word_text word) ms) d (first_so _ _ h))
+absent_at (places.Key word) l d ms keys h = differs (key_text word) l (unequal (slice_cmp nat_cmp (key_text word) l) (get_member (key_text word) ms) d (first_so _ _ h))
 absent_at (places.At place) l d ms keys h = refl
 
 lacks_others : (place : Place) (keys : List (List ℕ)) (ms : Members) → lacks (place_keys place keys) ms ≡ true → lacks keys ms ≡ true
-lacks_others (places.Own word) keys ms h = second_so (is_none (get_member (word_text word) ms)) _ h
+lacks_others (places.Key word) keys ms h = second_so (is_none (get_member (key_text word) ms)) _ h
 lacks_others (places.At place) keys ms h = h
 
 absent : (form : Form) (l : List ℕ) (d : Data) (ms : Members) → lacks (keys_of form) (member l d ms) ≡ true → knows form l ≡ false
@@ -187,29 +187,29 @@ pub rest_kept : (passes : Members → Bool) (text : List ℕ) → is_rest passes
 unfolding is_rest members_of
 rest_kept passes text h = of_read passes text (read text) h
 
--- ---- what is found again has no flaw
+-- ---- what is found again has no fault
 
 abbrev pub all_hold : Form → List Data → Bool
 all_hold [] cells = true
 all_hold (column ∷ columns) [] = false
-all_hold (column ∷ columns) (cell ∷ cells) = holds column.1 cell && (is_none (flaw_inside column.1 cell) && all_hold columns cells)
+all_hold (column ∷ columns) (cell ∷ cells) = holds column.1 cell && (is_none (form_fault_inside column.1 cell) && all_hold columns cells)
 
 none_of : {T : Type 0} (o : Option T) → is_none o ≡ true → o ≡ None
 none_of None h = refl
 none_of (Some x) h = cc
 
-flawless_column : (column : Place × Kind) (cell d : Data) → find column.0 d ≡ Some cell → holds column.1 cell ≡ true → flaw_inside column.1 cell ≡ None → column_flaw column d ≡ None
-flawless_column column cell d e h i =
-    ap (λ (o : Option Data). option_or (found_flaw column o) (flaw_within column o)) e
-    ∙ (ap (λ (b : Bool). option_or (if b then None else Some (WrongKind column.0)) (flaw_within column (Some cell))) h ∙ ap (told_at column.0) i)
+faultless_column : (column : Place × Kind) (cell d : Data) → find column.0 d ≡ Some cell → holds column.1 cell ≡ true → form_fault_inside column.1 cell ≡ None → column_form_fault column d ≡ None
+faultless_column column cell d e h i =
+    ap (λ (o : Option Data). option_or (found_form_fault column o) (form_fault_within column o)) e
+    ∙ (ap (λ (b : Bool). option_or (if b then None else Some (WrongKind column.0)) (form_fault_within column (Some cell))) h ∙ ap (told_at column.0) i)
 
-pub flawless : (form : Form) (cells : List Data) (d : Data) → AllFound form cells d → all_hold form cells ≡ true → first_flaw form d ≡ None
-flawless [] cells d f h = refl
-flawless (column ∷ columns) [] d f h = no_rest h
-flawless (column ∷ columns) (cell ∷ cells) d f h =
+pub faultless : (form : Form) (cells : List Data) (d : Data) → AllFound form cells d → all_hold form cells ≡ true → first_form_fault form d ≡ None
+faultless [] cells d f h = refl
+faultless (column ∷ columns) [] d f h = no_rest h
+faultless (column ∷ columns) (cell ∷ cells) d f h =
     let inside = second_so (holds column.1 cell) _ h in
-    let here : column_flaw column d ≡ None = flawless_column column cell d f.0 (first_so _ _ h) (none_of _ (first_so _ _ inside)) in
-    ap (λ (o : Option Flaw). option_or o (first_flaw columns d)) here ∙ flawless columns cells d f.1 (second_so (is_none (flaw_inside column.1 cell)) _ inside)
+    let here : column_form_fault column d ≡ None = faultless_column column cell d f.0 (first_so _ _ h) (none_of _ (first_so _ _ inside)) in
+    ap (λ (o : Option FormFault). option_or o (first_form_fault columns d)) here ∙ faultless columns cells d f.1 (second_so (is_none (form_fault_inside column.1 cell)) _ inside)
 
 -- ---- plain members are not deep
 
@@ -252,7 +252,7 @@ plain_is_shallow ms h =
 -- the object has the form, its cells and its rest
 pub record IsObjectAgain (form : Form) (cells : List Data) (text : List ℕ) : Type 0 where
   pub found : AllFound form cells (object_json form cells text)
-  pub flaw : first_flaw form (object_json form cells text) ≡ None
+  pub fault : first_form_fault form (object_json form cells text) ≡ None
   pub shallow : deep_member (unknown form (put_cells form cells (rest_members text))) ≡ None
   pub deep : deep_key form (object_json form cells text) ≡ None
   pub rest : text ≡ rest_text form (object_json form cells text)
@@ -267,7 +267,7 @@ object_again form cells text apart known rest holds =
     let shallow : deep_member (unknown form (put_cells form cells ms)) ≡ None = ap deep_member same ∙ plain_is_shallow ms kept.plain in
     record {
       found = found;
-      flaw = flawless form cells (object_json form cells text) found holds;
+      fault = faultless form cells (object_json form cells text) found holds;
       shallow = shallow;
       deep = ap (λ (o : Option (List ℕ)). option_map faults.WrongKind o) shallow;
       rest = sym (ap (λ (m : Members). compact_text (object m)) same ∙ kept.written);

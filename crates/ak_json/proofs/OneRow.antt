@@ -24,7 +24,7 @@ use Rattle.ak_json.specs.Decks.{IsDeck}
 use Rattle.ak_json.specs.Faults.{Tells}
 use Rattle.ak_json.specs.Groups.{IsOptions}
 use Rattle.ak_json.specs.NoteTypes.{IsNoteType, field_of, template_of}
-use Rattle.ak_json.specs.Rows.{IsRow, row_check, form_fault, MissesRange, ReadsRow, RefusesRow}
+use Rattle.ak_json.specs.Rows.{IsRow, row_check, form_refusal, MissesRange, ReadsRow, RefusesRow}
 use Rattle.ak_json.specs.declared.faults.JsonFault.{JsonFault}
 use Rattle.ak_json.specs.declared.faults.JsonFault.TheVariants as faults
 
@@ -204,19 +204,19 @@ one_row_read table d a b x y = one_row table d a b x.is y.is
 in_and_out : (table : Table) (a b : Row) (fault : RowFault) → a ≡ b → row_check table a ≡ Ok tt → row_check table b ≡ Err fault → ⊥
 in_and_out table a b fault e good bad = let same : row_check table a ≡ row_check table b = ap (row_check table) e in cc
 
--- a value that is read is refused for want of memory alone
+-- a value that is read is refused for out of memory alone
 pub read_or_refused : (table : Table) (d : Data) (row : Row) (fault : JsonFault) → ReadsRow table d row → RefusesRow table d fault → fault ≡ faults.Memory
 read_or_refused table d row faults.NotJson x y = absurd y
-read_or_refused table d row (faults.Missing text) x y = let none : form_fault table d ≡ None = x.form in cc
-read_or_refused table d row (faults.WrongKind text) x y = let none : form_fault table d ≡ None = x.form in cc
+read_or_refused table d row (faults.Missing text) x y = let none : form_refusal table d ≡ None = x.form in cc
+read_or_refused table d row (faults.WrongKind text) x y = let none : form_refusal table d ≡ None = x.form in cc
 read_or_refused table d row (faults.Row fault) x y = absurd (in_and_out table row y.0 fault (one_row table d row y.0 x.is y.1.is) x.good y.1.bad)
 read_or_refused table d row faults.Memory x y = refl
 
-form_first : (table : Table) (d : Data) (a b : JsonFault) → form_fault table d ≡ Some a → RefusesRow table d b → (a ≡ b) ⊎ (b ≡ faults.Memory)
+form_first : (table : Table) (d : Data) (a b : JsonFault) → form_refusal table d ≡ Some a → RefusesRow table d b → (a ≡ b) ⊎ (b ≡ faults.Memory)
 form_first table d a faults.NotJson x y = absurd y
 form_first table d a (faults.Missing text) x y = inl cc
 form_first table d a (faults.WrongKind text) x y = inl cc
-form_first table d a (faults.Row fault) x y = let none : form_fault table d ≡ None = y.1.form in absurd cc
+form_first table d a (faults.Row fault) x y = let none : form_refusal table d ≡ None = y.1.form in absurd cc
 form_first table d a faults.Memory x y = inr refl
 
 -- rows that are one have one first column out of its range
@@ -226,8 +226,8 @@ one_range table a b one other e x y = let same : row_check table a ≡ row_check
 range_first : (table : Table) (d : Data) (row : Row) (fault : RowFault) (b : JsonFault) → MissesRange table d fault row → RefusesRow table d b
     → (faults.Row fault ≡ b) ⊎ (b ≡ faults.Memory)
 range_first table d row fault faults.NotJson x y = absurd y
-range_first table d row fault (faults.Missing text) x y = let none : form_fault table d ≡ None = x.form in absurd cc
-range_first table d row fault (faults.WrongKind text) x y = let none : form_fault table d ≡ None = x.form in absurd cc
+range_first table d row fault (faults.Missing text) x y = let none : form_refusal table d ≡ None = x.form in absurd cc
+range_first table d row fault (faults.WrongKind text) x y = let none : form_refusal table d ≡ None = x.form in absurd cc
 range_first table d row fault (faults.Row other) x y =
     inl (ap faults.Row (one_range table row y.0 fault other (one_row table d row y.0 x.is y.1.is) x.bad y.1.bad))
 range_first table d row fault faults.Memory x y = inr refl
@@ -236,7 +236,7 @@ or_memory : {a b : JsonFault} → (a ≡ b) ⊎ (b ≡ faults.Memory) → (a ≡
 or_memory (inl same) = inl same
 or_memory (inr memory) = inr (inr memory)
 
--- of two faults that refuse a value, which are not one, one is want of memory
+-- of two faults that refuse a value, which are not one, one is out of memory
 pub one_fault : (table : Table) (d : Data) (a b : JsonFault) → RefusesRow table d a → RefusesRow table d b → (a ≡ b) ⊎ ((a ≡ faults.Memory) ⊎ (b ≡ faults.Memory))
 one_fault table d faults.NotJson b x y = absurd x
 one_fault table d (faults.Missing text) b x y = or_memory (form_first table d (faults.Missing text) b x y)

@@ -11,76 +11,76 @@ use Rattle.serde_json.specs.View.{view, members_view}
 use Rattle.serde_json.specs.declared.value.Value.{Value, Object}
 use Rattle.serde_json.proofs.Views.{Entry, view-Object, get_member-put, get_member-put_other}
 use Rattle.ak_base.specs.Rests.{lacks, lacks_but_some, keeps_unknown, lacks_options, options_keys, new_keys, rev_keys, lapse_keys}
-use Rattle.ak_json.specs.Keys.{word_text}
+use Rattle.ak_json.specs.Keys.{key_text}
 use Rattle.ak_json.specs.Members.{unknown}
 use Rattle.ak_json.specs.Rests.{kept}
 use Rattle.ak_json.specs.Groups.{put_group, options_kept, new_in, rev_in, lapse_in}
-use Rattle.ak_json.specs.declared.keys.Word.{Word}
-use Rattle.ak_json.specs.declared.keys.Word.TheVariants as words
-use Rattle.ak_json.specs.declared.forms.TheConstants.{OPTIONS, NEW, REV, LAPSE}
+use Rattle.ak_json.specs.declared.keys.Key.{Key}
+use Rattle.ak_json.specs.declared.keys.Key.TheVariants as keys
+use Rattle.ak_json.specs.Forms.{options_form, new_form, rev_form, lapse_form}
 use Rattle.ak_json.proofs.Kept.{lacking, lacks_known, not_true}
 
-pub group_none : (own : Word) (es : List Entry) (ms : Members) → length es ≡ 0 → put_group own (members_view es) ms ≡ ms
+pub group_none : (own : Key) (es : List Entry) (ms : Members) → length es ≡ 0 → put_group own (members_view es) ms ≡ ms
 group_none own [] ms h = refl
 group_none own (e ∷ es) ms h = absurd (omega arith)
 
-some_entries : (own : Word) (es : List Entry) (ms : Members) → (length es ≡ 0 → ⊥) → put_group own (members_view es) ms ≡ put (word_text own) (object (members_view es)) ms
+some_entries : (own : Key) (es : List Entry) (ms : Members) → (length es ≡ 0 → ⊥) → put_group own (members_view es) ms ≡ put (key_text own) (object (members_view es)) ms
 some_entries own [] ms h = absurd (h refl)
 some_entries own (e ∷ es) ms h = refl
 
-pub group_some : (own : Word) (m : BTreeMap (String Global) Value) (ms : Members) → (length m.entries ≡ 0 → ⊥) → put_group own (members_view m.entries) ms ≡ put (word_text own) (view (Object m)) ms
+pub group_some : (own : Key) (m : BTreeMap (String Global) Value) (ms : Members) → (length m.entries ≡ 0 → ⊥) → put_group own (members_view m.entries) ms ≡ put (key_text own) (view (Object m)) ms
 group_some own m ms h = rw (view-Object m) (some_entries own m.entries ms h)
 
 unlike : (a b : List ℕ) → bytes_eq a b ≡ false → bytes_eq b b ≡ true → a ≡ b → ⊥
 unlike a b h k e = let same : bytes_eq a b ≡ bytes_eq b b = ap (λ (x : List ℕ). bytes_eq x b) e in cc
 
 -- other keys keep their values
-other_key : (k : List ℕ) (own : Word) (group ms : Members) → (k ≡ word_text own → ⊥) → get_member k (put_group own group ms) ≡ get_member k ms
+other_key : (k : List ℕ) (own : Key) (group ms : Members) → (k ≡ key_text own → ⊥) → get_member k (put_group own group ms) ≡ get_member k ms
 other_key k own no_members ms h = refl
-other_key k own (member l d group) ms h = get_member-put_other k (word_text own) (object (member l d group)) ms h
+other_key k own (member l d group) ms h = get_member-put_other k (key_text own) (object (member l d group)) ms h
 
-lacks_put : (keys : List (List ℕ)) (own : Word) (group ms : Members) → bytes_eq (word_text own) (word_text own) ≡ true
-    → list_all (λ k. not (bytes_eq k (word_text own))) keys ≡ true → lacks keys ms ≡ true → lacks keys (put_group own group ms) ≡ true
+lacks_put : (keys : List (List ℕ)) (own : Key) (group ms : Members) → bytes_eq (key_text own) (key_text own) ≡ true
+    → list_all (λ k. not (bytes_eq k (key_text own))) keys ≡ true → lacks keys ms ≡ true → lacks keys (put_group own group ms) ≡ true
 lacks_put [] own group ms s h l = refl
 lacks_put (k ∷ keys) own group ms s h l =
-    let other : bytes_eq k (word_text own) ≡ false = not_true _ (first_so _ _ h) in
+    let other : bytes_eq k (key_text own) ≡ false = not_true _ (first_so _ _ h) in
     and_from _ _
-    (ap is_none (other_key k own group ms (unlike k (word_text own) other s)) ∙ first_so _ _ l)
+    (ap is_none (other_key k own group ms (unlike k (key_text own) other s)) ∙ first_so _ _ l)
     (lacks_put keys own group ms s (second_so _ _ h) (second_so _ _ l))
 
 -- a group keeps what is put under its key
-keeps_own : (own : Word) (keys : List (List ℕ)) (group ms : Members) → get_member (word_text own) ms ≡ None → lacks keys group ≡ true → keeps_unknown (word_text own) keys (put_group own group ms) ≡ true
+keeps_own : (own : Key) (keys : List (List ℕ)) (group ms : Members) → get_member (key_text own) ms ≡ None → lacks keys group ≡ true → keeps_unknown (key_text own) keys (put_group own group ms) ≡ true
 keeps_own own keys no_members ms h l = ap (λ (o : Option Data). option_map_or (λ d. option_map_or (lacks_but_some keys) (as_object d) false) o true) h
 keeps_own own keys (member k d group) ms h l =
-    ap (λ (o : Option Data). option_map_or (λ d. option_map_or (lacks_but_some keys) (as_object d) false) o true) (get_member-put (word_text own) (object (member k d group)) ms) ∙ l
+    ap (λ (o : Option Data). option_map_or (λ d. option_map_or (lacks_but_some keys) (as_object d) false) o true) (get_member-put (key_text own) (object (member k d group)) ms) ∙ l
 
-keeps_other : (key : List ℕ) (keys : List (List ℕ)) (own : Word) (group ms : Members) → (key ≡ word_text own → ⊥) → keeps_unknown key keys ms ≡ true → keeps_unknown key keys (put_group own group ms) ≡ true
+keeps_other : (key : List ℕ) (keys : List (List ℕ)) (own : Key) (group ms : Members) → (key ≡ key_text own → ⊥) → keeps_unknown key keys ms ≡ true → keeps_unknown key keys (put_group own group ms) ≡ true
 keeps_other key keys own group ms h k =
     ap (λ (o : Option Data). option_map_or (λ d. option_map_or (lacks_but_some keys) (as_object d) false) o true) (other_key key own group ms h) ∙ k
 
 -- none of an option group's known keys is kept, inside `new`, `rev` and `lapse` either
-options_lack : (all new rev lapse : Members) → lacks_options (put_group words.Lapse (unknown LAPSE lapse) (put_group words.Rev (unknown REV rev) (put_group words.New (unknown NEW new) (unknown OPTIONS all)))) ≡ true
+options_lack : (all new rev lapse : Members) → lacks_options (put_group keys.Lapse (unknown lapse_form lapse) (put_group keys.Rev (unknown rev_form rev) (put_group keys.New (unknown new_form new) (unknown options_form all)))) ≡ true
 options_lack all new rev lapse =
-    let base = unknown OPTIONS all in
-    let with_new = put_group words.New (unknown NEW new) base in
-    let with_rev = put_group words.Rev (unknown REV rev) with_new in
+    let base = unknown options_form all in
+    let with_new = put_group keys.New (unknown new_form new) base in
+    let with_rev = put_group keys.Rev (unknown rev_form rev) with_new in
     and_from _ _
-    (lacks_put options_keys words.Lapse (unknown LAPSE lapse) with_rev refl refl
-    (lacks_put options_keys words.Rev (unknown REV rev) with_new refl refl
-    (lacks_put options_keys words.New (unknown NEW new) base refl refl (lacks_known options_keys OPTIONS all refl))))
+    (lacks_put options_keys keys.Lapse (unknown lapse_form lapse) with_rev refl refl
+    (lacks_put options_keys keys.Rev (unknown rev_form rev) with_new refl refl
+    (lacks_put options_keys keys.New (unknown new_form new) base refl refl (lacks_known options_keys options_form all refl))))
     (and_from _ _
-    (keeps_other (word_text words.New) new_keys words.Lapse (unknown LAPSE lapse) with_rev (unlike _ _ refl refl)
-    (keeps_other (word_text words.New) new_keys words.Rev (unknown REV rev) with_new (unlike _ _ refl refl)
-    (keeps_own words.New new_keys (unknown NEW new) base (lacking OPTIONS (word_text words.New) all refl) (lacks_known new_keys NEW new refl))))
+    (keeps_other (key_text keys.New) new_keys keys.Lapse (unknown lapse_form lapse) with_rev (unlike _ _ refl refl)
+    (keeps_other (key_text keys.New) new_keys keys.Rev (unknown rev_form rev) with_new (unlike _ _ refl refl)
+    (keeps_own keys.New new_keys (unknown new_form new) base (lacking options_form (key_text keys.New) all refl) (lacks_known new_keys new_form new refl))))
     (and_from _ _
-    (keeps_other (word_text words.Rev) rev_keys words.Lapse (unknown LAPSE lapse) with_rev (unlike _ _ refl refl)
-    (keeps_own words.Rev rev_keys (unknown REV rev) with_new
-    (other_key (word_text words.Rev) words.New (unknown NEW new) base (unlike _ _ refl refl) ∙ lacking OPTIONS (word_text words.Rev) all refl)
-    (lacks_known rev_keys REV rev refl)))
-    (keeps_own words.Lapse lapse_keys (unknown LAPSE lapse) with_rev
-    (other_key (word_text words.Lapse) words.Rev (unknown REV rev) with_new (unlike _ _ refl refl)
-    ∙ (other_key (word_text words.Lapse) words.New (unknown NEW new) base (unlike _ _ refl refl) ∙ lacking OPTIONS (word_text words.Lapse) all refl))
-    (lacks_known lapse_keys LAPSE lapse refl))))
+    (keeps_other (key_text keys.Rev) rev_keys keys.Lapse (unknown lapse_form lapse) with_rev (unlike _ _ refl refl)
+    (keeps_own keys.Rev rev_keys (unknown rev_form rev) with_new
+    (other_key (key_text keys.Rev) keys.New (unknown new_form new) base (unlike _ _ refl refl) ∙ lacking options_form (key_text keys.Rev) all refl)
+    (lacks_known rev_keys rev_form rev refl)))
+    (keeps_own keys.Lapse lapse_keys (unknown lapse_form lapse) with_rev
+    (other_key (key_text keys.Lapse) keys.Rev (unknown rev_form rev) with_new (unlike _ _ refl refl)
+    ∙ (other_key (key_text keys.Lapse) keys.New (unknown new_form new) base (unlike _ _ refl refl) ∙ lacking options_form (key_text keys.Lapse) all refl))
+    (lacks_known lapse_keys lapse_form lapse refl))))
 
 -- what an option group keeps is its rest
 pub options_ignored : (d : Data) → lacks_options (options_kept d) ≡ true
@@ -93,7 +93,7 @@ options_ignored d =
 
 -- what is kept is put together, a group at a time
 pub put_together : (d new rev lapse : Data) (own with_new with_rev all kept_new kept_rev kept_lapse : Members)
-    → own ≡ kept OPTIONS d → new ≡ new_in d → kept_new ≡ kept NEW new → with_new ≡ put_group words.New kept_new own
-    → rev ≡ rev_in d → kept_rev ≡ kept REV rev → with_rev ≡ put_group words.Rev kept_rev with_new
-    → lapse ≡ lapse_in d → kept_lapse ≡ kept LAPSE lapse → all ≡ put_group words.Lapse kept_lapse with_rev → all ≡ options_kept d
+    → own ≡ kept options_form d → new ≡ new_in d → kept_new ≡ kept new_form new → with_new ≡ put_group keys.New kept_new own
+    → rev ≡ rev_in d → kept_rev ≡ kept rev_form rev → with_rev ≡ put_group keys.Rev kept_rev with_new
+    → lapse ≡ lapse_in d → kept_lapse ≡ kept lapse_form lapse → all ≡ put_group keys.Lapse kept_lapse with_rev → all ≡ options_kept d
 put_together d new rev lapse own with_new with_rev all kept_new kept_rev kept_lapse a b c e f g h i j k = rw (k, j, i, h, g, f, e, c, b, a) refl

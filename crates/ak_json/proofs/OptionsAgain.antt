@@ -15,25 +15,25 @@ use Rattle.ak_base.specs.Columns.{code_fault, long_fault, first_fault}
 use Rattle.ak_base.specs.OptionGroups.{bad_step, steps_fault, options_faults, general_faults, new_faults, rev_faults, lapse_faults}
 use Rattle.ak_base.specs.Rests.{lacks, lacks_but_some, keeps_unknown, lacks_options, options_keys, new_keys, rev_keys, lapse_keys}
 use Rattle.ak_base.specs.declared.option_groups.Options.{Options}
-use Rattle.ak_json.specs.Cells.{cell_at, whole_at, truth_at, part_at, steps_at, inner_at, wholes}
-use Rattle.ak_json.specs.Flaws.{inner_flaw}
+use Rattle.ak_json.specs.Cells.{cell_at, integer_at, bool_at, part_at, steps_at, inner_at, integers}
+use Rattle.ak_json.specs.FormFaults.{inner_form_fault}
 use Rattle.ak_json.specs.Groups.{put_group, group_members, new_in, rev_in, lapse_in, options_kept, IsOptions, new_json, rev_json, lapse_json, options_cells, options_json}
-use Rattle.ak_json.specs.Keys.{word_text}
-use Rattle.ak_json.specs.Kinds.{whole_of, are_whole}
+use Rattle.ak_json.specs.Keys.{key_text}
+use Rattle.ak_json.specs.Kinds.{integer_of, are_integers}
 use Rattle.ak_json.specs.Members.{Form, knows, unknown}
-use Rattle.ak_json.specs.Objects.{object_flaw, put_cells}
+use Rattle.ak_json.specs.Objects.{object_form_fault, put_cells}
 use Rattle.ak_json.specs.Rests.{kept, rest_members, deep_fault}
-use Rattle.ak_json.specs.Written.{whole, pair, steps_json}
+use Rattle.ak_json.specs.Written.{integer, pair, steps_json}
 use Rattle.ak_json.specs.declared.faults.JsonFault.TheVariants as faults
-use Rattle.ak_json.specs.declared.forms.TheConstants.{OPTIONS, NEW, REV, LAPSE}
-use Rattle.ak_json.specs.declared.keys.Word.{Word}
-use Rattle.ak_json.specs.declared.keys.Word.TheVariants as words
+use Rattle.ak_json.specs.Forms.{options_form, new_form, rev_form, lapse_form}
+use Rattle.ak_json.specs.declared.keys.Key.{Key}
+use Rattle.ak_json.specs.declared.keys.Key.TheVariants as keys
 use Rattle.ak_json.proofs.Again.{IsReadAgain, AllNone, all_none, id_again, stamp_again, code_again}
 use Rattle.ak_json.proofs.ConfsAgain.{truth_found}
 use Rattle.ak_json.proofs.DecksAgain.{whole_found, words_found, part_found}
 use Rattle.ak_json.proofs.Kept.{same_key}
 use Rattle.ak_json.proofs.NoteTypesAgain.{inner_none}
-use Rattle.ak_json.proofs.ObjectForms.{AllFound, found_all, are_apart, knows_all, keys_of, unknown_cells, all_unknown, IsKept, rest_kept, all_hold, flawless, plain_is_shallow, none_later, unequal, differs, no_rest}
+use Rattle.ak_json.proofs.ObjectForms.{AllFound, found_all, are_apart, knows_all, keys_of, unknown_cells, all_unknown, IsKept, rest_kept, all_hold, faultless, plain_is_shallow, none_later, unequal, differs, no_rest}
 use Rattle.ak_json.proofs.OptionRests.{put_together}
 use Rattle.ak_json.proofs.ReadSorted.{rest_sorted}
 use Rattle.ak_json.proofs.Sorted.{AllBehind, AreSorted, behind_before, absent_behind, unknown_behind, put_first}
@@ -41,65 +41,65 @@ use Rattle.ak_json.proofs.Sorted.{AllBehind, AreSorted, behind_before, absent_be
 -- ---- what a group keeps, put back under its key
 
 -- the smaller form knows all that the form knows, but for the key of the own
-record IsWithout (own : Word) (form smaller : Form) : Type 0 where
-  known : knows form (word_text own) ≡ true
-  unknown : knows smaller (word_text own) ≡ false
-  others : (k : List ℕ) → pointwise ◌==◌ (word_text own) k ≡ false → knows form k ≡ knows smaller k
+record IsWithout (own : Key) (form smaller : Form) : Type 0 where
+  known : knows form (key_text own) ≡ true
+  unknown : knows smaller (key_text own) ≡ false
+  others : (k : List ℕ) → pointwise ◌==◌ (key_text own) k ≡ false → knows form k ≡ knows smaller k
 
 kept_alike : (form smaller : Form) (l : List ℕ) (e : Data) (ms : Members) → knows form l ≡ knows smaller l → unknown form ms ≡ unknown smaller ms → unknown form (member l e ms) ≡ unknown smaller (member l e ms)
 kept_alike form smaller l e ms h later = rw (h, later) refl
 
 -- where the key is none of the members', both forms keep the same
-absent_alike : (own : Word) (form smaller : Form) (ms : Members) → IsWithout own form smaller → is_none (get_member (word_text own) ms) ≡ true → unknown form ms ≡ unknown smaller ms
+absent_alike : (own : Key) (form smaller : Form) (ms : Members) → IsWithout own form smaller → is_none (get_member (key_text own) ms) ≡ true → unknown form ms ≡ unknown smaller ms
 absent_alike own form smaller no_members w h = refl
 absent_alike own form smaller (member l e ms) w h =
     kept_alike form smaller l e ms
-    (w.others l (differs (word_text own) l (unequal (slice_cmp nat_cmp (word_text own) l) (get_member (word_text own) ms) e h)))
-    (absent_alike own form smaller ms w (none_later (slice_cmp nat_cmp (word_text own) l) (get_member (word_text own) ms) e h))
+    (w.others l (differs (key_text own) l (unequal (slice_cmp nat_cmp (key_text own) l) (get_member (key_text own) ms) e h)))
+    (absent_alike own form smaller ms w (none_later (slice_cmp nat_cmp (key_text own) l) (get_member (key_text own) ms) e h))
 
 -- the members that hold a value under the key keep it, where it is put back in its place
-put_back : (own : Word) (form smaller : Form) (d : Data) (ms : Members) → IsWithout own form smaller → AreSorted ms → get_member (word_text own) ms ≡ Some d
-    → put (word_text own) d (unknown form ms) ≡ unknown smaller ms
+put_back : (own : Key) (form smaller : Form) (d : Data) (ms : Members) → IsWithout own form smaller → AreSorted ms → get_member (key_text own) ms ≡ Some d
+    → put (key_text own) d (unknown form ms) ≡ unknown smaller ms
 put_back own form smaller d no_members w s g = cc
-put_back own form smaller d (member l e ms) w s g = one (slice_cmp nat_cmp (word_text own) l) refl g (put_back own form smaller d ms w s.1)
+put_back own form smaller d (member l e ms) w s g = one (slice_cmp nat_cmp (key_text own) l) refl g (put_back own form smaller d ms w s.1)
   where
-    elsewhere : (known : Bool) → slice_cmp nat_cmp (word_text own) l ≡ Greater → put (word_text own) d (unknown form ms) ≡ unknown smaller ms
-        → put (word_text own) d (if known then unknown form ms else member l e (unknown form ms)) ≡ (if known then unknown smaller ms else member l e (unknown smaller ms))
+    elsewhere : (known : Bool) → slice_cmp nat_cmp (key_text own) l ≡ Greater → put (key_text own) d (unknown form ms) ≡ unknown smaller ms
+        → put (key_text own) d (if known then unknown form ms else member l e (unknown form ms)) ≡ (if known then unknown smaller ms else member l e (unknown smaller ms))
     elsewhere true is later = later
     elsewhere false is later =
-        ap (λ o. match_ordering o (member (word_text own) d (member l e (unknown form ms))) (member l d (unknown form ms)) (member l e (put (word_text own) d (unknown form ms)))) is
+        ap (λ o. match_ordering o (member (key_text own) d (member l e (unknown form ms))) (member l d (unknown form ms)) (member l e (put (key_text own) d (unknown form ms)))) is
         ∙ ap (member l e) later
 
-    one : (o : Ordering) → slice_cmp nat_cmp (word_text own) l ≡ o → match_ordering o (get_member (word_text own) ms) (Some e) (get_member (word_text own) ms) ≡ Some d
-        → (get_member (word_text own) ms ≡ Some d → put (word_text own) d (unknown form ms) ≡ unknown smaller ms)
-        → put (word_text own) d (unknown form (member l e ms)) ≡ unknown smaller (member l e ms)
+    one : (o : Ordering) → slice_cmp nat_cmp (key_text own) l ≡ o → match_ordering o (get_member (key_text own) ms) (Some e) (get_member (key_text own) ms) ≡ Some d
+        → (get_member (key_text own) ms ≡ Some d → put (key_text own) d (unknown form ms) ≡ unknown smaller ms)
+        → put (key_text own) d (unknown form (member l e ms)) ≡ unknown smaller (member l e ms)
     one Less is here later =
-        let none : get_member (word_text own) ms ≡ None = absent_behind (word_text own) ms (behind_before (word_text own) l ms is s.0) in
+        let none : get_member (key_text own) ms ≡ None = absent_behind (key_text own) ms (behind_before (key_text own) l ms is s.0) in
         let both : None ≡ Some d = sym none ∙ here in
         cc
     one Equal is here later =
-        let same : word_text own ≡ l = same_key (word_text own) l is in
+        let same : key_text own ≡ l = same_key (key_text own) l is in
         let known : knows form l ≡ true = sym (ap (knows form) same) ∙ w.known in
         let new : knows smaller l ≡ false = sym (ap (knows smaller) same) ∙ w.unknown in
-        let behind : AllBehind (word_text own) ms = subst (λ (k : List ℕ). AllBehind k ms) (sym same) s.0 in
-        let alike : unknown form ms ≡ unknown smaller ms = absent_alike own form smaller ms w (ap is_none (absent_behind (word_text own) ms behind)) in
+        let behind : AllBehind (key_text own) ms = subst (λ (k : List ℕ). AllBehind k ms) (sym same) s.0 in
+        let alike : unknown form ms ≡ unknown smaller ms = absent_alike own form smaller ms w (ap is_none (absent_behind (key_text own) ms behind)) in
         let value : d ≡ e = sym (ap (λ (o : Option Data). unwrap_or o d) here) in
-        ap (λ (b : Bool). put (word_text own) d (if b then unknown form ms else member l e (unknown form ms))) known
-        ∙ (put_first (word_text own) d (unknown form ms) (unknown_behind form (word_text own) ms behind)
+        ap (λ (b : Bool). put (key_text own) d (if b then unknown form ms else member l e (unknown form ms))) known
+        ∙ (put_first (key_text own) d (unknown form ms) (unknown_behind form (key_text own) ms behind)
         ∙ (ap (λ (k : List ℕ). member k d (unknown form ms)) same
         ∙ (ap (λ (x : Data). member l x (unknown form ms)) value
         ∙ (ap (member l e) alike
         ∙ sym (ap (λ (b : Bool). if b then unknown smaller ms else member l e (unknown smaller ms)) new)))))
     one Greater is here later =
-        let other : knows form l ≡ knows smaller l = w.others l (differs (word_text own) l (ap is_eq is)) in
+        let other : knows form l ≡ knows smaller l = w.others l (differs (key_text own) l (ap is_eq is)) in
         elsewhere (knows form l) is (later here) ∙ ap (λ (b : Bool). if b then unknown smaller ms else member l e (unknown smaller ms)) other
 
 -- what a group keeps stands again where the rest keeps it
-group_back : (own : Word) (keys : List (List ℕ)) (form smaller : Form) (ms : Members) → IsWithout own form smaller → AreSorted ms → keeps_unknown (word_text own) keys ms ≡ true
+group_back : (own : Key) (keys : List (List ℕ)) (form smaller : Form) (ms : Members) → IsWithout own form smaller → AreSorted ms → keeps_unknown (key_text own) keys ms ≡ true
     → put_group own (group_members own (object ms)) (unknown form ms) ≡ unknown smaller ms
-group_back own keys form smaller ms w s h = one (get_member (word_text own) ms) refl h
+group_back own keys form smaller ms w s h = one (get_member (key_text own) ms) refl h
   where
-    one : (o : Option Data) → get_member (word_text own) ms ≡ o → option_map_or (λ value. option_map_or (lacks_but_some keys) (as_object value) false) o true ≡ true
+    one : (o : Option Data) → get_member (key_text own) ms ≡ o → option_map_or (λ value. option_map_or (lacks_but_some keys) (as_object value) false) o true ≡ true
         → put_group own (unwrap_or (option_and_then as_object o) no_members) (unknown form ms) ≡ unknown smaller ms
     one None is k = absent_alike own form smaller ms w (ap is_none is)
     one (Some null) is k = no_rest k
@@ -111,8 +111,8 @@ group_back own keys form smaller ms w s h = one (get_member (word_text own) ms) 
     one (Some (object (member l d group))) is k = put_back own form smaller (object (member l d group)) ms w s is
 
 -- all that a group keeps is unknown to it
-group_unknown : (own : Word) (form : Form) (ms : Members) → keeps_unknown (word_text own) (keys_of form) ms ≡ true → unknown form (group_members own (object ms)) ≡ group_members own (object ms)
-group_unknown own form ms h = one (get_member (word_text own) ms) h
+group_unknown : (own : Key) (form : Form) (ms : Members) → keeps_unknown (key_text own) (keys_of form) ms ≡ true → unknown form (group_members own (object ms)) ≡ group_members own (object ms)
+group_unknown own form ms h = one (get_member (key_text own) ms) h
   where
     one : (o : Option Data) → option_map_or (λ value. option_map_or (lacks_but_some (keys_of form)) (as_object value) false) o true ≡ true
         → unknown form (unwrap_or (option_and_then as_object o) no_members) ≡ unwrap_or (option_and_then as_object o) no_members
@@ -129,15 +129,15 @@ group_unknown own form ms h = one (get_member (word_text own) ms) h
 
 -- the columns of an option group that hold no objects, and then those from a place on
 abbrev own_and : ℕ → Form
-own_and place = take 5 OPTIONS ++ drop place OPTIONS
+own_and place = take 5 options_form ++ drop place options_form
 
-without_new : IsWithout words.New OPTIONS (own_and 6)
+without_new : IsWithout keys.New options_form (own_and 6)
 without_new = record { known = refl; unknown = refl; others = λ k h. rw h refl }
 
-without_rev : IsWithout words.Rev (own_and 6) (own_and 7)
+without_rev : IsWithout keys.Rev (own_and 6) (own_and 7)
 without_rev = record { known = refl; unknown = refl; others = λ k h. rw h refl }
 
-without_lapse : IsWithout words.Lapse (own_and 7) (own_and 8)
+without_lapse : IsWithout keys.Lapse (own_and 7) (own_and 8)
 without_lapse = record { known = refl; unknown = refl; others = λ k h. rw h refl }
 
 -- what a rest of an option group keeps, at its top and inside `new`, `rev` and `lapse`
@@ -160,13 +160,13 @@ keeps_each ms h =
 
 -- what the groups keep and the other unknown members are together all that the rest keeps
 options_back : (ms : Members) → AreSorted ms → KeepsUnknown ms
-    → put_group words.Lapse (group_members words.Lapse (object ms)) (put_group words.Rev (group_members words.Rev (object ms)) (put_group words.New (group_members words.New (object ms)) (unknown OPTIONS ms))) ≡ ms
+    → put_group keys.Lapse (group_members keys.Lapse (object ms)) (put_group keys.Rev (group_members keys.Rev (object ms)) (put_group keys.New (group_members keys.New (object ms)) (unknown options_form ms))) ≡ ms
 options_back ms s k =
-    let rev : Members = group_members words.Rev (object ms) in
-    let lapse : Members = group_members words.Lapse (object ms) in
-    ap (λ (m : Members). put_group words.Lapse lapse (put_group words.Rev rev m)) (group_back words.New new_keys OPTIONS (own_and 6) ms without_new s k.new)
-    ∙ (ap (put_group words.Lapse lapse) (group_back words.Rev rev_keys (own_and 6) (own_and 7) ms without_rev s k.rev)
-    ∙ (group_back words.Lapse lapse_keys (own_and 7) (own_and 8) ms without_lapse s k.lapse
+    let rev : Members = group_members keys.Rev (object ms) in
+    let lapse : Members = group_members keys.Lapse (object ms) in
+    ap (λ (m : Members). put_group keys.Lapse lapse (put_group keys.Rev rev m)) (group_back keys.New new_keys options_form (own_and 6) ms without_new s k.new)
+    ∙ (ap (put_group keys.Lapse lapse) (group_back keys.Rev rev_keys (own_and 6) (own_and 7) ms without_rev s k.rev)
+    ∙ (group_back keys.Lapse lapse_keys (own_and 7) (own_and 8) ms without_lapse s k.lapse
     ∙ all_unknown (own_and 8) ms k.own))
 
 -- ---- steps
@@ -185,18 +185,18 @@ each_step column (z ∷ zs) h = (
 steps_again : (column : ℕ) (zs : List ℤ) → steps_fault column zs ≡ None → AllRead zs
 steps_again column zs h = each_step column zs (second_none (long_fault column (length zs) 50) _ h)
 
-steps_hold : (zs : List ℤ) → AllRead zs → are_whole (items_of (map whole zs)) ≡ true
+steps_hold : (zs : List ℤ) → AllRead zs → are_integers (items_of (map integer zs)) ≡ true
 steps_hold [] r = refl
 steps_hold (z ∷ zs) r = and_from _ _ (ap is_some r.0) (steps_hold zs r.1)
 
-steps_read : (zs : List ℤ) → AllRead zs → zs ≡ wholes (items_of (map whole zs))
+steps_read : (zs : List ℤ) → AllRead zs → zs ≡ integers (items_of (map integer zs))
 steps_read [] r = refl
 steps_read (z ∷ zs) r =
     ap (λ (first : ℤ). first ∷ zs) (sym (ap (λ (o : Option ℤ). unwrap_or o (pos 0)) r.0))
-    ∙ ap (λ (later : List ℤ). unwrap_or (whole_of (whole z)) (pos 0) ∷ later) (steps_read zs r.1)
+    ∙ ap (λ (later : List ℤ). unwrap_or (integer_of (integer z)) (pos 0) ∷ later) (steps_read zs r.1)
 
 steps_found : (form : Form) (n : ℕ) (d : Data) (zs : List ℤ) → cell_at form n d ≡ Some (steps_json zs) → AllRead zs → zs ≡ steps_at form n d
-steps_found form n d zs e r = steps_read zs r ∙ sym (ap (λ (o : Option Data). wholes (unwrap_or (option_and_then as_array o) no_items)) e)
+steps_found form n d zs e r = steps_read zs r ∙ sym (ap (λ (o : Option Data). integers (unwrap_or (option_and_then as_array o) no_items)) e)
 
 -- ---- the numbers
 
@@ -252,10 +252,10 @@ are_read o all =
 
 -- ---- the objects inside
 
--- the object inside has no flaw and its cells, and keeps those members
+-- the object inside has no fault and its cells, and keeps those members
 record IsGroupAgain (form : Form) (cells : List Data) (ms : Members) : Type 0 where
   found : AllFound form cells (object (put_cells form cells ms))
-  flaw : inner_flaw form (object (put_cells form cells ms)) ≡ None
+  fault : inner_form_fault form (object (put_cells form cells ms)) ≡ None
   kept : unknown form (put_cells form cells ms) ≡ ms
 
 group_again : (form : Form) (cells : List Data) (ms : Members) → are_apart form ≡ true → knows_all form form ≡ true → unknown form ms ≡ ms → all_hold form cells ≡ true → IsGroupAgain form cells ms
@@ -264,119 +264,119 @@ group_again form cells ms apart known new holds =
     let found : AllFound form cells d = found_all form cells ms apart in
     record {
       found = found;
-      flaw = inner_none form d (flawless form cells d found holds);
+      fault = inner_none form d (faultless form cells d found holds);
       kept = unknown_cells form form cells ms known ∙ new;
     }
 
 abbrev new_cells : Options → List Data
-new_cells o = steps_json o.new_steps ∷ pair (record { day = o.grad_ivl; count = o.easy_ivl }) ∷ whole o.initial_factor ∷ whole o.new_per_day ∷ boolean o.new_bury ∷ []
+new_cells o = steps_json o.new_steps ∷ pair (record { day = o.grad_ivl; count = o.easy_ivl }) ∷ integer o.initial_factor ∷ integer o.new_per_day ∷ boolean o.new_bury ∷ []
 
-new_holds : (o : Options) → AreRead o → all_hold NEW (new_cells o) ≡ true
+new_holds : (o : Options) → AreRead o → all_hold new_form (new_cells o) ≡ true
 new_holds o r = rw (steps_hold o.new_steps r.new_steps, r.grad_ivl, r.easy_ivl, r.initial_factor, r.new_per_day) refl
 
-new_again : (o : Options) (ms : Members) → AreRead o → KeepsUnknown ms → IsGroupAgain NEW (new_cells o) (group_members words.New (object ms))
-new_again o ms r k = group_again NEW (new_cells o) (group_members words.New (object ms)) refl refl (group_unknown words.New NEW ms k.new) (new_holds o r)
+new_again : (o : Options) (ms : Members) → AreRead o → KeepsUnknown ms → IsGroupAgain new_form (new_cells o) (group_members keys.New (object ms))
+new_again o ms r k = group_again new_form (new_cells o) (group_members keys.New (object ms)) refl refl (group_unknown keys.New new_form ms k.new) (new_holds o r)
 
 -- what stands in the columns for new cards is read
 record ReadsNew (o : Options) (d : Data) : Type 0 where
-  steps : o.new_steps ≡ steps_at NEW 0 d
-  grad : o.grad_ivl ≡ part_at NEW 1 0 d
-  easy : o.easy_ivl ≡ part_at NEW 1 1 d
-  factor : o.initial_factor ≡ whole_at NEW 2 d
-  per_day : o.new_per_day ≡ whole_at NEW 3 d
-  bury : o.new_bury ≡ truth_at NEW 4 d
+  steps : o.new_steps ≡ steps_at new_form 0 d
+  grad : o.grad_ivl ≡ part_at new_form 1 0 d
+  easy : o.easy_ivl ≡ part_at new_form 1 1 d
+  factor : o.initial_factor ≡ integer_at new_form 2 d
+  per_day : o.new_per_day ≡ integer_at new_form 3 d
+  bury : o.new_bury ≡ bool_at new_form 4 d
 
-reads_new : (o : Options) (d : Data) → AllFound NEW (new_cells o) d → AreRead o → ReadsNew o d
+reads_new : (o : Options) (d : Data) → AllFound new_form (new_cells o) d → AreRead o → ReadsNew o d
 reads_new o d f r =
     let days : Data = pair (record { day = o.grad_ivl; count = o.easy_ivl }) in
     record {
-      steps = steps_found NEW 0 d o.new_steps f.0 r.new_steps;
-      grad = sym (part_found NEW 1 0 d days o.grad_ivl f.1.0 refl r.grad_ivl);
-      easy = sym (part_found NEW 1 1 d days o.easy_ivl f.1.0 refl r.easy_ivl);
-      factor = whole_found NEW 2 d o.initial_factor f.1.1.0 r.initial_factor;
-      per_day = whole_found NEW 3 d o.new_per_day f.1.1.1.0 r.new_per_day;
-      bury = truth_found NEW 4 d o.new_bury f.1.1.1.1.0;
+      steps = steps_found new_form 0 d o.new_steps f.0 r.new_steps;
+      grad = sym (part_found new_form 1 0 d days o.grad_ivl f.1.0 refl r.grad_ivl);
+      easy = sym (part_found new_form 1 1 d days o.easy_ivl f.1.0 refl r.easy_ivl);
+      factor = whole_found new_form 2 d o.initial_factor f.1.1.0 r.initial_factor;
+      per_day = whole_found new_form 3 d o.new_per_day f.1.1.1.0 r.new_per_day;
+      bury = truth_found new_form 4 d o.new_bury f.1.1.1.1.0;
     }
 
 abbrev rev_cells : Options → List Data
-rev_cells o = whole o.rev_per_day ∷ whole o.ease4 ∷ whole o.ivl_fct ∷ whole o.max_ivl ∷ whole o.hard_factor ∷ boolean o.rev_bury ∷ []
+rev_cells o = integer o.rev_per_day ∷ integer o.ease4 ∷ integer o.ivl_fct ∷ integer o.max_ivl ∷ integer o.hard_factor ∷ boolean o.rev_bury ∷ []
 
-rev_holds : (o : Options) → AreRead o → all_hold REV (rev_cells o) ≡ true
+rev_holds : (o : Options) → AreRead o → all_hold rev_form (rev_cells o) ≡ true
 rev_holds o r = rw (r.rev_per_day, r.ease4, r.ivl_fct, r.max_ivl, r.hard_factor) refl
 
-rev_again : (o : Options) (ms : Members) → AreRead o → KeepsUnknown ms → IsGroupAgain REV (rev_cells o) (group_members words.Rev (object ms))
-rev_again o ms r k = group_again REV (rev_cells o) (group_members words.Rev (object ms)) refl refl (group_unknown words.Rev REV ms k.rev) (rev_holds o r)
+rev_again : (o : Options) (ms : Members) → AreRead o → KeepsUnknown ms → IsGroupAgain rev_form (rev_cells o) (group_members keys.Rev (object ms))
+rev_again o ms r k = group_again rev_form (rev_cells o) (group_members keys.Rev (object ms)) refl refl (group_unknown keys.Rev rev_form ms k.rev) (rev_holds o r)
 
 -- what stands in the columns for reviews is read
 record ReadsRev (o : Options) (d : Data) : Type 0 where
-  per_day : o.rev_per_day ≡ whole_at REV 0 d
-  ease4 : o.ease4 ≡ whole_at REV 1 d
-  ivl_fct : o.ivl_fct ≡ whole_at REV 2 d
-  max_ivl : o.max_ivl ≡ whole_at REV 3 d
-  hard_factor : o.hard_factor ≡ whole_at REV 4 d
-  bury : o.rev_bury ≡ truth_at REV 5 d
+  per_day : o.rev_per_day ≡ integer_at rev_form 0 d
+  ease4 : o.ease4 ≡ integer_at rev_form 1 d
+  ivl_fct : o.ivl_fct ≡ integer_at rev_form 2 d
+  max_ivl : o.max_ivl ≡ integer_at rev_form 3 d
+  hard_factor : o.hard_factor ≡ integer_at rev_form 4 d
+  bury : o.rev_bury ≡ bool_at rev_form 5 d
 
-reads_rev : (o : Options) (d : Data) → AllFound REV (rev_cells o) d → AreRead o → ReadsRev o d
+reads_rev : (o : Options) (d : Data) → AllFound rev_form (rev_cells o) d → AreRead o → ReadsRev o d
 reads_rev o d f r =
     record {
-      per_day = whole_found REV 0 d o.rev_per_day f.0 r.rev_per_day;
-      ease4 = whole_found REV 1 d o.ease4 f.1.0 r.ease4;
-      ivl_fct = whole_found REV 2 d o.ivl_fct f.1.1.0 r.ivl_fct;
-      max_ivl = whole_found REV 3 d o.max_ivl f.1.1.1.0 r.max_ivl;
-      hard_factor = whole_found REV 4 d o.hard_factor f.1.1.1.1.0 r.hard_factor;
-      bury = truth_found REV 5 d o.rev_bury f.1.1.1.1.1.0;
+      per_day = whole_found rev_form 0 d o.rev_per_day f.0 r.rev_per_day;
+      ease4 = whole_found rev_form 1 d o.ease4 f.1.0 r.ease4;
+      ivl_fct = whole_found rev_form 2 d o.ivl_fct f.1.1.0 r.ivl_fct;
+      max_ivl = whole_found rev_form 3 d o.max_ivl f.1.1.1.0 r.max_ivl;
+      hard_factor = whole_found rev_form 4 d o.hard_factor f.1.1.1.1.0 r.hard_factor;
+      bury = truth_found rev_form 5 d o.rev_bury f.1.1.1.1.1.0;
     }
 
 abbrev lapse_cells : Options → List Data
-lapse_cells o = steps_json o.lapse_steps ∷ whole o.mult ∷ whole o.min_int ∷ whole o.leech_fails ∷ whole o.leech_action ∷ []
+lapse_cells o = steps_json o.lapse_steps ∷ integer o.mult ∷ integer o.min_int ∷ integer o.leech_fails ∷ integer o.leech_action ∷ []
 
-lapse_holds : (o : Options) → AreRead o → all_hold LAPSE (lapse_cells o) ≡ true
+lapse_holds : (o : Options) → AreRead o → all_hold lapse_form (lapse_cells o) ≡ true
 lapse_holds o r = rw (steps_hold o.lapse_steps r.lapse_steps, r.mult, r.min_int, r.leech_fails, r.leech_action) refl
 
-lapse_again : (o : Options) (ms : Members) → AreRead o → KeepsUnknown ms → IsGroupAgain LAPSE (lapse_cells o) (group_members words.Lapse (object ms))
-lapse_again o ms r k = group_again LAPSE (lapse_cells o) (group_members words.Lapse (object ms)) refl refl (group_unknown words.Lapse LAPSE ms k.lapse) (lapse_holds o r)
+lapse_again : (o : Options) (ms : Members) → AreRead o → KeepsUnknown ms → IsGroupAgain lapse_form (lapse_cells o) (group_members keys.Lapse (object ms))
+lapse_again o ms r k = group_again lapse_form (lapse_cells o) (group_members keys.Lapse (object ms)) refl refl (group_unknown keys.Lapse lapse_form ms k.lapse) (lapse_holds o r)
 
 -- what stands in the columns for cards that were forgotten is read
 record ReadsLapse (o : Options) (d : Data) : Type 0 where
-  steps : o.lapse_steps ≡ steps_at LAPSE 0 d
-  mult : o.mult ≡ whole_at LAPSE 1 d
-  min_int : o.min_int ≡ whole_at LAPSE 2 d
-  leech_fails : o.leech_fails ≡ whole_at LAPSE 3 d
-  leech_action : o.leech_action ≡ whole_at LAPSE 4 d
+  steps : o.lapse_steps ≡ steps_at lapse_form 0 d
+  mult : o.mult ≡ integer_at lapse_form 1 d
+  min_int : o.min_int ≡ integer_at lapse_form 2 d
+  leech_fails : o.leech_fails ≡ integer_at lapse_form 3 d
+  leech_action : o.leech_action ≡ integer_at lapse_form 4 d
 
-reads_lapse : (o : Options) (d : Data) → AllFound LAPSE (lapse_cells o) d → AreRead o → ReadsLapse o d
+reads_lapse : (o : Options) (d : Data) → AllFound lapse_form (lapse_cells o) d → AreRead o → ReadsLapse o d
 reads_lapse o d f r =
     record {
-      steps = steps_found LAPSE 0 d o.lapse_steps f.0 r.lapse_steps;
-      mult = whole_found LAPSE 1 d o.mult f.1.0 r.mult;
-      min_int = whole_found LAPSE 2 d o.min_int f.1.1.0 r.min_int;
-      leech_fails = whole_found LAPSE 3 d o.leech_fails f.1.1.1.0 r.leech_fails;
-      leech_action = whole_found LAPSE 4 d o.leech_action f.1.1.1.1.0 r.leech_action;
+      steps = steps_found lapse_form 0 d o.lapse_steps f.0 r.lapse_steps;
+      mult = whole_found lapse_form 1 d o.mult f.1.0 r.mult;
+      min_int = whole_found lapse_form 2 d o.min_int f.1.1.0 r.min_int;
+      leech_fails = whole_found lapse_form 3 d o.leech_fails f.1.1.1.0 r.leech_fails;
+      leech_action = whole_found lapse_form 4 d o.leech_action f.1.1.1.1.0 r.leech_action;
     }
 
 -- ---- an option group
 
 options_hold : (o : Options) (new rev lapse : Data) → AreRead o → is_some (as_object new) ≡ true → is_some (as_object rev) ≡ true → is_some (as_object lapse) ≡ true
-    → inner_flaw NEW new ≡ None → inner_flaw REV rev ≡ None → inner_flaw LAPSE lapse ≡ None
-    → all_hold OPTIONS (whole o.id ∷ whole o.stamp ∷ whole o.usn ∷ string o.name ∷ whole o.max_taken ∷ new ∷ rev ∷ lapse ∷ []) ≡ true
+    → inner_form_fault new_form new ≡ None → inner_form_fault rev_form rev ≡ None → inner_form_fault lapse_form lapse ≡ None
+    → all_hold options_form (integer o.id ∷ integer o.stamp ∷ integer o.usn ∷ string o.name ∷ integer o.max_taken ∷ new ∷ rev ∷ lapse ∷ []) ≡ true
 options_hold o new rev lapse r a b c f g h = rw (r.id, r.stamp, r.usn, r.max_taken, a, b, c, f, g, h) refl
 
-inner_found : (n : ℕ) (d inner : Data) → cell_at OPTIONS n d ≡ Some inner → inner ≡ inner_at OPTIONS n d
+inner_found : (n : ℕ) (d inner : Data) → cell_at options_form n d ≡ Some inner → inner ≡ inner_at options_form n d
 inner_found n d inner e = sym (ap (λ (o : Option Data). unwrap_or o d) e)
 
 options_found : (o : Options) (d new rev lapse : Data)
-    → AllFound OPTIONS (whole o.id ∷ whole o.stamp ∷ whole o.usn ∷ string o.name ∷ whole o.max_taken ∷ new ∷ rev ∷ lapse ∷ []) d → AreRead o
+    → AllFound options_form (integer o.id ∷ integer o.stamp ∷ integer o.usn ∷ string o.name ∷ integer o.max_taken ∷ new ∷ rev ∷ lapse ∷ []) d → AreRead o
     → ReadsNew o new → ReadsRev o rev → ReadsLapse o lapse → o.rest.text ≡ compact_text (object (options_kept d)) → IsOptions d o
 options_found o d new rev lapse f r new_read rev_read lapse_read rest =
     let n : ReadsNew o (new_in d) = subst (ReadsNew o) (inner_found 5 d new f.1.1.1.1.1.0) new_read in
     let v : ReadsRev o (rev_in d) = subst (ReadsRev o) (inner_found 6 d rev f.1.1.1.1.1.1.0) rev_read in
     let l : ReadsLapse o (lapse_in d) = subst (ReadsLapse o) (inner_found 7 d lapse f.1.1.1.1.1.1.1.0) lapse_read in
     record {
-      id = whole_found OPTIONS 0 d o.id f.0 r.id;
-      stamp = whole_found OPTIONS 1 d o.stamp f.1.0 r.stamp;
-      usn = whole_found OPTIONS 2 d o.usn f.1.1.0 r.usn;
-      name = words_found OPTIONS 3 d o.name f.1.1.1.0;
-      max_taken = whole_found OPTIONS 4 d o.max_taken f.1.1.1.1.0 r.max_taken;
+      id = whole_found options_form 0 d o.id f.0 r.id;
+      stamp = whole_found options_form 1 d o.stamp f.1.0 r.stamp;
+      usn = whole_found options_form 2 d o.usn f.1.1.0 r.usn;
+      name = words_found options_form 3 d o.name f.1.1.1.0;
+      max_taken = whole_found options_form 4 d o.max_taken f.1.1.1.1.0 r.max_taken;
       new_steps = n.steps;
       grad_ivl = n.grad;
       easy_ivl = n.easy;
@@ -398,22 +398,22 @@ options_found o d new rev lapse f r new_read rev_read lapse_read rest =
     }
 
 -- what is kept of an object of the cells is what the rest keeps
-kept_again : (d new rev lapse : Data) (ms : Members) → AreSorted ms → KeepsUnknown ms → unknown OPTIONS ms ≡ kept OPTIONS d
+kept_again : (d new rev lapse : Data) (ms : Members) → AreSorted ms → KeepsUnknown ms → unknown options_form ms ≡ kept options_form d
     → new ≡ new_in d → rev ≡ rev_in d → lapse ≡ lapse_in d
-    → kept NEW new ≡ group_members words.New (object ms) → kept REV rev ≡ group_members words.Rev (object ms) → kept LAPSE lapse ≡ group_members words.Lapse (object ms)
+    → kept new_form new ≡ group_members keys.New (object ms) → kept rev_form rev ≡ group_members keys.Rev (object ms) → kept lapse_form lapse ≡ group_members keys.Lapse (object ms)
     → options_kept d ≡ ms
 kept_again d new rev lapse ms s k own new_is rev_is lapse_is new_kept rev_kept lapse_kept =
-    let with_new : Members = put_group words.New (group_members words.New (object ms)) (unknown OPTIONS ms) in
-    let with_rev : Members = put_group words.Rev (group_members words.Rev (object ms)) with_new in
-    sym (put_together d new rev lapse (unknown OPTIONS ms) with_new with_rev
-    (put_group words.Lapse (group_members words.Lapse (object ms)) with_rev)
-    (group_members words.New (object ms)) (group_members words.Rev (object ms)) (group_members words.Lapse (object ms))
+    let with_new : Members = put_group keys.New (group_members keys.New (object ms)) (unknown options_form ms) in
+    let with_rev : Members = put_group keys.Rev (group_members keys.Rev (object ms)) with_new in
+    sym (put_together d new rev lapse (unknown options_form ms) with_new with_rev
+    (put_group keys.Lapse (group_members keys.Lapse (object ms)) with_rev)
+    (group_members keys.New (object ms)) (group_members keys.Rev (object ms)) (group_members keys.Lapse (object ms))
     own new_is (sym new_kept) refl rev_is (sym rev_kept) refl lapse_is (sym lapse_kept) refl)
     ∙ options_back ms s k
 
 -- the object has the form, and its option group is the one that was written
 pub record IsOptionsAgain (o : Options) : Type 0 where
-  pub flaw : object_flaw OPTIONS (options_json o) ≡ None
+  pub fault : object_form_fault options_form (options_json o) ≡ None
   pub deep : deep_fault (options_kept (options_json o)) ≡ None
   pub row : IsOptions (options_json o) o
 
@@ -425,7 +425,7 @@ options_again o good e =
     let rest : IsKept lacks_options o.rest.text ms = rest_kept lacks_options o.rest.text o.rest.unknown in
     let k : KeepsUnknown ms = keeps_each ms rest.unknown in
     let cells : List Data = options_cells o (object ms) in
-    let found : AllFound OPTIONS cells d = found_all OPTIONS cells ms refl in
+    let found : AllFound options_form cells d = found_all options_form cells ms refl in
     let new = new_again o ms r k in
     let rev = rev_again o ms r k in
     let lapse = lapse_again o ms r k in
@@ -434,9 +434,9 @@ options_again o good e =
     let lapse_is = inner_found 7 d (lapse_json o (object ms)) found.1.1.1.1.1.1.1.0 in
     let same : options_kept d ≡ ms =
     kept_again d (new_json o (object ms)) (rev_json o (object ms)) (lapse_json o (object ms)) ms (rest_sorted o.rest.text) k
-    (sym (unknown_cells OPTIONS OPTIONS cells ms refl)) new_is rev_is lapse_is new.kept rev.kept lapse.kept in
+    (sym (unknown_cells options_form options_form cells ms refl)) new_is rev_is lapse_is new.kept rev.kept lapse.kept in
     record {
-      flaw = flawless OPTIONS cells d found (options_hold o (new_json o (object ms)) (rev_json o (object ms)) (lapse_json o (object ms)) r refl refl refl new.flaw rev.flaw lapse.flaw);
+      fault = faultless options_form cells d found (options_hold o (new_json o (object ms)) (rev_json o (object ms)) (lapse_json o (object ms)) r refl refl refl new.fault rev.fault lapse.fault);
       deep = ap deep_fault same ∙ ap (λ (o : Option (List ℕ)). option_map faults.WrongKind o) (plain_is_shallow ms rest.plain);
       row =
           options_found o d (new_json o (object ms)) (rev_json o (object ms)) (lapse_json o (object ms)) found r

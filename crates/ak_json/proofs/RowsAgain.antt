@@ -1,7 +1,7 @@
 -- What was written of a row in its ranges is read again.
-use Rattle.std.proofs.Common.{◌≡◌, zero, suc, ◌≤◌, ℤ, pos, negsuc, Bool, true, false, Option, None, Result, Ok, Err, refl, sym, ap, ◌∙◌, arith}
+use Rattle.std.proofs.Common.{◌≡◌, zero, suc, ◌≤◌, ℤ, pos, negsuc, Bool, true, false, Option, Some, None, Result, Ok, Err, refl, sym, ap, ◌∙◌, arith}
 use Rattle.std.specs.Prelude.{if◌then◌else◌, option_map}
-use Rattle.std.specs.Option.{option_or}
+use Rattle.std.specs.Option.{option_or, option_map_or, option_and_then, unwrap_or}
 use Rattle.ak_base.specs.Cards.{card_faults}
 use Rattle.ak_base.specs.Decks.{deck_faults}
 use Rattle.ak_base.specs.Graves.{grave_faults, grave_table}
@@ -25,14 +25,15 @@ use Rattle.ak_base.specs.declared.option_groups.Options.{Options}
 use Rattle.ak_base.specs.declared.reviews.Review.{Review}
 use Rattle.ak_base.specs.declared.rows.Row.{Row}
 use Rattle.ak_base.specs.declared.rows.Row.TheVariants as rows
-use Rattle.ak_json.specs.Rows.{StandsIn, checked_then, kind_of, kind_check, row_check, row_json, ReadsRow}
+use Rattle.ak_base.specs.Tables.{graves_of, stored_code}
+use Rattle.ak_json.specs.Rows.{StandsIn, checked_then, code_check, row_check, row_json, ReadsRow}
 use Rattle.ak_json.specs.Decks.{deck_json}
 use Rattle.ak_json.specs.Faults.{told}
 use Rattle.ak_json.specs.Groups.{options_kept, options_json}
 use Rattle.ak_json.specs.NoteTypes.{note_type_json}
 use Rattle.ak_json.specs.Rests.{deep_key, deep_fault}
-use Rattle.ak_json.specs.declared.flaws.Flaw.{Flaw}
-use Rattle.ak_json.specs.declared.forms.TheConstants.{DECK, NOTE_TYPE}
+use Rattle.ak_json.specs.declared.form_faults.FormFault.{FormFault}
+use Rattle.ak_json.specs.Forms.{deck_form, note_type_form}
 use Rattle.ak_json.proofs.DecksAgain.{IsDeckAgain, deck_again}
 use Rattle.ak_json.proofs.OptionsAgain.{IsOptionsAgain, options_again}
 use Rattle.ak_json.proofs.NoteTypesAgain.{IsNoteTypeAgain, note_type_again}
@@ -62,13 +63,13 @@ review_in table r s h = absurd s
 
 grave_in : (table : Table) (g : Grave) → StandsIn table (rows.Grave g) → row_check table (rows.Grave g) ≡ Ok tt → ReadsRow table (row_json (rows.Grave g)) (rows.Grave g)
 grave_in tables.NoteGrave g s h =
-    let read : IsGrave g = grave_again g tt (in_range (first_fault (grave_faults g)) (kind_check tables.NoteGrave g) h) in
+    let read : IsGrave g = grave_again g tt (in_range (first_fault (grave_faults g)) (code_check tables.NoteGrave g) h) in
     record { form = rw read.form refl; is = (tt, sym read.row); good = h }
 grave_in tables.CardGrave g s h =
-    let read : IsGrave g = grave_again g tt (in_range (first_fault (grave_faults g)) (kind_check tables.CardGrave g) h) in
+    let read : IsGrave g = grave_again g tt (in_range (first_fault (grave_faults g)) (code_check tables.CardGrave g) h) in
     record { form = rw read.form refl; is = (tt, sym read.row); good = h }
 grave_in tables.DeckGrave g s h =
-    let read : IsGrave g = grave_again g tt (in_range (first_fault (grave_faults g)) (kind_check tables.DeckGrave g) h) in
+    let read : IsGrave g = grave_again g tt (in_range (first_fault (grave_faults g)) (code_check tables.DeckGrave g) h) in
     record { form = rw read.form refl; is = (tt, sym read.row); good = h }
 grave_in table g s h = absurd s
 
@@ -76,7 +77,7 @@ deck_in : (table : Table) (k : Deck) → StandsIn table (rows.Deck k) → row_ch
 deck_in tables.Deck k s h =
     let read : IsDeckAgain k = deck_again k tt (in_range (first_fault (deck_faults k)) (Ok tt) h) in
     record {
-      form = ap (λ (o : Option Flaw). option_or (option_map told o) (deep_key DECK (deck_json k))) read.flaw ∙ read.deep;
+      form = ap (λ (o : Option FormFault). option_or (option_map told o) (deep_key deck_form (deck_json k))) read.fault ∙ read.deep;
       is = (tt, read.row);
       good = h;
     }
@@ -86,7 +87,7 @@ note_type_in : (table : Table) (n : NoteType) → StandsIn table (rows.NoteType 
 note_type_in tables.NoteType n s h =
     let read : IsNoteTypeAgain n = note_type_again n tt (in_range (first_fault (note_type_faults n)) (Ok tt) h) in
     record {
-      form = ap (λ (o : Option Flaw). option_or (option_map told o) (deep_key NOTE_TYPE (note_type_json n))) read.flaw ∙ read.deep;
+      form = ap (λ (o : Option FormFault). option_or (option_map told o) (deep_key note_type_form (note_type_json n))) read.fault ∙ read.deep;
       is = (tt, read.row);
       good = h;
     }
@@ -96,7 +97,7 @@ options_in : (table : Table) (o : Options) → StandsIn table (rows.Options o) �
 options_in tables.Options o s h =
     let read : IsOptionsAgain o = options_again o tt (in_range (first_fault (options_faults o)) (Ok tt) h) in
     record {
-      form = ap (λ (flaw : Option Flaw). option_or (option_map told flaw) (deep_fault (options_kept (options_json o)))) read.flaw ∙ read.deep;
+      form = ap (λ (fault : Option FormFault). option_or (option_map told fault) (deep_fault (options_kept (options_json o)))) read.fault ∙ read.deep;
       is = (tt, read.row);
       good = h;
     }
@@ -115,24 +116,26 @@ rows_again table (rows.Options o) s h = options_in table o s h
 -- ---- a row in the table of its own name
 
 -- a grave in its ranges is of the kind of its own table
-own_kind : (kind : ℤ) → code_fault 2 kind (pos 0) (pos 2) ≡ None → int_eq kind (kind_of (grave_table kind)) ≡ true
+own_code : (kind : ℤ) → code_fault 2 kind (pos 0) (pos 2) ≡ None → option_map_or (int_eq kind) (stored_code (grave_table kind)) false ≡ true
 unfolding code_fault
-own_kind (pos zero) e = refl
-own_kind (pos (suc zero)) e = refl
-own_kind (pos (suc (suc zero))) e = refl
-own_kind (pos (suc (suc (suc n)))) e = let few : suc (suc (suc n)) ≤ 2 = at_most 2 (suc (suc (suc n))) (below _ _ _ e) in absurd (omega (arith, few))
-own_kind (negsuc n) e = cc
+own_code (pos zero) e = refl
+own_code (pos (suc zero)) e = refl
+own_code (pos (suc (suc zero))) e = refl
+own_code (pos (suc (suc (suc n)))) e = let few : suc (suc (suc n)) ≤ 2 = at_most 2 (suc (suc (suc n))) (below _ _ _ e) in absurd (omega (arith, few))
+own_code (negsuc n) e = cc
 
-among_graves : (g : Grave) (card note : Bool) → StandsIn (if card then tables.CardGrave else if note then tables.NoteGrave else tables.DeckGrave) (rows.Grave g)
-among_graves g true note = tt
-among_graves g false true = tt
-among_graves g false false = tt
+among_graves : (g : Grave) (card note deck : Bool)
+    → StandsIn (unwrap_or (option_and_then graves_of (if card then Some tables.Card else if note then Some tables.Note else if deck then Some tables.Deck else None)) tables.DeckGrave) (rows.Grave g)
+among_graves g true note deck = tt
+among_graves g false true deck = tt
+among_graves g false false true = tt
+among_graves g false false false = tt
 
 own_grave : (g : Grave) → first_fault (grave_faults g) ≡ Ok tt → row_check (grave_table g.kind) (rows.Grave g) ≡ Ok tt
 own_grave g h =
     let all : AllNone (grave_faults g) = all_none (grave_faults g) tt h in
-    ap (λ c. checked_then c (kind_check (grave_table g.kind) g)) h
-    ∙ ap (λ (own : Bool). if own then Ok tt else Err (BadCode 2 g.kind)) (own_kind g.kind all.1.1.0)
+    ap (λ c. checked_then c (code_check (grave_table g.kind) g)) h
+    ∙ ap (λ (own : Bool). if own then Ok tt else Err (BadCode 2 g.kind)) (own_code g.kind all.1.1.0)
 
 free : (check : Result (Unit {0}) RowFault) → check ≡ Ok tt → checked_then check (Ok tt) ≡ Ok tt
 free check h = ap (λ c. checked_then c (Ok tt)) h
@@ -146,4 +149,4 @@ own_again (rows.NoteType n) h = note_type_in tables.NoteType n tt (free (first_f
 own_again (rows.Deck k) h = deck_in tables.Deck k tt (free (first_fault (deck_faults k)) h)
 own_again (rows.Options o) h = options_in tables.Options o tt (free (first_fault (options_faults o)) h)
 own_again (rows.Grave g) h =
-    grave_in (grave_table g.kind) g (among_graves g (int_eq g.kind (pos 0)) (int_eq g.kind (pos 1))) (own_grave g h)
+    grave_in (grave_table g.kind) g (among_graves g (int_eq g.kind (pos 0)) (int_eq g.kind (pos 1)) (int_eq g.kind (pos 2))) (own_grave g h)

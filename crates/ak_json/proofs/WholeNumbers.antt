@@ -25,18 +25,18 @@ use Rattle.ak_base.specs.declared.rows.Row.{Row}
 use Rattle.ak_base.specs.declared.rows.Row.TheVariants as rows
 use Rattle.ak_json.specs.Decks.{deck_cells}
 use Rattle.ak_json.specs.Groups.{options_cells, group_members, rest_object}
-use Rattle.ak_json.specs.Keys.{word_text}
+use Rattle.ak_json.specs.Keys.{key_text}
 use Rattle.ak_json.specs.Members.{Form}
 use Rattle.ak_json.specs.NoteTypes.{note_type_cells, fields_json, templates_json}
 use Rattle.ak_json.specs.Objects.{put_at, put_cells}
 use Rattle.ak_json.specs.Rests.{rest_members, object_json}
 use Rattle.ak_json.specs.Rows.{row_json}
-use Rattle.ak_json.specs.Written.{whole, bit, pair, steps_json, note_cells, card_cells, review_cells, grave_cells}
-use Rattle.ak_json.specs.declared.forms.TheConstants.{NOTE_TYPE, FIELD, TEMPLATE, DECK, OPTIONS, NEW, REV, LAPSE}
+use Rattle.ak_json.specs.Written.{integer, bit, pair, steps_json, note_cells, card_cells, review_cells, grave_cells}
+use Rattle.ak_json.specs.Forms.{note_type_form, field_form, template_form, deck_form, options_form, new_form, rev_form, lapse_form}
 use Rattle.ak_json.specs.declared.keys.Place.{Place}
 use Rattle.ak_json.specs.declared.keys.Place.TheVariants as places
-use Rattle.ak_json.specs.declared.keys.Word.{Word}
-use Rattle.ak_json.specs.declared.keys.Word.TheVariants as words
+use Rattle.ak_json.specs.declared.keys.Key.{Key}
+use Rattle.ak_json.specs.declared.keys.Key.TheVariants as keys
 
 -- the value holds whole numbers alone
 abbrev IsWhole : Data → Type 0
@@ -45,7 +45,7 @@ IsWhole d = has_float d ≡ false
 abbrev AreWhole : List Data → Type 0
 AreWhole ds = AllByRecursion IsWhole ds
 
-number_whole : (z : ℤ) → IsWhole (whole z)
+number_whole : (z : ℤ) → IsWhole (integer z)
 number_whole (pos n) = refl
 number_whole (negsuc n) = refl
 
@@ -53,7 +53,7 @@ items_whole : (ds : List Data) → AreWhole ds → items_have_float (items_of ds
 items_whole [] h = refl
 items_whole (d ∷ ds) h = or_from _ _ h.0 (items_whole ds h.1)
 
-steps_whole : (steps : List ℤ) → AreWhole (map whole steps)
+steps_whole : (steps : List ℤ) → AreWhole (map integer steps)
 steps_whole [] = tt
 steps_whole (step ∷ steps) = (number_whole step, steps_whole steps)
 
@@ -69,7 +69,7 @@ put_whole key d (member l e ms) h k =
     at_place later Greater = or_from _ _ (((or_parts (has_float e) _ k).0)) (later (((or_parts (has_float e) _ k).1)))
 
 place_whole : (place : Place) (d : Data) (ms : Members) → IsWhole d → members_have_float ms ≡ false → members_have_float (put_at place d ms) ≡ false
-place_whole (places.Own own) d ms h k = put_whole _ d ms h k
+place_whole (places.Key own) d ms h k = put_whole _ d ms h k
 place_whole (places.At n) d ms h k = k
 
 cells_whole : (form : Form) (cells : List Data) (ms : Members) → AreWhole cells → members_have_float ms ≡ false → members_have_float (put_cells form cells ms) ≡ false
@@ -111,8 +111,8 @@ inner_whole (string s) h = refl
 inner_whole (array ds) h = refl
 inner_whole (object ms) h = h
 
-group_whole : (own : Word) (ms : Members) → members_have_float ms ≡ false → members_have_float (group_members own (object ms)) ≡ false
-group_whole own ms h = among (get_member (word_text own) ms) (found_whole (word_text own) ms h)
+group_whole : (own : Key) (ms : Members) → members_have_float ms ≡ false → members_have_float (group_members own (object ms)) ≡ false
+group_whole own ms h = among (get_member (key_text own) ms) (found_whole (key_text own) ms h)
   where
     among : (found : Option Data) → IfSome found IsWhole → members_have_float (unwrap_or (option_and_then as_object found) no_members) ≡ false
     among None k = refl
@@ -120,11 +120,11 @@ group_whole own ms h = among (get_member (word_text own) ms) (found_whole (word_
 
 fields_whole : (n : ℕ) (fields : List FieldDef) → AreWhole (fields_json n fields)
 fields_whole n [] = tt
-fields_whole n (f ∷ fs) = (object_whole FIELD (string f.name ∷ number (unsigned n) ∷ []) _ f.rest.text (refl, (refl, tt)) f.rest.unknown, fields_whole (n + 1) fs)
+fields_whole n (f ∷ fs) = (object_whole field_form (string f.name ∷ number (unsigned n) ∷ []) _ f.rest.text (refl, (refl, tt)) f.rest.unknown, fields_whole (n + 1) fs)
 
 templates_whole : (n : ℕ) (templates : List CardTemplate) → AreWhole (templates_json n templates)
 templates_whole n [] = tt
-templates_whole n (t ∷ ts) = (object_whole TEMPLATE (string t.name ∷ string t.front ∷ string t.back ∷ number (unsigned n) ∷ []) _ t.rest.text (refl, (refl, (refl, (refl, tt)))) t.rest.unknown, templates_whole (n + 1) ts)
+templates_whole n (t ∷ ts) = (object_whole template_form (string t.name ∷ string t.front ∷ string t.back ∷ number (unsigned n) ∷ []) _ t.rest.text (refl, (refl, (refl, (refl, tt)))) t.rest.unknown, templates_whole (n + 1) ts)
 
 bit_whole : (b : Bool) → IsWhole (bit b)
 bit_whole true = refl
@@ -138,19 +138,19 @@ note_type_whole t =
     (number_whole t.id, (number_whole t.stamp, (number_whole t.usn, (refl, (bit_whole t.cloze, (number_whole t.sortf, (items_whole _ (fields_whole 0 t.fields), (items_whole _ (templates_whole 0 t.templates), tt))))))))
 
 abbrev new_cells : Options → List Data
-new_cells o = steps_json o.new_steps ∷ pair (record { day = o.grad_ivl; count = o.easy_ivl }) ∷ whole o.initial_factor ∷ whole o.new_per_day ∷ boolean o.new_bury ∷ []
+new_cells o = steps_json o.new_steps ∷ pair (record { day = o.grad_ivl; count = o.easy_ivl }) ∷ integer o.initial_factor ∷ integer o.new_per_day ∷ boolean o.new_bury ∷ []
 
 new_whole : (o : Options) → AreWhole (new_cells o)
 new_whole o = (items_whole _ (steps_whole o.new_steps), (pair_whole (record { day = o.grad_ivl; count = o.easy_ivl }), (number_whole o.initial_factor, (number_whole o.new_per_day, (refl, tt)))))
 
 abbrev rev_cells : Options → List Data
-rev_cells o = whole o.rev_per_day ∷ whole o.ease4 ∷ whole o.ivl_fct ∷ whole o.max_ivl ∷ whole o.hard_factor ∷ boolean o.rev_bury ∷ []
+rev_cells o = integer o.rev_per_day ∷ integer o.ease4 ∷ integer o.ivl_fct ∷ integer o.max_ivl ∷ integer o.hard_factor ∷ boolean o.rev_bury ∷ []
 
 rev_whole : (o : Options) → AreWhole (rev_cells o)
 rev_whole o = (number_whole o.rev_per_day, (number_whole o.ease4, (number_whole o.ivl_fct, (number_whole o.max_ivl, (number_whole o.hard_factor, (refl, tt))))))
 
 abbrev lapse_cells : Options → List Data
-lapse_cells o = steps_json o.lapse_steps ∷ whole o.mult ∷ whole o.min_int ∷ whole o.leech_fails ∷ whole o.leech_action ∷ []
+lapse_cells o = steps_json o.lapse_steps ∷ integer o.mult ∷ integer o.min_int ∷ integer o.leech_fails ∷ integer o.leech_action ∷ []
 
 lapse_whole : (o : Options) → AreWhole (lapse_cells o)
 lapse_whole o = (items_whole _ (steps_whole o.lapse_steps), (number_whole o.mult, (number_whole o.min_int, (number_whole o.leech_fails, (number_whole o.leech_action, tt)))))
@@ -158,10 +158,10 @@ lapse_whole o = (items_whole _ (steps_whole o.lapse_steps), (number_whole o.mult
 options_whole : (o : Options) → AreWhole (options_cells o (rest_object o.rest.text))
 options_whole o =
     let members = rest_members o.rest.text in
-    let kept : Word → Members = λ own. group_members own (object members) in
+    let kept : Key → Members = λ own. group_members own (object members) in
     let rest = rest_whole lacks_options o.rest.text o.rest.unknown in
     let n = number_whole in
-    (n o.id, (n o.stamp, (n o.usn, (refl, (n o.max_taken, (cells_whole NEW (new_cells o) (kept words.New) (new_whole o) (group_whole words.New members rest), (cells_whole REV (rev_cells o) (kept words.Rev) (rev_whole o) (group_whole words.Rev members rest), (cells_whole LAPSE (lapse_cells o) (kept words.Lapse) (lapse_whole o) (group_whole words.Lapse members rest), tt))))))))
+    (n o.id, (n o.stamp, (n o.usn, (refl, (n o.max_taken, (cells_whole new_form (new_cells o) (kept keys.New) (new_whole o) (group_whole keys.New members rest), (cells_whole rev_form (rev_cells o) (kept keys.Rev) (rev_whole o) (group_whole keys.Rev members rest), (cells_whole lapse_form (lapse_cells o) (kept keys.Lapse) (lapse_whole o) (group_whole keys.Lapse members rest), tt))))))))
 
 deck_whole : (k : Deck) → AreWhole (deck_cells k)
 deck_whole k =
@@ -194,7 +194,7 @@ pub written_whole : (row : Row) → has_float (row_json row) ≡ false
 written_whole (rows.Note n) = items_whole _ (note_whole n)
 written_whole (rows.Card c) = items_whole _ (card_whole c)
 written_whole (rows.Review r) = items_whole _ (review_whole r)
-written_whole (rows.NoteType t) = object_whole NOTE_TYPE (note_type_cells t) (lacks note_type_keys) t.rest.text (note_type_whole t) t.rest.unknown
-written_whole (rows.Deck k) = object_whole DECK (deck_cells k) (lacks deck_keys) k.rest.text (deck_whole k) k.rest.unknown
-written_whole (rows.Options o) = object_whole OPTIONS (options_cells o (rest_object o.rest.text)) lacks_options o.rest.text (options_whole o) o.rest.unknown
+written_whole (rows.NoteType t) = object_whole note_type_form (note_type_cells t) (lacks note_type_keys) t.rest.text (note_type_whole t) t.rest.unknown
+written_whole (rows.Deck k) = object_whole deck_form (deck_cells k) (lacks deck_keys) k.rest.text (deck_whole k) k.rest.unknown
+written_whole (rows.Options o) = object_whole options_form (options_cells o (rest_object o.rest.text)) lacks_options o.rest.text (options_whole o) o.rest.unknown
 written_whole (rows.Grave g) = items_whole _ (grave_whole g)

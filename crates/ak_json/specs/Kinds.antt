@@ -1,36 +1,38 @@
 -- What the columns of a row hold.
-use Rattle.std.specs.Prelude.{ℕ, ◌^◌, ◌-◌, ℤ, int_le, Bool, true, false, ◌&&◌, not, Option, Some, None, option_and_then}
+use Rattle.std.specs.Prelude.{◌≡◌, ℕ, ◌^◌, ◌-◌, ℤ, int_le, List, Bool, true, false, ◌&&◌, not, Option, Some, None, option_and_then}
 use Rattle.std.specs.Option.{is_some, option_map_or}
 use Rattle.serde_json.specs.Data.{Data, Items, no_items, item}
+use Rattle.serde_json.specs.Read.{read}
 use Rattle.serde_json.specs.Find.{at, as_i64, as_number, as_str, as_bool, as_array, as_object}
 use Rattle.ak_json.specs.Depths.{is_shallow}
 use Rattle.ak_json.specs.declared.kinds.Kind.{Kind}
 use Rattle.ak_json.specs.declared.kinds.Kind.TheVariants as kinds
 
 -- the whole number that a value is, if it is one that fits 64 bits with its sign
-abbrev pub whole_of : Data → Option ℤ
-whole_of d = option_and_then as_i64 (as_number d)
+abbrev pub integer_of : Data → Option ℤ
+integer_of d = option_and_then as_i64 (as_number d)
 
 -- there is a number from the least to the most
 abbrev pub is_within : ℤ → ℤ → Option ℤ → Bool
 is_within least most None = false
 is_within least most (Some z) = int_le least z && int_le z most
 
-abbrev pub are_whole : Items → Bool
-are_whole no_items = true
-are_whole (item d ds) = is_some (whole_of d) && are_whole ds
+-- all of a list are whole numbers
+abbrev pub are_integers : Items → Bool
+are_integers no_items = true
+are_integers (item d ds) = is_some (integer_of d) && are_integers ds
 
 -- the element at a place is a whole number
 abbrev pub is_part : ℕ → Data → Bool
-is_part place d = is_some (option_and_then whole_of (at place d))
+is_part place d = is_some (option_and_then integer_of (at place d))
 
 -- the value is of the kind
 abbrev pub holds : Kind → Data → Bool
-holds kinds.Whole d = is_some (whole_of d)
-holds (kinds.Within least most) d = is_within least most (whole_of d)
-holds kinds.Words d = is_some (as_str d)
-holds kinds.Truth d = is_some (as_bool d)
-holds kinds.Steps d = option_map_or are_whole (as_array d) false
+holds kinds.Integer d = is_some (integer_of d)
+holds (kinds.Within least most) d = is_within least most (integer_of d)
+holds kinds.Text d = is_some (as_str d)
+holds kinds.Bool d = is_some (as_bool d)
+holds kinds.Steps d = option_map_or are_integers (as_array d) false
 holds kinds.Pair d = is_part 0 d && (is_part 1 d && not (is_some (at 2 d)))
 holds kinds.Fields d = is_some (as_array d)
 holds kinds.Templates d = is_some (as_array d)
@@ -43,3 +45,7 @@ holds kinds.Ignored d = is_shallow (2 ^ 64 - 1) d
 abbrev pub may_lack : Kind → Bool
 may_lack kinds.Ignored = true
 may_lack other = false
+
+-- the value is that of some text
+abbrev pub IsOfText : Data → Type 0
+IsOfText d = (text : List ℕ) × (read text ≡ Some d)

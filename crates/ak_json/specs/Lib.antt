@@ -2,7 +2,8 @@ pub mod Keys
 pub mod Depths
 pub mod Kinds
 pub mod Members
-pub mod Flaws
+pub mod Forms
+pub mod FormFaults
 pub mod Faults
 pub mod Cells
 pub mod Arrays

@@ -3,7 +3,7 @@ use Rattle.std.specs.Prelude.{ℕ, List, [], ◌∷◌, Bool, false, not, ◌&&�
 use Rattle.std.specs.Cmp.Lexicographic.{pointwise}
 use Rattle.serde_json.specs.Data.{Members, no_members, member}
 use Rattle.ak_json.specs.Depths.{is_shallow}
-use Rattle.ak_json.specs.Keys.{word_text}
+use Rattle.ak_json.specs.Keys.{key_text}
 use Rattle.ak_json.specs.declared.keys.Place.{Place}
 use Rattle.ak_json.specs.declared.keys.Place.TheVariants as places
 use Rattle.ak_json.specs.declared.kinds.Kind.{Kind}
@@ -14,7 +14,7 @@ Form = List (Place × Kind)
 
 -- the column is the member of that key
 abbrev pub is_place : Place → List ℕ → Bool
-is_place (places.Own own) key = pointwise ◌==◌ (word_text own) key
+is_place (places.Key own) key = pointwise ◌==◌ (key_text own) key
 is_place (places.At place) key = false
 
 -- some column is

@@ -3,21 +3,21 @@ use Rattle.std.specs.Prelude.{List, [], ◌∷◌, if◌then◌else◌, Option, 
 use Rattle.std.specs.Option.{is_some}
 use Rattle.serde_json.specs.Data.{Data, Members, put}
 use Rattle.serde_json.specs.Find.{as_object}
-use Rattle.ak_json.specs.Keys.{word_text}
-use Rattle.ak_json.specs.Flaws.{first_flaw}
+use Rattle.ak_json.specs.Keys.{key_text}
+use Rattle.ak_json.specs.FormFaults.{first_form_fault}
 use Rattle.ak_json.specs.Members.{Form}
 use Rattle.ak_json.specs.declared.keys.Place.{Place}
 use Rattle.ak_json.specs.declared.keys.Place.TheVariants as places
-use Rattle.ak_json.specs.declared.flaws.Flaw.{Flaw}
-use Rattle.ak_json.specs.declared.flaws.Flaw.TheVariants.{WholeValue}
+use Rattle.ak_json.specs.declared.form_faults.FormFault.{FormFault}
+use Rattle.ak_json.specs.declared.form_faults.FormFault.TheVariants.{WholeValue}
 
--- the first flaw of an object of these columns
-abbrev pub object_flaw : Form → Data → Option Flaw
-object_flaw form d = if is_some (as_object d) then first_flaw form d else Some WholeValue
+-- the first fault of an object of these columns
+abbrev pub object_form_fault : Form → Data → Option FormFault
+object_form_fault form d = if is_some (as_object d) then first_form_fault form d else Some WholeValue
 
 -- the members with the value where the column stands
 abbrev pub put_at : Place → Data → Members → Members
-put_at (places.Own own) d ms = put (word_text own) d ms
+put_at (places.Key own) d ms = put (key_text own) d ms
 put_at (places.At place) d ms = ms
 
 -- with each cell where its column stands

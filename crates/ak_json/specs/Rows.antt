@@ -1,22 +1,23 @@
 -- Rows as JSON, both ways.
-use Rattle.std.specs.Prelude.{◌≡◌, ℤ, pos, if◌then◌else◌, Option, Some, None, option_map, Result, Ok, Err}
-use Rattle.std.specs.Option.{option_or}
+use Rattle.std.specs.Prelude.{◌≡◌, false, if◌then◌else◌, Option, Some, None, option_map, Result, Ok, Err}
+use Rattle.std.specs.Option.{option_or, option_map_or}
 use Rattle.std.specs.Ordering.{int_eq}
 use Rattle.serde_json.specs.Data.{Data}
 use Rattle.ak_json.specs.Arrays.{note_at, card_at, review_at, grave_at}
 use Rattle.ak_json.specs.Decks.{IsDeck, deck_json}
 use Rattle.ak_json.specs.Faults.{told}
-use Rattle.ak_json.specs.Flaws.{array_flaw}
+use Rattle.ak_json.specs.FormFaults.{array_form_fault}
 use Rattle.ak_json.specs.Groups.{IsOptions, options_kept, options_json}
 use Rattle.ak_json.specs.NoteTypes.{IsNoteType, note_type_json}
-use Rattle.ak_json.specs.Objects.{object_flaw}
+use Rattle.ak_json.specs.Objects.{object_form_fault}
 use Rattle.ak_json.specs.Rests.{deep_fault, deep_key}
 use Rattle.ak_json.specs.Written.{note_json, card_json, review_json, grave_json}
 use Rattle.ak_json.specs.declared.faults.JsonFault.{JsonFault}
 use Rattle.ak_json.specs.declared.faults.JsonFault.TheVariants as faults
-use Rattle.ak_json.specs.declared.flaws.Flaw.{Flaw}
-use Rattle.ak_json.specs.declared.forms.TheConstants.{NOTE, CARD, REVIEW, GRAVE, NOTE_TYPE, DECK, OPTIONS}
+use Rattle.ak_json.specs.declared.form_faults.FormFault.{FormFault}
+use Rattle.ak_json.specs.Forms.{note_form, card_form, review_form, grave_form, note_type_form, deck_form, options_form}
 use Rattle.ak_base.specs.Rows.{check_of}
+use Rattle.ak_base.specs.Tables.{stored_code}
 use Rattle.ak_base.specs.declared.errors.RowFault.{RowFault}
 use Rattle.ak_base.specs.declared.errors.RowFault.TheVariants.{BadCode}
 use Rattle.ak_base.specs.declared.graves.Grave.{Grave}
@@ -25,33 +26,33 @@ use Rattle.ak_base.specs.declared.names.Table.TheVariants as tables
 use Rattle.ak_base.specs.declared.rows.Row.{Row}
 use Rattle.ak_base.specs.declared.rows.Row.TheVariants as rows
 
--- the first flaw of the known columns of a row of a table
-abbrev pub row_flaw : Table → Data → Option Flaw
-row_flaw tables.Note d = array_flaw NOTE d
-row_flaw tables.Card d = array_flaw CARD d
-row_flaw tables.Review d = array_flaw REVIEW d
-row_flaw tables.NoteType d = object_flaw NOTE_TYPE d
-row_flaw tables.Deck d = object_flaw DECK d
-row_flaw tables.Options d = object_flaw OPTIONS d
-row_flaw tables.NoteGrave d = array_flaw GRAVE d
-row_flaw tables.CardGrave d = array_flaw GRAVE d
-row_flaw tables.DeckGrave d = array_flaw GRAVE d
+-- the first fault of the known columns of a row of a table
+abbrev pub row_form_fault : Table → Data → Option FormFault
+row_form_fault tables.Note d = array_form_fault note_form d
+row_form_fault tables.Card d = array_form_fault card_form d
+row_form_fault tables.Review d = array_form_fault review_form d
+row_form_fault tables.NoteType d = object_form_fault note_type_form d
+row_form_fault tables.Deck d = object_form_fault deck_form d
+row_form_fault tables.Options d = object_form_fault options_form d
+row_form_fault tables.NoteGrave d = array_form_fault grave_form d
+row_form_fault tables.CardGrave d = array_form_fault grave_form d
+row_form_fault tables.DeckGrave d = array_form_fault grave_form d
 
 -- the fault of the first unknown key that has one
 abbrev pub deep_in : Table → Data → Option JsonFault
 deep_in tables.Note d = None
 deep_in tables.Card d = None
 deep_in tables.Review d = None
-deep_in tables.NoteType d = deep_key NOTE_TYPE d
-deep_in tables.Deck d = deep_key DECK d
+deep_in tables.NoteType d = deep_key note_type_form d
+deep_in tables.Deck d = deep_key deck_form d
 deep_in tables.Options d = deep_fault (options_kept d)
 deep_in tables.NoteGrave d = None
 deep_in tables.CardGrave d = None
 deep_in tables.DeckGrave d = None
 
 -- the fault of a value that has not the form of a row of the table: of a known column, else of an unknown key
-abbrev pub form_fault : Table → Data → Option JsonFault
-form_fault table d = option_or (option_map told (row_flaw table d)) (deep_in table d)
+abbrev pub form_refusal : Table → Data → Option JsonFault
+form_refusal table d = option_or (option_map told (row_form_fault table d)) (deep_in table d)
 
 -- the row is that of a value of its form
 abbrev pub IsRowIn : Data → Row → Type 0
@@ -80,45 +81,41 @@ StandsIn table row = ⊥
 abbrev pub IsRow : Table → Data → Row → Type 0
 IsRow table d row = StandsIn table row × IsRowIn d row
 
--- the kind of the graves of a table
-abbrev pub kind_of : Table → ℤ
-kind_of tables.CardGrave = pos 0
-kind_of tables.NoteGrave = pos 1
-kind_of table = pos 2
+-- a grave stands in the table of the graves with its code
+abbrev pub code_check : Table → Grave → Result (Unit {0}) RowFault
+code_check table g = if option_map_or (int_eq g.kind) (stored_code table) false then Ok tt else Err (BadCode 2 g.kind)
 
--- a grave stands in the table of its own kind
-abbrev pub kind_check : Table → Grave → Result (Unit {0}) RowFault
-kind_check table g = if int_eq g.kind (kind_of table) then Ok tt else Err (BadCode 2 g.kind)
-
+-- a row stands in its own table of graves, if it is a grave
 abbrev pub table_check : Table → Row → Result (Unit {0}) RowFault
-table_check table (rows.Grave g) = kind_check table g
+table_check table (rows.Grave g) = code_check table g
 table_check table row = Ok tt
 
+-- the first fault of two checks
 abbrev pub checked_then : Result (Unit {0}) RowFault → Result (Unit {0}) RowFault → Result (Unit {0}) RowFault
 checked_then (Ok good) later = later
 checked_then (Err fault) later = Err fault
 
--- the first column that is out of its range; then the kind of a grave of another table
+-- the first column that is out of its range; then the code of a grave of another table
 abbrev pub row_check : Table → Row → Result (Unit {0}) RowFault
 row_check table row = checked_then (check_of row) (table_check table row)
 
 -- the value has the form of a row of the table, and the row is the one that it stands for, in its ranges
 pub record ReadsRow (table : Table) (d : Data) (row : Row) : Type 0 where
-  pub form : form_fault table d ≡ None
+  pub form : form_refusal table d ≡ None
   pub is : IsRow table d row
   pub good : row_check table row ≡ Ok tt
 
 -- the value has the form, and the row that it stands for has a column out of its range
 pub record MissesRange (table : Table) (d : Data) (fault : RowFault) (row : Row) : Type 0 where
-  pub form : form_fault table d ≡ None
+  pub form : form_refusal table d ≡ None
   pub is : IsRow table d row
   pub bad : row_check table row ≡ Err fault
 
--- the fault is that of the form, or of a range where the form has none, or want of memory
+-- the fault is that of the form, or of a range where the form has none, or memory was out
 abbrev pub RefusesRow : Table → Data → JsonFault → Type 0
 RefusesRow table d faults.NotJson = ⊥
-RefusesRow table d (faults.Missing text) = form_fault table d ≡ Some (faults.Missing text)
-RefusesRow table d (faults.WrongKind text) = form_fault table d ≡ Some (faults.WrongKind text)
+RefusesRow table d (faults.Missing text) = form_refusal table d ≡ Some (faults.Missing text)
+RefusesRow table d (faults.WrongKind text) = form_refusal table d ≡ Some (faults.WrongKind text)
 RefusesRow table d (faults.Row fault) = (row : Row) × MissesRange table d fault row
 RefusesRow table d faults.Memory = Unit {0}
 

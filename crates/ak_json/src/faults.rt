@@ -7,12 +7,12 @@ pub enum JsonFault {
     NotJson,
     /// A known key, or the number of a column from 0, that is not there.
     Missing(Text),
-    /// The key, or the number of the column from 0, of a value of another form. Empty where the whole
+    /// The key, or the number of the column from 0, of a value of another form. Empty if the whole
     /// value is no array or object, as needed.
     WrongKind(Text),
     /// A row of the right form with a column out of its range.
     Row(RowFault),
-    /// Want of memory.
+    /// Out of memory.
     Memory,
 }
 

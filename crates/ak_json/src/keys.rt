@@ -1,6 +1,6 @@
 ghost use Rattle.std.specs.Prelude.{◌≡◌, option_map, IfOk};
 ghost use Rattle.serde_json.specs.View.{view};
-ghost use Rattle.ak_json.specs.Keys.{word_text, find, place_text};
+ghost use Rattle.ak_json.specs.Keys.{key_text, find, place_text};
 
 use ak_base::{Memory, Text};
 use serde_json::Value;
@@ -8,7 +8,7 @@ use std::alloc::Global;
 
 /// The keys of the objects that are read and written.
 #[derive(Clone, Copy)]
-pub(crate) enum Word {
+pub(crate) enum Key {
     Afmt,
     Bury,
     CollapseTime,
@@ -48,49 +48,49 @@ pub(crate) enum Word {
     Usn,
 }
 
-impl Word {
+impl Key {
     /// The key as it stands in the object.
     pub(crate) fn text(self) -> &'static str
-        ensures { result.now ≡ word_text self }
+        ensures { result.now ≡ key_text self }
     {
         match self {
-            Word::Afmt => "afmt",
-            Word::Bury => "bury",
-            Word::CollapseTime => "collapseTime",
-            Word::Conf => "conf",
-            Word::DayLearnFirst => "dayLearnFirst",
-            Word::Delays => "delays",
-            Word::Dyn => "dyn",
-            Word::Ease4Pm => "ease4Pm",
-            Word::Flds => "flds",
-            Word::HardFactorPm => "hardFactorPm",
-            Word::Id => "id",
-            Word::InitialFactor => "initialFactor",
-            Word::Ints => "ints",
-            Word::IvlFctPm => "ivlFctPm",
-            Word::Lapse => "lapse",
-            Word::LastUnburied => "lastUnburied",
-            Word::LeechAction => "leechAction",
-            Word::LeechFails => "leechFails",
-            Word::MaxIvl => "maxIvl",
-            Word::MaxTaken => "maxTaken",
-            Word::MinInt => "minInt",
-            Word::Mod => "mod",
-            Word::MultPm => "multPm",
-            Word::Name => "name",
-            Word::New => "new",
-            Word::NewSpread => "newSpread",
-            Word::NewToday => "newToday",
-            Word::NextPos => "nextPos",
-            Word::Ord => "ord",
-            Word::PerDay => "perDay",
-            Word::Qfmt => "qfmt",
-            Word::Rev => "rev",
-            Word::RevToday => "revToday",
-            Word::Sortf => "sortf",
-            Word::Tmpls => "tmpls",
-            Word::Type => "type",
-            Word::Usn => "usn",
+            Key::Afmt => "afmt",
+            Key::Bury => "bury",
+            Key::CollapseTime => "collapseTime",
+            Key::Conf => "conf",
+            Key::DayLearnFirst => "dayLearnFirst",
+            Key::Delays => "delays",
+            Key::Dyn => "dyn",
+            Key::Ease4Pm => "ease4Pm",
+            Key::Flds => "flds",
+            Key::HardFactorPm => "hardFactorPm",
+            Key::Id => "id",
+            Key::InitialFactor => "initialFactor",
+            Key::Ints => "ints",
+            Key::IvlFctPm => "ivlFctPm",
+            Key::Lapse => "lapse",
+            Key::LastUnburied => "lastUnburied",
+            Key::LeechAction => "leechAction",
+            Key::LeechFails => "leechFails",
+            Key::MaxIvl => "maxIvl",
+            Key::MaxTaken => "maxTaken",
+            Key::MinInt => "minInt",
+            Key::Mod => "mod",
+            Key::MultPm => "multPm",
+            Key::Name => "name",
+            Key::New => "new",
+            Key::NewSpread => "newSpread",
+            Key::NewToday => "newToday",
+            Key::NextPos => "nextPos",
+            Key::Ord => "ord",
+            Key::PerDay => "perDay",
+            Key::Qfmt => "qfmt",
+            Key::Rev => "rev",
+            Key::RevToday => "revToday",
+            Key::Sortf => "sortf",
+            Key::Tmpls => "tmpls",
+            Key::Type => "type",
+            Key::Usn => "usn",
         }
     }
 }
@@ -101,7 +101,7 @@ pub(crate) enum Place {
     /// An element of the array.
     At(usize),
     /// A member of the object.
-    Own(Word),
+    Key(Key),
 }
 
 impl Place {
@@ -114,7 +114,7 @@ impl Place {
                 let digits = format!(in alloc; "{place}")?;
                 Text::of(alloc, digits.as_str())
             },
-            Place::Own(word) => Text::of(alloc, word.text()),
+            Place::Key(key) => Text::of(alloc, key.text()),
         }
     }
 
@@ -124,7 +124,7 @@ impl Place {
     {
         match self {
             Place::At(place) => value.get(place),
-            Place::Own(word) => value.get(word.text()),
+            Place::Key(key) => value.get(key.text()),
         }
     }
 }

@@ -1,6 +1,6 @@
 ghost use Rattle.std.specs.Prelude.{◌≡◌};
 ghost use Rattle.serde_json.specs.View.{view, items_view};
-ghost use Rattle.ak_json.specs.Kinds.{holds, may_lack, is_within, are_whole, is_part};
+ghost use Rattle.ak_json.specs.Kinds.{holds, may_lack, is_within, are_integers, is_part};
 
 use crate::depths::is_shallow;
 use serde_json::Value;
@@ -9,13 +9,13 @@ use serde_json::Value;
 #[derive(Clone, Copy)]
 pub(crate) enum Kind {
     /// A whole number that fits 64 bits with its sign.
-    Whole,
+    Integer,
     /// A whole number from the least to the most.
     Within(i64, i64),
     /// A text.
-    Words,
+    Text,
     /// True or false.
-    Truth,
+    Bool,
     /// A list of whole numbers.
     Steps,
     /// A list of two whole numbers.
@@ -30,38 +30,6 @@ pub(crate) enum Kind {
     Lapse,
     /// Anything, or nothing, with no number that is not whole. It is not read.
     Ignored,
-}
-
-/// Whether there is a whole number from the least to the most.
-fn is_within(least: i64, most: i64, number: Option<i64>) -> bool
-    ensures { result ≡ is_within least most number }
-{
-    match number {
-        Some(number) => least <= number && number <= most,
-        None => false,
-    }
-}
-
-/// Whether all the values are whole numbers.
-fn are_whole(values: &[Value]) -> bool
-    ensures { result ≡ are_whole (items_view values.now) }
-{
-    for value in values {
-        if value.as_i64().is_none() {
-            return false;
-        }
-    }
-    true
-}
-
-/// Whether the element at that place is a whole number.
-fn is_part(value: &Value, place: usize) -> bool
-    ensures { result ≡ is_part place (view value.now) }
-{
-    match value.get(place) {
-        Some(part) => part.as_i64().is_some(),
-        None => false,
-    }
 }
 
 impl Kind {
@@ -80,12 +48,12 @@ impl Kind {
         ensures { result ≡ holds self (view value.now) }
     {
         match self {
-            Kind::Whole => value.as_i64().is_some(),
+            Kind::Integer => value.as_i64().is_some(),
             Kind::Within(least, most) => is_within(least, most, value.as_i64()),
-            Kind::Words => value.as_str().is_some(),
-            Kind::Truth => value.as_bool().is_some(),
+            Kind::Text => value.as_str().is_some(),
+            Kind::Bool => value.as_bool().is_some(),
             Kind::Steps => match value.as_array() {
-                Some(values) => are_whole(values.as_slice()),
+                Some(values) => are_integers(values.as_slice()),
                 None => false,
             },
             Kind::Pair => is_part(value, 0) && is_part(value, 1) && value.get(2).is_none(),
@@ -93,5 +61,37 @@ impl Kind {
             Kind::New | Kind::Rev | Kind::Lapse => value.is_object(),
             Kind::Ignored => is_shallow(u64::MAX, value),
         }
+    }
+}
+
+/// Whether there is a whole number from the least to the most.
+fn is_within(least: i64, most: i64, number: Option<i64>) -> bool
+    ensures { result ≡ is_within least most number }
+{
+    match number {
+        Some(number) => least <= number && number <= most,
+        None => false,
+    }
+}
+
+/// Whether all the values are whole numbers.
+fn are_integers(values: &[Value]) -> bool
+    ensures { result ≡ are_integers (items_view values.now) }
+{
+    for value in values {
+        if value.as_i64().is_none() {
+            return false;
+        }
+    }
+    true
+}
+
+/// Whether the element at that place is a whole number.
+fn is_part(value: &Value, place: usize) -> bool
+    ensures { result ≡ is_part place (view value.now) }
+{
+    match value.get(place) {
+        Some(part) => part.as_i64().is_some(),
+        None => false,
     }
 }

@@ -7,7 +7,7 @@ mod confs;
 mod decks;
 mod depths;
 mod faults;
-mod flaws;
+mod form_faults;
 mod forms;
 mod groups;
 mod keys;
@@ -18,13 +18,14 @@ mod note_types;
 mod objects;
 mod rests;
 mod rows;
-#[cfg(test)]
-mod tests;
 mod texts;
 mod written;
 
 pub use confs::{read_conf, write_conf};
 pub use faults::JsonFault;
-pub use laws::{confs_are_read_again, rows_are_read_again, whole_numbers_are_written};
+pub use laws::{
+    confs_are_read_again, each_value_is_read_or_refused, one_conf_is_read, one_fault_is_told,
+    one_row_is_read, rows_are_read_again, what_is_read_is_not_refused, whole_numbers_are_written,
+};
 pub use rows::{read_row, write_row};
 pub use texts::{read_text, write_text};

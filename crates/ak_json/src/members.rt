@@ -12,40 +12,6 @@ use std::alloc::Global;
 /// How deep the value of an unknown key nests at most. The object that keeps it nests one deeper.
 const DEEPEST: u64 = 63;
 
-/// Whether the column is the member of that key.
-fn is_place(place: Place, key: &str) -> bool
-    ensures { result ≡ is_place place key.now }
-{
-    match place {
-        Place::Own(word) => word.text() == key,
-        Place::At(_) => false,
-    }
-}
-
-/// Whether a column of the form is the member of that key.
-fn knows(form: &[(Place, Kind)], key: &str) -> bool
-    ensures { result ≡ knows form.now key.now }
-{
-    for (place, _) in form {
-        if is_place(*place, key) {
-            return true;
-        }
-    }
-    false
-}
-
-/// The first key, in the order of bytes, whose value nests too deep or holds a number that is not whole.
-pub(crate) fn deep_member(members: &Map<String, Value>) -> Option<&str>
-    ensures { option_map (λ key. key.now) result ≡ deep_member (members_view members.now.entries) }
-{
-    for (key, value) in members {
-        if !is_shallow(DEEPEST, value) {
-            return Some(key.as_str());
-        }
-    }
-    None
-}
-
 /// The members of which no column of the form is one.
 pub(crate) fn unknown(
     alloc: Global,
@@ -74,4 +40,38 @@ pub(crate) fn has_deep(form: &[(Place, Kind)], members: &Map<String, Value>) -> 
         }
     }
     false
+}
+
+/// The first key, in the order of bytes, whose value nests too deep or holds a number that is not whole.
+pub(crate) fn deep_member(members: &Map<String, Value>) -> Option<&str>
+    ensures { option_map (λ key. key.now) result ≡ deep_member (members_view members.now.entries) }
+{
+    for (key, value) in members {
+        if !is_shallow(DEEPEST, value) {
+            return Some(key.as_str());
+        }
+    }
+    None
+}
+
+/// Whether a column of the form is the member of that key.
+fn knows(form: &[(Place, Kind)], key: &str) -> bool
+    ensures { result ≡ knows form.now key.now }
+{
+    for (place, _) in form {
+        if is_place(*place, key) {
+            return true;
+        }
+    }
+    false
+}
+
+/// Whether the column is the member of that key.
+fn is_place(place: Place, key: &str) -> bool
+    ensures { result ≡ is_place place key.now }
+{
+    match place {
+        Place::Key(own) => own.text() == key,
+        Place::At(_) => false,
+    }
 }

@@ -17,6 +17,21 @@ use ak_base::{Memory, Owner, Rest, Text};
 use serde_json::{Map, Value};
 use std::alloc::Global;
 
+/// The rest of an object: the members of which no column is one.
+pub(crate) fn read_rest<O: Owner>(
+    alloc: Global,
+    form: &[(Place, Kind)],
+    value: &Value,
+) -> Result<Rest<O>, JsonFault>
+    requires { (members : Members) → O.ignores (unknown form.now members) ≡ true }
+    ensures plain { IfOk result (λ rest. deep_key form.now (view value.now) ≡ None) }
+    ensures text { IfOk result (λ rest. rest.text ≡ rest_text form.now (view value.now)) }
+    ensures err { IfErr result (Tells (deep_key form.now (view value.now))) }
+{
+    let members = kept(alloc, form, value)?;
+    as_rest(alloc, members)
+}
+
 /// The members of an object of which no column is one.
 pub(crate) fn kept(
     alloc: Global,
@@ -31,7 +46,7 @@ pub(crate) fn kept(
     }
 }
 
-/// The rest of these members, where none nests too deep or holds a number that is not whole.
+/// The rest of these members. It is refused if one nests too deep or holds a number that is not whole.
 pub(crate) fn as_rest<O: Owner>(
     alloc: Global,
     members: Map<String, Value>,
@@ -54,19 +69,18 @@ pub(crate) fn as_rest<O: Owner>(
     }
 }
 
-/// The rest of an object: the members of which no column is one.
-pub(crate) fn read_rest<O: Owner>(
+/// The object of these cells and the members of a rest.
+pub(crate) fn write_object<O: Owner>(
     alloc: Global,
     form: &[(Place, Kind)],
-    value: &Value,
-) -> Result<Rest<O>, JsonFault>
-    requires { (members : Members) → O.ignores (unknown form.now members) ≡ true }
-    ensures plain { IfOk result (λ rest. deep_key form.now (view value.now) ≡ None) }
-    ensures text { IfOk result (λ rest. rest.text ≡ rest_text form.now (view value.now)) }
-    ensures err { IfErr result (Tells (deep_key form.now (view value.now))) }
+    cells: &[Cell<'_>],
+    rest: &Rest<O>,
+) -> Result<Value, Memory>
+    ensures { IfOk result (λ value. view value ≡ object_json form.now (cells_data cells.now) rest.now.text) }
 {
-    let members = kept(alloc, form, value)?;
-    as_rest(alloc, members)
+    let mut members = members_of(alloc, rest)?;
+    put_cells(alloc, form, cells, &mut members)?;
+    Ok(Value::Object(members))
 }
 
 /// The members that a rest keeps.
@@ -80,18 +94,4 @@ pub(crate) fn members_of<O: Owner>(
         Value::Object(members) => Ok(members),
         _ => Ok(Map::new(alloc)),
     }
-}
-
-/// The object of these cells and the members of a rest.
-pub(crate) fn write_object<O: Owner>(
-    alloc: Global,
-    form: &[(Place, Kind)],
-    cells: &[Cell<'_>],
-    rest: &Rest<O>,
-) -> Result<Value, Memory>
-    ensures { IfOk result (λ value. view value ≡ object_json form.now (cells_data cells.now) rest.now.text) }
-{
-    let mut members = members_of(alloc, rest)?;
-    put_cells(alloc, form, cells, &mut members)?;
-    Ok(Value::Object(members))
 }

@@ -1,42 +1,69 @@
 ghost use Rattle.std.specs.Prelude.{◌≡◌, None, IfOk, IfErr};
 ghost use Rattle.serde_json.specs.View.{view};
 ghost use Rattle.ak_json.specs.Faults.{Tells};
-ghost use Rattle.ak_json.specs.Rows.{row_flaw, deep_in, form_fault, IsRow, row_check, kind_check, ReadsRow, RefusesRow, row_json};
+ghost use Rattle.ak_json.specs.Rows.{row_form_fault, deep_in, form_refusal, IsRow, row_check, code_check, ReadsRow, RefusesRow, row_json};
 
 use crate::JsonFault;
 use crate::arrays::{card_of, grave_of, note_of, review_of};
 use crate::decks::{deck_of, write_deck};
-use crate::flaws::{Flaw, array_flaw, refuse};
+use crate::form_faults::{FormFault, array_form_fault, refuse};
 use crate::forms::{CARD, DECK, GRAVE, NOTE, NOTE_TYPE, OPTIONS, REVIEW};
 use crate::groups::{options_of, write_options};
 use crate::note_types::{note_type_of, write_note_type};
-use crate::objects::object_flaw;
+use crate::objects::object_form_fault;
 use crate::written::{write_card, write_grave, write_note, write_review};
 use ak_base::{Grave, Memory, Row, RowFault, Table};
 use serde_json::Value;
 use std::alloc::Global;
 
-/// The first flaw of the value of a row of that table.
-fn row_flaw(table: Table, value: &Value) -> Option<Flaw>
-    ensures { result ≡ row_flaw table (view value.now) }
+/// The row of that table that a value stands for. The first column or key that is missing or of
+/// another kind is told, in the order of the columns, then the first unknown key that nests over 63
+/// deep or holds a number that is not whole, in the order of bytes, then the first column out of its
+/// range.
+pub fn read_row(alloc: Global, table: Table, value: &Value) -> Result<Row, JsonFault>
+    ensures ok { IfOk result (ReadsRow table (view value.now)) }
+    ensures refused { IfErr result (RefusesRow table (view value.now)) }
 {
-    match table {
-        Table::Note => array_flaw(&NOTE, value),
-        Table::Card => array_flaw(&CARD, value),
-        Table::Review => array_flaw(&REVIEW, value),
-        Table::NoteType => object_flaw(&NOTE_TYPE, value),
-        Table::Deck => object_flaw(&DECK, value),
-        Table::Options => object_flaw(&OPTIONS, value),
-        Table::NoteGrave => array_flaw(&GRAVE, value),
-        Table::CardGrave => array_flaw(&GRAVE, value),
-        Table::DeckGrave => array_flaw(&GRAVE, value),
+    match form_row(alloc, table, value) {
+        Ok(row) => match check_row(table, &row) {
+            Ok(()) => Ok(row),
+            Err(fault) => Err(JsonFault::Row(fault)),
+        },
+        Err(fault) => Err(fault),
     }
 }
 
-/// The row of a value whose known columns have no flaw.
-#[tactic(auto, using(crate::proofs::RowForms::fields_flawless, crate::proofs::RowForms::templates_flawless))]
+/// The row of a value of the form of its table, its columns in any range.
+fn form_row(alloc: Global, table: Table, value: &Value) -> Result<Row, JsonFault>
+    ensures ok { IfOk result (IsRow table (view value.now)) }
+    ensures plain { IfOk result (λ row. form_refusal table (view value.now) ≡ None) }
+    ensures err { IfErr result (Tells (form_refusal table (view value.now))) }
+{
+    refuse(alloc, row_form_fault(table, value))?;
+    made_of(alloc, table, value)
+}
+
+/// The first fault of the value of a row of that table.
+fn row_form_fault(table: Table, value: &Value) -> Option<FormFault>
+    ensures { result ≡ row_form_fault table (view value.now) }
+{
+    match table {
+        Table::Note => array_form_fault(&NOTE, value),
+        Table::Card => array_form_fault(&CARD, value),
+        Table::Review => array_form_fault(&REVIEW, value),
+        Table::NoteType => object_form_fault(&NOTE_TYPE, value),
+        Table::Deck => object_form_fault(&DECK, value),
+        Table::Options => object_form_fault(&OPTIONS, value),
+        Table::NoteGrave => array_form_fault(&GRAVE, value),
+        Table::CardGrave => array_form_fault(&GRAVE, value),
+        Table::DeckGrave => array_form_fault(&GRAVE, value),
+    }
+}
+
+/// The row of a value whose known columns have no fault.
+#[tactic(auto, using(crate::proofs::RowForms::fields_faultless, crate::proofs::RowForms::templates_faultless))]
 fn made_of(alloc: Global, table: Table, value: &Value) -> Result<Row, JsonFault>
-    requires { row_flaw table (view value.now) ≡ None }
+    requires { row_form_fault table (view value.now) ≡ None }
     ensures ok { IfOk result (IsRow table (view value.now)) }
     ensures plain { IfOk result (λ row. deep_in table (view value.now) ≡ None) }
     ensures err { IfErr result (Tells (deep_in table (view value.now))) }
@@ -54,60 +81,30 @@ fn made_of(alloc: Global, table: Table, value: &Value) -> Result<Row, JsonFault>
     }
 }
 
-/// The row of a value of the form of its table, its columns in any range.
-fn form_row(alloc: Global, table: Table, value: &Value) -> Result<Row, JsonFault>
-    ensures ok { IfOk result (IsRow table (view value.now)) }
-    ensures plain { IfOk result (λ row. form_fault table (view value.now) ≡ None) }
-    ensures err { IfErr result (Tells (form_fault table (view value.now))) }
-{
-    refuse(alloc, row_flaw(table, value))?;
-    made_of(alloc, table, value)
-}
-
-/// Whether a grave stands in its own table of graves.
-fn check_kind(table: Table, grave: &Grave) -> Result<(), RowFault>
-    ensures { result ≡ kind_check table grave.now }
-{
-    let wanted = match table {
-        Table::CardGrave => 0,
-        Table::NoteGrave => 1,
-        _ => 2,
-    };
-    if grave.kind == wanted {
-        return Ok(());
-    }
-    Err(RowFault::BadCode {
-        column: 2,
-        value: grave.kind,
-    })
-}
-
-/// The first column that is out of its range; then the kind of a grave of another table.
+/// The first column that is out of its range; then the code of a grave of another table.
 fn check_row(table: Table, row: &Row) -> Result<(), RowFault>
     ensures { result ≡ row_check table row.now }
 {
     row.check()?;
     match row {
-        Row::Grave(grave) => check_kind(table, grave),
+        Row::Grave(grave) => check_code(table, grave),
         _ => Ok(()),
     }
 }
 
-/// The row of that table that a value stands for. The first column or key that is missing or of
-/// another kind is told, in the order of the columns, then the first unknown key that nests over 63
-/// deep or holds a number that is not whole, in the order of bytes, then the first column out of its
-/// range.
-pub fn read_row(alloc: Global, table: Table, value: &Value) -> Result<Row, JsonFault>
-    ensures ok { IfOk result (ReadsRow table (view value.now)) }
-    ensures refused { IfErr result (RefusesRow table (view value.now)) }
+/// Whether a grave stands in the table of the graves with its code.
+fn check_code(table: Table, grave: &Grave) -> Result<(), RowFault>
+    ensures { result ≡ code_check table grave.now }
 {
-    match form_row(alloc, table, value) {
-        Ok(row) => match check_row(table, &row) {
-            Ok(()) => Ok(row),
-            Err(fault) => Err(JsonFault::Row(fault)),
-        },
-        Err(fault) => Err(fault),
+    if let Some(code) = table.stored_code() {
+        if code == grave.kind {
+            return Ok(());
+        }
     }
+    Err(RowFault::BadCode {
+        column: 2,
+        value: grave.kind,
+    })
 }
 
 /// The value of a row, with the unknown keys that it keeps.

@@ -10,9 +10,9 @@ use std::alloc::Global;
 /// What is written into a column.
 #[derive(Clone, Copy)]
 pub(crate) enum Cell<'a> {
-    Whole(i64),
-    Words(&'a Text),
-    Truth(bool),
+    Integer(i64),
+    Text(&'a Text),
+    Bool(bool),
     /// 1 for true, 0 for false.
     Bit(bool),
     Pair(Count),
@@ -23,14 +23,115 @@ pub(crate) enum Cell<'a> {
     Made(&'a Value),
 }
 
+/// The array of a note.
+#[tactic(auto, unfolding(crate::specs::Written::note_cells))]
+pub(crate) fn write_note(alloc: Global, note: &Note) -> Result<Value, Memory>
+    ensures { IfOk result (λ value. view value ≡ note_json note.now) }
+{
+    write_array(
+        alloc,
+        &[
+            Cell::Integer(note.id),
+            Cell::Text(&note.guid),
+            Cell::Integer(note.mid),
+            Cell::Integer(note.stamp),
+            Cell::Integer(note.usn),
+            Cell::Text(&note.tags),
+            Cell::Text(&note.flds),
+            Cell::Text(&note.sfld),
+            Cell::Integer(note.csum),
+            Cell::Integer(note.flags),
+            Cell::Text(&note.extra),
+        ],
+    )
+}
+
+/// The array of a card.
+#[tactic(auto, unfolding(crate::specs::Written::card_cells))]
+pub(crate) fn write_card(alloc: Global, card: &Card) -> Result<Value, Memory>
+    ensures { IfOk result (λ value. view value ≡ card_json card.now) }
+{
+    write_array(
+        alloc,
+        &[
+            Cell::Integer(card.id),
+            Cell::Integer(card.nid),
+            Cell::Integer(card.did),
+            Cell::Integer(card.ord),
+            Cell::Integer(card.stamp),
+            Cell::Integer(card.usn),
+            Cell::Integer(card.kind),
+            Cell::Integer(card.queue),
+            Cell::Integer(card.due),
+            Cell::Integer(card.ivl),
+            Cell::Integer(card.factor),
+            Cell::Integer(card.reps),
+            Cell::Integer(card.lapses),
+            Cell::Integer(card.left),
+            Cell::Integer(card.odue),
+            Cell::Integer(card.odid),
+            Cell::Integer(card.flags),
+            Cell::Text(&card.extra),
+        ],
+    )
+}
+
+/// The array of a review.
+#[tactic(auto, unfolding(crate::specs::Written::review_cells))]
+pub(crate) fn write_review(alloc: Global, review: &Review) -> Result<Value, Memory>
+    ensures { IfOk result (λ value. view value ≡ review_json review.now) }
+{
+    write_array(
+        alloc,
+        &[
+            Cell::Integer(review.id),
+            Cell::Integer(review.cid),
+            Cell::Integer(review.usn),
+            Cell::Integer(review.ease),
+            Cell::Integer(review.ivl),
+            Cell::Integer(review.last_ivl),
+            Cell::Integer(review.factor),
+            Cell::Integer(review.time),
+            Cell::Integer(review.kind),
+        ],
+    )
+}
+
+/// The array of a grave.
+#[tactic(auto, unfolding(crate::specs::Written::grave_cells))]
+pub(crate) fn write_grave(alloc: Global, grave: &Grave) -> Result<Value, Memory>
+    ensures { IfOk result (λ value. view value ≡ grave_json grave.now) }
+{
+    write_array(
+        alloc,
+        &[
+            Cell::Integer(grave.usn),
+            Cell::Integer(grave.oid),
+            Cell::Integer(grave.kind),
+        ],
+    )
+}
+
+/// The array of these cells.
+fn write_array(alloc: Global, cells: &[Cell<'_>]) -> Result<Value, Memory>
+    ensures { IfOk result (λ value. view value ≡ array (items_of (cells_data cells.now))) }
+{
+    let mut values = Vec::new(alloc);
+    for cell in cells {
+        let value = cell.value(alloc)?;
+        values.push(value)?;
+    }
+    Ok(Value::Array(values))
+}
+
 impl Cell<'_> {
     pub(crate) fn value(self, alloc: Global) -> Result<Value, Memory>
         ensures { IfOk result (λ value. view value ≡ cell_data self.entry) }
     {
         match self {
-            Cell::Whole(number) => Ok(Value::from(number)),
-            Cell::Words(text) => Ok(Value::try_from_str(alloc, text.as_str())?),
-            Cell::Truth(truth) => Ok(Value::Bool(truth)),
+            Cell::Integer(number) => Ok(Value::from(number)),
+            Cell::Text(text) => Ok(Value::try_from_str(alloc, text.as_str())?),
+            Cell::Bool(truth) => Ok(Value::Bool(truth)),
             Cell::Bit(truth) => {
                 if truth {
                     return Ok(Value::from(1_i64));
@@ -54,105 +155,4 @@ fn write_steps(alloc: Global, steps: &[i64]) -> Result<Value, Memory>
         values.push(Value::from(*step))?;
     }
     Ok(Value::Array(values))
-}
-
-/// The array of these cells.
-fn write_array(alloc: Global, cells: &[Cell<'_>]) -> Result<Value, Memory>
-    ensures { IfOk result (λ value. view value ≡ array (items_of (cells_data cells.now))) }
-{
-    let mut values = Vec::new(alloc);
-    for cell in cells {
-        let value = cell.value(alloc)?;
-        values.push(value)?;
-    }
-    Ok(Value::Array(values))
-}
-
-/// The array of a review.
-#[tactic(auto, unfolding(crate::specs::Written::review_cells))]
-pub(crate) fn write_review(alloc: Global, review: &Review) -> Result<Value, Memory>
-    ensures { IfOk result (λ value. view value ≡ review_json review.now) }
-{
-    write_array(
-        alloc,
-        &[
-            Cell::Whole(review.id),
-            Cell::Whole(review.cid),
-            Cell::Whole(review.usn),
-            Cell::Whole(review.ease),
-            Cell::Whole(review.ivl),
-            Cell::Whole(review.last_ivl),
-            Cell::Whole(review.factor),
-            Cell::Whole(review.time),
-            Cell::Whole(review.kind),
-        ],
-    )
-}
-
-/// The array of a grave.
-#[tactic(auto, unfolding(crate::specs::Written::grave_cells))]
-pub(crate) fn write_grave(alloc: Global, grave: &Grave) -> Result<Value, Memory>
-    ensures { IfOk result (λ value. view value ≡ grave_json grave.now) }
-{
-    write_array(
-        alloc,
-        &[
-            Cell::Whole(grave.usn),
-            Cell::Whole(grave.oid),
-            Cell::Whole(grave.kind),
-        ],
-    )
-}
-
-/// The array of a note.
-#[tactic(auto, unfolding(crate::specs::Written::note_cells))]
-pub(crate) fn write_note(alloc: Global, note: &Note) -> Result<Value, Memory>
-    ensures { IfOk result (λ value. view value ≡ note_json note.now) }
-{
-    write_array(
-        alloc,
-        &[
-            Cell::Whole(note.id),
-            Cell::Words(&note.guid),
-            Cell::Whole(note.mid),
-            Cell::Whole(note.stamp),
-            Cell::Whole(note.usn),
-            Cell::Words(&note.tags),
-            Cell::Words(&note.flds),
-            Cell::Words(&note.sfld),
-            Cell::Whole(note.csum),
-            Cell::Whole(note.flags),
-            Cell::Words(&note.extra),
-        ],
-    )
-}
-
-/// The array of a card.
-#[tactic(auto, unfolding(crate::specs::Written::card_cells))]
-pub(crate) fn write_card(alloc: Global, card: &Card) -> Result<Value, Memory>
-    ensures { IfOk result (λ value. view value ≡ card_json card.now) }
-{
-    write_array(
-        alloc,
-        &[
-            Cell::Whole(card.id),
-            Cell::Whole(card.nid),
-            Cell::Whole(card.did),
-            Cell::Whole(card.ord),
-            Cell::Whole(card.stamp),
-            Cell::Whole(card.usn),
-            Cell::Whole(card.kind),
-            Cell::Whole(card.queue),
-            Cell::Whole(card.due),
-            Cell::Whole(card.ivl),
-            Cell::Whole(card.factor),
-            Cell::Whole(card.reps),
-            Cell::Whole(card.lapses),
-            Cell::Whole(card.left),
-            Cell::Whole(card.odue),
-            Cell::Whole(card.odid),
-            Cell::Whole(card.flags),
-            Cell::Words(&card.extra),
-        ],
-    )
 }

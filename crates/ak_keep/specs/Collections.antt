@@ -1,12 +1,13 @@
 -- A collection: a finite map from names to rows, and a head.
-use Rattle.std.specs.Prelude.{◌≡◌, ℕ, ℤ, pos, negsuc, Bool, false, not, ◌&&◌, ◌==◌, ◌<◌, int_lt, List, [], ◌∷◌, ◌++◌, map, filter, length, take, IsTrue, ⊤, Option, Some, Ok, IfSome}
+use Rattle.std.specs.Prelude.{◌≡◌, ℕ, ℤ, pos, negsuc, Bool, false, not, ◌&&◌, ◌==◌, ◌<◌, int_lt, List, [], ◌∷◌, ◌++◌, map, filter, length, take, IsTrue, ⊤, Option, Some, is_some, IfSome}
 use Rattle.std.specs.FinMap.{FinMap, entries, keys, from_entries, insert, remove}
 use Rattle.std.specs.List.{AllByRecursion}
 use Rattle.std.specs.Option.{option_map}
 use Rattle.std.specs.Ordering.{int_eq}
 use Rattle.ak_base.specs.Names.{name_cmp, table_place}
-use Rattle.ak_base.specs.Rows.{name_of, usn_of, check_of}
-use Rattle.ak_base.specs.Heads.{IsHeadInRange, IsMoment, IsWithin}
+use Rattle.ak_base.specs.Rows.{IsChecked, name_of, usn_of}
+use Rattle.ak_base.specs.Heads.{IsHeadInRange, IsWithin}
+use Rattle.ak_base.specs.Limits as limits
 use Rattle.ak_base.specs.declared.heads.Head.{Head}
 use Rattle.ak_base.specs.declared.names.Name.{Name}
 use Rattle.ak_base.specs.declared.names.Table.{Table}
@@ -19,7 +20,7 @@ use Rattle.ak_keep.specs.declared.keepers.Wanted.TheVariants.{Unsent, From}
 abbrev pub Rows : Type 0
 Rows = FinMap name_cmp Row
 
--- each row stands under its own name
+-- each row is held under its own name
 abbrev pub StandsUnderNames : Rows → Type 0
 StandsUnderNames rows = AllByRecursion (λ entry. name_of entry.1 ≡ entry.0) (entries rows)
 
@@ -27,7 +28,7 @@ StandsUnderNames rows = AllByRecursion (λ entry. name_of entry.1 ≡ entry.0) (
 abbrev pub union : Rows → Rows → Rows
 union a b = from_entries (entries a ++ entries b)
 
--- these rows, each under its name; where two have one name, the first of them stands
+-- these rows, each under its name; if two have one name, the first of them stays
 abbrev pub rows_of : List Row → Rows
 rows_of rows = from_entries (map (λ row. (name_of row, row)) rows)
 
@@ -39,7 +40,7 @@ is_past table past name = (table_place name.table == table_place table) && int_l
 abbrev pub rows_past : Table → ℤ → Rows → List Row
 rows_past table past rows = map (λ entry. entry.1) (filter (λ entry. is_past table past entry.0) (entries rows))
 
--- the id of the last row, and `past` where there is none
+-- the id of the last row, and `past` if there is none
 abbrev pub last_id : ℤ → List Row → ℤ
 last_id past [] = past
 last_id past (row ∷ rows) = last_id (name_of row).id rows
@@ -57,7 +58,7 @@ is_pending row = int_eq (usn_of row) (negsuc 0)
 abbrev pub is_settled : Row → Bool
 is_settled row = not (is_pending row)
 
--- a row that was not sent yet, or one whose update sequence number is at least so much
+-- a row that was not sent yet, or one whose update sequence number is at least this number
 abbrev pub is_wanted : Wanted → Row → Bool
 is_wanted Unsent row = is_pending row
 is_wanted (From usn) row = not (int_lt (usn_of row) usn)
@@ -88,7 +89,11 @@ cards_among note es = map (λ (entry : Name × Row). entry.0.id) (filter (λ (en
 abbrev pub cards_of : ℤ → Rows → List ℤ
 cards_of note rows = cards_among note (entries rows)
 
--- a page of all that comes past an id: its first `limit` rows. A page that is not full is all of it, and behind each
+-- an id of a row
+abbrev pub IsId : ℤ → Type 0
+IsId id = IsWithin (pos 1) limits.last_id id
+
+-- a page of all that comes past an id: its first `limit` rows. A page that is not full is all of it, and after each
 -- page comes what is past its last row
 pub record IsPageOf (all : ℤ → List Row) (past : ℤ) (limit : ℕ) (page : List Row) : Type 0 where
   pub rows : page ≡ take limit (all past)
@@ -96,48 +101,51 @@ pub record IsPageOf (all : ℤ → List Row) (past : ℤ) (limit : ℕ) (page : 
   pub rest : all past ≡ page ++ all (last_id past page)
 
 -- ---- the collection
--- its rows by name, and its head, None where no collection is held
+-- a collection: its rows by name, and its head
 pub record Collection : Type 0 where
+  pub rows : Rows
+  pub head : Head
+
+-- what a keeper holds: rows by name, and a head, None if there is no collection
+pub record Holding : Type 0 where
   pub rows : Rows
   pub head : Option Head
 
--- a row whose columns are all in their ranges
-abbrev pub IsChecked : Row → Type 0
-IsChecked row = check_of row ≡ Ok tt
+-- whether a head is held
+abbrev pub is_headed : Holding → Bool
+is_headed h = is_some h.head
 
--- each row stands under its own name, and all of it is in its ranges
-pub record IsWellFormed (c : Collection) : Type 0 where
-  pub named : StandsUnderNames c.rows
-  pub checked : AllByRecursion (λ entry. IsChecked entry.1) (entries c.rows)
-  pub head : IfSome c.head IsHeadInRange
+-- the collection that is held, if there is one
+abbrev pub collection_of : Holding → Option Collection
+collection_of h = option_map (λ (head : Head). record { rows = h.rows; head = head }) h.head
+
+-- each row is held under its own name, and all of it is in its ranges
+pub record IsWellFormed (h : Holding) : Type 0 where
+  pub named : StandsUnderNames h.rows
+  pub checked : AllByRecursion (λ entry. IsChecked entry.1) (entries h.rows)
+  pub head : IfSome h.head IsHeadInRange
 
 -- with this row under its name
-abbrev pub with_row : Row → Collection → Collection
-with_row row c = record c { rows = insert c.rows (name_of row) row }
+abbrev pub with_row : Row → Holding → Holding
+with_row row h = record h { rows = insert h.rows (name_of row) row }
 
 -- without the row of this name
-abbrev pub without : Name → Collection → Collection
-without name c = record c { rows = remove c.rows name }
+abbrev pub without : Name → Holding → Holding
+without name h = record h { rows = remove h.rows name }
 
-abbrev pub with_head : Head → Collection → Collection
-with_head head c = record c { head = Some head }
+-- with this head
+abbrev pub with_head : Head → Holding → Holding
+with_head head h = record h { head = Some head }
 
 -- with these moments and update sequence numbers in the head that is held
-abbrev pub with_moments : ℤ → ℤ → ℤ → ℤ → Collection → Collection
-with_moments moment schema usn last_sync c =
-    record c { head = option_map (λ (head : Head). record head { moment = moment; schema = schema; usn = usn; last_sync = last_sync }) c.head }
+abbrev pub with_moments : ℤ → ℤ → ℤ → ℤ → Holding → Holding
+with_moments moment schema usn last_sync h =
+    record h { head = option_map (λ (head : Head). record head { moment = moment; schema = schema; usn = usn; last_sync = last_sync }) h.head }
 
 -- with the rows of another under names that are not held
-abbrev pub with_rows_of : Collection → Collection → Collection
-with_rows_of from c = record c { rows = union c.rows from.rows }
+abbrev pub with_rows_of : Holding → Holding → Holding
+with_rows_of from h = record h { rows = union h.rows from.rows }
 
 -- these rows, and this head
-abbrev pub made_of : List Row → Head → Collection
+abbrev pub made_of : List Row → Head → Holding
 made_of rows head = record { rows = rows_of rows; head = Some head }
-
--- the moments and the update sequence number of a head are in their ranges
-pub record AreMomentsInRange (m : ℤ) (s : ℤ) (u : ℤ) (l : ℤ) : Type 0 where
-  pub moment : IsMoment m
-  pub schema : IsMoment s
-  pub usn : IsWithin (pos 0) (pos 2_147_483_646) u
-  pub last_sync : IsMoment l

@@ -1,11 +1,12 @@
-pub mod Cards
 pub mod Collections
 pub mod Counts
 pub mod Entries
 pub mod Keepers
+pub mod Lookups
+pub mod Marks
 pub mod MemoryKeepers
 pub mod NoteCards
 pub mod NoteKeys
 pub mod Pages
+pub mod Readings
 pub mod Walks
-pub mod WellFormed

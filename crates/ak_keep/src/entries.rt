@@ -7,16 +7,17 @@ use crate::indexed::IndexedRows;
 use ak_base::{List, Memory, Name, Row};
 use std::alloc::Global;
 
-// To fill an empty map copies it.
+/// An equal map.
 pub(crate) fn copy_rows(alloc: Global, rows: &IndexedRows) -> Result<IndexedRows, Memory>
     ensures { IfOk result (λ made. IsFilled [] rows.now made) }
 {
+    // To fill an empty map copies it.
     let mut made = IndexedRows::new(alloc);
     fill_rows(&mut made, rows)?;
     Ok(made)
 }
 
-// Puts in what is not held. It never overwrites a row, so it needs no fact on the names of `from`.
+/// Puts in what is not held. It never overwrites a row, so it needs no fact on the names of `from`.
 pub(crate) fn fill_rows(into: &mut IndexedRows, from: &IndexedRows) -> Result<(), Memory>
     ensures filled { OnOk result (IsFilled into.old from.now into.new) }
 {
@@ -26,6 +27,7 @@ pub(crate) fn fill_rows(into: &mut IndexedRows, from: &IndexedRows) -> Result<()
     Ok(())
 }
 
+/// Puts in a copy of the row, if none is held under the name.
 fn fill_one(into: &mut IndexedRows, name: Name, row: &Row) -> Result<(), Memory>
     ensures filled { OnOk result (IsFilled into.old ((name, row.now) ∷ []) into.new) }
 {
@@ -37,7 +39,7 @@ fn fill_one(into: &mut IndexedRows, name: Name, row: &Row) -> Result<(), Memory>
     Ok(())
 }
 
-/// The map of the rows by their names. Where two have one name, the first of them stands.
+/// The map of the rows by their names. If two have one name, the first of them stays.
 pub(crate) fn map_of(alloc: Global, rows: List<Row>) -> Result<IndexedRows, Memory>
     ensures { IfOk result (λ made. IsFilled [] (map (λ row. (name_of row, row)) rows) made) }
 {
@@ -48,6 +50,7 @@ pub(crate) fn map_of(alloc: Global, rows: List<Row>) -> Result<IndexedRows, Memo
     Ok(made)
 }
 
+/// Puts in the row, if none is held under its name.
 fn add_one(made: &mut IndexedRows, row: Row) -> Result<(), Memory>
     ensures filled { OnOk result (IsFilled made.old ((name_of row, row) ∷ []) made.new) }
 {

@@ -7,9 +7,9 @@ ghost use Rattle.ak_base.specs.Names.{name_cmp, table_place};
 ghost use Rattle.ak_keep.specs.Collections.{cards_among};
 ghost use Rattle.ak_keep.specs.Counts.{AreCounts, count_among};
 ghost use Rattle.ak_keep.specs.Entries.{IsPut, IsTakenOut, row_at};
-ghost use Rattle.ak_keep.specs.NoteKeys.{note_at};
+ghost use Rattle.ak_keep.specs.NoteKeys.{note_of_card_at};
 
-use crate::note_cards::{NoteKey, add_card, drop_card, drop_left_card, ids_of, note_of};
+use crate::note_cards::{NoteKey, add_card, drop_card, drop_left_card, ids_of, note_of_card};
 use ak_base::{List, Memory, Name, Row, Table};
 use std::alloc::Global;
 use std::collections::{BTreeMap, BTreeSet};
@@ -74,9 +74,10 @@ impl IndexedRows {
     /// How many rows the table has.
     pub(crate) fn count(&self, table: Table) -> u64
         ensures count { result ≡ count_among table (keys_of self.now) }
+        ensures small { result < 2 ^ 63 }
         ensures ordered { IsStrictlySortedBy name_cmp (keys_of self.now) }
     {
-        // A map says that its keys ascend where its length is asked.
+        // For the proof alone: a map says that its keys ascend when its length is asked.
         let _ordered = self.rows.len();
         self.counts[table.place() as usize]
     }
@@ -86,18 +87,19 @@ impl IndexedRows {
         ensures ids { IfOk result (λ ids. ids ≡ cards_among note.now self.now) }
         ensures ordered { IsStrictlySortedBy name_cmp (keys_of self.now) }
     {
+        // For the proof alone, as in `count`.
         let _ordered = self.rows.len();
         let ids = ids_of(alloc, &self.cards, note)?;
         Ok(ids)
     }
 
-    /// Puts the row under the name, in place of the row that stands there.
+    /// Puts the row under the name, in place of the row that is held there.
     pub(crate) fn put(&mut self, name: Name, row: Row) -> Result<(), Memory>
         ensures ok { OnOk result (IsPut self.old name row self.new) }
         ensures err { OnErr result (self.new ≡ self.old) }
     {
         // The key comes first: it may want memory, and to take one out never does.
-        let note = note_of(&row);
+        let note = note_of_card(&row);
         add_card(&mut self.cards, note, name)?;
         match put_row(&mut self.rows, &mut self.counts, name, row) {
             Ok(old) => {
@@ -120,8 +122,8 @@ impl IndexedRows {
     }
 }
 
-// Puts the row under the name, and counts it where it is a new one. It gives the note that the row before
-// was a card of.
+/// Puts the row under the name, and counts it if it is a new one. It gives the note that the row before
+/// was a card of.
 fn put_row(
     rows: &mut BTreeMap<Name, Row>,
     counts: &mut [u64; 9],
@@ -129,7 +131,7 @@ fn put_row(
     row: Row,
 ) -> Result<Option<i64>, Memory>
     requires { AreCounts counts.old rows.old.entries }
-    ensures note { IfOk result (λ note. note ≡ note_at rows.old.entries name) }
+    ensures note { IfOk result (λ note. note ≡ note_of_card_at rows.old.entries name) }
     ensures put { OnOk result (IsPut rows.old.entries name row rows.new.entries) }
     ensures counts { OnOk result (AreCounts counts.new rows.new.entries) }
 
@@ -138,11 +140,11 @@ fn put_row(
     ensures rows { OnErr result (rows.new.entries ≡ rows.old.entries) }
     ensures same { OnErr result (counts.new ≡ counts.old) }
 {
-    // There are fewer than 2^63 rows, so a count has room for one more.
+    // For the proof alone: there are fewer than 2^63 rows, so a count has room for one more.
     let _small = rows.len();
     match rows.insert(name, row)? {
         Some(old) => {
-            let note = note_of(&old);
+            let note = note_of_card(&old);
             drop(old);
             return Ok(note);
         }
@@ -153,17 +155,17 @@ fn put_row(
     }
 }
 
-// Takes out the row of this name, and counts it out. It gives the note that it was a card of.
+/// Takes out the row of this name, and counts it out. It gives the note that it was a card of.
 fn take_row(rows: &mut BTreeMap<Name, Row>, counts: &mut [u64; 9], name: Name) -> Option<i64>
     requires { AreCounts counts.old rows.old.entries }
-    ensures note { result ≡ note_at rows.old.entries name }
+    ensures note { result ≡ note_of_card_at rows.old.entries name }
     ensures taken { IsTakenOut rows.old.entries name rows.new.entries }
     ensures counts { AreCounts counts.new rows.new.entries }
 {
     match rows.remove(&name) {
         Some(old) => {
             count_out(counts, name.table);
-            let note = note_of(&old);
+            let note = note_of_card(&old);
             drop(old);
             return note;
         }
@@ -171,7 +173,7 @@ fn take_row(rows: &mut BTreeMap<Name, Row>, counts: &mut [u64; 9], name: Name) -
     }
 }
 
-// One row more in the table.
+/// One row more in the table.
 fn count_in(counts: &mut [u64; 9], table: Table)
     requires { slice_index counts.old (table_place table) < 2 ^ 63 }
     ensures { counts.new ≡ slice_set counts.old (table_place table) (slice_index counts.old (table_place table) + 1) }
@@ -179,7 +181,7 @@ fn count_in(counts: &mut [u64; 9], table: Table)
     counts[table.place() as usize] += 1;
 }
 
-// One row less in the table.
+/// One row less in the table.
 fn count_out(counts: &mut [u64; 9], table: Table)
     requires { 0 < slice_index counts.old (table_place table) }
     ensures { counts.new ≡ slice_set counts.old (table_place table) (slice_index counts.old (table_place table) - 1) }

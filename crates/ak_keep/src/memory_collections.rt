@@ -1,13 +1,13 @@
-ghost use Rattle.std.specs.Prelude.{◌≡◌, ◌<◌, ◌≤◌, true, None, is_some, length, IfOk, IfSome, OnOk, OnErr};
+ghost use Rattle.std.specs.Prelude.{◌≡◌, ◌<◌, ◌^◌, ◌≤◌, true, None, is_some, length, IfOk, IfSome, OnOk, OnErr};
 ghost use Rattle.std.specs.FinMap as finite;
 ghost use Rattle.std.specs.List.{All};
 ghost use Rattle.std.specs.List.Sorted.{IsStrictlySortedBy};
 ghost use Rattle.std.specs.Option.{option_map};
 ghost use Rattle.std.specs.Ordering.{int_cmp};
-ghost use Rattle.ak_base.specs.Heads.{IsHeadInRange};
-ghost use Rattle.ak_base.specs.Rows.{name_of};
+ghost use Rattle.ak_base.specs.Heads.{AreMomentsInRange, IsHeadInRange};
+ghost use Rattle.ak_base.specs.Rows.{IsChecked, name_of};
 ghost use Rattle.ak_base.specs.declared.heads.Head.{Head};
-ghost use Rattle.ak_keep.specs.Collections.{AscendsPast, IsChecked, IsPageOf, IsWellFormed, AreMomentsInRange, with_row, without, with_head, with_moments, with_rows_of, made_of, rows_past, wanted_past, is_wanted, cards_of, row_count};
+ghost use Rattle.ak_keep.specs.Collections.{AscendsPast, IsId, IsPageOf, IsWellFormed, with_row, without, with_head, with_moments, with_rows_of, made_of, rows_past, wanted_past, is_wanted, cards_of, row_count};
 
 use crate::keepers::Wanted;
 use crate::row_maps::RowMap;
@@ -15,7 +15,7 @@ use ak_base::{Head, List, Memory, Name, Row, Table};
 use std::alloc::Global;
 use std::marker::Model;
 
-/// A collection in memory. Each row stands under its name, and all of it is in its ranges.
+/// What a keeper in memory holds. Each row is held under its own name, and all of it is in its ranges.
 #[derive(Debug, Drop)]
 pub(crate) struct MemoryCollection {
     rows: RowMap,
@@ -25,12 +25,12 @@ pub(crate) struct MemoryCollection {
 impl Model for MemoryCollection {
     ghost use Rattle.std.specs.Coded.{codes};
     ghost use Rattle.std.specs.FinMap as map;
-    ghost use Rattle.ak_keep.specs.Collections.{Collection, IsWellFormed};
-    ghost use Rattle.ak_keep.specs.MemoryKeepers.{collection_code};
+    ghost use Rattle.ak_keep.specs.Collections.{Holding, IsWellFormed};
+    ghost use Rattle.ak_keep.specs.MemoryKeepers.{holding_code};
 
-    ghost Value = { Collection };
+    ghost Value = { Holding };
 
-    ghost coded = { collection_code (map.code (Prim.hlevel codes) (Prim.hlevel codes)) (Prim.hlevel codes) };
+    ghost coded = { holding_code (map.code (Prim.hlevel codes) (Prim.hlevel codes)) (Prim.hlevel codes) };
 
     ghost view = { λ c. record { rows = c.rows; head = c.head } };
 
@@ -70,6 +70,7 @@ impl MemoryCollection {
         Ok(MemoryCollection { rows, head })
     }
 
+    /// Whether a head is held.
     pub(crate) fn is_headed(&self) -> bool
         ensures headed { result ≡ is_some self.now.head }
         ensures formed { IsWellFormed self.now }
@@ -77,12 +78,14 @@ impl MemoryCollection {
         self.head.is_some()
     }
 
+    /// The rows by their names.
     pub(crate) fn rows(&self) -> &RowMap
         ensures { result.now ≡ self.now.rows }
     {
         &self.rows
     }
 
+    /// A copy of the row of this name.
     pub(crate) fn get(&self, name: Name) -> Result<Option<Row>, Memory>
         ensures row { IfOk result (λ row. row ≡ finite.get self.now.rows name) }
         ensures named { IfOk result (λ row. IfSome row (λ row. name_of row ≡ name)) }
@@ -92,6 +95,7 @@ impl MemoryCollection {
         Ok(row)
     }
 
+    /// Puts the row under its name, in place of the row that is held there.
     pub(crate) fn put(&mut self, row: Row) -> Result<(), Memory>
         requires { IsChecked row }
         ensures ok { OnOk result (self.new ≡ with_row row self.old) }
@@ -101,12 +105,14 @@ impl MemoryCollection {
         Ok(())
     }
 
+    /// Takes out the row of this name, if there is one. It takes no memory.
     pub(crate) fn remove(&mut self, name: Name)
         ensures { self.new ≡ without name self.old }
     {
         self.rows.remove(name);
     }
 
+    /// The first `limit` rows of a table with ids over `past`.
     pub(crate) fn page(&self, table: Table, past: i64, limit: usize) -> Result<List<Row>, Memory>
         requires low { 0 < limit }
         requires high { limit ≤ 1000 }
@@ -119,6 +125,7 @@ impl MemoryCollection {
         Ok(page)
     }
 
+    /// The first `limit` wanted rows of a table with ids over `past`.
     pub(crate) fn pending(
         &self,
         table: Table,
@@ -138,20 +145,25 @@ impl MemoryCollection {
         Ok(page)
     }
 
+    /// The ids of the note's cards, ascending.
     pub(crate) fn cards_of(&self, note: i64) -> Result<List<i64>, Memory>
         ensures cards { IfOk result (λ ids. ids ≡ cards_of note self.now.rows) }
         ensures ascend { IfOk result (λ ids. IsStrictlySortedBy int_cmp ids) }
+        ensures range { IfOk result (λ ids. All IsId ids) }
     {
         let ids = self.rows.cards_of(note)?;
         Ok(ids)
     }
 
+    /// How many rows a table has.
     pub(crate) fn count(&self, table: Table) -> u64
-        ensures { result ≡ row_count table self.now.rows }
+        ensures count { result ≡ row_count table self.now.rows }
+        ensures small { result < 2 ^ 63 }
     {
         self.rows.count(table)
     }
 
+    /// A copy of the head.
     pub(crate) fn head(&self) -> Result<Option<Head>, Memory>
         ensures head { IfOk result (λ head. head ≡ self.now.head) }
         ensures range { IfOk result (λ head. IfSome head IsHeadInRange) }
@@ -160,6 +172,7 @@ impl MemoryCollection {
         Ok(head)
     }
 
+    /// Puts this head in place of the one that is held.
     pub(crate) fn set_head(&mut self, head: Head)
         requires { IsHeadInRange head }
         ensures { self.new ≡ with_head head self.old }
@@ -167,6 +180,7 @@ impl MemoryCollection {
         self.head = Some(head);
     }
 
+    /// Sets these numbers of the head, if one is held. It takes no memory.
     pub(crate) fn set_moments(&mut self, moment: i64, schema: i64, usn: i64, last_sync: i64)
         requires { AreMomentsInRange moment schema usn last_sync }
         ensures { self.new ≡ with_moments moment schema usn last_sync self.old }
@@ -184,6 +198,7 @@ impl MemoryCollection {
     }
 }
 
+/// An equal head.
 fn copy_head(head: &Option<Head>) -> Result<Option<Head>, Memory>
     ensures { IfOk result (λ made. made ≡ head.now) }
 {
@@ -196,6 +211,7 @@ fn copy_head(head: &Option<Head>) -> Result<Option<Head>, Memory>
     }
 }
 
+/// Sets these numbers of the head, if there is one.
 fn set_numbers(held: &mut Option<Head>, moment: i64, schema: i64, usn: i64, last_sync: i64)
     requires { AreMomentsInRange moment schema usn last_sync }
     ensures range { IfSome held.old IsHeadInRange → IfSome held.new IsHeadInRange }

@@ -1,25 +1,28 @@
-ghost use Rattle.std.specs.Prelude.{◌≡◌, ◌<◌, ◌≤◌, [], true, false, None, is_some, length, map, IfOk, IfSome, OnOk, OnErr};
+ghost use Rattle.std.specs.Prelude.{◌≡◌, ◌<◌, ◌≤◌, ◌^◌, [], true, false, None, is_some, length, map, IfOk, IfSome, OnOk, OnErr};
 ghost use Rattle.std.specs.FinMap as finite;
 ghost use Rattle.std.specs.List.{All, IsDistinct};
 ghost use Rattle.std.specs.List.Sorted.{IsStrictlySortedBy};
 ghost use Rattle.std.specs.Ordering.{eq_by_cmp, int_cmp};
-ghost use Rattle.ak_base.specs.Heads.{IsHeadInRange};
+ghost use Rattle.ak_base.specs.Heads.{AreMomentsInRange, IsHeadInRange};
 ghost use Rattle.ak_base.specs.Names.{name_cmp};
-ghost use Rattle.ak_base.specs.Rows.{name_of};
-ghost use Rattle.ak_keep.specs.Collections.{AscendsPast, IsChecked, IsPageOf, AreMomentsInRange, IsWellFormed, with_row, without, with_head, with_moments, with_rows_of, made_of, rows_past, wanted_past, row_count, cards_of, is_wanted};
-ghost use Rattle.ak_keep.specs.Keepers.{KeepCause, is_marked, put};
-ghost use Rattle.ak_keep.specs.MemoryKeepers.{FailsWhere, keeping_of, kept_changed, kept_marked, kept_back, kept_committed, is_to_fail, called, called_with, answer_of};
+ghost use Rattle.ak_base.specs.Rows.{IsChecked, name_of};
+ghost use Rattle.ak_keep.specs.Collections.{AscendsPast, IsId, IsPageOf, IsWellFormed, with_row, without, with_head, with_moments, with_rows_of, made_of, rows_past, wanted_past, row_count, cards_of, is_wanted};
+ghost use Rattle.ak_keep.specs.Keepers.{KeepCause, all_known, is_marked, put};
+ghost use Rattle.ak_keep.specs.Marks as marks;
+ghost use Rattle.ak_keep.specs.MemoryKeepers.{FailsWhere, health_of, is_to_fail, called, called_with, answer_of};
 
 use crate::calls::next_call;
 use crate::keepers::{KeepFault, Keeper, Wanted};
 use crate::memory_collections::MemoryCollection;
+use crate::readables::{Lookup, Readable};
 use crate::row_maps::RowMap;
 use ak_base::{Head, List, Memory, Name, Row, Table};
 use ak_faults::Calls;
 use std::alloc::Global;
 use std::marker::Model;
 
-/// A keeper in memory, which tells what it keeps. The calls that `fail_at` lists fail, and no others.
+/// A keeper in memory, which tells what it keeps. The calls that `fail_at` lists fail, and no others: with none listed
+/// it is known not to fail.
 /// A row, and the cards of a note, are found in logarithmic time and a step for each.
 #[derive(Debug, Drop)]
 pub struct MemoryKeeper {
@@ -32,11 +35,11 @@ pub struct MemoryKeeper {
 impl Model for MemoryKeeper {
     ghost use Rattle.std.specs.Coded.{codes};
     ghost use Rattle.std.specs.FinMap as map;
-    ghost use Rattle.ak_keep.specs.MemoryKeepers.{MemoryState, collection_code, kept_code, state_code};
+    ghost use Rattle.ak_keep.specs.MemoryKeepers.{MemoryState, holding_code, kept_code, state_code};
 
     ghost Value = { MemoryState };
 
-    ghost coded = { state_code (kept_code (collection_code (map.code (Prim.hlevel codes) (Prim.hlevel codes)) (Prim.hlevel codes))) };
+    ghost coded = { state_code (kept_code (holding_code (map.code (Prim.hlevel codes) (Prim.hlevel codes)) (Prim.hlevel codes))) };
 
     ghost view = { λ keeper. record {
       kept = record { current = keeper.current; mark = keeper.mark };
@@ -49,7 +52,11 @@ impl Model for MemoryKeeper {
 impl MemoryKeeper {
     /// A keeper of no rows and no head, in this allocator's memory. It is not marked.
     pub fn new(alloc: Global) -> MemoryKeeper
-        ensures { result ≡ record { kept = record { current = record { rows = finite.empty; head = None }; mark = None }; calls = 0; fails = []; faults = 0 } }
+        ensures made { result ≡ record { kept = record { current = record { rows = finite.empty; head = None }; mark = None }; calls = 0; fails = []; faults = 0 } }
+        ensures tells { is_some (all_known result.kept).told ≡ true }
+        ensures unmarked { is_marked (all_known result.kept) ≡ false }
+        ensures faultless { (health_of result).faults ≡ 0 }
+        ensures calm { (health_of result).calm ≡ true }
     {
         MemoryKeeper {
             alloc,
@@ -75,7 +82,7 @@ impl MemoryKeeper {
 
     /// Puts in the rows of `from` under names that are not held.
     pub fn fill(&mut self, from: &MemoryKeeper) -> Result<(), Memory>
-        ensures ok { OnOk result (self.new ≡ record self.old { kept = kept_changed (with_rows_of from.now.kept.current) self.old.kept }) }
+        ensures ok { OnOk result (self.new ≡ record self.old { kept = marks.changed (with_rows_of from.now.kept.current) self.old.kept }) }
         ensures err { OnErr result (self.new ≡ self.old) }
     {
         self.current.fill(&from.current)?;
@@ -83,17 +90,17 @@ impl MemoryKeeper {
     }
 }
 
-impl Keeper for MemoryKeeper {
-    ghost keeping = { λ keeper. keeping_of keeper.kept };
+impl Lookup for MemoryKeeper {
+    ghost keeping = { λ keeper. all_known keeper.kept };
 
-    ghost fault_count = { λ keeper. keeper.faults };
+    ghost health = { λ keeper. health_of keeper };
+
+    ghost checks = { true };
+
+    ghost kept = { λ _. tt };
 
     fn faults(&self) -> u64 {
         self.calls.faults
-    }
-
-    fn marked(&self) -> bool {
-        self.mark.is_some()
     }
 
     fn held(&self) -> bool {
@@ -107,38 +114,40 @@ impl Keeper for MemoryKeeper {
         ensures checked { IfOk result (λ row. IfSome row IsChecked) }
         ensures state { self.new ≡ called self.old }
         ensures fails { FailsWhere (is_to_fail self.old) result }
-        ensures cause { KeepCause self.old.faults self.new.faults result }
+        ensures cause { KeepCause (health_of self.old) (health_of self.new) result }
     {
         next_call(&mut self.calls)?;
         let row = self.current.get(name)?;
         Ok(row)
     }
 
-    fn put(&mut self, row: Row) -> Result<(), KeepFault>
-        requires marked { is_marked (keeping_of self.old.kept) ≡ true }
-        requires checked { IsChecked row }
-        ensures ok { OnOk result (self.new ≡ called_with (kept_changed (with_row row)) self.old) }
-        ensures err { OnErr result (self.new ≡ called self.old) }
+    fn cards_of(&mut self, note: i64) -> Result<List<i64>, KeepFault>
+        ensures cards { IfOk result (λ ids. ids ≡ cards_of note self.old.kept.current.rows) }
+        ensures ascend { IfOk result (λ ids. IsStrictlySortedBy int_cmp ids) }
+        ensures range { IfOk result (λ ids. All IsId ids) }
+        ensures state { self.new ≡ called self.old }
         ensures fails { FailsWhere (is_to_fail self.old) result }
-        ensures cause { KeepCause self.old.faults self.new.faults result }
+        ensures cause { KeepCause (health_of self.old) (health_of self.new) result }
     {
         next_call(&mut self.calls)?;
-        self.current.put(row)?;
-        Ok(())
+        let ids = self.current.cards_of(note)?;
+        Ok(ids)
     }
 
-    fn remove(&mut self, name: Name) -> Result<(), KeepFault>
-        requires marked { is_marked (keeping_of self.old.kept) ≡ true }
-        ensures ok { OnOk result (self.new ≡ called_with (kept_changed (without name)) self.old) }
-        ensures err { OnErr result (self.new ≡ called self.old) }
-        ensures answer { result ≡ answer_of (is_to_fail self.old) tt }
-        ensures cause { KeepCause self.old.faults self.new.faults result }
+    fn head(&mut self) -> Result<Option<Head>, KeepFault>
+        ensures head { IfOk result (λ head. head ≡ self.old.kept.current.head) }
+        ensures range { IfOk result (λ head. IfSome head IsHeadInRange) }
+        ensures state { self.new ≡ called self.old }
+        ensures fails { FailsWhere (is_to_fail self.old) result }
+        ensures cause { KeepCause (health_of self.old) (health_of self.new) result }
     {
         next_call(&mut self.calls)?;
-        self.current.remove(name);
-        Ok(())
+        let head = self.current.head()?;
+        Ok(head)
     }
+}
 
+impl Readable for MemoryKeeper {
     fn page(&mut self, table: Table, past: i64, limit: usize) -> Result<List<Row>, KeepFault>
         requires low { 0 < limit }
         requires high { limit ≤ 1000 }
@@ -148,11 +157,54 @@ impl Keeper for MemoryKeeper {
         ensures checked { IfOk result (λ page. All IsChecked page) }
         ensures state { self.new ≡ called self.old }
         ensures fails { FailsWhere (is_to_fail self.old) result }
-        ensures cause { KeepCause self.old.faults self.new.faults result }
+        ensures cause { KeepCause (health_of self.old) (health_of self.new) result }
     {
         next_call(&mut self.calls)?;
         let page = self.current.page(table, past, limit)?;
         Ok(page)
+    }
+
+    fn count(&mut self, table: Table) -> Result<u64, KeepFault>
+        ensures state { self.new ≡ called self.old }
+        ensures answer { result ≡ answer_of (is_to_fail self.old) (row_count table self.old.kept.current.rows) }
+        ensures small { IfOk result (λ count. count < 2 ^ 63) }
+        ensures cause { KeepCause (health_of self.old) (health_of self.new) result }
+    {
+        next_call(&mut self.calls)?;
+        Ok(self.current.count(table))
+    }
+}
+
+impl Keeper for MemoryKeeper {
+    ghost spares_memory = { true };
+
+    fn marked(&self) -> bool {
+        self.mark.is_some()
+    }
+
+    fn put(&mut self, row: Row) -> Result<(), KeepFault>
+        requires marked { is_marked (all_known self.old.kept) ≡ true }
+        requires checked { IsChecked row }
+        ensures ok { OnOk result (self.new ≡ called_with (marks.changed (with_row row)) self.old) }
+        ensures err { OnErr result (self.new ≡ called self.old) }
+        ensures fails { FailsWhere (is_to_fail self.old) result }
+        ensures cause { KeepCause (health_of self.old) (health_of self.new) result }
+    {
+        next_call(&mut self.calls)?;
+        self.current.put(row)?;
+        Ok(())
+    }
+
+    fn remove(&mut self, name: Name) -> Result<(), KeepFault>
+        requires marked { is_marked (all_known self.old.kept) ≡ true }
+        ensures ok { OnOk result (self.new ≡ called_with (marks.changed (without name)) self.old) }
+        ensures err { OnErr result (self.new ≡ called self.old) }
+        ensures answer { result ≡ answer_of (is_to_fail self.old) tt }
+        ensures cause { KeepCause (health_of self.old) (health_of self.new) result }
+    {
+        next_call(&mut self.calls)?;
+        self.current.remove(name);
+        Ok(())
     }
 
     fn pending(
@@ -171,53 +223,20 @@ impl Keeper for MemoryKeeper {
         ensures checked { IfOk result (λ page. All IsChecked page) }
         ensures state { self.new ≡ called self.old }
         ensures fails { FailsWhere (is_to_fail self.old) result }
-        ensures cause { KeepCause self.old.faults self.new.faults result }
+        ensures cause { KeepCause (health_of self.old) (health_of self.new) result }
     {
         next_call(&mut self.calls)?;
         let page = self.current.pending(table, want, past, limit)?;
         Ok(page)
     }
 
-    fn cards_of(&mut self, note: i64) -> Result<List<i64>, KeepFault>
-        ensures cards { IfOk result (λ ids. ids ≡ cards_of note self.old.kept.current.rows) }
-        ensures ascend { IfOk result (λ ids. IsStrictlySortedBy int_cmp ids) }
-        ensures state { self.new ≡ called self.old }
-        ensures fails { FailsWhere (is_to_fail self.old) result }
-        ensures cause { KeepCause self.old.faults self.new.faults result }
-    {
-        next_call(&mut self.calls)?;
-        let ids = self.current.cards_of(note)?;
-        Ok(ids)
-    }
-
-    fn count(&mut self, table: Table) -> Result<u64, KeepFault>
-        ensures state { self.new ≡ called self.old }
-        ensures answer { result ≡ answer_of (is_to_fail self.old) (row_count table self.old.kept.current.rows) }
-        ensures cause { KeepCause self.old.faults self.new.faults result }
-    {
-        next_call(&mut self.calls)?;
-        Ok(self.current.count(table))
-    }
-
-    fn head(&mut self) -> Result<Option<Head>, KeepFault>
-        ensures head { IfOk result (λ head. head ≡ self.old.kept.current.head) }
-        ensures range { IfOk result (λ head. IfSome head IsHeadInRange) }
-        ensures state { self.new ≡ called self.old }
-        ensures fails { FailsWhere (is_to_fail self.old) result }
-        ensures cause { KeepCause self.old.faults self.new.faults result }
-    {
-        next_call(&mut self.calls)?;
-        let head = self.current.head()?;
-        Ok(head)
-    }
-
     fn set_head(&mut self, head: Head) -> Result<(), KeepFault>
-        requires marked { is_marked (keeping_of self.old.kept) ≡ true }
+        requires marked { is_marked (all_known self.old.kept) ≡ true }
         requires range { IsHeadInRange head }
-        ensures ok { OnOk result (self.new ≡ called_with (kept_changed (with_head head)) self.old) }
+        ensures ok { OnOk result (self.new ≡ called_with (marks.changed (with_head head)) self.old) }
         ensures err { OnErr result (self.new ≡ called self.old) }
         ensures answer { result ≡ answer_of (is_to_fail self.old) tt }
-        ensures cause { KeepCause self.old.faults self.new.faults result }
+        ensures cause { KeepCause (health_of self.old) (health_of self.new) result }
     {
         next_call(&mut self.calls)?;
         self.current.set_head(head);
@@ -231,13 +250,13 @@ impl Keeper for MemoryKeeper {
         usn: i64,
         last_sync: i64,
     ) -> Result<(), KeepFault>
-        requires marked { is_marked (keeping_of self.old.kept) ≡ true }
+        requires marked { is_marked (all_known self.old.kept) ≡ true }
         requires held { is_some self.old.kept.current.head ≡ true }
         requires range { AreMomentsInRange moment schema usn last_sync }
-        ensures ok { OnOk result (self.new ≡ called_with (kept_changed (with_moments moment schema usn last_sync)) self.old) }
+        ensures ok { OnOk result (self.new ≡ called_with (marks.changed (with_moments moment schema usn last_sync)) self.old) }
         ensures err { OnErr result (self.new ≡ called self.old) }
         ensures answer { result ≡ answer_of (is_to_fail self.old) tt }
-        ensures cause { KeepCause self.old.faults self.new.faults result }
+        ensures cause { KeepCause (health_of self.old) (health_of self.new) result }
     {
         next_call(&mut self.calls)?;
         self.current.set_moments(moment, schema, usn, last_sync);
@@ -245,14 +264,14 @@ impl Keeper for MemoryKeeper {
     }
 
     fn replace_all(&mut self, rows: List<Row>, head: Head) -> Result<(), KeepFault>
-        requires marked { is_marked (keeping_of self.old.kept) ≡ true }
+        requires marked { is_marked (all_known self.old.kept) ≡ true }
         requires checked { All IsChecked rows }
         requires distinct { IsDistinct (eq_by_cmp name_cmp) (map name_of rows) }
         requires range { IsHeadInRange head }
-        ensures ok { OnOk result (self.new ≡ called_with (kept_changed (λ _. made_of rows head)) self.old) }
+        ensures ok { OnOk result (self.new ≡ called_with (marks.changed (λ _. made_of rows head)) self.old) }
         ensures err { OnErr result (self.new ≡ called self.old) }
         ensures fails { FailsWhere (is_to_fail self.old) result }
-        ensures cause { KeepCause self.old.faults self.new.faults result }
+        ensures cause { KeepCause (health_of self.old) (health_of self.new) result }
     {
         next_call(&mut self.calls)?;
         let made = MemoryCollection::of(self.alloc, rows, head)?;
@@ -261,11 +280,11 @@ impl Keeper for MemoryKeeper {
     }
 
     fn mark(&mut self) -> Result<(), KeepFault>
-        requires unmarked { is_marked (keeping_of self.old.kept) ≡ false }
-        ensures ok { OnOk result (self.new ≡ called_with kept_marked self.old) }
+        requires unmarked { is_marked (all_known self.old.kept) ≡ false }
+        ensures ok { OnOk result (self.new ≡ called_with marks.marked_here self.old) }
         ensures err { OnErr result (self.new ≡ called self.old) }
         ensures fails { FailsWhere (is_to_fail self.old) result }
-        ensures cause { KeepCause self.old.faults self.new.faults result }
+        ensures cause { KeepCause (health_of self.old) (health_of self.new) result }
     {
         next_call(&mut self.calls)?;
         let copy = self.current.copy()?;
@@ -274,8 +293,8 @@ impl Keeper for MemoryKeeper {
     }
 
     fn back(&mut self)
-        requires marked { is_marked (keeping_of self.old.kept) ≡ true }
-        ensures { self.new ≡ record self.old { kept = kept_back self.old.kept } }
+        requires marked { is_marked (all_known self.old.kept) ≡ true }
+        ensures { self.new ≡ record self.old { kept = marks.back self.old.kept } }
     {
         if let Some(kept) = self.mark.take() {
             self.current = kept;
@@ -283,11 +302,11 @@ impl Keeper for MemoryKeeper {
     }
 
     fn commit(&mut self) -> Result<(), KeepFault>
-        requires marked { is_marked (keeping_of self.old.kept) ≡ true }
-        ensures ok { OnOk result (self.new ≡ called_with kept_committed self.old) }
-        ensures err { OnErr result (self.new ≡ called_with kept_back self.old) }
+        requires marked { is_marked (all_known self.old.kept) ≡ true }
+        ensures ok { OnOk result (self.new ≡ called_with marks.committed self.old) }
+        ensures err { OnErr result (self.new ≡ called_with marks.back self.old) }
         ensures answer { result ≡ answer_of (is_to_fail self.old) tt }
-        ensures cause { KeepCause self.old.faults self.new.faults result }
+        ensures cause { KeepCause (health_of self.old) (health_of self.new) result }
     {
         match next_call(&mut self.calls) {
             Ok(()) => {
@@ -302,7 +321,7 @@ impl Keeper for MemoryKeeper {
     }
 }
 
-// Recalls that the collection at the mark is well formed, for the proof of `held` alone.
+/// For the proof of `held` alone: what is held at the mark is well formed.
 fn recall_mark(mark: &Option<MemoryCollection>)
     ensures { IfSome mark.now IsWellFormed }
 {

@@ -4,19 +4,19 @@ ghost use Rattle.std.specs.List.Sorted.{IsStrictlySortedBy};
 ghost use Rattle.std.specs.Ordering.{int_eq};
 ghost use Rattle.ak_base.specs.declared.names.Name.{Name};
 ghost use Rattle.ak_keep.specs.NoteCards.{keys_from, name_in, names_run};
-ghost use Rattle.ak_keep.specs.NoteKeys.{AreSetWhere, is_key_of, is_left_key, key_cmp, note_of};
+ghost use Rattle.ak_keep.specs.NoteKeys.{AreSetWhere, is_key_of, is_left_key, key_cmp, note_of_card};
 
 use ak_base::{List, Memory, Name, Row};
 use std::alloc::Global;
 use std::collections::BTreeSet;
 use std::ops::Bound;
 
-/// What a card is found by: its note, and its name. With no name it stands before all cards of the note.
+/// What a card is found by: its note, and its name. With no name it comes before all cards of the note.
 pub(crate) type NoteKey = (i64, Option<Name>);
 
 /// The note that the row is a card of.
-pub(crate) fn note_of(row: &Row) -> Option<i64>
-    ensures { result ≡ note_of row.now }
+pub(crate) fn note_of_card(row: &Row) -> Option<i64>
+    ensures { result ≡ note_of_card row.now }
 {
     match row {
         Row::Card(card) => Some(card.nid),
@@ -89,12 +89,14 @@ pub(crate) fn ids_of(
     Ok(ids)
 }
 
+/// Whether it is this note.
 fn is_note(other: &i64, note: &i64) -> bool
     ensures { result ≡ int_eq other.now note.now }
 {
     other == note
 }
 
+/// Adds the id of the name, if there is one.
 fn push_id(ids: &mut List<i64>, name: &Option<Name>) -> Result<(), Memory>
     ensures ok { OnOk result (ids.new ≡ ids.old ++ map (λ (name : Name). name.id) (name_in name.now)) }
 {

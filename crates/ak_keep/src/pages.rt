@@ -1,4 +1,3 @@
-// Pages of a table.
 ghost use Rattle.std.specs.Prelude.{◌≡◌, [], ◌∷◌, ◌++◌, ◌==◌, filter, length, take, IfOk, OnOk};
 ghost use Rattle.std.specs.BTreeMap.{IsOrdered, keys};
 ghost use Rattle.std.specs.BTreeMap.Range.{entries_between};
@@ -36,6 +35,7 @@ pub(crate) fn page_of(
     Ok(page)
 }
 
+/// Adds a copy of the row, if the page takes it.
 fn push_picked(page: &mut List<Row>, want: &Option<Wanted>, row: &Row) -> Result<(), Memory>
     ensures ok { OnOk result (page.new ≡ page.old ++ filter (is_picked want.now) (row.now ∷ [])) }
 {
@@ -46,6 +46,7 @@ fn push_picked(page: &mut List<Row>, want: &Option<Wanted>, row: &Row) -> Result
     Ok(())
 }
 
+/// Whether a page takes the row: any row, or the wanted ones.
 fn is_picked(want: &Option<Wanted>, row: &Row) -> bool
     ensures { result ≡ is_picked want.now row.now }
 {

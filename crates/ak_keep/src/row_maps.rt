@@ -1,10 +1,10 @@
-ghost use Rattle.std.specs.Prelude.{◌≡◌, true, ◌<◌, ◌≤◌, ◌++◌, length, take, IfOk, IfSome, OnOk, OnErr};
+ghost use Rattle.std.specs.Prelude.{◌≡◌, true, ◌<◌, ◌^◌, ◌≤◌, ◌++◌, length, take, IfOk, IfSome, OnOk, OnErr};
 ghost use Rattle.std.specs.FinMap as map;
 ghost use Rattle.std.specs.List.{All};
 ghost use Rattle.std.specs.List.Sorted.{IsStrictlySortedBy};
 ghost use Rattle.std.specs.Ordering.{int_cmp};
 ghost use Rattle.ak_base.specs.Rows.{name_of};
-ghost use Rattle.ak_keep.specs.Collections.{AscendsPast, IsPageOf, union, rows_of, rows_past, wanted_past, is_wanted, cards_of, row_count, last_id};
+ghost use Rattle.ak_keep.specs.Collections.{StandsUnderNames, AscendsPast, IsPageOf, union, rows_of, rows_past, wanted_past, is_wanted, cards_of, row_count, last_id};
 
 use crate::entries::{copy_rows, fill_rows, map_of};
 use crate::indexed::IndexedRows;
@@ -50,7 +50,7 @@ impl RowMap {
         }
     }
 
-    /// The map of these rows, each under its name. Where two have one name, the first of them stands.
+    /// The map of these rows, each under its name. If two have one name, the first of them stays.
     pub fn of_rows(alloc: Global, rows: List<Row>) -> Result<RowMap, Memory>
         ensures { IfOk result (λ made. made ≡ rows_of rows) }
     {
@@ -72,7 +72,7 @@ impl RowMap {
         }
     }
 
-    /// Puts the row under its name, in place of the row that stands there.
+    /// Puts the row under its name, in place of the row that is held there.
     pub fn put(&mut self, row: Row) -> Result<(), Memory>
         ensures ok { OnOk result (self.new ≡ map.insert self.old (name_of row) row) }
         ensures err { OnErr result (self.new ≡ self.old) }
@@ -90,7 +90,7 @@ impl RowMap {
     }
 
     /// The rows of a table with ids over `past`, by ascending id: the first `limit` of them, or all
-    /// where there are no more. It finds the first in logarithmic time and walks over the page alone.
+    /// if there are no more. It finds the first in logarithmic time and walks over the page alone.
     pub fn page(&self, table: Table, past: i64, limit: usize) -> Result<List<Row>, Memory>
         requires low { 0 < limit }
         requires high { limit ≤ 1000 }
@@ -98,7 +98,7 @@ impl RowMap {
 
         ensures ascends { IfOk result (λ page. AscendsPast table past page) }
 
-        // A page that is not full is the rest of the table, and behind each page comes what is past
+        // A page that is not full is the rest of the table, and after each page comes what is past
         // its last row.
         ensures whole { IfOk result (λ page. length page < limit → rows_past table past self.now ≡ page) }
         ensures rest { IfOk result (λ page. rows_past table past self.now ≡ page ++ rows_past table (last_id past page) self.now) }
@@ -109,7 +109,7 @@ impl RowMap {
     }
 
     /// The wanted rows of a table with ids over `past`, by ascending id: the first `limit` of them, or all
-    /// where there are no more. It walks over the table from `past` on.
+    /// if there are no more. It walks over the table from `past` on.
     pub fn pending(
         &self,
         table: Table,
@@ -139,14 +139,16 @@ impl RowMap {
 
     /// How many rows a table has. It takes no memory, and no walk over the table.
     pub fn count(&self, table: Table) -> u64
-        ensures { result ≡ row_count table self.now }
+        ensures count { result ≡ row_count table self.now }
+        ensures small { result < 2 ^ 63 }
     {
         self.rows.count(table)
     }
 
     /// All rows with their names, by ascending name.
     pub fn entries(&self) -> Iter<'_, Name, Row>
-        ensures { result ≡ map.entries self.now }
+        ensures entries { result ≡ map.entries self.now }
+        ensures named { StandsUnderNames self.now }
     {
         self.rows.by_name().iter()
     }
@@ -161,7 +163,7 @@ impl RowMap {
         Ok(())
     }
 
-    // The rows of both, and under a name that both hold the row of `self`.
+    /// The rows of both, and under a name that both hold the row of `self`.
     fn filled(&self, from: &RowMap) -> Result<RowMap, Memory>
         ensures { IfOk result (λ made. made ≡ union self.now from.now) }
     {

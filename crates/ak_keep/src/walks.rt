@@ -1,16 +1,18 @@
-ghost use Rattle.std.specs.Prelude.{◌≡◌, ◌<◌, ◌++◌, false, IfOk};
+ghost use Rattle.std.specs.Prelude.{◌≡◌, ◌<◌, ◌++◌, true, false, pos, IfOk, OnErr};
 ghost use Rattle.std.specs.List.{All};
-ghost use Rattle.ak_keep.specs.Collections.{AscendsPast, IsChecked, last_id};
-ghost use Rattle.ak_keep.specs.Keepers.{KeepCause, WhereTold};
+ghost use Rattle.ak_base.specs.Rows.{IsChecked};
+ghost use Rattle.ak_keep.specs.Collections.{AscendsPast, last_id};
+ghost use Rattle.ak_keep.specs.Readings.{ReadsBy};
 ghost use Rattle.ak_keep.specs.Walks.{ahead, most_pages};
 
-use crate::keepers::{KeepFault, Keeper};
-use ak_base::{List, Name, Row};
+use crate::keepers::KeepFault;
+use crate::readables::Readable;
+use ak_base::{List, Name, Row, Table};
 
 /// How many rows are read at a time.
 const PAGE: usize = 1000;
 
-/// A walk over the rows of a table of any keeper, by ascending id and page by page.
+/// A walk over the rows of a table, by ascending id and page by page.
 #[derive(Clone, Copy, Debug)]
 pub struct Walk {
     past: Name,
@@ -18,6 +20,13 @@ pub struct Walk {
 }
 
 impl Walk {
+    /// A walk over all rows of the table: an id is at least 1.
+    pub fn over(table: Table) -> Walk
+        ensures { result ≡ record { past = record { table = table; id = pos 0 }; done = false } }
+    {
+        Walk::past(Name { table, id: 0 })
+    }
+
     /// A walk over the rows of the name's table with ids over that of the name.
     pub fn past(past: Name) -> Walk
         ensures { result ≡ record { past = past; done = false } }
@@ -32,20 +41,19 @@ impl Walk {
         self.done
     }
 
-    /// The next page. The last one may be empty.
-    #[tactic(auto, using(crate::specs::Walks::fewer_pages))]
-    pub fn next<K: Keeper>(&mut self, keeper: &mut K) -> Result<List<Row>, KeepFault>
+    /// The next page. The last one may be empty. A refused call leaves the walk as it was.
+    #[tactic(auto, using(crate::proofs::Walking::fewer_pages))]
+    pub fn next<R: Readable>(&mut self, from: &mut R) -> Result<List<Row>, KeepFault>
         requires { self.old.done ≡ false }
-        ensures page { IfOk result (λ page. WhereTold (K.keeping keeper.old) (λ c. ahead self.old c.rows ≡ page ++ ahead self.new c.rows)) }
+        ensures reads { ReadsBy R.Lookup from.old from.new result (λ h page. ahead self.old h.rows ≡ page ++ ahead self.new h.rows) }
         ensures shorter { IfOk result (λ page. most_pages self.new < most_pages self.old) }
         ensures ascends { IfOk result (λ page. AscendsPast self.old.past.table self.old.past.id page) }
         ensures onward { IfOk result (λ page. self.new.done ≡ false → self.new.past.id ≡ last_id self.old.past.id page) }
-        ensures checked { IfOk result (λ page. All IsChecked page) }
+        ensures checked { R.checks ≡ true → IfOk result (λ page. All IsChecked page) }
         ensures table { self.new.past.table ≡ self.old.past.table }
-        ensures same { K.keeping keeper.new ≡ K.keeping keeper.old }
-        ensures cause { KeepCause (K.fault_count keeper.old) (K.fault_count keeper.new) result }
+        ensures err { OnErr result (self.new ≡ self.old) }
     {
-        let page = keeper.page(self.past.table, self.past.id, PAGE)?;
+        let page = from.page(self.past.table, self.past.id, PAGE)?;
         if page.as_slice().len() < PAGE {
             self.done = true;
         } else {

@@ -1,4 +1,6 @@
 -- A row in its ranges stays in them under another update sequence number that is in range.
+use Rattle.ak_base.specs.Limits.{last_usn}
+use Rattle.ak_base.specs.Rows.{IsChecked, with_usn}
 use Rattle.std.specs.Prelude.{◌≡◌, ℕ, ℤ, pos, negsuc, ◌≤ℤ◌, false, int_lt, List, [], ◌∷◌, ◌++◌, Option, Some, None, Ok}
 use Rattle.std.proofs.Common.{refl, arith}
 use Rattle.std.proofs.lemmas.Int.{ints}
@@ -18,12 +20,9 @@ use Rattle.ak_base.specs.declared.graves.Grave.{Grave}
 use Rattle.ak_base.specs.NoteTypes.{title_faults as type_titles, form_faults}
 use Rattle.ak_base.specs.Notes.{identity_faults, content_faults}
 use Rattle.ak_base.specs.OptionGroups.{general_faults, new_faults, rev_faults, lapse_faults}
-use Rattle.ak_base.specs.Rows.{with_usn}
-use Rattle.ak_base.specs.declared.columns.TheConstants.{LAST_USN}
 use Rattle.ak_base.specs.declared.errors.RowFault.{RowFault}
 use Rattle.ak_base.specs.declared.rows.Row.{Row}
 use Rattle.ak_base.specs.declared.rows.Row.TheVariants as rows
-use Rattle.ak_keep.specs.Collections.{IsChecked}
 
 -- no column has a fault
 abbrev AreFaultless : List (Option RowFault) → Type 0
@@ -39,15 +38,15 @@ of_faultless [] all = refl
 of_faultless (None ∷ faults) all = of_faultless faults all.1
 of_faultless (Some fault ∷ faults) all = absurd (grind (arith, all.0))
 
-usn_fits : (column : ℕ) (usn : ℤ) → pos 0 ≤ℤ usn → usn ≤ℤ LAST_USN → code_fault column usn (negsuc 0) LAST_USN ≡ None
+usn_fits : (column : ℕ) (usn : ℤ) → pos 0 ≤ℤ usn → usn ≤ℤ last_usn → code_fault column usn (negsuc 0) last_usn ≡ None
 unfolding code_fault
 usn_fits column usn low high =
     let not_less : int_lt usn (negsuc 0) ≡ false = grind (arith, ints, low) in
-    let not_more : int_lt LAST_USN usn ≡ false = grind (arith, ints, high) in
+    let not_more : int_lt last_usn usn ≡ false = grind (arith, ints, high) in
     rw (not_less, not_more) refl
 
 -- a checked row stays checked under a number from 0 to the last
-pub checked_with_usn : (row : Row) (usn : ℤ) → pos 0 ≤ℤ usn → usn ≤ℤ LAST_USN → IsChecked row → IsChecked (with_usn row usn)
+pub checked_with_usn : (row : Row) (usn : ℤ) → pos 0 ≤ℤ usn → usn ≤ℤ last_usn → IsChecked row → IsChecked (with_usn row usn)
 unfolding identity_faults content_faults place_faults schedule_faults mark_faults type_titles form_faults deck_titles taken_faults general_faults new_faults rev_faults lapse_faults
 checked_with_usn (rows.Note n) usn low high checked =
     let all = faultless_of (identity_faults n ++ content_faults n) checked in

@@ -1,23 +1,35 @@
 -- What a server's commit keeps.
-use Rattle.std.specs.Prelude.{◌≡◌, ℕ, ℤ, pos, negsuc, ◌+ℤ◌, ◌≤ℤ◌, ◌≢◌, ◌⊎◌, Bool, true, false, if◌then◌else◌, int_lt, IsTrue, IfSome, ⊤, List, Option, Some, None, is_some}
+use Rattle.ak_base.specs.Rows.{IsChecked, name_of, stamp_of, usn_of, with_usn}
+use Rattle.ak_base.specs.Limits.{last_usn, last_head_usn, last_stamp}
+use Rattle.ak_keep.specs.Collections.{Collection, Rows, is_settled}
+use Rattle.ak_base.specs.Tables.{graves_of, has_stamps}
+use Rattle.std.specs.Prelude.{◌≡◌, ℕ, ℤ, pos, negsuc, ◌+ℤ◌, ◌≤ℤ◌, ◌<ℤ◌, ◌≢◌, ◌⊎◌, Bool, true, false, if◌then◌else◌, int_lt, IsTrue, IfSome, ⊤, List, Option, Some, None, is_some}
 use Rattle.std.proofs.Common.{refl, sym, ap, subst, ◌∙◌, inl, inr, arith}
 use Rattle.std.proofs.Math.Path.{fun_ext}
 use Rattle.std.proofs.lemmas.Int.{ints}
 use Rattle.std.proofs.lemmas.List.Elements.{recursion_from_All}
 use Rattle.std.specs.FinMap.{get}
 use Rattle.std.specs.List.{All, AllByRecursion}
-use Rattle.std.specs.Option.{option_map_or, option_or}
-use Rattle.ak_base.specs.Rows.{name_of, stamp_of, usn_of, with_usn}
+use Rattle.std.specs.Option.{option_map_or, option_or, unwrap_or}
 use Rattle.ak_base.specs.declared.names.Name.{Name}
 use Rattle.ak_base.specs.declared.names.Table.{Table}
 use Rattle.ak_base.specs.declared.names.Table.TheVariants as tables
 use Rattle.ak_base.specs.declared.rows.Row.{Row}
 use Rattle.ak_base.specs.declared.rows.Row.TheVariants as rows
-use Rattle.ak_keep.specs.Collections.{Rows, is_settled, IsChecked}
-use Rattle.ak_merge.specs.Commits.{IsCommitOf, IsCommitted}
-use Rattle.ak_merge.specs.Holdings.{At, Held, under, AreNamed, AreChecked, graves_of, grave_under, IsSingle, tag_usn}
+use Rattle.ak_base.specs.Heads.{IsWithin, IsMoment, IsConfInRange, IsTagInRange, IsHeadInRange, tag_names}
+use Rattle.ak_base.specs.declared.heads.Tag.{Tag}
+use Rattle.std.specs.Cmp.Lexicographic.{slice_cmp}
+use Rattle.std.specs.Ordering.{nat_cmp}
+use Rattle.std.specs.List.Sorted.{IsStrictlySortedBy}
+use Rattle.ak_merge.proofs.TagLaws.{tags_are_united, tags_stay_ordered, tags_stay_in_range}
+use Rattle.ak_merge.specs.Tags.{has_name}
+use Rattle.ak_merge.specs.Edits.{Reversal}
+use Rattle.ak_merge.specs.Undoing.{StepFits, StepFitsParts}
+use Rattle.ak_merge.specs.Commits.{Settings, Received, IsCommitOf, IsInRange, IsCommitted, settings_of}
+use Rattle.ak_merge.specs.Holdings.{RowsByName, row_under, AreNamed, AreChecked, grave_under, IsSingle, tag_usn}
+use Rattle.ak_merge.proofs.CheckedRows.{checked_with_usn}
 use Rattle.ak_merge.proofs.JoinLaws.{no_graves}
-use Rattle.ak_merge.specs.Links.{has_stamps, IsGiven, AreNumbered, IsHeldLike, IsNewerFrom, IsThere, HasTaken, IsKnown, IsShared, IsTagShared, AreLinkedParts, AreLinked}
+use Rattle.ak_merge.specs.Links.{IsGiven, AreNumbered, IsHeldLike, IsNewerFrom, IsThere, HasTaken, IsKnown, IsShared, IsTagShared, AreLinkedParts, AreLinked}
 use Rattle.ak_base.proofs.RowFacts.{name_of-with_usn, stamp_of-with_usn, usn_of-with_usn}
 use Rattle.ak_base.proofs.SameRows.{like_stamp}
 use Rattle.ak_merge.proofs.TakingLaws.{received, received_by, received_under, grave_in, newest_in, all_taken_at, each_newest}
@@ -54,7 +66,7 @@ newest_named came name = if_weaker (λ row. ⊤ × (name_of row ≡ name)) (λ r
 
 -- ---- single
 -- what a grave's name has once rows were taken
-pub grave_received : (usn : ℤ) (at from : At) (name : Name) (graves : Option Table) → graves_of name.table ≡ graves
+pub grave_received : (usn : ℤ) (at from : RowsByName) (name : Name) (graves : Option Table) → graves_of name.table ≡ graves
     → grave_in (received_under usn at from) name graves ≡ received usn (grave_in at name graves) (grave_in from name graves)
 grave_received usn at from name None is = refl
 grave_received usn at from name (Some graves) is =
@@ -66,16 +78,21 @@ single_cell usn x g y (Some k) single dead = refl
 single_cell usn x (Some g) y None single dead = single refl
 single_cell usn x None y None single dead = grind (arith, dead)
 
-pub single_received : (usn : ℤ) (at from : At) → IsSingle at → IsSingle (received_under usn at from)
+pub single_received : (usn : ℤ) (at from : RowsByName) → IsSingle at → IsSingle (received_under usn at from)
 single_received usn at from single name dead =
     single_cell usn (at name) (grave_under at name) (from name) (grave_under from name) (single name) (ap is_some (sym (grave_received usn at from name (graves_of name.table) refl)) ∙ dead)
 
 -- ---- a commit
-pub commit_under : (came : List Row) (tags_came : List ℕ → Bool) (s t : Held) → IsCommitOf came tags_came s t
-    → under t ≡ received_under s.head.usn (under s) (newest_in came)
-commit_under came tags_came s t commit = fun_ext (λ name. ap (λ (rows : Rows). get rows name) commit.rows ∙ all_taken_at s.head.usn came s.rows name)
+pub commit_under : (came : Received) (s t : Collection) → IsCommitOf came s t
+    → row_under t ≡ received_under s.head.usn (row_under s) (newest_in came.rows)
+commit_under came s t commit = fun_ext (λ name. ap (λ (rows : Rows). get rows name) commit.rows ∙ all_taken_at s.head.usn came.rows s.rows name)
 
-pub named_received : (usn : ℤ) (at from : At) → AreNamed at → ((name : Name) → IfSome (from name) (λ (row : Row). name_of row ≡ name)) → AreNamed (received_under usn at from)
+-- the number of each tag
+pub commit_tag : (came : Received) (s t : Collection) → IsCommitOf came s t → (name : List ℕ)
+    → tag_usn t.head.tags name ≡ option_or (tag_usn s.head.tags name) (if has_name came.tags name then Some s.head.usn else None)
+commit_tag came s t commit name = ap (λ (tags : List Tag). tag_usn tags name) commit.tags ∙ tags_are_united s.head.usn came.tags s.head.tags name
+
+pub named_received : (usn : ℤ) (at from : RowsByName) → AreNamed at → ((name : Name) → IfSome (from name) (λ (row : Row). name_of row ≡ name)) → AreNamed (received_under usn at from)
 named_received usn at from named came name row is =
     of_some (λ (x : Row). name_of x ≡ name) (received_under usn at from name) row
     (each_by (λ (x : Row). name_of x ≡ name) usn (at name) (grave_under at name) (from name) (grave_under from name)
@@ -83,12 +100,22 @@ named_received usn at from named came name row is =
     (if_weaker (λ (x : Row). name_of x ≡ name) (λ (x : Row). name_of (with_usn x usn) ≡ name) (λ x h. name_of-with_usn x usn ∙ h) (from name) (came name)))
     is
 
-checked_received : (usn : ℤ) (at from : At) → AreChecked at → ((name : Name) → IfSome (from name) (λ (row : Row). IsChecked (with_usn row usn)))
+pub checked_received : (usn : ℤ) (at from : RowsByName) → AreChecked at → ((name : Name) → IfSome (from name) (λ (row : Row). IsChecked (with_usn row usn)))
     → AreChecked (received_under usn at from)
 checked_received usn at from checked came name row is =
     of_some IsChecked (received_under usn at from name) row
     (each_by IsChecked usn (at name) (grave_under at name) (from name) (grave_under from name) (when_some IsChecked (at name) (checked name)) (came name))
     is
+
+-- what a list of rows in their ranges has of a name is in them under a number that is in range
+pub newest_checked : (usn : ℤ) (came : List Row) → IsWithin (pos 0) last_usn usn → All IsChecked came → (name : Name) → IfSome (newest_in came name) (λ (row : Row). IsChecked (with_usn row usn))
+newest_checked usn came within fits name =
+    if_weaker (λ row. IsChecked row × (name_of row ≡ name)) (λ row. IsChecked (with_usn row usn)) (λ row h. checked_with_usn row usn within.low within.high h.0) (newest_in came name)
+    (each_newest IsChecked came name (recursion_from_All IsChecked came fits))
+
+-- a number of a head is in the range of rows
+pub number_within : (usn : ℤ) → pos 0 ≤ℤ usn → usn ≤ℤ last_head_usn → IsWithin (pos 0) last_usn usn
+number_within usn low high = record { low = low; high = omega (arith, ints, high) }
 
 pub given_more : (usn more : ℤ) → more ≡ usn +ℤ pos 1 → (number : ℤ) → IsGiven usn number → IsGiven more number
 given_more usn more is number given = record { low = given.low; high = omega (arith, ints, is, given.high) }
@@ -100,7 +127,7 @@ pub all_some : (P : Row → Type 0) → ((row : Row) → P row) → (o : Option 
 all_some P all None = tt
 all_some P all (Some x) = all x
 
-given_received : (usn more : ℤ) (at from : At) → more ≡ usn +ℤ pos 1 → pos 0 ≤ℤ usn → (name : Name) → IfSome (at name) (λ (row : Row). IsGiven usn (usn_of row))
+given_received : (usn more : ℤ) (at from : RowsByName) → more ≡ usn +ℤ pos 1 → pos 0 ≤ℤ usn → (name : Name) → IfSome (at name) (λ (row : Row). IsGiven usn (usn_of row))
     → IfSome (received_under usn at from name) (λ (row : Row). IsGiven more (usn_of row))
 given_received usn more at from is low name given =
     each_by (λ (row : Row). IsGiven more (usn_of row)) usn (at name) (grave_under at name) (from name) (grave_under from name)
@@ -113,27 +140,50 @@ tags_given usn more came (Some n) after is low given now = subst (λ (o : Option
 tags_given usn more true None after is low given now = subst (λ (o : Option ℤ). IfSome o (IsGiven more)) (sym now) (given_now usn more is low usn refl)
 tags_given usn more false None after is low given now = subst (λ (o : Option ℤ). IfSome o (IsGiven more)) (sym now) tt
 
-pub commit_given : (came : List Row) (tags_came : List ℕ → Bool) (s t : Held) → IsCommitOf came tags_came s t → pos 0 ≤ℤ s.head.usn → AreNumbered IsGiven s
+pub commit_given : (came : Received) (s t : Collection) → IsCommitOf came s t → pos 0 ≤ℤ s.head.usn → AreNumbered IsGiven s
     → AreNumbered IsGiven t
-commit_given came tags_came s t commit low given = record {
-  rows = λ name. subst (λ (at : At). IfSome (at name) (λ (row : Row). IsGiven t.head.usn (usn_of row))) (sym (commit_under came tags_came s t commit))
-      (given_received s.head.usn t.head.usn (under s) (newest_in came) commit.usn low name (given.rows name));
-  tags = λ name. tags_given s.head.usn t.head.usn (tags_came name) (tag_usn s.head.tags name) (tag_usn t.head.tags name) commit.usn low (given.tags name) (commit.tags name);
+commit_given came s t commit low given = record {
+  rows = λ name. subst (λ (at : RowsByName). IfSome (at name) (λ (row : Row). IsGiven t.head.usn (usn_of row))) (sym (commit_under came s t commit))
+      (given_received s.head.usn t.head.usn (row_under s) (newest_in came.rows) commit.usn low name (given.rows name));
+  tags = λ name. tags_given s.head.usn t.head.usn (has_name came.tags name) (tag_usn s.head.tags name) (tag_usn t.head.tags name) commit.usn low (given.tags name) (commit_tag came s t commit name);
 }
 
--- a commit keeps what a server keeps of its collection
-pub commits_stay_lawful : (came : List Row) (tags_came : List ℕ → Bool) (s t : Held) → IsCommitOf came tags_came s t
-    → All (λ row. IsChecked (with_usn row s.head.usn)) came → IsCommitted s → IsCommitted t
-commits_stay_lawful came tags_came s t commit checks kept =
-    let now = sym (commit_under came tags_came s t commit) in
+-- ---- lawful
+settings_in_range : (came : Option Settings) (own : Settings) (P : Settings → Type 0) → IfSome came P → P own → P (unwrap_or came own)
+settings_in_range None own P came mine = mine
+settings_in_range (Some given) own P came mine = came
+
+head_in_range : (came : Received) (s t : Collection) → IsCommitOf came s t → IsInRange came s t.head.moment → IsHeadInRange s.head → IsHeadInRange t.head
+head_in_range came s t commit fits own =
+    let low : pos 0 ≤ℤ s.head.usn = own.usn.low in
+    let low_number : negsuc 0 ≤ℤ s.head.usn = omega (arith, ints, low) in
+    let high_number : s.head.usn ≤ℤ last_usn = omega (arith, ints, own.usn.high) in
     record {
-      named = subst AreNamed now (named_received s.head.usn (under s) (newest_in came) kept.named (newest_named came));
-      checked = subst AreChecked now (checked_received s.head.usn (under s) (newest_in came) kept.checked (λ name.
-          if_weaker (λ row. IsChecked (with_usn row s.head.usn) × (name_of row ≡ name)) (λ row. IsChecked (with_usn row s.head.usn)) (λ row h. h.0) (newest_in came name)
-          (each_newest (λ row. IsChecked (with_usn row s.head.usn)) came name (recursion_from_All (λ row. IsChecked (with_usn row s.head.usn)) came checks))));
-      single = subst IsSingle now (single_received s.head.usn (under s) (newest_in came) kept.single);
-      given = commit_given came tags_came s t commit kept.usn kept.given;
-      usn = omega (arith, ints, commit.usn, kept.usn);
+      crt = subst (λ (settings : Settings). IsWithin (pos 0) last_stamp settings.crt) (sym commit.settings)
+          (settings_in_range came.settings (settings_of s.head) (λ settings. IsWithin (pos 0) last_stamp settings.crt) fits.crt own.crt);
+      moment = fits.moment;
+      schema = subst IsMoment (sym commit.schema) own.schema;
+      usn = record { low = omega (arith, ints, commit.usn, low); high = omega (arith, ints, commit.usn, fits.usn) };
+      last_sync = subst IsMoment (sym commit.last_sync) own.last_sync;
+      conf = subst (λ (settings : Settings). IsConfInRange settings.conf) (sym commit.settings)
+          (settings_in_range came.settings (settings_of s.head) (λ settings. IsConfInRange settings.conf) fits.conf own.conf);
+      tags = subst (All IsTagInRange) (sym commit.tags)
+          (tags_stay_in_range s.head.usn came.tags s.head.tags fits.tags (record { low = low_number; high = high_number }) own.tags);
+      ascending = subst (λ (tags : List Tag). IsStrictlySortedBy (slice_cmp nat_cmp) (tag_names tags)) (sym commit.tags)
+          (tags_stay_ordered s.head.usn came.tags s.head.tags own.ascending);
+    }
+
+-- a commit of what is in its ranges keeps what a server keeps of its collection
+pub commits_stay_lawful : (came : Received) (s t : Collection) → IsCommitOf came s t → IsInRange came s t.head.moment → IsCommitted s → IsCommitted t
+commits_stay_lawful came s t commit fits kept =
+    let now = sym (commit_under came s t commit) in
+    record {
+      named = subst AreNamed now (named_received s.head.usn (row_under s) (newest_in came.rows) kept.named (newest_named came.rows));
+      checked = subst AreChecked now (checked_received s.head.usn (row_under s) (newest_in came.rows) kept.checked
+          (newest_checked s.head.usn came.rows (number_within s.head.usn kept.head.usn.low kept.head.usn.high) fits.rows));
+      single = subst IsSingle now (single_received s.head.usn (row_under s) (newest_in came.rows) kept.single);
+      given = commit_given came s t commit kept.head.usn.low kept.given;
+      head = head_in_range came s t commit fits kept.head;
     }
 
 -- ---- a commit keeps links
@@ -249,18 +299,18 @@ tag_kept least usn x None after true up shared now = subst (IsTagShared least x)
     tag_there (Some number) = λ sent. refl
 
 -- ---- links
-grave_named : (at : At) (name : Name) (graves : Table) → AreNamed at
+grave_named : (at : RowsByName) (name : Name) (graves : Table) → AreNamed at
     → IfSome (at (record { table = graves; id = name.id })) (λ (row : Row). name_of row ≡ record { table = graves; id = name.id })
 grave_named at name graves named = when_some (λ (row : Row). name_of row ≡ record { table = graves; id = name.id }) (at (record { table = graves; id = name.id })) (named (record { table = graves; id = name.id }))
 
-known_received : (least usn : ℤ) (x : Option Row) (at from : At) (name : Name) → least ≤ℤ usn → IsSingle at → IsKnown least x (at name) (grave_under at name)
+known_received : (least usn : ℤ) (x : Option Row) (at from : RowsByName) (name : Name) → least ≤ℤ usn → IsSingle at → IsKnown least x (at name) (grave_under at name)
     → IsKnown least x (received_under usn at from name) (grave_under (received_under usn at from) name)
 known_received least usn None at from name up single known = tt
 known_received least usn (Some x) at from name up single known = λ sent.
     subst (λ (h : Option Row). Accounts least x (received_under usn at from name) h) (sym (grave_received usn at from name (graves_of name.table) refl))
     (known_cell least usn x (at name) (grave_under at name) (from name) (grave_under from name) up (single name) (known sent))
 
-shared_received : (least usn : ℤ) (x : Option Row) (at from : At) (name : Name) → least ≤ℤ usn → has_stamps name.table ≡ false → AreNamed at
+shared_received : (least usn : ℤ) (x : Option Row) (at from : RowsByName) (name : Name) → least ≤ℤ usn → has_stamps name.table ≡ false → AreNamed at
     → IfSome (from name) (λ (row : Row). name_of row ≡ name) → IsShared least x (at name) → IsShared least x (received_under usn at from name)
 shared_received least usn x at from name up none named came shared =
     let no_grave : graves_of name.table ≡ None = ungraved name.table none in
@@ -273,28 +323,58 @@ shared_received least usn x at from name up none named came shared =
     received_alone : (usn : ℤ) (x y : Option Row) → received usn x y ≡ received_by usn x None y None
     received_alone usn x y = refl
 
-parts_kept : (came : List Row) (tags_came : List ℕ → Bool) (c s t : Held) → IsCommitOf came tags_came s t → AreNamed (under s) → pos 0 ≤ℤ s.head.usn
+parts_kept : (came : Received) (c s t : Collection) → IsCommitOf came s t → AreNamed (row_under s) → pos 0 ≤ℤ s.head.usn
     → AreLinkedParts c s → AreLinkedParts c t
-parts_kept came tags_came c s t commit named low linked =
-    let now = sym (commit_under came tags_came s t commit) in
-    let from : At = newest_in came in
+parts_kept came c s t commit named low linked =
+    let now = sym (commit_under came s t commit) in
+    let from : RowsByName = newest_in came.rows in
     record {
       usn = omega (arith, ints, commit.usn, linked.usn);
-      given = commit_given came tags_came s t commit low linked.given;
+      given = commit_given came s t commit low linked.given;
       own = linked.own;
-      taken = λ name stamps. subst (λ (at : At). HasTaken c.head.usn (under c name) (grave_under (under c) name) (at name)) now
-          (taken_kept c.head.usn s.head.usn (under c name) (grave_under (under c) name) (under s name) (grave_under (under s) name) (from name) (grave_under from name) linked.usn (linked.taken name stamps));
-      known = λ name stamps. subst (λ (at : At). IsKnown c.head.usn (under c name) (at name) (grave_under at name)) now
-          (known_received c.head.usn s.head.usn (under c name) (under s) from name linked.usn linked.single (linked.known name stamps));
-      shared = λ name none. subst (λ (at : At). IsShared c.head.usn (under c name) (at name)) now
-          (shared_received c.head.usn s.head.usn (under c name) (under s) from name linked.usn none named (newest_named came name) (linked.shared name none));
-      tags = λ name. tag_kept c.head.usn s.head.usn (tag_usn c.head.tags name) (tag_usn s.head.tags name) (tag_usn t.head.tags name) (tags_came name) linked.usn (linked.tags name) (commit.tags name);
+      taken = λ name stamps. subst (λ (at : RowsByName). HasTaken c.head.usn (row_under c name) (grave_under (row_under c) name) (at name)) now
+          (taken_kept c.head.usn s.head.usn (row_under c name) (grave_under (row_under c) name) (row_under s name) (grave_under (row_under s) name) (from name) (grave_under from name) linked.usn (linked.taken name stamps));
+      known = λ name stamps. subst (λ (at : RowsByName). IsKnown c.head.usn (row_under c name) (at name) (grave_under at name)) now
+          (known_received c.head.usn s.head.usn (row_under c name) (row_under s) from name linked.usn linked.single (linked.known name stamps));
+      shared = λ name none. subst (λ (at : RowsByName). IsShared c.head.usn (row_under c name) (at name)) now
+          (shared_received c.head.usn s.head.usn (row_under c name) (row_under s) from name linked.usn none named (newest_named came.rows name) (linked.shared name none));
+      tags = λ name. tag_kept c.head.usn s.head.usn (tag_usn c.head.tags name) (tag_usn s.head.tags name) (tag_usn t.head.tags name) (has_name came.tags name) linked.usn (linked.tags name) (commit_tag came s t commit name);
       own_single = linked.own_single;
-      single = subst IsSingle now (single_received s.head.usn (under s) from linked.single);
+      single = subst IsSingle now (single_received s.head.usn (row_under s) from linked.single);
     }
 
 -- a commit keeps every device linked
-pub commits_keep_links : (came : List Row) (tags_came : List ℕ → Bool) (c s t : Held) → IsCommitOf came tags_came s t → AreNamed (under s) → pos 0 ≤ℤ s.head.usn
+pub commits_keep_links : (came : Received) (c s t : Collection) → IsCommitOf came s t → AreNamed (row_under s) → pos 0 ≤ℤ s.head.usn
     → AreLinked c s → AreLinked c t
-commits_keep_links came tags_came c s t commit named low (inl differ) = inl (λ same. differ (same ∙ commit.schema))
-commits_keep_links came tags_came c s t commit named low (inr linked) = inr (parts_kept came tags_came c s t commit named low linked)
+commits_keep_links came c s t commit named low (inl differ) = inl (λ same. differ (same ∙ commit.schema))
+commits_keep_links came c s t commit named low (inr linked) = inr (parts_kept came c s t commit named low linked)
+
+-- ---- a commit and what fits
+number_stays : (least usn : ℤ) (x y : Option ℤ) (came : Bool) → least ≤ℤ usn → y ≡ option_or x (if came then Some usn else None) → IfSome x (λ number. least ≤ℤ number) → IfSome y (λ number. least ≤ℤ number)
+number_stays least usn (Some number) y came up is own = subst (λ (o : Option ℤ). IfSome o (λ number. least ≤ℤ number)) (sym is) own
+number_stays least usn None y true up is own = subst (λ (o : Option ℤ). IfSome o (λ number. least ≤ℤ number)) (sym is) up
+number_stays least usn None y false up is own = subst (λ (o : Option ℤ). IfSome o (λ number. least ≤ℤ number)) (sym is) tt
+
+-- what holds of the rows that the server has, and of each with a number of at least so much, holds of those that it has then
+row_stays : (P : Row → Type 0) (usn : ℤ) (at from : RowsByName) (name : Name) → ((row : Row) → usn_of row ≡ usn → P row) → IfSome (at name) P → IfSome (received_under usn at from name) P
+row_stays P usn at from name fits own =
+    each_by P usn (at name) (grave_under at name) (from name) (grave_under from name) own
+    (all_some (λ row. P (with_usn row usn)) (λ row. fits (with_usn row usn) (usn_of-with_usn row usn)) (from name))
+
+fit_parts : (came : Received) (u : ℤ) (step : Reversal) (s t : Collection) → IsCommitOf came s t → StepFitsParts u step s → StepFitsParts u step t
+fit_parts came u step s t commit fits =
+    let now = sym (commit_under came s t commit) in
+    record {
+      usn = omega (arith, ints, commit.usn, fits.usn);
+      added = λ name is. subst (λ (at : RowsByName). IfSome (at name) (λ row. u ≤ℤ usn_of row)) now
+          (row_stays (λ row. u ≤ℤ usn_of row) s.head.usn (row_under s) (newest_in came.rows) name (λ row is. omega (arith, ints, is, fits.usn)) (fits.added name is));
+      tags = λ name lacks. number_stays u s.head.usn (tag_usn s.head.tags name) (tag_usn t.head.tags name) (has_name came.tags name) fits.usn (commit_tag came s t commit name) (fits.tags name lacks);
+      older = λ name before is. subst (λ (at : RowsByName). IfSome (at name) (λ row. usn_of row <ℤ u → stamp_of row ≤ℤ stamp_of before)) now
+          (row_stays (λ row. usn_of row <ℤ u → stamp_of row ≤ℤ stamp_of before) s.head.usn (row_under s) (newest_in came.rows) name
+          (λ row is below. absurd (omega (arith, ints, is, fits.usn, below))) (fits.older name before is));
+    }
+
+-- a step that fits a server's collection still does after the server's commit
+pub commits_keep_fits : (came : Received) (c s t : Collection) (step : Reversal) → IsCommitOf came s t → StepFits c step s → StepFits c step t
+commits_keep_fits came c s t step commit (inl differ) = inl (λ same. differ (same ∙ commit.schema))
+commits_keep_fits came c s t step commit (inr fits) = inr (fit_parts came c.head.usn step s t commit fits)

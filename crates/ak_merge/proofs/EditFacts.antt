@@ -1,19 +1,23 @@
 -- Facts of rows and numbers that the laws of edits and undos share, and the parts of linked over what stands under names.
-use Rattle.std.specs.Prelude.{◌≡◌, ℕ, ℤ, pos, negsuc, ◌≤ℤ◌, ◌<ℤ◌, Bool, true, false, not, T, IsTrue, List, Option, Some, None, IfSome, is_some, ◌⊎◌}
-use Rattle.std.proofs.Common.{cond, inl, inr, refl, sym, ap, subst, ◌∙◌, arith}
+use Rattle.ak_base.proofs.Burials.{grave_table_by}
+use Rattle.ak_base.proofs.RowFacts.{same_fields-itself, same_fields-turned, same_fields-edited}
+use Rattle.ak_keep.specs.Collections.{Collection, is_pending, is_settled}
+use Rattle.ak_base.specs.Graves.{grave_table}
+use Rattle.ak_base.specs.Tables.{has_stamps}
+use Rattle.ak_base.specs.Contents.{same_but_stamp_and_usn}
+use Rattle.ak_base.specs.Rows.{name_of, stamp_of, usn_of}
+use Rattle.std.specs.Prelude.{◌≡◌, ℕ, ℤ, negsuc, ◌≤ℤ◌, ◌<ℤ◌, Bool, true, false, not, T, IsTrue, List, Option, Some, None, IfSome, is_some, ◌⊎◌}
+use Rattle.std.proofs.Common.{inl, inr, refl, sym, ap, subst, ◌∙◌, arith}
 use Rattle.std.proofs.Math.Path.{fun_ext}
 use Rattle.std.proofs.lemmas.Int.{ints, clamps}
 use Rattle.std.specs.Ordering.{int_eq}
-use Rattle.ak_base.specs.Contents.{same_content_equiv}
-use Rattle.ak_base.specs.Rows.{name_of, stamp_of, usn_of}
 use Rattle.ak_base.specs.declared.names.Name.{Name}
-use Rattle.ak_base.specs.declared.names.Table.TheVariants as tables
+use Rattle.ak_base.specs.declared.names.Table.{Table}
 use Rattle.ak_base.specs.declared.rows.Row.{Row}
 use Rattle.ak_base.specs.declared.rows.Row.TheVariants as rows
-use Rattle.ak_keep.specs.Collections.{is_pending, is_settled}
-use Rattle.ak_merge.specs.Holdings.{At, Held, under, grave_under, IsSingle, tag_usn}
-use Rattle.ak_merge.specs.Links.{has_stamps, IsGiven, IsOwn, AreNumbered, HasTaken, IsKnown, IsShared, IsTagShared, AreLinkedParts}
-use Rattle.ak_merge.specs.Settling.{edited, risen, has_fields, with_stamp}
+use Rattle.ak_merge.specs.Holdings.{RowsByName, row_under, grave_under, IsSingle, tag_usn}
+use Rattle.ak_merge.specs.Links.{IsGiven, IsOwn, AreNumbered, HasTaken, IsKnown, IsShared, IsTagShared, AreLinkedParts}
+use Rattle.ak_merge.specs.Edits.{edited, advanced}
 
 pub false_true : {X : Type 0} → false ≡ true → X
 false_true is = absurd (subst (λ (b : Bool). T (not b)) is tt)
@@ -64,10 +68,8 @@ pending_unsettled row pending settled = false_true (sym (ap not pending) ∙ set
 pub edited_unsettled : {X : Type 0} (stamp : ℤ) (row : Row) → IsTrue (is_settled (edited stamp row)) → X
 edited_unsettled stamp row settled = pending_unsettled (edited stamp row) (edited_pending stamp row) settled
 
-grave_unstamped : (first second : Bool) → has_stamps (cond first tables.CardGrave (cond second tables.NoteGrave tables.DeckGrave)) ≡ false
-grave_unstamped true second = refl
-grave_unstamped false true = refl
-grave_unstamped false false = refl
+grave_unstamped : (kind : ℤ) → has_stamps (grave_table kind) ≡ false
+grave_unstamped = grave_table_by (λ (table : Table). has_stamps table ≡ false) refl refl refl
 
 -- a row of the five tables with stamps bears the stamp that it is given
 pub edited_stamp : (stamp : ℤ) (row : Row) → IsTrue (has_stamps (name_of row).table) → stamp_of (edited stamp row) ≡ stamp
@@ -77,28 +79,22 @@ edited_stamp stamp (rows.Review r) has = false_true has
 edited_stamp stamp (rows.NoteType t) has = refl
 edited_stamp stamp (rows.Deck d) has = refl
 edited_stamp stamp (rows.Options o) has = refl
-edited_stamp stamp (rows.Grave g) has = false_true (sym (grave_unstamped (int_eq g.kind (pos 0)) (int_eq g.kind (pos 1))) ∙ has)
+edited_stamp stamp (rows.Grave g) has = false_true (sym (grave_unstamped g.kind) ∙ has)
 
 -- a row has the fields of itself
-pub own_fields : (row : Row) → IsTrue (has_fields row row)
-own_fields row = same_content_equiv.refl (with_stamp row (pos 0))
+pub own_fields : (row : Row) → IsTrue (same_but_stamp_and_usn row row)
+own_fields row = same_fields-itself row
 
 -- so has it when it is edited
-pub edited_fields : (stamp : ℤ) (row : Row) → IsTrue (has_fields row (edited stamp row))
-edited_fields stamp (rows.Note n) = own_fields (rows.Note n)
-edited_fields stamp (rows.Card c) = own_fields (rows.Card c)
-edited_fields stamp (rows.Review r) = own_fields (rows.Review r)
-edited_fields stamp (rows.NoteType t) = own_fields (rows.NoteType t)
-edited_fields stamp (rows.Deck d) = own_fields (rows.Deck d)
-edited_fields stamp (rows.Options o) = own_fields (rows.Options o)
-edited_fields stamp (rows.Grave g) = own_fields (rows.Grave g)
+pub edited_fields : (stamp : ℤ) (row : Row) → IsTrue (same_but_stamp_and_usn row (edited stamp row))
+edited_fields stamp row = same_fields-turned (edited stamp row) row (same_fields-edited row stamp (negsuc 0))
 
 -- ---- numbers
-risen_over : (now old : ℤ) → old <ℤ risen now old
-risen_over now old = omega (arith, ints, clamps)
+advanced_over : (now old : ℤ) → old <ℤ advanced now old
+advanced_over now old = omega (arith, ints, clamps)
 
-risen_least : (now old : ℤ) → now ≤ℤ risen now old
-risen_least now old = omega (arith, ints, clamps)
+advanced_least : (now old : ℤ) → now ≤ℤ advanced now old
+advanced_least now old = omega (arith, ints, clamps)
 
 pub same_least : {a b : ℤ} → a ≡ b → a ≤ℤ b
 same_least {a} {b} same = omega (arith, ints)
@@ -106,27 +102,27 @@ same_least {a} {b} same = omega (arith, ints)
 pub less_least : {a b : ℤ} → a <ℤ b → a ≤ℤ b
 less_least {a} {b} less = omega (arith, ints)
 
-pub risen_past : (least now old : ℤ) → least ≤ℤ old → least <ℤ risen now old
-risen_past least now old below = omega (arith, ints, risen_over now old)
+pub advanced_past : (least now old : ℤ) → least ≤ℤ old → least <ℤ advanced now old
+advanced_past least now old below = omega (arith, ints, advanced_over now old)
 
-pub least_risen : (least now old : ℤ) → least <ℤ now → least <ℤ risen now old
-least_risen least now old below = omega (arith, ints, risen_least now old)
+pub least_advanced : (least now old : ℤ) → least <ℤ now → least <ℤ advanced now old
+least_advanced least now old below = omega (arith, ints, advanced_least now old)
 
 -- ---- linked, over what stands under the names and the tags of a device
 -- the five parts, where these rows and tags stand with this update sequence number on the device
-pub record LinkedParts (u : ℤ) (at : At) (number_of : List ℕ → Option ℤ) (s : Held) : Type 0 where
+pub record LinkedParts (u : ℤ) (at : RowsByName) (number_of : List ℕ → Option ℤ) (s : Collection) : Type 0 where
   pub usn : u ≤ℤ s.head.usn
   pub given : AreNumbered IsGiven s
   pub numbers : (name : Name) → IfSome (at name) (λ row. IsOwn u (usn_of row))
   pub tag_numbers : (name : List ℕ) → IfSome (number_of name) (IsOwn u)
-  pub taken : (name : Name) → IsTrue (has_stamps name.table) → HasTaken u (at name) (grave_under at name) (under s name)
-  pub known : (name : Name) → IsTrue (has_stamps name.table) → IsKnown u (at name) (under s name) (grave_under (under s) name)
-  pub shared : (name : Name) → has_stamps name.table ≡ false → IsShared u (at name) (under s name)
+  pub taken : (name : Name) → IsTrue (has_stamps name.table) → HasTaken u (at name) (grave_under at name) (row_under s name)
+  pub known : (name : Name) → IsTrue (has_stamps name.table) → IsKnown u (at name) (row_under s name) (grave_under (row_under s) name)
+  pub shared : (name : Name) → has_stamps name.table ≡ false → IsShared u (at name) (row_under s name)
   pub tags : (name : List ℕ) → IsTagShared u (number_of name) (tag_usn s.head.tags name)
   pub own_single : IsSingle at
-  pub single : IsSingle (under s)
+  pub single : IsSingle (row_under s)
 
-pub parts_of : (c s : Held) → AreLinkedParts c s → LinkedParts c.head.usn (under c) (tag_usn c.head.tags) s
+pub parts_of : (c s : Collection) → AreLinkedParts c s → LinkedParts c.head.usn (row_under c) (tag_usn c.head.tags) s
 parts_of c s l = record {
   usn = l.usn;
   given = l.given;
@@ -140,7 +136,7 @@ parts_of c s l = record {
   single = l.single;
 }
 
-from_parts : (c s : Held) → LinkedParts c.head.usn (under c) (tag_usn c.head.tags) s → AreLinkedParts c s
+from_parts : (c s : Collection) → LinkedParts c.head.usn (row_under c) (tag_usn c.head.tags) s → AreLinkedParts c s
 from_parts c s l = record {
   usn = l.usn;
   given = l.given;
@@ -154,10 +150,10 @@ from_parts c s l = record {
 }
 
 -- a collection in which these rows and tags stand is linked
-pub linked_of : (u : ℤ) (at : At) (number_of : List ℕ → Option ℤ) (c s : Held) → c.head.usn ≡ u → ((name : Name) → under c name ≡ at name)
+pub linked_of : (u : ℤ) (at : RowsByName) (number_of : List ℕ → Option ℤ) (c s : Collection) → c.head.usn ≡ u → ((name : Name) → row_under c name ≡ at name)
     → ((name : List ℕ) → tag_usn c.head.tags name ≡ number_of name) → LinkedParts u at number_of s → AreLinkedParts c s
 linked_of u at number_of c s usn rows tags l =
     from_parts c s
-    (subst (λ (v : ℤ). LinkedParts v (under c) (tag_usn c.head.tags) s) (sym usn)
-    (subst (λ (f : At). LinkedParts u f (tag_usn c.head.tags) s) (sym (fun_ext rows))
+    (subst (λ (v : ℤ). LinkedParts v (row_under c) (tag_usn c.head.tags) s) (sym usn)
+    (subst (λ (f : RowsByName). LinkedParts u f (tag_usn c.head.tags) s) (sym (fun_ext rows))
     (subst (λ (f : List ℕ → Option ℤ). LinkedParts u at f s) (sym (fun_ext tags)) l)))

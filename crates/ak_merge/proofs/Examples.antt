@@ -1,15 +1,28 @@
 -- Worked examples: what the definitions say of small collections.
-use Rattle.std.specs.Prelude.{◌≡◌, ℕ, ℤ, pos, negsuc, codes, true, false, cond, if◌then◌else◌, is_some, IsTrue, IfSome, ⊤, ◌⊎◌, List, [], ◌∷◌, Option, Some, None}
+use Rattle.ak_merge.specs.Holdings.{name_in, RowsByName, row_under, grave_under, AreNamed, IsSingle, same_held}
+use Rattle.std.proofs.lemmas.List.Elements.{All-from_recursion}
+use Rattle.ak_merge.specs.Commits.{Received}
+use Rattle.ak_merge.specs.Exchanges.{wanted_under, IsSent, IsServerHalf, HoldsJoin}
+use Rattle.ak_merge.specs.Takings.{all_taken}
+use Rattle.ak_merge.proofs.CommitLaws.{commits_keep_links}
+use Rattle.ak_merge.proofs.ExchangeLaws.{server_half_joins}
+use Rattle.ak_merge.proofs.ExchangeCells.{only_wanted}
+use Rattle.ak_merge.proofs.TakingLaws.{received_under, newest_in, all_taken_at, is_name}
+use Rattle.ak_keep.specs.declared.keepers.Wanted.TheVariants.{Unsent, From}
+use Rattle.ak_keep.proofs.RowsByName.{same_of_tied}
+use Rattle.ak_keep.specs.Collections.{Collection, Rows, rows_of}
+use Rattle.ak_base.specs.Tables.{graves_of, has_stamps}
+use Rattle.std.specs.Prelude.{◌≡◌, ◌≤ℤ◌, ℕ, ℤ, pos, negsuc, codes, true, false, cond, if◌then◌else◌, is_some, IsTrue, IfSome, ⊤, ◌⊎◌, List, [], ◌∷◌, Option, Some, None}
 use Rattle.std.proofs.lemmas.Option.{same_Some}
 use Rattle.std.proofs.Common.{refl, sym, ap, subst, ◌∙◌, inl, inr, arith}
 use Rattle.std.proofs.Math.Path.{fun_ext}
 use Rattle.std.proofs.lemmas.Int.{ints}
 use Rattle.std.specs.FinMap.{get, get-empty, get-insert}
-use Rattle.std.specs.List.{AllByRecursion}
+use Rattle.std.specs.List.{AllByRecursion, Contains}
 use Rattle.std.specs.Option.{option_and_then}
 use Rattle.ak_base.specs.Contents.{same_content}
 use Rattle.ak_base.specs.Names.{name_cmp, names_total}
-use Rattle.ak_base.specs.Rows.{name_of, usn_of}
+use Rattle.ak_base.specs.Rows.{name_of, stamp_of, usn_of}
 use Rattle.ak_base.specs.declared.cards.Card.{Card}
 use Rattle.ak_base.specs.declared.heads.Head.{Head}
 use Rattle.ak_base.specs.declared.names.Name.{Name}
@@ -19,25 +32,21 @@ use Rattle.ak_base.specs.declared.note_types.NoteType.{NoteType}
 use Rattle.ak_base.specs.declared.notes.Note.{Note}
 use Rattle.ak_base.specs.declared.rows.Row.{Row}
 use Rattle.ak_base.specs.declared.rows.Row.TheVariants as rows
-use Rattle.ak_keep.specs.Collections.{rows_of}
-use Rattle.ak_keep.specs.Entries.{same_of_tied}
 use Rattle.ak_merge.proofs.Finding.{not_none, not_both}
 use Rattle.ak_base.proofs.RowFacts.{same-turned, same-through}
 use Rattle.ak_merge.proofs.SoundLaws.{has_place}
-use Rattle.ak_merge.proofs.TakingLaws.{is_name}
-use Rattle.ak_merge.specs.Holdings.{At, Held, graves_of, grave_under, IsSingle}
 use Rattle.ak_merge.specs.Joins.{AreApart, joined_under, join}
-use Rattle.ak_merge.specs.Links.{has_stamps, AreLinked, AreLinkedParts, HasTaken, IsGiven, IsKnown, IsOwn, IsShared}
-use Rattle.ak_merge.specs.Soundness.{IsSound, lacks_template, named, type_under}
+use Rattle.ak_merge.specs.Links.{AreLinked, AreLinkedParts, HasTaken, IsGiven, IsKnown, IsOwn, IsShared}
+use Rattle.ak_merge.specs.Soundness.{IsSound, lacks_template, type_under}
 
 -- ---- collections of a few rows
 -- these rows, each under its name
-abbrev standing : List Row → At
+abbrev pub standing : List Row → RowsByName
 standing [] name = None
 standing (row ∷ more) name = if is_name name (name_of row) then Some row else standing more name
 
 -- note 7 with these fields, changed at this second
-abbrev note_with : ℤ → ℤ → List ℕ → Note
+abbrev pub note_with : ℤ → ℤ → List ℕ → Note
 note_with usn stamp fields = record {
   id = pos 7;
   guid = codes "seven";
@@ -52,11 +61,11 @@ note_with usn stamp fields = record {
   extra = [];
 }
 
-abbrev note_row : ℤ → ℤ → List ℕ → Row
+abbrev pub note_row : ℤ → ℤ → List ℕ → Row
 note_row usn stamp fields = rows.Note (note_with usn stamp fields)
 
 -- a card of note 7, changed at this second, with so many answers
-abbrev card_of_it : ℤ → ℤ → ℤ → Card
+abbrev pub card_of_it : ℤ → ℤ → ℤ → Card
 card_of_it id stamp reps = record {
   id = id;
   nid = pos 7;
@@ -93,45 +102,49 @@ abbrev late : Row
 late = note_row (negsuc 0) (pos 20) (codes "home")
 
 -- A note was edited on both sides: the join holds the later edit, whichever side is first.
-the_later_edit_stands : (joined_under (standing (early ∷ [])) (standing (late ∷ [])) (named tables.Note (pos 7)) ≡ Some late)
-    × (joined_under (standing (late ∷ [])) (standing (early ∷ [])) (named tables.Note (pos 7)) ≡ Some late)
+the_later_edit_stands : (joined_under (standing (early ∷ [])) (standing (late ∷ [])) (name_in tables.Note (pos 7)) ≡ Some late)
+    × (joined_under (standing (late ∷ [])) (standing (early ∷ [])) (name_in tables.Note (pos 7)) ≡ Some late)
 the_later_edit_stands = (refl, refl)
 
 -- ---- a deletion and an answer
 abbrev answered : Row
 answered = rows.Card (card_of_it (pos 8) (pos 20) (pos 1))
 
-abbrev note_deleted : At
+abbrev note_deleted : RowsByName
 note_deleted = standing (grave_of (pos 1) (pos 7) ∷ [])
 
-abbrev card_answered : At
+abbrev card_answered : RowsByName
 card_answered = standing (early ∷ answered ∷ review_of_8 ∷ [])
 
 -- One side deleted the note, the other answered its card: the note is gone with its grave, and the answered card stands, for
 -- cards have graves of their own.
-a_deleted_note_is_gone : (joined_under note_deleted card_answered (named tables.Note (pos 7)) ≡ None)
-    × (joined_under note_deleted card_answered (named tables.NoteGrave (pos 7)) ≡ Some (grave_of (pos 1) (pos 7)))
-    × (joined_under note_deleted card_answered (named tables.Card (pos 8)) ≡ Some answered)
+a_deleted_note_is_gone : (joined_under note_deleted card_answered (name_in tables.Note (pos 7)) ≡ None)
+    × (joined_under note_deleted card_answered (name_in tables.NoteGrave (pos 7)) ≡ Some (grave_of (pos 1) (pos 7)))
+    × (joined_under note_deleted card_answered (name_in tables.Card (pos 8)) ≡ Some answered)
 a_deleted_note_is_gone = (refl, refl, refl)
 
-abbrev both_deleted : At
+abbrev both_deleted : RowsByName
 both_deleted = standing (grave_of (pos 1) (pos 7) ∷ grave_of (pos 0) (pos 8) ∷ [])
 
 -- One side deleted the note with its card: both are gone, and the review of the other's answer stays.
-a_deleted_card_leaves_its_review : (joined_under both_deleted card_answered (named tables.Note (pos 7)) ≡ None)
-    × (joined_under both_deleted card_answered (named tables.Card (pos 8)) ≡ None)
-    × (joined_under both_deleted card_answered (named tables.CardGrave (pos 8)) ≡ Some (grave_of (pos 0) (pos 8)))
-    × (joined_under both_deleted card_answered (named tables.Review (pos 5000)) ≡ Some review_of_8)
+a_deleted_card_leaves_its_review : (joined_under both_deleted card_answered (name_in tables.Note (pos 7)) ≡ None)
+    × (joined_under both_deleted card_answered (name_in tables.Card (pos 8)) ≡ None)
+    × (joined_under both_deleted card_answered (name_in tables.CardGrave (pos 8)) ≡ Some (grave_of (pos 0) (pos 8)))
+    × (joined_under both_deleted card_answered (name_in tables.Review (pos 5000)) ≡ Some review_of_8)
 a_deleted_card_leaves_its_review = (refl, refl, refl, refl)
 
 -- ---- the settings
-abbrev changed_at : ℤ → Held → Held
+abbrev changed_at : ℤ → Collection → Collection
 changed_at moment c = record c { head = record c.head { moment = moment } }
 
 -- One side changed its settings after the other was changed last: the join has these settings, whichever side is first.
-the_last_settings_stand : (a b : Held) → ((join (changed_at (pos 10) a) (changed_at (pos 20) b)).conf ≡ b.head.conf)
+the_last_settings_stand : (a b : Collection) → ((join (changed_at (pos 10) a) (changed_at (pos 20) b)).conf ≡ b.head.conf)
     × ((join (changed_at (pos 20) b) (changed_at (pos 10) a)).conf ≡ b.head.conf)
 the_last_settings_stand a b = (refl, refl)
+
+-- Both were changed last at one moment: the join has the settings of the second, the server.
+the_servers_settings_stand_at_one_moment : (a b : Collection) → (join (changed_at (pos 10) a) (changed_at (pos 10) b)).conf ≡ b.head.conf
+the_servers_settings_stand_at_one_moment a b = refl
 
 -- ---- two sound sides whose join is not sound
 -- what holds of each of these rows holds of whatever stands there
@@ -144,9 +157,9 @@ each_standing P (x ∷ xs) all name row is =
     ] is
 
 -- a note has a card and its type; a card has its note, and a place among the templates
-abbrev IsGood : At → Row → Type 0
-IsGood at (rows.Note note) = ((card : Card) × (at (named tables.Card card.id) ≡ Some (rows.Card card)) × (card.nid ≡ note.id)) × (is_some (at (named tables.NoteType note.mid)) ≡ true)
-IsGood at (rows.Card card) = (is_some (at (named tables.Note card.nid)) ≡ true) × (lacks_template card.ord (type_under at (named tables.Note card.nid)) ≡ false)
+abbrev IsGood : RowsByName → Row → Type 0
+IsGood at (rows.Note note) = ((card : Card) × (at (name_in tables.Card card.id) ≡ Some (rows.Card card)) × (card.nid ≡ note.id)) × (is_some (at (name_in tables.NoteType note.mid)) ≡ true)
+IsGood at (rows.Card card) = (is_some (at (name_in tables.Note card.nid)) ≡ true) × (lacks_template card.ord (type_under at (name_in tables.Note card.nid)) ≡ false)
 IsGood at (rows.Review r) = ⊤
 IsGood at (rows.NoteType t) = ⊤
 IsGood at (rows.Deck d) = ⊤
@@ -158,7 +171,7 @@ sound_where_good xs good = record {
   card_note = λ card has. (each_standing (IsGood (standing xs)) xs good _ (rows.Card card) has).0;
   note_card = λ note has. (each_standing (IsGood (standing xs)) xs good _ (rows.Note note) has).0;
   note_type = λ note has. (each_standing (IsGood (standing xs)) xs good _ (rows.Note note) has).1;
-  template = λ card note type has. has_place (standing xs) (named tables.Note card.nid) card.ord note type (each_standing (IsGood (standing xs)) xs good _ (rows.Card card) has).1;
+  template = λ card note type has. has_place (standing xs) (name_in tables.Note card.nid) card.ord note type (each_standing (IsGood (standing xs)) xs good _ (rows.Card card) has).1;
 }
 
 -- a type for clozes, whatever its other columns
@@ -192,7 +205,7 @@ the_join_is_not_sound any sound = not_both (sound.card_note second_card refl) re
 -- ---- apart
 -- Two edits of one note in the same second that say different things are in doubt.
 edits_of_one_second_are_in_doubt : AreApart (standing (note_row (negsuc 0) (pos 10) (codes "house") ∷ [])) (standing (note_row (negsuc 0) (pos 10) (codes "home") ∷ [])) → ⊥
-edits_of_one_second_are_in_doubt apart = not_both (apart (named tables.Note (pos 7)) _ _ refl refl refl) refl
+edits_of_one_second_are_in_doubt apart = not_both (apart (name_in tables.Note (pos 7)) _ _ refl refl refl) refl
 
 -- The same edit on both sides is in no doubt, though one of them was sent.
 the_same_edit_is_apart : AreApart (standing (note_row (negsuc 0) (pos 10) (codes "house") ∷ [])) (standing (note_row (pos 3) (pos 10) (codes "house") ∷ []))
@@ -203,22 +216,22 @@ the_same_edit_is_apart name x y has held _ =
 
 -- ---- linked
 -- a collection of these rows whose number is 5, with one schema moment and no tags
-abbrev held_of : List Row → Head → Held
+abbrev held_of : List Row → Head → Collection
 held_of xs any = record { rows = rows_of xs; head = record any { usn = pos 5; schema = pos 1; tags = [] } }
 
-rows_stand : (xs : List Row) (name : Name) → get (rows_of xs) name ≡ standing xs name
+pub rows_stand : (xs : List Row) (name : Name) → get (rows_of xs) name ≡ standing xs name
 rows_stand [] name = get-empty name_cmp name
 rows_stand (x ∷ xs) name = get-insert names_total (rows_of xs) (name_of x) x name ∙ ap (cond (is_name name (name_of x)) (Some x)) (rows_stand xs name)
 
-all_stand : (xs : List Row) → get (rows_of xs) ≡ standing xs
+pub all_stand : (xs : List Row) → get (rows_of xs) ≡ standing xs
 all_stand xs = fun_ext (rows_stand xs)
 
 -- what holds of the rows as a list holds of the map of them, and the other way round
-of_maps : (xs ys : List Row) (P : At → At → Type 0) → P (standing xs) (standing ys) → P (get (rows_of xs)) (get (rows_of ys))
-of_maps xs ys P so = subst (λ (a : At). P a (get (rows_of ys))) (sym (all_stand xs)) (subst (P (standing xs)) (sym (all_stand ys)) so)
+pub of_maps : (xs ys : List Row) (P : RowsByName → RowsByName → Type 0) → P (standing xs) (standing ys) → P (get (rows_of xs)) (get (rows_of ys))
+of_maps xs ys P so = subst (λ (a : RowsByName). P a (get (rows_of ys))) (sym (all_stand xs)) (subst (P (standing xs)) (sym (all_stand ys)) so)
 
-of_lists : (xs ys : List Row) (P : At → At → Type 0) → P (get (rows_of xs)) (get (rows_of ys)) → P (standing xs) (standing ys)
-of_lists xs ys P so = subst (P (standing xs)) (all_stand ys) (subst (λ (a : At). P a (get (rows_of ys))) (all_stand xs) so)
+of_lists : (xs ys : List Row) (P : RowsByName → RowsByName → Type 0) → P (get (rows_of xs)) (get (rows_of ys)) → P (standing xs) (standing ys)
+of_lists xs ys P so = subst (P (standing xs)) (all_stand ys) (subst (λ (a : RowsByName). P a (get (rows_of ys))) (all_stand xs) so)
 
 -- of note 7 alone: the device's row x and the server's y suit each other
 record DoSuit (x y : Row) : Type 0 where
@@ -228,10 +241,10 @@ record DoSuit (x y : Row) : Type 0 where
   known : (h : Option Row) → IsKnown (pos 5) (Some x) (Some y) h
 
 abbrev seven : Name
-seven = named tables.Note (pos 7)
+seven = name_in tables.Note (pos 7)
 
 -- where a note stands alone there is no grave
-no_grave : (usn stamp : ℤ) (fields : List ℕ) (table : Table) (id : ℤ) → is_some (option_and_then (λ (graves : Table). standing (note_row usn stamp fields ∷ []) (named graves id)) (graves_of table)) ≡ false
+no_grave : (usn stamp : ℤ) (fields : List ℕ) (table : Table) (id : ℤ) → is_some (option_and_then (λ (graves : Table). standing (note_row usn stamp fields ∷ []) (name_in graves id)) (graves_of table)) ≡ false
 no_grave usn stamp fields tables.Note id = refl
 no_grave usn stamp fields tables.Card id = refl
 no_grave usn stamp fields tables.Review id = refl
@@ -316,3 +329,118 @@ not_linked_by_a_lost_row any their linked =
           let none : ⊥ ⊎ (⊥ ⊎ ⊥) = of_lists (given_3 ∷ []) [] (λ a b. IsKnown (pos 5) (a seven) (b seven) (grave_under b seven)) (parts.known seven refl) refl in
           elim none as (λ _. ⊥) [ inl never ↦ never | inr (inl never) ↦ never | inr (inr never) ↦ never ]
     ]
+
+-- ---- an exchange in parts
+abbrev their_card : Row
+their_card = rows.Card (record (card_of_it (pos 8) (pos 10) (pos 0)) { usn = pos 3 })
+
+-- the server holds note 7 and its card 8
+abbrev server_rows : List Row
+server_rows = given_3 ∷ their_card ∷ []
+
+-- the device deleted the card, and has a review and the note edited
+abbrev device_rows : List Row
+device_rows = grave_of (pos 0) (pos 8) ∷ review_of_8 ∷ late ∷ []
+
+-- what the server holds once it took the graves first, and then two chunks
+abbrev in_parts : Rows
+in_parts = all_taken (pos 5) (late ∷ []) (all_taken (pos 5) (review_of_8 ∷ []) (all_taken (pos 5) (grave_of (pos 0) (pos 8) ∷ []) (rows_of server_rows)))
+
+parts_stand : (name : Name) → get in_parts name ≡ received_under (pos 5) (standing server_rows) (newest_in device_rows) name
+parts_stand name = all_taken_at (pos 5) device_rows (rows_of server_rows) name ∙ ap (λ (at : RowsByName). received_under (pos 5) at (newest_in device_rows) name) (all_stand server_rows)
+
+abbrev IsJoinedAt : Name → Type 0
+IsJoinedAt name = IsTrue (same_held (get in_parts name) (joined_under (standing device_rows) (standing server_rows) name))
+
+joined_at : (name : Name) → IsTrue (same_held (received_under (pos 5) (standing server_rows) (newest_in device_rows) name) (joined_under (standing device_rows) (standing server_rows) name)) → IsJoinedAt name
+joined_at name is = ap (λ o. same_held o (joined_under (standing device_rows) (standing server_rows) name)) (parts_stand name) ∙ is
+
+-- Taken in parts, what the device sent gives the join: the edited note, no card, the card's grave and the review.
+an_exchange_in_parts_gives_the_join : IsJoinedAt seven × IsJoinedAt (name_in tables.Card (pos 8)) × IsJoinedAt (name_in tables.CardGrave (pos 8)) × IsJoinedAt (name_in tables.Review (pos 5000))
+an_exchange_in_parts_gives_the_join = (
+  joined_at seven refl,
+  joined_at (name_in tables.Card (pos 8)) refl,
+  joined_at (name_in tables.CardGrave (pos 8)) refl,
+  joined_at (name_in tables.Review (pos 5000)) refl,
+)
+
+the_card_is_gone : get in_parts (name_in tables.Card (pos 8)) ≡ None
+the_card_is_gone = parts_stand (name_in tables.Card (pos 8))
+
+-- ---- a reply that is lost
+-- the device edited the note at 20, the server was changed at 10, and commits at 30
+abbrev device_then : Head → Collection
+device_then any = held_of (late ∷ []) (record any { moment = pos 20 })
+
+abbrev server_then : Head → Collection
+server_then their = held_of (given_3 ∷ []) (record their { moment = pos 10 })
+
+abbrev server_now : Head → Head → Collection
+server_now any their = record {
+  rows = all_taken (pos 5) (late ∷ []) (rows_of (given_3 ∷ []));
+  head = record their { moment = pos 30; usn = pos 6; schema = pos 1; tags = []; conf = any.conf; crt = any.crt };
+}
+
+abbrev nothing_came : Received
+nothing_came = record { rows = []; tags = []; settings = None }
+
+abbrev note_sent : Head → Received
+note_sent any = record { rows = late ∷ []; tags = []; settings = Some (record { conf = any.conf; crt = any.crt }) }
+
+standing_named : (xs : List Row) → AreNamed (standing xs)
+standing_named [] name row is = absurd (not_none (sym is))
+standing_named (x ∷ xs) name row is =
+    elim (is_name name (name_of x)) as (λ b. is_name name (name_of x) ≡ b → (if b then Some x else standing xs name) ≡ Some row → name_of row ≡ name) [
+      | true ↦ λ tied is. ap name_of (sym (same_Some x row is)) ∙ sym (same_of_tied name (name_of x) tied)
+      | false ↦ λ _ is. standing_named xs name row is
+    ] refl is
+
+pub map_named : (xs : List Row) → AreNamed (get (rows_of xs))
+map_named xs = of_maps xs xs (λ a b. AreNamed a) (standing_named xs)
+
+apart_by_stamps : AreApart (get (rows_of (late ∷ []))) (get (rows_of (given_3 ∷ [])))
+apart_by_stamps = of_maps (late ∷ []) (given_3 ∷ []) AreApart (λ name x y has held same.
+    let one : stamp_of x ≡ pos 20 = each_standing (λ row. stamp_of row ≡ pos 20) (late ∷ []) (refl, tt) name x has in
+    let other : stamp_of y ≡ pos 10 = each_standing (λ row. stamp_of row ≡ pos 10) (given_3 ∷ []) (refl, tt) name y held in
+    absurd (omega (arith, ints, one, other, same)))
+
+linked_then : (any their : Head) → AreLinkedParts (device_then any) (server_then their)
+linked_then any their = note_links (record any { moment = pos 20 }) (record their { moment = pos 10 }) (negsuc 0) (pos 20) (pos 3) (pos 10) (codes "home") (codes "house") (record {
+  own = inl refl;
+  given = three;
+  taken = λ _ _. inr (inl (record { unsent = refl; newer = omega (arith, ints) }));
+  known = λ _ settled. absurd (not_both settled refl);
+})
+
+sent_then : (any : Head) → IsSent (late ∷ []) (wanted_under Unsent (row_under (device_then any))) (get (all_taken (pos 5) [] (device_then any).rows))
+sent_then any = record {
+  each = All-from_recursion (λ row. wanted_under Unsent (row_under (device_then any)) (name_of row) ≡ Some row) (late ∷ []) (ap (only_wanted Unsent) (rows_stand (late ∷ []) seven), tt);
+  whole = λ name row is _. subst (λ (r : Row). Contains (late ∷ []) r) (only_late name row (ap (only_wanted Unsent) (sym (rows_stand (late ∷ []) name)) ∙ is)) (0, omega arith, refl);
+}
+  where
+    only_late : (name : Name) (row : Row) → only_wanted Unsent (standing (late ∷ []) name) ≡ Some row → late ≡ row
+    only_late name row is =
+        elim (is_name name seven) as (λ b. only_wanted Unsent (if b then Some late else None) ≡ Some row → late ≡ row) [
+          | true ↦ λ is. same_Some late row is
+          | false ↦ λ is. absurd (not_none (sym is))
+        ] is
+
+server_half : (any their : Head) → IsServerHalf nothing_came (note_sent any) (device_then any) (server_then their) (server_now any their)
+server_half any their = record {
+  gives = All-from_recursion (λ row. wanted_under (From (pos 5)) (row_under (server_then their)) (name_of row) ≡ Some row) [] tt;
+  sends = sent_then any;
+  tags = λ name. refl;
+  settings = refl;
+  commits = record { rows = refl; tags = refl; settings = refl; usn = refl; schema = refl; last_sync = refl; moment = omega (arith, ints) };
+  moment = omega (arith, ints);
+}
+
+-- The reply to the last request is lost: the server holds the join, and the device, which is as it was, is linked with it still.
+a_lost_reply_leaves_the_servers_half : (any their : Head) → HoldsJoin (device_then any) (server_then their) (server_now any their) × AreLinked (device_then any) (server_now any their)
+a_lost_reply_leaves_the_servers_half any their =
+    let half = server_half any their in
+    let low : pos 0 ≤ℤ pos 5 = omega (arith, ints) in (
+      server_half_joins nothing_came (note_sent any) (device_then any) (server_then their) (server_now any their) half (linked_then any their) apart_by_stamps
+          (map_named (late ∷ [])) (map_named (given_3 ∷ [])) low,
+      commits_keep_links (note_sent any) (device_then any) (server_then their) (server_now any their) half.commits (map_named (given_3 ∷ [])) low (inr (linked_then any their)),
+    )

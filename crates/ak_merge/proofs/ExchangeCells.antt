@@ -12,8 +12,8 @@ use Rattle.ak_base.specs.declared.rows.Row.{Row}
 use Rattle.ak_keep.specs.Collections.{is_pending, is_settled, is_wanted}
 use Rattle.ak_keep.specs.declared.keepers.Wanted.{Wanted}
 use Rattle.ak_keep.specs.declared.keepers.Wanted.TheVariants.{Unsent, From}
-use Rattle.ak_merge.specs.Commits.{wanted_under, IsSent, settled}
-use Rattle.ak_merge.specs.Holdings.{At, AreNamed, same_held}
+use Rattle.ak_merge.specs.Exchanges.{wanted_under, AreOf, IsSent}
+use Rattle.ak_merge.specs.Holdings.{RowsByName, AreNamed, same_held}
 use Rattle.ak_merge.specs.Joins.{newest}
 use Rattle.ak_merge.specs.Links.{HasTaken, IsKnown}
 use Rattle.ak_base.proofs.RowFacts.{same-with_usn, same-itself, same-turned}
@@ -36,56 +36,66 @@ only_is want x r is =
 pub is_only : (want : Wanted) (x : Row) → IsTrue (is_wanted want x) → only_wanted want (Some x) ≡ Some x
 is_only want x meets = rw meets refl
 
-pub wanted_named : (want : Wanted) (at : At) → AreNamed at → AreNamed (wanted_under want at)
+pub wanted_named : (want : Wanted) (at : RowsByName) → AreNamed at → AreNamed (wanted_under want at)
 wanted_named want at named name row is =
     elim (at name) as (λ o. at name ≡ o → only_wanted want o ≡ Some row → name_of row ≡ name) [
       | None ↦ λ held is. absurd (none-some row is)
       | Some x ↦ λ held is. named name row (held ∙ ap (λ (r : Row). Some r) (only_is want x row is).0)
     ] refl is
 
--- what was sent of a name stands there
-pub sent_each : (sent : List Row) (at after : At) (name : Name) → IsSent sent at after → IfSome (newest_in sent name) (λ (row : Row). at name ≡ Some row)
-sent_each sent at after name gave =
+-- what a list has of a name stands there, if all of it does
+pub sent_each : (sent : List Row) (at : RowsByName) (name : Name) → AreOf at sent → IfSome (newest_in sent name) (λ (row : Row). at name ≡ Some row)
+sent_each sent at name each =
     if_weaker (λ (row : Row). (at (name_of row) ≡ Some row) × (name_of row ≡ name)) (λ (row : Row). at name ≡ Some row) (λ row h. ap at (sym h.1) ∙ h.0) (newest_in sent name)
-    (each_newest (λ (row : Row). at (name_of row) ≡ Some row) sent name (recursion_from_All (λ (row : Row). at (name_of row) ≡ Some row) sent gave.each))
+    (each_newest (λ (row : Row). at (name_of row) ≡ Some row) sent name (recursion_from_All (λ (row : Row). at (name_of row) ≡ Some row) sent each))
 
 -- what is wanted and stays was sent
-pub sent_whole : (sent : List Row) (at after : At) (name : Name) (row : Row) → IsSent sent at after → AreNamed at → at name ≡ Some row → after name ≡ Some row
+pub sent_whole : (sent : List Row) (at after : RowsByName) (name : Name) (row : Row) → IsSent sent at after → AreNamed at → at name ≡ Some row → after name ≡ Some row
     → newest_in sent name ≡ Some row
 sent_whole sent at after name row gave named is stays =
     let some : is_some (newest_in sent name) ≡ true = ap (λ (n : Name). is_some (newest_in sent n)) (sym (named name row is)) ∙ has_newest sent row (gave.whole name row is stays) in
     elim (newest_in sent name) as (λ o. is_some o ≡ true → IfSome o (λ (x : Row). at name ≡ Some x) → o ≡ Some row) [
       | None ↦ λ some each. grind (arith, some)
       | Some x ↦ λ some each. sym each ∙ is
-    ] some (sent_each sent at after name gave)
+    ] some (sent_each sent at name gave.each)
 
 -- ---- an exchange: at one name
--- what is known of one name: x and g are the device's row and grave, y and h the server's, w and k what of them came, p and q what was sent
-pub record Meets (least usn : ℤ) (x g y h w k p q : Option Row) : Type 0 where
-  pub taken : HasTaken least x g y
+-- what the server's half rests on at one name: x and g are the device's row and grave, y and h the server's, w and k what of them came to
+-- the device, p and q what was sent to the server
+pub record ServerMeets (least usn : ℤ) (x g y h w k p q : Option Row) : Type 0 where
   pub known : IsKnown least x y h
-  pub own_single : is_some g ≡ true → x ≡ None
   pub single : is_some h ≡ true → y ≡ None
   pub grave_sent : IfSome g (λ row. IsTrue (is_settled row) → is_some h ≡ true)
-  pub grave_came : IfSome h (λ row. usn_of row <ℤ least → is_some g ≡ true)
   pub apart : (a b : Row) → x ≡ Some a → y ≡ Some b → stamp_of a ≡ stamp_of b → IsTrue (same_content a b)
   pub came : IfSome w (λ row. only_wanted (From least) y ≡ Some row)
-  pub came_all : (row : Row) → only_wanted (From least) y ≡ Some row → received_by usn y h p q ≡ Some row → w ≡ Some row
   pub sent : IfSome p (λ row. only_wanted Unsent x ≡ Some row)
   pub sent_all : (row : Row) → only_wanted Unsent x ≡ Some row → received_by usn x g w k ≡ Some row → p ≡ Some row
   pub graves_came : IfSome k (λ row. is_some h ≡ true)
-  pub graves_came_all : IfSome h (λ row. IsTrue (is_wanted (From least) row) → is_some k ≡ true)
   pub graves_sent : IfSome q (λ row. is_some g ≡ true)
   pub graves_sent_all : IfSome g (λ row. IsTrue (is_pending row) → is_some q ≡ true)
+
+-- what the device's half rests on
+pub record DeviceMeets (least usn : ℤ) (x g y h w k p q : Option Row) : Type 0 where
+  pub taken : HasTaken least x g y
+  pub own_single : is_some g ≡ true → x ≡ None
+  pub grave_came : IfSome h (λ row. usn_of row <ℤ least → is_some g ≡ true)
+  pub came : IfSome w (λ row. only_wanted (From least) y ≡ Some row)
+  pub came_all : (row : Row) → only_wanted (From least) y ≡ Some row → received_by usn y h p q ≡ Some row → w ≡ Some row
+  pub sent : IfSome p (λ row. only_wanted Unsent x ≡ Some row)
+  pub graves_came : IfSome k (λ row. is_some h ≡ true)
+  pub graves_came_all : IfSome h (λ row. IsTrue (is_wanted (From least) row) → is_some k ≡ true)
+  pub graves_sent : IfSome q (λ row. is_some g ≡ true)
 
 -- what stands in the join
 abbrev pub joined_of : Option Row → Option Row → Option Row → Option Row → Option Row
 joined_of x g y h = if is_some g || is_some h then None else newest x y
 
--- what both hold then is what stands in the join
-pub record Agrees (usn : ℤ) (x g y h w k p q : Option Row) : Type 0 where
-  pub device : IsTrue (same_held (received_by usn x g w k) (joined_of x g y h))
-  pub server : IsTrue (same_held (received_by usn y h p q) (joined_of x g y h))
+-- what each holds then is what stands in the join
+abbrev pub DeviceAgrees : ℤ → Option Row → Option Row → Option Row → Option Row → Option Row → Option Row → Type 0
+DeviceAgrees usn x g y h w k = IsTrue (same_held (received_by usn x g w k) (joined_of x g y h))
+
+abbrev pub ServerAgrees : ℤ → Option Row → Option Row → Option Row → Option Row → Option Row → Option Row → Type 0
+ServerAgrees usn x g y h p q = IsTrue (same_held (received_by usn y h p q) (joined_of x g y h))
 
 pending_or_settled : (row : Row) (P : Type 0) → (IsTrue (is_pending row) → P) → (IsTrue (is_settled row) → P) → P
 pending_or_settled row P one other = elim (is_pending row) as (λ b. is_pending row ≡ b → P) [ true ↦ λ is. one is | false ↦ λ is. other (ap not is) ] refl
@@ -97,28 +107,28 @@ wanted_or_below least row P one other =
 nothing : is_some {T = Row} None ≡ true → ⊥
 nothing some = grind (arith, some)
 
--- ---- where the server has a grave
-device_buried : (least usn : ℤ) (x g y : Option Row) (h : Row) (w k p q : Option Row) → Meets least usn x g y (Some h) w k p q
-    → IsTrue (same_held (received_by usn x g w k) (joined_of x g y (Some h)))
+-- ---- the device, where the server has a grave
+device_buried : (least usn : ℤ) (x g y : Option Row) (h : Row) (w k p q : Option Row) → DeviceMeets least usn x g y (Some h) w k p q → DeviceAgrees usn x g y (Some h) w k
 device_buried least usn x None y h w (Some k) p q m = refl
 device_buried least usn x (Some g) y h w (Some k) p q m = refl
 device_buried least usn x (Some g) y h w None p q m = ap (λ o. same_held o None) (m.own_single refl)
 device_buried least usn x None y h w None p q m = absurd (wanted_or_below least h ⊥ (λ wanted. nothing (m.graves_came_all wanted)) (λ below. nothing (m.grave_came below)))
 
-server_buried : (least usn : ℤ) (x g y : Option Row) (h : Row) (w k p q : Option Row) → Meets least usn x g y (Some h) w k p q
-    → IsTrue (same_held (received_by usn y (Some h) p q) (joined_of x g y (Some h)))
+-- the device alone has one
+device_bury : (least usn : ℤ) (x : Option Row) (g : Row) (y w k p q : Option Row) → DeviceMeets least usn x (Some g) y None w k p q
+    → IsTrue (same_held (received_by usn x (Some g) w k) None)
+device_bury least usn x g y w (Some k) p q m = refl
+device_bury least usn x g y w None p q m = ap (λ o. same_held o None) (m.own_single refl)
+
+-- ---- the server, where it has a grave
+server_buried : (least usn : ℤ) (x g y : Option Row) (h : Row) (w k p q : Option Row) → ServerMeets least usn x g y (Some h) w k p q → ServerAgrees usn x g y (Some h) p q
 server_buried least usn x None y h w k p (Some q) m = refl
 server_buried least usn x (Some g) y h w k p (Some q) m = refl
 server_buried least usn x None y h w k p None m = ap (λ o. same_held o None) (m.single refl)
 server_buried least usn x (Some g) y h w k p None m = ap (λ o. same_held o None) (m.single refl)
 
--- ---- where the device alone has one
-device_bury : (least usn : ℤ) (x : Option Row) (g : Row) (y w k p q : Option Row) → Meets least usn x (Some g) y None w k p q
-    → IsTrue (same_held (received_by usn x (Some g) w k) None)
-device_bury least usn x g y w (Some k) p q m = refl
-device_bury least usn x g y w None p q m = ap (λ o. same_held o None) (m.own_single refl)
-
-server_bury : (least usn : ℤ) (x : Option Row) (g : Row) (y w k p q : Option Row) → Meets least usn x (Some g) y None w k p q
+-- the device alone has one
+server_bury : (least usn : ℤ) (x : Option Row) (g : Row) (y w k p q : Option Row) → ServerMeets least usn x (Some g) y None w k p q
     → IsTrue (same_held (received_by usn y None p q) None)
 server_bury least usn x g y w k p (Some q) m = refl
 server_bury least usn x g y w k p None m = absurd (pending_or_settled g ⊥ (λ pending. nothing (m.graves_sent_all pending)) (λ sent. nothing (m.grave_sent sent)))
@@ -127,25 +137,6 @@ server_bury least usn x g y w k p None m = absurd (pending_or_settled g ⊥ (λ 
 -- a row with another number, of one that is this
 like_sent : (usn : ℤ) (x r : Row) → x ≡ r → IsTrue (same_content (with_usn r usn) x)
 like_sent usn x r is = subst (λ (z : Row). IsTrue (same_content (with_usn r usn) z)) (sym is) (same-with_usn r usn)
-
-neither_holds : (least usn : ℤ) (w p : Option Row) → Meets least usn None None None None w None p None → Agrees usn None None None None w None p None
-neither_holds least usn None None m = record { device = refl; server = refl }
-neither_holds least usn (Some w) p m = absurd (none-some w m.came)
-neither_holds least usn None (Some p) m = absurd (none-some p m.sent)
-
-server_holds : (least usn : ℤ) (y : Row) (w p : Option Row) → Meets least usn None None (Some y) None w None p None → Agrees usn None None (Some y) None w None p None
-server_holds least usn y w (Some p) m = absurd (none-some p m.sent)
-server_holds least usn y (Some w) None m = record { device = like_sent usn y w (only_is (From least) y w m.came).0; server = same-itself y }
-server_holds least usn y None None m = absurd (wanted_or_below least y ⊥
-    (λ wanted. none-some y (m.came_all y (is_only (From least) y wanted) refl))
-    (λ below. elim (m.taken below) [ inl none ↦ absurd none | inr (inl none) ↦ absurd none | inr (inr none) ↦ absurd none ]))
-
-device_holds : (least usn : ℤ) (x : Row) (w p : Option Row) → Meets least usn (Some x) None None None w None p None → Agrees usn (Some x) None None None w None p None
-device_holds least usn x (Some w) p m = absurd (none-some w m.came)
-device_holds least usn x None (Some p) m = record { device = same-itself x; server = like_sent usn x p (only_is Unsent x p m.sent).0 }
-device_holds least usn x None None m = absurd (pending_or_settled x ⊥
-    (λ pending. none-some x (m.sent_all x (is_only Unsent x pending) refl))
-    (λ settled. elim (m.known settled) [ inl none ↦ absurd none | inr (inl none) ↦ absurd none | inr (inr none) ↦ absurd none ]))
 
 -- a row that is not newer leaves what is held
 older_came : (usn : ℤ) (x y : Row) (w : Option Row) → int_lt (stamp_of x) (stamp_of y) ≡ false → IfSome w (λ row. y ≡ row) → received usn (Some x) w ≡ Some x
@@ -160,9 +151,25 @@ newest_by : (s : Bool) (x y : Row) (z : Option Row) → int_lt (stamp_of x) (sta
     → IsTrue (same_held z (newest (Some x) (Some y)))
 newest_by s x y z is same = subst (λ b. IsTrue (same_held z (if b then Some y else Some x))) (sym is) same
 
--- where the server's is newer
+-- ---- the device, where neither has a grave
+device_neither : (least usn : ℤ) (w p : Option Row) → DeviceMeets least usn None None None None w None p None → DeviceAgrees usn None None None None w None
+device_neither least usn None p m = refl
+device_neither least usn (Some w) p m = absurd (none-some w m.came)
+
+device_gets : (least usn : ℤ) (y : Row) (w p : Option Row) → DeviceMeets least usn None None (Some y) None w None p None → DeviceAgrees usn None None (Some y) None w None
+device_gets least usn y w (Some p) m = absurd (none-some p m.sent)
+device_gets least usn y (Some w) None m = like_sent usn y w (only_is (From least) y w m.came).0
+device_gets least usn y None None m = absurd (wanted_or_below least y ⊥
+    (λ wanted. none-some y (m.came_all y (is_only (From least) y wanted) refl))
+    (λ below. elim (m.taken below) [ inl none ↦ absurd none | inr (inl none) ↦ absurd none | inr (inr none) ↦ absurd none ]))
+
+device_keeps : (least usn : ℤ) (x : Row) (w p : Option Row) → DeviceMeets least usn (Some x) None None None w None p None → DeviceAgrees usn (Some x) None None None w None
+device_keeps least usn x (Some w) p m = absurd (none-some w m.came)
+device_keeps least usn x None p m = same-itself x
+
+-- the server's is newer
 device_takes : (least usn : ℤ) (x y : Row) (w p : Option Row) → int_lt (stamp_of x) (stamp_of y) ≡ true → received usn (Some y) p ≡ Some y
-    → Meets least usn (Some x) None (Some y) None w None p None
+    → DeviceMeets least usn (Some x) None (Some y) None w None p None
     → IsTrue (same_held (received usn (Some x) w) (Some y))
 device_takes least usn x y (Some w) p newer stays m =
     let is = (only_is (From least) y w m.came).0 in
@@ -176,19 +183,36 @@ device_takes least usn x y None p newer stays m = absurd (wanted_or_below least 
       | inr (inr none) ↦ absurd none
     ]))
 
-server_newer : (least usn : ℤ) (x y : Row) (w p : Option Row) → int_lt (stamp_of x) (stamp_of y) ≡ true → Meets least usn (Some x) None (Some y) None w None p None
-    → Agrees usn (Some x) None (Some y) None w None p None
-server_newer least usn x y w p newer m =
-    let not_newer : int_lt (stamp_of y) (stamp_of x) ≡ false = grind (arith, ints, newer) in
-    let stays = older_came usn y x p not_newer (came_is Unsent x p m.sent) in
-    record {
-      device = newest_by true x y (received usn (Some x) w) newer (device_takes least usn x y w p newer stays m);
-      server = newest_by true x y (received usn (Some y) p) newer (ap (λ o. same_held o (Some y)) stays ∙ same-itself y);
-    }
+device_both : (least usn : ℤ) (x y : Row) (w p : Option Row) → DeviceMeets least usn (Some x) None (Some y) None w None p None
+    → DeviceAgrees usn (Some x) None (Some y) None w None
+device_both least usn x y w p m =
+    elim (int_lt (stamp_of x) (stamp_of y)) as (λ s. int_lt (stamp_of x) (stamp_of y) ≡ s → DeviceAgrees usn (Some x) None (Some y) None w None) [
+      | true ↦ λ newer.
+          let not_newer : int_lt (stamp_of y) (stamp_of x) ≡ false = grind (arith, ints, newer) in
+          newest_by true x y (received usn (Some x) w) newer (device_takes least usn x y w p newer (older_came usn y x p not_newer (came_is Unsent x p m.sent)) m)
+      | false ↦ λ not_newer.
+          newest_by false x y (received usn (Some x) w) not_newer (ap (λ o. same_held o (Some x)) (older_came usn x y w not_newer (came_is (From least) y w m.came)) ∙ same-itself x)
+    ] refl
 
--- where it is not
+-- ---- the server, where neither has a grave
+server_neither : (least usn : ℤ) (w p : Option Row) → ServerMeets least usn None None None None w None p None → ServerAgrees usn None None None None p None
+server_neither least usn w None m = refl
+server_neither least usn w (Some p) m = absurd (none-some p m.sent)
+
+server_keeps_own : (least usn : ℤ) (y : Row) (w p : Option Row) → ServerMeets least usn None None (Some y) None w None p None → ServerAgrees usn None None (Some y) None p None
+server_keeps_own least usn y w (Some p) m = absurd (none-some p m.sent)
+server_keeps_own least usn y w None m = same-itself y
+
+server_gets : (least usn : ℤ) (x : Row) (w p : Option Row) → ServerMeets least usn (Some x) None None None w None p None → ServerAgrees usn (Some x) None None None p None
+server_gets least usn x (Some w) p m = absurd (none-some w m.came)
+server_gets least usn x None (Some p) m = like_sent usn x p (only_is Unsent x p m.sent).0
+server_gets least usn x None None m = absurd (pending_or_settled x ⊥
+    (λ pending. none-some x (m.sent_all x (is_only Unsent x pending) refl))
+    (λ settled. elim (m.known settled) [ inl none ↦ absurd none | inr (inl none) ↦ absurd none | inr (inr none) ↦ absurd none ]))
+
+-- the server's is not newer
 server_takes : (least usn : ℤ) (x y : Row) (w p : Option Row) → int_lt (stamp_of x) (stamp_of y) ≡ false → received usn (Some x) w ≡ Some x
-    → Meets least usn (Some x) None (Some y) None w None p None
+    → ServerMeets least usn (Some x) None (Some y) None w None p None
     → IsTrue (same_held (received usn (Some y) p) (Some x))
 server_takes least usn x y w p not_newer stays m = pending_or_settled x (IsTrue (same_held (received usn (Some y) p) (Some x)))
     (λ pending. subst (λ (o : Option Row). IsTrue (same_held (received usn (Some y) o) (Some x))) (sym (m.sent_all x (is_only Unsent x pending) stays))
@@ -203,7 +227,7 @@ server_takes least usn x y w p not_newer stays m = pending_or_settled x (IsTrue 
     not_sent x (Some p) settled sent = let pending : is_pending x ≡ true = (only_is Unsent x p sent).1 in grind (arith, pending, settled)
 
     server_keeps : (least usn : ℤ) (x y : Row) (w p : Option Row) → int_lt (stamp_of x) (stamp_of y) ≡ false → IsTrue (is_settled x)
-        → Meets least usn (Some x) None (Some y) None w None p None → IsTrue (same_held (received usn (Some y) p) (Some x))
+        → ServerMeets least usn (Some x) None (Some y) None w None p None → IsTrue (same_held (received usn (Some y) p) (Some x))
     server_keeps least usn x y w p not_newer settled m = subst (λ (o : Option Row). IsTrue (same_held (received usn (Some y) o) (Some x))) (sym (not_sent x p settled m.sent))
         (elim (m.known settled) [
           | inl like ↦ same-turned x y like
@@ -211,30 +235,34 @@ server_takes least usn x y w p not_newer stays m = pending_or_settled x (IsTrue 
           | inr (inr none) ↦ absurd none
         ])
 
-device_newer : (least usn : ℤ) (x y : Row) (w p : Option Row) → int_lt (stamp_of x) (stamp_of y) ≡ false → Meets least usn (Some x) None (Some y) None w None p None
-    → Agrees usn (Some x) None (Some y) None w None p None
-device_newer least usn x y w p not_newer m =
-    let stays = older_came usn x y w not_newer (came_is (From least) y w m.came) in
-    record {
-      device = newest_by false x y (received usn (Some x) w) not_newer (ap (λ o. same_held o (Some x)) stays ∙ same-itself x);
-      server = newest_by false x y (received usn (Some y) p) not_newer (server_takes least usn x y w p not_newer stays m);
-    }
-
-both_hold : (least usn : ℤ) (x y : Row) (w p : Option Row) → Meets least usn (Some x) None (Some y) None w None p None
-    → Agrees usn (Some x) None (Some y) None w None p None
-both_hold least usn x y w p m =
-    elim (int_lt (stamp_of x) (stamp_of y)) as (λ s. int_lt (stamp_of x) (stamp_of y) ≡ s → Agrees usn (Some x) None (Some y) None w None p None) [
-      | true ↦ λ newer. server_newer least usn x y w p newer m
-      | false ↦ λ not_newer. device_newer least usn x y w p not_newer m
+server_both : (least usn : ℤ) (x y : Row) (w p : Option Row) → ServerMeets least usn (Some x) None (Some y) None w None p None
+    → ServerAgrees usn (Some x) None (Some y) None p None
+server_both least usn x y w p m =
+    elim (int_lt (stamp_of x) (stamp_of y)) as (λ s. int_lt (stamp_of x) (stamp_of y) ≡ s → ServerAgrees usn (Some x) None (Some y) None p None) [
+      | true ↦ λ newer.
+          let not_newer : int_lt (stamp_of y) (stamp_of x) ≡ false = grind (arith, ints, newer) in
+          newest_by true x y (received usn (Some y) p) newer (ap (λ o. same_held o (Some y)) (older_came usn y x p not_newer (came_is Unsent x p m.sent)) ∙ same-itself y)
+      | false ↦ λ not_newer.
+          newest_by false x y (received usn (Some y) p) not_newer (server_takes least usn x y w p not_newer (older_came usn x y w not_newer (came_is (From least) y w m.came)) m)
     ] refl
 
 -- ---- all cases
-pub agree : (least usn : ℤ) (x g y h w k p q : Option Row) → Meets least usn x g y h w k p q → Agrees usn x g y h w k p q
-agree least usn x g y (Some h) w k p q m = record { device = device_buried least usn x g y h w k p q m; server = server_buried least usn x g y h w k p q m }
-agree least usn x (Some g) y None w k p q m = record { device = device_bury least usn x g y w k p q m; server = server_bury least usn x g y w k p q m }
-agree least usn x None y None w (Some k) p q m = absurd (nothing m.graves_came)
-agree least usn x None y None w None p (Some q) m = absurd (nothing m.graves_sent)
-agree least usn None None None None w None p None m = neither_holds least usn w p m
-agree least usn None None (Some y) None w None p None m = server_holds least usn y w p m
-agree least usn (Some x) None None None w None p None m = device_holds least usn x w p m
-agree least usn (Some x) None (Some y) None w None p None m = both_hold least usn x y w p m
+pub device_agrees : (least usn : ℤ) (x g y h w k p q : Option Row) → DeviceMeets least usn x g y h w k p q → DeviceAgrees usn x g y h w k
+device_agrees least usn x g y (Some h) w k p q m = device_buried least usn x g y h w k p q m
+device_agrees least usn x (Some g) y None w k p q m = device_bury least usn x g y w k p q m
+device_agrees least usn x None y None w (Some k) p q m = absurd (nothing m.graves_came)
+device_agrees least usn x None y None w None p (Some q) m = absurd (nothing m.graves_sent)
+device_agrees least usn None None None None w None p None m = device_neither least usn w p m
+device_agrees least usn None None (Some y) None w None p None m = device_gets least usn y w p m
+device_agrees least usn (Some x) None None None w None p None m = device_keeps least usn x w p m
+device_agrees least usn (Some x) None (Some y) None w None p None m = device_both least usn x y w p m
+
+pub server_agrees : (least usn : ℤ) (x g y h w k p q : Option Row) → ServerMeets least usn x g y h w k p q → ServerAgrees usn x g y h p q
+server_agrees least usn x g y (Some h) w k p q m = server_buried least usn x g y h w k p q m
+server_agrees least usn x (Some g) y None w k p q m = server_bury least usn x g y w k p q m
+server_agrees least usn x None y None w (Some k) p q m = absurd (nothing m.graves_came)
+server_agrees least usn x None y None w None p (Some q) m = absurd (nothing m.graves_sent)
+server_agrees least usn None None None None w None p None m = server_neither least usn w p m
+server_agrees least usn None None (Some y) None w None p None m = server_keeps_own least usn y w p m
+server_agrees least usn (Some x) None None None w None p None m = server_gets least usn x w p m
+server_agrees least usn (Some x) None (Some y) None w None p None m = server_both least usn x y w p m

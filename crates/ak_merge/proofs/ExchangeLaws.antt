@@ -1,29 +1,38 @@
 -- What an exchange of a device with a server leaves: the join on both sides, linked.
-use Rattle.std.specs.Prelude.{◌≡◌, ℤ, pos, negsuc, ◌+ℤ◌, ◌≤ℤ◌, ◌<ℤ◌, Bool, true, false, not, ◌||◌, if◌then◌else◌, int_lt, IsTrue, IfSome, List, Option, Some, None, is_some}
+use Rattle.ak_keep.specs.Collections.{Collection, is_pending, is_settled, is_wanted, Rows}
+use Rattle.ak_base.specs.Tables.{graves_of, has_stamps}
+use Rattle.std.specs.Prelude.{◌≡◌, ℤ, pos, negsuc, ◌+ℤ◌, ◌≤ℤ◌, ◌<ℤ◌, Bool, true, false, not, ◌||◌, if◌then◌else◌, int_lt, IsTrue, IfSome, ℕ, ◌==◌, find, List, [], ◌∷◌, Option, Some, None, is_some}
 use Rattle.std.proofs.lemmas.Option.{none-some}
 use Rattle.std.proofs.Common.{refl, sym, ap, subst, ◌∙◌, inl, inr, arith}
 use Rattle.std.proofs.Math.Path.{fun_ext}
 use Rattle.std.proofs.lemmas.Int.{ints}
 use Rattle.std.specs.Cmp.{signed_Decides}
-use Rattle.std.specs.Option.{option_map, option_or}
+use Rattle.std.specs.Option.{option_map, option_or, unwrap_or}
 use Rattle.std.specs.Ordering.{int_eq}
 use Rattle.ak_base.specs.Contents.{same_content}
 use Rattle.ak_base.specs.Rows.{name_of, stamp_of, usn_of, with_usn}
 use Rattle.ak_base.specs.declared.names.Name.{Name}
 use Rattle.ak_base.specs.declared.names.Table.{Table}
 use Rattle.ak_base.specs.declared.rows.Row.{Row}
-use Rattle.ak_keep.specs.Collections.{is_pending, is_settled, is_wanted}
 use Rattle.ak_keep.specs.declared.keepers.Wanted.{Wanted}
 use Rattle.ak_keep.specs.declared.keepers.Wanted.TheVariants.{Unsent, From}
-use Rattle.ak_merge.specs.Commits.{IsListOf, unsent_tags, tags_from, wanted_under, IsSent, is_unsent_tag, is_tag_from, settled, settled_number, IsExchange, AreExchanged}
-use Rattle.ak_merge.specs.Holdings.{At, Held, under, AreNamed, graves_of, grave_under, IsSingle, tag_usn, content_of, same_held, SameContent}
-use Rattle.ak_merge.specs.Joins.{AreApart, joined_under, join}
-use Rattle.ak_merge.specs.Links.{has_stamps, IsGiven, IsOwn, AreNumbered, IsHeldLike, HasTaken, IsKnown, IsShared, IsTagShared, AreLinkedParts}
+use Rattle.ak_merge.specs.Commits.{Settings, Received, settings_of}
+use Rattle.ak_merge.specs.Exchanges.{tags_from, wanted_under, AreOf, IsSent, is_unsent_tag, is_tag_from, settled, settled_number, settled_tags, IsServerHalf, IsDeviceHalf, HoldsJoin, IsExchange, AreExchanged}
+use Rattle.ak_merge.specs.Tags.{tags_taken}
+use Rattle.ak_merge.specs.Takings.{IsListOf, all_taken}
+use Rattle.ak_merge.proofs.TagLaws.{tags_are_united}
+use Rattle.ak_base.specs.declared.heads.Head.{Head}
+use Rattle.ak_base.specs.declared.heads.Tag.{Tag}
+use Rattle.std.specs.FinMap.{get}
+use Rattle.std.specs.Cmp.Lexicographic.{pointwise}
+use Rattle.ak_merge.specs.Holdings.{RowsByName, row_under, AreNamed, grave_under, IsSingle, tag_usn, content_of, same_held, SameContent}
+use Rattle.ak_merge.specs.Joins.{AreApart, joined_under, newest_head, join}
+use Rattle.ak_merge.specs.Links.{IsGiven, IsOwn, AreNumbered, IsHeldLike, HasTaken, IsKnown, IsShared, IsTagShared, AreLinkedParts}
 use Rattle.ak_base.proofs.RowFacts.{name_of-with_usn, usn_of-with_usn, same-with_usn, same-itself, same-turned, same-through}
 use Rattle.ak_merge.proofs.HeldFacts.{held-alike, held-turned, held-through}
 use Rattle.ak_merge.proofs.TakingLaws.{received, received_under, grave_in, newest_in, all_taken_at}
-use Rattle.ak_merge.proofs.CommitLaws.{of_some, named_received, when_some, if_weaker, each_by, all_some, newest_named, grave_received, single_received, commit_under, given_more, given_now, commit_given, no_stamps, unstamped_graves, unstamped, stays_unstamped}
-use Rattle.ak_merge.proofs.ExchangeCells.{only_wanted, is_only, wanted_named, sent_each, sent_whole, Meets, agree}
+use Rattle.ak_merge.proofs.CommitLaws.{of_some, named_received, when_some, if_weaker, each_by, all_some, newest_named, grave_received, single_received, commit_under, commit_tag, given_more, given_now, commit_given, no_stamps, unstamped_graves, unstamped, stays_unstamped}
+use Rattle.ak_merge.proofs.ExchangeCells.{only_wanted, is_only, wanted_named, sent_each, sent_whole, ServerMeets, DeviceMeets, server_agrees, device_agrees}
 
 -- ---- an exchange: under each name
 only_some : (want : Wanted) (o : Option Row) (row : Row) → only_wanted want o ≡ Some row → is_some o ≡ true
@@ -31,15 +40,15 @@ only_some want None row is = absurd (none-some row is)
 only_some want (Some x) row is = refl
 
 -- a grave that was sent is held
-sent_graves : (want : Wanted) (sent : List Row) (at after : At) (name : Name) (graves : Option Table) → IsSent sent (wanted_under want at) after
+sent_graves : (want : Wanted) (sent : List Row) (at : RowsByName) (name : Name) (graves : Option Table) → AreOf (wanted_under want at) sent
     → IfSome (grave_in (newest_in sent) name graves) (λ row. is_some (grave_in at name graves) ≡ true)
-sent_graves want sent at after name None gave = tt
-sent_graves want sent at after name (Some graves) gave =
+sent_graves want sent at name None each = tt
+sent_graves want sent at name (Some graves) each =
     let grave : Name = record { table = graves; id = name.id } in
-    if_weaker (λ row. wanted_under want at grave ≡ Some row) (λ row. is_some (at grave) ≡ true) (λ row is. only_some want (at grave) row is) (newest_in sent grave) (sent_each sent (wanted_under want at) after grave gave)
+    if_weaker (λ row. wanted_under want at grave ≡ Some row) (λ row. is_some (at grave) ≡ true) (λ row is. only_some want (at grave) row is) (newest_in sent grave) (sent_each sent (wanted_under want at) grave each)
 
 -- each grave that is wanted was sent, since graves stay
-all_graves : (want : Wanted) (usn : ℤ) (sent : List Row) (at from : At) (name : Name) (graves : Option Table) → graves_of name.table ≡ graves
+all_graves : (want : Wanted) (usn : ℤ) (sent : List Row) (at from : RowsByName) (name : Name) (graves : Option Table) → graves_of name.table ≡ graves
     → IsSent sent (wanted_under want at) (received_under usn at from) → AreNamed at → ((name : Name) → IfSome (from name) (λ row. name_of row ≡ name))
     → IfSome (grave_in at name graves) (λ row. IsTrue (is_wanted want row) → is_some (grave_in (newest_in sent) name graves) ≡ true)
 all_graves want usn sent at from name None is gave named bears = tt
@@ -57,22 +66,22 @@ like_held : (x : Row) (o : Option Row) → IsHeldLike x o → is_some o ≡ true
 like_held x None like = absurd like
 like_held x (Some y) like = refl
 
-graves_shared : (c s : Held) (name : Name) (graves : Option Table) → graves_of name.table ≡ graves → AreLinkedParts c s
-    → IfSome (grave_in (under c) name graves) (λ row. IsTrue (is_settled row) → is_some (grave_in (under s) name graves) ≡ true)
+graves_shared : (c s : Collection) (name : Name) (graves : Option Table) → graves_of name.table ≡ graves → AreLinkedParts c s
+    → IfSome (grave_in (row_under c) name graves) (λ row. IsTrue (is_settled row) → is_some (grave_in (row_under s) name graves) ≡ true)
 graves_shared c s name None is linked = tt
 graves_shared c s name (Some graves) is linked =
     let grave : Name = record { table = graves; id = name.id } in
-    if_weaker (λ row. IsTrue (is_settled row) → IsHeldLike row (under s grave)) (λ row. IsTrue (is_settled row) → is_some (under s grave) ≡ true)
-    (λ row like settled. like_held row (under s grave) (like settled)) (under c grave)
+    if_weaker (λ row. IsTrue (is_settled row) → IsHeldLike row (row_under s grave)) (λ row. IsTrue (is_settled row) → is_some (row_under s grave) ≡ true)
+    (λ row like settled. like_held row (row_under s grave) (like settled)) (row_under c grave)
     (linked.shared grave (unstamped_graves name.table graves is)).sent
 
-graves_taken : (c s : Held) (name : Name) (graves : Option Table) → graves_of name.table ≡ graves → AreLinkedParts c s
-    → IfSome (grave_in (under s) name graves) (λ row. usn_of row <ℤ c.head.usn → is_some (grave_in (under c) name graves) ≡ true)
+graves_taken : (c s : Collection) (name : Name) (graves : Option Table) → graves_of name.table ≡ graves → AreLinkedParts c s
+    → IfSome (grave_in (row_under s) name graves) (λ row. usn_of row <ℤ c.head.usn → is_some (grave_in (row_under c) name graves) ≡ true)
 graves_taken c s name None is linked = tt
 graves_taken c s name (Some graves) is linked =
     let grave : Name = record { table = graves; id = name.id } in
-    if_weaker (λ row. usn_of row <ℤ c.head.usn → IsHeldLike row (under c grave)) (λ row. usn_of row <ℤ c.head.usn → is_some (under c grave) ≡ true)
-    (λ row like below. like_held row (under c grave) (like below)) (under s grave)
+    if_weaker (λ row. usn_of row <ℤ c.head.usn → IsHeldLike row (row_under c grave)) (λ row. usn_of row <ℤ c.head.usn → is_some (row_under c grave) ≡ true)
+    (λ row like below. like_held row (row_under c grave) (like below)) (row_under s grave)
     (linked.shared grave (unstamped_graves name.table graves is)).came
 
 -- what is shared was taken, and is known
@@ -84,62 +93,69 @@ shared_known : (usn : ℤ) (x y h : Option Row) → IsShared usn x y → IsKnown
 shared_known usn None y h shared = tt
 shared_known usn (Some x) y h shared = λ settled. inl (shared.sent settled)
 
-taken_each : (c s : Held) (name : Name) → AreLinkedParts c s → HasTaken c.head.usn (under c name) (grave_under (under c) name) (under s name)
+taken_each : (c s : Collection) (name : Name) → AreLinkedParts c s → HasTaken c.head.usn (row_under c name) (grave_under (row_under c) name) (row_under s name)
 taken_each c s name linked =
-    elim (has_stamps name.table) as (λ b. has_stamps name.table ≡ b → HasTaken c.head.usn (under c name) (grave_under (under c) name) (under s name)) [
+    elim (has_stamps name.table) as (λ b. has_stamps name.table ≡ b → HasTaken c.head.usn (row_under c name) (grave_under (row_under c) name) (row_under s name)) [
       | true ↦ λ is. linked.taken name is
-      | false ↦ λ is. shared_taken c.head.usn (under c name) (grave_under (under c) name) (under s name) (linked.shared name is)
+      | false ↦ λ is. shared_taken c.head.usn (row_under c name) (grave_under (row_under c) name) (row_under s name) (linked.shared name is)
     ] refl
 
-known_each : (c s : Held) (name : Name) → AreLinkedParts c s → IsKnown c.head.usn (under c name) (under s name) (grave_under (under s) name)
+known_each : (c s : Collection) (name : Name) → AreLinkedParts c s → IsKnown c.head.usn (row_under c name) (row_under s name) (grave_under (row_under s) name)
 known_each c s name linked =
-    elim (has_stamps name.table) as (λ b. has_stamps name.table ≡ b → IsKnown c.head.usn (under c name) (under s name) (grave_under (under s) name)) [
+    elim (has_stamps name.table) as (λ b. has_stamps name.table ≡ b → IsKnown c.head.usn (row_under c name) (row_under s name) (grave_under (row_under s) name)) [
       | true ↦ λ is. linked.known name is
-      | false ↦ λ is. shared_known c.head.usn (under c name) (under s name) (grave_under (under s) name) (linked.shared name is)
+      | false ↦ λ is. shared_known c.head.usn (row_under c name) (row_under s name) (grave_under (row_under s) name) (linked.shared name is)
     ] refl
 
--- what an exchange of linked sides rests on
-record Exchanging (got sent : List Row) (c s : Held) : Type 0 where
-  low : pos 0 ≤ℤ s.head.usn
-  linked : AreLinkedParts c s
-  apart : AreApart (under c) (under s)
-  named : AreNamed (under c)
-  their_named : AreNamed (under s)
-  gives : IsSent got (wanted_under (From c.head.usn) (under s)) (received_under s.head.usn (under s) (newest_in sent))
-  sends : IsSent sent (wanted_under Unsent (under c)) (received_under s.head.usn (under c) (newest_in got))
-
-meets : (got sent : List Row) (c s : Held) (name : Name) → Exchanging got sent c s
-    → Meets c.head.usn s.head.usn (under c name) (grave_under (under c) name) (under s name) (grave_under (under s) name)
+server_meets : (usn : ℤ) (got sent : List Row) (c s : Collection) (name : Name) → AreLinkedParts c s → AreApart (row_under c) (row_under s) → AreNamed (row_under c)
+    → AreOf (wanted_under (From c.head.usn) (row_under s)) got → IsSent sent (wanted_under Unsent (row_under c)) (received_under usn (row_under c) (newest_in got))
+    → ServerMeets c.head.usn usn (row_under c name) (grave_under (row_under c) name) (row_under s name) (grave_under (row_under s) name)
     (newest_in got name) (grave_under (newest_in got) name) (newest_in sent name) (grave_under (newest_in sent) name)
-meets got sent c s name e = record {
-  taken = taken_each c s name e.linked;
-  known = known_each c s name e.linked;
-  own_single = e.linked.own_single name;
-  single = e.linked.single name;
-  grave_sent = graves_shared c s name (graves_of name.table) refl e.linked;
-  grave_came = graves_taken c s name (graves_of name.table) refl e.linked;
-  apart = e.apart name;
-  came = sent_each got (wanted_under (From c.head.usn) (under s)) (received_under s.head.usn (under s) (newest_in sent)) name e.gives;
-  came_all = λ row is stays. sent_whole got (wanted_under (From c.head.usn) (under s)) (received_under s.head.usn (under s) (newest_in sent)) name row e.gives (wanted_named (From c.head.usn) (under s) e.their_named) is stays;
-  sent = sent_each sent (wanted_under Unsent (under c)) (received_under s.head.usn (under c) (newest_in got)) name e.sends;
-  sent_all = λ row is stays. sent_whole sent (wanted_under Unsent (under c)) (received_under s.head.usn (under c) (newest_in got)) name row e.sends (wanted_named Unsent (under c) e.named) is stays;
-  graves_came = sent_graves (From c.head.usn) got (under s) (received_under s.head.usn (under s) (newest_in sent)) name (graves_of name.table) e.gives;
-  graves_came_all = all_graves (From c.head.usn) s.head.usn got (under s) (newest_in sent) name (graves_of name.table) refl e.gives e.their_named (newest_named sent);
-  graves_sent = sent_graves Unsent sent (under c) (received_under s.head.usn (under c) (newest_in got)) name (graves_of name.table) e.sends;
-  graves_sent_all = all_graves Unsent s.head.usn sent (under c) (newest_in got) name (graves_of name.table) refl e.sends e.named (newest_named got);
+server_meets usn got sent c s name linked apart named gives sends = record {
+  known = known_each c s name linked;
+  single = linked.single name;
+  grave_sent = graves_shared c s name (graves_of name.table) refl linked;
+  apart = apart name;
+  came = sent_each got (wanted_under (From c.head.usn) (row_under s)) name gives;
+  sent = sent_each sent (wanted_under Unsent (row_under c)) name sends.each;
+  sent_all = λ row is stays. sent_whole sent (wanted_under Unsent (row_under c)) (received_under usn (row_under c) (newest_in got)) name row sends (wanted_named Unsent (row_under c) named) is stays;
+  graves_came = sent_graves (From c.head.usn) got (row_under s) name (graves_of name.table) gives;
+  graves_sent = sent_graves Unsent sent (row_under c) name (graves_of name.table) sends.each;
+  graves_sent_all = all_graves Unsent usn sent (row_under c) (newest_in got) name (graves_of name.table) refl sends named (newest_named got);
 }
 
-exchanging : (got sent : List Row) (c s d t : Held) → IsExchange got sent c s d t → AreLinkedParts c s → AreApart (under c) (under s) → AreNamed (under c)
-    → AreNamed (under s) → pos 0 ≤ℤ s.head.usn → Exchanging got sent c s
-exchanging got sent c s d t e linked apart named their_named low = record {
-  low = low;
-  linked = linked;
-  apart = apart;
-  named = named;
-  their_named = their_named;
-  gives = subst (IsSent got (wanted_under (From c.head.usn) (under s))) (commit_under sent (unsent_tags c.head.tags) s t e.commits) e.gives;
-  sends = subst (IsSent sent (wanted_under Unsent (under c))) (fun_ext (all_taken_at s.head.usn got c.rows)) e.sends;
+device_meets : (usn : ℤ) (got sent : List Row) (c s : Collection) (name : Name) → AreLinkedParts c s → AreNamed (row_under s)
+    → AreOf (wanted_under Unsent (row_under c)) sent → IsSent got (wanted_under (From c.head.usn) (row_under s)) (received_under usn (row_under s) (newest_in sent))
+    → DeviceMeets c.head.usn usn (row_under c name) (grave_under (row_under c) name) (row_under s name) (grave_under (row_under s) name)
+    (newest_in got name) (grave_under (newest_in got) name) (newest_in sent name) (grave_under (newest_in sent) name)
+device_meets usn got sent c s name linked named sends gives = record {
+  taken = taken_each c s name linked;
+  own_single = linked.own_single name;
+  grave_came = graves_taken c s name (graves_of name.table) refl linked;
+  came = sent_each got (wanted_under (From c.head.usn) (row_under s)) name gives.each;
+  came_all = λ row is stays. sent_whole got (wanted_under (From c.head.usn) (row_under s)) (received_under usn (row_under s) (newest_in sent)) name row gives (wanted_named (From c.head.usn) (row_under s) named) is stays;
+  sent = sent_each sent (wanted_under Unsent (row_under c)) name sends;
+  graves_came = sent_graves (From c.head.usn) got (row_under s) name (graves_of name.table) gives.each;
+  graves_came_all = all_graves (From c.head.usn) usn got (row_under s) (newest_in sent) name (graves_of name.table) refl gives named (newest_named sent);
+  graves_sent = sent_graves Unsent sent (row_under c) name (graves_of name.table) sends;
 }
+
+-- ---- the rows of one side
+-- what the server holds under each name once it took what the device sent is the join's
+pub server_rows_join : (usn : ℤ) (got sent : List Row) (c s : Collection) → AreLinkedParts c s → AreApart (row_under c) (row_under s) → AreNamed (row_under c)
+    → AreOf (wanted_under (From c.head.usn) (row_under s)) got → IsSent sent (wanted_under Unsent (row_under c)) (get (all_taken usn got c.rows))
+    → (name : Name) → IsTrue (same_held (get (all_taken usn sent s.rows) name) (joined_under (row_under c) (row_under s) name))
+server_rows_join usn got sent c s linked apart named gives sends name =
+    ap (λ o. same_held o (joined_under (row_under c) (row_under s) name)) (all_taken_at usn sent s.rows name)
+    ∙ server_agrees c.head.usn usn _ _ _ _ _ _ _ _ (server_meets usn got sent c s name linked apart named gives (subst (IsSent sent (wanted_under Unsent (row_under c))) (fun_ext (all_taken_at usn got c.rows)) sends))
+
+-- and so is what the device holds once it took what came
+pub device_rows_join : (usn : ℤ) (got sent : List Row) (c s : Collection) → AreLinkedParts c s → AreNamed (row_under s)
+    → AreOf (wanted_under Unsent (row_under c)) sent → IsSent got (wanted_under (From c.head.usn) (row_under s)) (get (all_taken usn sent s.rows))
+    → (name : Name) → IsTrue (same_held (get (all_taken usn got c.rows) name) (joined_under (row_under c) (row_under s) name))
+device_rows_join usn got sent c s linked named sends gives name =
+    ap (λ o. same_held o (joined_under (row_under c) (row_under s) name)) (all_taken_at usn got c.rows name)
+    ∙ device_agrees c.head.usn usn _ _ _ _ _ _ _ _ (device_meets usn got sent c s name linked named sends (subst (IsSent got (wanted_under (From c.head.usn) (row_under s))) (fun_ext (all_taken_at usn sent s.rows)) gives))
 
 -- ---- an exchange: the rows of both
 settled_like : (usn : ℤ) (x : Row) → IsTrue (same_content (settled usn x) x)
@@ -150,24 +166,18 @@ settled_held usn None j same = same
 settled_held usn (Some x) None same = same
 settled_held usn (Some x) (Some y) same = same-through (settled usn x) x y (settled_like usn x) same
 
-device_under : (got sent : List Row) (c s d t : Held) (name : Name) → IsExchange got sent c s d t
-    → under d name ≡ option_map (settled s.head.usn) (received_under s.head.usn (under c) (newest_in got) name)
-device_under got sent c s d t name e = e.rows name ∙ ap (option_map (settled s.head.usn)) (all_taken_at s.head.usn got c.rows name)
+-- and it still is once it is settled
+pub settled_rows_join : (usn : ℤ) (got sent : List Row) (c s : Collection) (now : RowsByName) → AreLinkedParts c s → AreNamed (row_under s)
+    → AreOf (wanted_under Unsent (row_under c)) sent → IsSent got (wanted_under (From c.head.usn) (row_under s)) (get (all_taken usn sent s.rows))
+    → ((name : Name) → now name ≡ option_map (settled usn) (get (all_taken usn got c.rows) name))
+    → (name : Name) → IsTrue (same_held (now name) (joined_under (row_under c) (row_under s) name))
+settled_rows_join usn got sent c s now linked named sends gives settles name =
+    ap (λ o. same_held o (joined_under (row_under c) (row_under s) name)) (settles name)
+    ∙ settled_held usn (get (all_taken usn got c.rows) name) (joined_under (row_under c) (row_under s) name) (device_rows_join usn got sent c s linked named sends gives name)
 
-server_under : (got sent : List Row) (c s d t : Held) → IsExchange got sent c s d t → under t ≡ received_under s.head.usn (under s) (newest_in sent)
-server_under got sent c s d t e = commit_under sent (unsent_tags c.head.tags) s t e.commits
-
-device_joins : (got sent : List Row) (c s d t : Held) (name : Name) → IsExchange got sent c s d t → Exchanging got sent c s
-    → IsTrue (same_held (under d name) (joined_under (under c) (under s) name))
-device_joins got sent c s d t name e rests =
-    ap (λ o. same_held o (joined_under (under c) (under s) name)) (device_under got sent c s d t name e)
-    ∙ settled_held s.head.usn (received_under s.head.usn (under c) (newest_in got) name) (joined_under (under c) (under s) name) (agree c.head.usn s.head.usn _ _ _ _ _ _ _ _ (meets got sent c s name rests)).device
-
-server_joins : (got sent : List Row) (c s d t : Held) (name : Name) → IsExchange got sent c s d t → Exchanging got sent c s
-    → IsTrue (same_held (under t name) (joined_under (under c) (under s) name))
-server_joins got sent c s d t name e rests =
-    ap (λ (at : At). same_held (at name) (joined_under (under c) (under s) name)) (server_under got sent c s d t e)
-    ∙ (agree c.head.usn s.head.usn _ _ _ _ _ _ _ _ (meets got sent c s name rests)).server
+device_under : (got sent : Received) (c s d t : Collection) (name : Name) → IsDeviceHalf got sent c s d t
+    → row_under d name ≡ option_map (settled s.head.usn) (received_under s.head.usn (row_under c) (newest_in got.rows) name)
+device_under got sent c s d t name e = e.rows name ∙ ap (option_map (settled s.head.usn)) (all_taken_at s.head.usn got.rows c.rows name)
 
 -- ---- an exchange: the tags of both
 device_tag : (least usn : ℤ) (x y after : Option ℤ) → IsTagShared least x y
@@ -224,7 +234,7 @@ mapped_some : (f : Row → Row) (P : Row → Type 0) (o : Option Row) → IfSome
 mapped_some f P None holds = tt
 mapped_some f P (Some x) holds = holds
 
-device_rows_given : (least usn more : ℤ) (at from : At) (name : Name) → more ≡ usn +ℤ pos 1 → pos 0 ≤ℤ usn → least ≤ℤ usn
+device_rows_given : (least usn more : ℤ) (at from : RowsByName) (name : Name) → more ≡ usn +ℤ pos 1 → pos 0 ≤ℤ usn → least ≤ℤ usn
     → IfSome (at name) (λ row. IsOwn least (usn_of row)) → IfSome (option_map (settled usn) (received_under usn at from name)) (λ row. IsGiven more (usn_of row))
 device_rows_given least usn more at from name is low up own =
     mapped_some (settled usn) (λ row. IsGiven more (usn_of row)) (received_under usn at from name)
@@ -240,21 +250,37 @@ device_tag_given least usn more came (Some n) after is low up own now = subst (�
 device_tag_given least usn more true None after is low up own now = subst (λ (o : Option ℤ). IfSome o (IsGiven more)) (sym now) (given_now usn more is low (settled_number usn usn) (settled_now usn))
 device_tag_given least usn more false None after is low up own now = subst (λ (o : Option ℤ). IfSome o (IsGiven more)) (sym now) tt
 
-number_own : (usn : ℤ) (o : Option ℤ) → IfSome o (IsGiven usn) → IfSome o (IsOwn usn)
+pub number_own : (usn : ℤ) (o : Option ℤ) → IfSome o (IsGiven usn) → IfSome o (IsOwn usn)
 number_own usn None given = tt
 number_own usn (Some n) given = inr given
 
-device_own : (got sent : List Row) (c s d t : Held) → IsExchange got sent c s d t → Exchanging got sent c s → AreNumbered IsOwn d
-device_own got sent c s d t e rests =
-    let more : d.head.usn ≡ s.head.usn +ℤ pos 1 = e.usn ∙ e.commits.usn in
-    record {
-      rows = λ name. if_weaker (λ row. IsGiven d.head.usn (usn_of row)) (λ row. IsOwn d.head.usn (usn_of row)) (λ row h. inr h) (under d name)
-          (subst (λ (o : Option Row). IfSome o (λ row. IsGiven d.head.usn (usn_of row))) (sym (device_under got sent c s d t name e))
-          (device_rows_given c.head.usn s.head.usn d.head.usn (under c) (newest_in got) name more rests.low rests.linked.usn (rests.linked.own.rows name)));
-      tags = λ name. number_own d.head.usn (tag_usn d.head.tags name)
-          (device_tag_given c.head.usn s.head.usn d.head.usn (tags_from c.head.usn s.head.tags name) (tag_usn c.head.tags name) (tag_usn d.head.tags name)
-          more rests.low rests.linked.usn (rests.linked.own.tags name) (e.tags name));
-    }
+-- the number of each tag of the device
+pub settled_tag_usn : (usn : ℤ) (tags : List Tag) (name : List ℕ) → tag_usn (settled_tags usn tags) name ≡ option_map (settled_number usn) (tag_usn tags name)
+settled_tag_usn usn [] name = refl
+settled_tag_usn usn (tag ∷ more) name =
+    elim (pointwise ◌==◌ tag.name name) as (λ b. option_map (λ (tag : Tag). tag.usn) (if b then Some (record { name = tag.name; usn = settled_number usn tag.usn }) else find (λ (tag : Tag). pointwise ◌==◌ tag.name name) (settled_tags usn more))
+    ≡ option_map (settled_number usn) (option_map (λ (tag : Tag). tag.usn) (if b then Some tag else find (λ (tag : Tag). pointwise ◌==◌ tag.name name) more))) [
+      | true ↦ refl
+      | false ↦ settled_tag_usn usn more name
+    ]
+
+device_tags : (got sent : Received) (c s d t : Collection) (name : List ℕ) → IsDeviceHalf got sent c s d t → tag_usn d.head.tags name
+    ≡ option_map (settled_number s.head.usn) (option_or (tag_usn c.head.tags name) (if tags_from c.head.usn s.head.tags name then Some s.head.usn else None))
+device_tags got sent c s d t name e =
+    ap (λ (tags : List Tag). tag_usn tags name) e.tags
+    ∙ settled_tag_usn s.head.usn (tags_taken s.head.usn got.tags c.head.tags) name
+    ∙ ap (option_map (settled_number s.head.usn)) (tags_are_united s.head.usn got.tags c.head.tags name
+    ∙ ap (λ b. option_or (tag_usn c.head.tags name) (if b then Some s.head.usn else None)) (e.tags_given name))
+
+device_own : (got sent : Received) (c s d t : Collection) → IsDeviceHalf got sent c s d t → AreLinkedParts c s → pos 0 ≤ℤ s.head.usn → AreNumbered IsOwn d
+device_own got sent c s d t e linked low = record {
+  rows = λ name. if_weaker (λ row. IsGiven d.head.usn (usn_of row)) (λ row. IsOwn d.head.usn (usn_of row)) (λ row h. inr h) (row_under d name)
+      (subst (λ (o : Option Row). IfSome o (λ row. IsGiven d.head.usn (usn_of row))) (sym (device_under got sent c s d t name e))
+      (device_rows_given c.head.usn s.head.usn d.head.usn (row_under c) (newest_in got.rows) name e.usn low linked.usn (linked.own.rows name)));
+  tags = λ name. number_own d.head.usn (tag_usn d.head.tags name)
+      (device_tag_given c.head.usn s.head.usn d.head.usn (tags_from c.head.usn s.head.tags name) (tag_usn c.head.tags name) (tag_usn d.head.tags name)
+      e.usn low linked.usn (linked.own.tags name) (device_tags got sent c s d t name e));
+}
 
 -- ---- sides of one content are linked
 taken_same : (usn : ℤ) (x g y : Option Row) → IsTrue (same_held x y) → HasTaken usn x g y
@@ -279,7 +305,7 @@ tag_same usn None (Some n) same = absurd (grind (arith, same))
 tag_same usn (Some m) None same = absurd (grind (arith, same))
 tag_same usn (Some m) (Some n) same = record { sent = λ settled. refl; came = λ below. refl }
 
-same_graves : (a b : At) (name : Name) (graves : Option Table) → ((name : Name) → IsTrue (same_held (a name) (b name)))
+same_graves : (a b : RowsByName) (name : Name) (graves : Option Table) → ((name : Name) → IsTrue (same_held (a name) (b name)))
     → is_some (grave_in a name graves) ≡ is_some (grave_in b name graves)
 same_graves a b name None same = refl
 same_graves a b name (Some graves) same = held-alike (a (record { table = graves; id = name.id })) (b (record { table = graves; id = name.id })) (same (record { table = graves; id = name.id }))
@@ -289,21 +315,22 @@ none_held None same = refl
 none_held (Some x) same = absurd (grind (arith, same))
 
 -- rows of one content are single together
-single_same : (a b : At) → ((name : Name) → IsTrue (same_held (a name) (b name))) → IsSingle b → IsSingle a
+single_same : (a b : RowsByName) → ((name : Name) → IsTrue (same_held (a name) (b name))) → IsSingle b → IsSingle a
 single_same a b same single name dead =
     none_held (a name) (ap (same_held (a name)) (sym (single name (sym (same_graves a b name (graves_of name.table) same) ∙ dead))) ∙ same name)
 
-linked_same : (d t : Held) → d.head.usn ≡ t.head.usn → AreNumbered IsOwn d → AreNumbered IsGiven t → SameContent (content_of d) (content_of t) → IsSingle (under t)
+pub linked_same : (d t : Collection) → d.head.usn ≡ t.head.usn → AreNumbered IsOwn d → AreNumbered IsGiven t → ((name : Name) → IsTrue (same_held (row_under d name) (row_under t name)))
+    → ((name : List ℕ) → is_some (tag_usn d.head.tags name) ≡ is_some (tag_usn t.head.tags name)) → IsSingle (row_under t)
     → AreLinkedParts d t
-linked_same d t usn own given same single = record {
+linked_same d t usn own given same same_tags single = record {
   usn = omega (arith, ints, usn);
   given = given;
   own = own;
-  taken = λ name stamps. taken_same d.head.usn (under d name) (grave_under (under d) name) (under t name) (same.rows name);
-  known = λ name stamps. known_same d.head.usn (under d name) (under t name) (grave_under (under t) name) (same.rows name);
-  shared = λ name none. shared_same d.head.usn (under d name) (under t name) (same.rows name);
-  tags = λ name. tag_same d.head.usn (tag_usn d.head.tags name) (tag_usn t.head.tags name) (same.tags name);
-  own_single = single_same (under d) (under t) same.rows single;
+  taken = λ name stamps. taken_same d.head.usn (row_under d name) (grave_under (row_under d) name) (row_under t name) (same name);
+  known = λ name stamps. known_same d.head.usn (row_under d name) (row_under t name) (grave_under (row_under t) name) (same name);
+  shared = λ name none. shared_same d.head.usn (row_under d name) (row_under t name) (same name);
+  tags = λ name. tag_same d.head.usn (tag_usn d.head.tags name) (tag_usn t.head.tags name) (same_tags name);
+  own_single = single_same (row_under d) (row_under t) same single;
   single = single;
 }
 
@@ -311,52 +338,95 @@ linked_same d t usn own given same single = record {
 name_of-settled : (usn : ℤ) (row : Row) → name_of (settled usn row) ≡ name_of row
 name_of-settled usn row = elim (is_pending row) as (λ b. name_of (if b then with_usn row usn else row) ≡ name_of row) [ true ↦ name_of-with_usn row usn | false ↦ refl ]
 
-device_named : (got sent : List Row) (c s d t : Held) → IsExchange got sent c s d t → AreNamed (under c) → AreNamed (under d)
+device_named : (got sent : Received) (c s d t : Collection) → IsDeviceHalf got sent c s d t → AreNamed (row_under c) → AreNamed (row_under d)
 device_named got sent c s d t e named name row is =
-    of_some (λ x. name_of x ≡ name) (under d name) row
+    of_some (λ x. name_of x ≡ name) (row_under d name) row
     (subst (λ (o : Option Row). IfSome o (λ x. name_of x ≡ name)) (sym (device_under got sent c s d t name e))
-    (mapped_some (settled s.head.usn) (λ x. name_of x ≡ name) (received_under s.head.usn (under c) (newest_in got) name)
-    (when_some (λ x. name_of (settled s.head.usn x) ≡ name) (received_under s.head.usn (under c) (newest_in got) name)
-    (λ x held. name_of-settled s.head.usn x ∙ named_received s.head.usn (under c) (newest_in got) named (newest_named got) name x held))))
+    (mapped_some (settled s.head.usn) (λ x. name_of x ≡ name) (received_under s.head.usn (row_under c) (newest_in got.rows) name)
+    (when_some (λ x. name_of (settled s.head.usn x) ≡ name) (received_under s.head.usn (row_under c) (newest_in got.rows) name)
+    (λ x held. name_of-settled s.head.usn x ∙ named_received s.head.usn (row_under c) (newest_in got.rows) named (newest_named got.rows) name x held))))
     is
 
-server_named : (got sent : List Row) (c s d t : Held) → IsExchange got sent c s d t → AreNamed (under s) → AreNamed (under t)
-server_named got sent c s d t e named = subst AreNamed (sym (server_under got sent c s d t e)) (named_received s.head.usn (under s) (newest_in sent) named (newest_named sent))
-
 -- what lists all that is wanted is sent
-pub listed_sent : (rows : List Row) (at after : At) → IsListOf rows at → IsSent rows at after
+pub listed_sent : (rows : List Row) (at after : RowsByName) → IsListOf rows at → IsSent rows at after
 listed_sent rows at after listed = record { each = listed.each; whole = λ name row is stays. listed.whole name row is }
 
--- an exchange links the two again, and leaves both with the join
-pub exchange_links : (got sent : List Row) (c s d t : Held) → IsExchange got sent c s d t → AreLinkedParts c s → AreApart (under c) (under s) → AreNamed (under c)
-    → AreNamed (under s) → pos 0 ≤ℤ s.head.usn → AreExchanged c s d t
-exchange_links got sent c s d t e linked apart named their_named low =
-    let rests = exchanging got sent c s d t e linked apart named their_named low in
-    let device : SameContent (content_of d) (join c s) = record {
-      rows = λ name. device_joins got sent c s d t name e rests;
-      tags = λ name. device_tag c.head.usn s.head.usn (tag_usn c.head.tags name) (tag_usn s.head.tags name) (tag_usn d.head.tags name) (linked.tags name) (e.tags name);
-      conf = e.conf;
-      crt = e.crt;
-    } in
-    let server : SameContent (content_of t) (join c s) = record {
-      rows = λ name. server_joins got sent c s d t name e rests;
-      tags = λ name. server_tag c.head.usn s.head.usn (tag_usn c.head.tags name) (tag_usn s.head.tags name) (tag_usn t.head.tags name) (linked.tags name) (e.commits.tags name);
-      conf = e.their_conf;
-      crt = e.their_crt;
-    } in
+-- ---- the settings
+settings_of_server : (b : Bool) (c s : Head) → unwrap_or (if b then Some (settings_of c) else None) (settings_of s) ≡ settings_of (if b then c else s)
+settings_of_server true c s = refl
+settings_of_server false c s = refl
+
+settings_of_device : (b : Bool) (c s : Head) → unwrap_or (if b then None else Some (settings_of s)) (settings_of c) ≡ settings_of (if b then c else s)
+settings_of_device true c s = refl
+settings_of_device false c s = refl
+
+server_settings : (got sent : Received) (c s t : Collection) → IsServerHalf got sent c s t → settings_of t.head ≡ settings_of (newest_head c.head s.head)
+server_settings got sent c s t e =
+    e.commits.settings ∙ ap (λ came. unwrap_or came (settings_of s.head)) e.settings ∙ settings_of_server (int_lt s.head.moment c.head.moment) c.head s.head
+
+device_settings : (got sent : Received) (c s d t : Collection) → IsDeviceHalf got sent c s d t → settings_of d.head ≡ settings_of (newest_head c.head s.head)
+device_settings got sent c s d t e =
+    e.settings ∙ ap (λ came. unwrap_or came (settings_of c.head)) e.gives_settings ∙ settings_of_device (int_lt s.head.moment c.head.moment) c.head s.head
+
+-- ---- the halves
+-- a server that took what the device sent, and was committed, holds the join
+pub server_half_joins : (got sent : Received) (c s t : Collection) → IsServerHalf got sent c s t → AreLinkedParts c s → AreApart (row_under c) (row_under s)
+    → AreNamed (row_under c) → AreNamed (row_under s) → pos 0 ≤ℤ s.head.usn → HoldsJoin c s t
+server_half_joins got sent c s t e linked apart named their_named low =
+    let now = sym (commit_under sent s t e.commits) in
+    record {
+      content = record {
+        rows = λ name. ap (λ (rows : Rows). same_held (get rows name) (joined_under (row_under c) (row_under s) name)) e.commits.rows
+            ∙ server_rows_join s.head.usn got.rows sent.rows c s linked apart named e.gives e.sends name;
+        tags = λ name. server_tag c.head.usn s.head.usn (tag_usn c.head.tags name) (tag_usn s.head.tags name) (tag_usn t.head.tags name) (linked.tags name)
+            (commit_tag sent s t e.commits name ∙ ap (λ b. option_or (tag_usn s.head.tags name) (if b then Some s.head.usn else None)) (e.tags name));
+        conf = ap (λ (settings : Settings). settings.conf) (server_settings got sent c s t e);
+        crt = ap (λ (settings : Settings). settings.crt) (server_settings got sent c s t e);
+      };
+      given = commit_given sent s t e.commits low linked.given;
+      single = subst IsSingle now (single_received s.head.usn (row_under s) (newest_in sent.rows) linked.single);
+      named = subst AreNamed now (named_received s.head.usn (row_under s) (newest_in sent.rows) their_named (newest_named sent.rows));
+      usn = e.commits.usn;
+      past_device = e.moment;
+      past_server = e.commits.moment;
+    }
+
+-- a device that took what the server gave, and settled what it sent, has the content of the join
+pub device_half_joins : (got sent : Received) (c s d t : Collection) → IsDeviceHalf got sent c s d t → AreLinkedParts c s → AreNamed (row_under s) → SameContent (content_of d) (join c s)
+device_half_joins got sent c s d t e linked their_named = record {
+  rows = λ name. ap (λ o. same_held o (joined_under (row_under c) (row_under s) name)) (e.rows name)
+      ∙ settled_held s.head.usn (get (all_taken s.head.usn got.rows c.rows) name) (joined_under (row_under c) (row_under s) name)
+      (device_rows_join s.head.usn got.rows sent.rows c s linked their_named e.sends e.gives name);
+  tags = λ name. device_tag c.head.usn s.head.usn (tag_usn c.head.tags name) (tag_usn s.head.tags name) (tag_usn d.head.tags name) (linked.tags name) (device_tags got sent c s d t name e);
+  conf = ap (λ (settings : Settings). settings.conf) (device_settings got sent c s d t e);
+  crt = ap (λ (settings : Settings). settings.crt) (device_settings got sent c s d t e);
+}
+
+-- then it is linked with a server that holds the join
+pub device_half_links : (got sent : Received) (c s d t : Collection) → IsDeviceHalf got sent c s d t → HoldsJoin c s t → AreLinkedParts c s
+    → AreNamed (row_under c) → AreNamed (row_under s) → pos 0 ≤ℤ s.head.usn → AreExchanged c s d t
+device_half_links got sent c s d t e joined linked named their_named low =
+    let device = device_half_joins got sent c s d t e linked their_named in
     let same : SameContent (content_of d) (content_of t) = record {
-      rows = λ name. held-through (under d name) (joined_under (under c) (under s) name) (under t name) (device.rows name) (held-turned (under t name) (joined_under (under c) (under s) name) (server.rows name));
-      tags = λ name. device.tags name ∙ sym (server.tags name);
-      conf = device.conf ∙ sym server.conf;
-      crt = device.crt ∙ sym server.crt;
+      rows = λ name. held-through (row_under d name) (joined_under (row_under c) (row_under s) name) (row_under t name) (device.rows name) (held-turned (row_under t name) (joined_under (row_under c) (row_under s) name) (joined.content.rows name));
+      tags = λ name. device.tags name ∙ sym (joined.content.tags name);
+      conf = device.conf ∙ sym joined.content.conf;
+      crt = device.crt ∙ sym joined.content.crt;
     } in
     record {
-      linked = linked_same d t e.usn (device_own got sent c s d t e rests)
-          (commit_given sent (unsent_tags c.head.tags) s t e.commits low linked.given) same
-          (subst IsSingle (sym (server_under got sent c s d t e)) (single_received s.head.usn (under s) (newest_in sent) linked.single));
+      linked = linked_same d t (e.usn ∙ sym joined.usn) (device_own got sent c s d t e linked low) joined.given same.rows same.tags joined.single;
       same = same;
       device = device;
-      server = server;
+      server = joined.content;
       named = device_named got sent c s d t e named;
-      their_named = server_named got sent c s d t e their_named;
+      their_named = joined.named;
+      last_sync = e.last_sync;
+      past_device = joined.past_device;
+      past_server = joined.past_server;
     }
+
+-- an exchange links the two again, and leaves both with the join
+pub exchange_links : (got sent : Received) (c s d t : Collection) → IsExchange got sent c s d t → AreLinkedParts c s → AreApart (row_under c) (row_under s) → AreNamed (row_under c)
+    → AreNamed (row_under s) → pos 0 ≤ℤ s.head.usn → AreExchanged c s d t
+exchange_links got sent c s d t e linked apart named their_named low =
+    device_half_links got sent c s d t e.device (server_half_joins got sent c s t e.server linked apart named their_named low) linked named their_named low

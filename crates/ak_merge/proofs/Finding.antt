@@ -1,4 +1,9 @@
 -- What a search among the rows of a table finds, said of what stands under names.
+use Rattle.ak_base.proofs.NameOrder.{names_exact}
+use Rattle.ak_base.specs.Limits.{last_id}
+use Rattle.ak_base.specs.Rows.{IsChecked, name_of}
+use Rattle.ak_keep.proofs.RowsByName.{all_from_gets, all_gets, below_more, both_first, both_second, entries_found, named-get, none_below}
+use Rattle.ak_keep.proofs.Paging.{picked}
 use Rattle.std.specs.Prelude.{◌≡◌, ℤ, pos, Bool, true, false, T, cond, ◌&&◌, ◌||◌, int_lt, List, [], ◌∷◌, ◌++◌, map, filter, find, Option, Some, None, is_some}
 use Rattle.std.specs.Cmp.{first_so, second_so}
 use Rattle.std.proofs.Common.{refl, sym, ap, subst, ◌∙◌, arith}
@@ -15,20 +20,16 @@ use Rattle.ak_base.specs.Columns.{id_fault}
 use Rattle.ak_base.specs.Decks.{title_faults as deck_titles, taken_faults}
 use Rattle.ak_base.specs.Graves.{grave_faults}
 use Rattle.ak_base.specs.NoteTypes.{title_faults as type_titles, form_faults}
-use Rattle.ak_base.specs.Names.{name_cmp, names_exact}
+use Rattle.ak_base.specs.Names.{name_cmp}
 use Rattle.ak_base.specs.Notes.{identity_faults, content_faults}
 use Rattle.ak_base.specs.OptionGroups.{general_faults, new_faults, rev_faults, lapse_faults}
 use Rattle.ak_base.specs.Reviews.{review_faults}
-use Rattle.ak_base.specs.Rows.{name_of}
-use Rattle.ak_base.specs.declared.columns.TheConstants.{LAST_ID}
 use Rattle.ak_base.specs.declared.errors.RowFault.TheVariants.{IdRange}
 use Rattle.ak_base.specs.declared.names.Name.{Name}
 use Rattle.ak_base.specs.declared.names.Table.{Table}
 use Rattle.ak_base.specs.declared.rows.Row.{Row}
 use Rattle.ak_base.specs.declared.rows.Row.TheVariants as rows
-use Rattle.ak_keep.specs.Collections.{Collection, Rows, IsChecked, IsWellFormed, is_past, rows_past}
-use Rattle.ak_keep.specs.Entries.{all_from_gets, all_gets, below_more, both_first, both_second, entries_found, named-get, none_below}
-use Rattle.ak_keep.specs.Pages.{picked}
+use Rattle.ak_keep.specs.Collections.{Holding, Rows, IsWellFormed, is_past, rows_past}
 use Rattle.ak_merge.proofs.CheckedRows.{faultless_of}
 use Rattle.ak_merge.specs.Holdings.{AreNamed, AreChecked}
 
@@ -79,7 +80,7 @@ table_has_none p table held all = none_found p table (pos 0) (entries held) (all
 over_zero : (id : ℤ) → id_fault id ≡ None → int_lt (pos 0) id ≡ true
 unfolding id_fault
 over_zero id is =
-    elim (int_lt id (pos 1)) as (λ b. int_lt id (pos 1) ≡ b → cond (b || int_lt LAST_ID id) (Some IdRange) None ≡ None → int_lt (pos 0) id ≡ true) [
+    elim (int_lt id (pos 1)) as (λ b. int_lt id (pos 1) ≡ b → cond (b || int_lt last_id id) (Some IdRange) None ≡ None → int_lt (pos 0) id ≡ true) [
       | true ↦ λ _ is. absurd (not_none is)
       | false ↦ λ more _. grind (arith, ints, more)
     ] refl is
@@ -96,10 +97,10 @@ id_over_zero (rows.Options o) checked = over_zero o.id (faultless_of (general_fa
 id_over_zero (rows.Grave g) checked = over_zero g.oid (faultless_of (grave_faults g) checked).1.0
 
 -- ---- what a keeper gives
-pub named_of_formed : (c : Collection) → IsWellFormed c → AreNamed (get c.rows)
+pub named_of_formed : (c : Holding) → IsWellFormed c → AreNamed (get c.rows)
 named_of_formed c formed name row is = named-get c.rows name row formed.named is
 
-pub checked_of_formed : (c : Collection) → IsWellFormed c → AreChecked (get c.rows)
+pub checked_of_formed : (c : Holding) → IsWellFormed c → AreChecked (get c.rows)
 checked_of_formed c formed name row is = all_gets (λ entry. IsChecked entry.1) c.rows name row formed.checked is
 
 -- ---- the first that is found

@@ -1,4 +1,6 @@
 -- The join's two laws: which side comes first makes no difference, and joining once is enough.
+use Rattle.ak_keep.specs.Collections.{Collection}
+use Rattle.ak_base.specs.Tables.{graves_of}
 use Rattle.std.specs.Prelude.{◌≡◌, ◌≢◌, Bool, true, false, ◌||◌, ◌<ℤ◌, int_lt, if◌then◌else◌, IsTrue, Option, Some, None, is_some}
 use Rattle.std.proofs.Common.{refl, sym, ap, ◌∙◌, arith}
 use Rattle.std.proofs.lemmas.Int.{ints}
@@ -10,7 +12,7 @@ use Rattle.ak_base.specs.declared.names.Name.{Name}
 use Rattle.ak_base.specs.declared.names.Table.{Table}
 use Rattle.ak_base.specs.declared.names.Table.TheVariants as tables
 use Rattle.ak_base.specs.declared.rows.Row.{Row}
-use Rattle.ak_merge.specs.Holdings.{At, Held, under, graves_of, is_dead, has_tag, content_of, same_held, SameContent}
+use Rattle.ak_merge.specs.Holdings.{RowsByName, row_under, is_dead, has_tag, content_of, same_held, SameContent}
 use Rattle.ak_merge.specs.Joins.{AreApart, newest, joined_under, newest_head, join}
 use Rattle.ak_base.proofs.RowFacts.{same-itself, same-turned}
 use Rattle.ak_base.proofs.SameRows.{like_stamp}
@@ -48,24 +50,24 @@ unless_dead : (s t : Bool) (x y : Option Row) → s ≡ t → IsTrue (same_held 
 unless_dead true t x y is same = rw (← is) refl
 unless_dead false t x y is same = rw (← is) same
 
-pub rows_commute : (a b : At) (name : Name) → AreApart a b → IsTrue (same_held (joined_under a b name) (joined_under b a name))
+pub rows_commute : (a b : RowsByName) (name : Name) → AreApart a b → IsTrue (same_held (joined_under a b name) (joined_under b a name))
 rows_commute a b name apart =
     unless_dead (is_dead a name || is_dead b name) (is_dead b name || is_dead a name) _ _ (or-turned (is_dead a name) (is_dead b name)) (newest_commutes (a name) (b name) (apart name))
 
 heads_commute : (a b : Head) → a.moment ≢ b.moment → newest_head a b ≡ newest_head b a
 heads_commute a b differ =
-    elim (int_lt a.moment b.moment) as (λ s. int_lt a.moment b.moment ≡ s → (if s then b else a) ≡ newest_head b a) [
-      | true ↦ λ less. let not_more : int_lt b.moment a.moment ≡ false = grind (arith, ints, less) in rw not_more refl
+    elim (int_lt b.moment a.moment) as (λ s. int_lt b.moment a.moment ≡ s → (if s then a else b) ≡ newest_head b a) [
+      | true ↦ λ less. let not_more : int_lt a.moment b.moment ≡ false = grind (arith, ints, less) in rw not_more refl
       | false ↦ λ less.
-          elim (int_lt b.moment a.moment) as (λ t. int_lt b.moment a.moment ≡ t → a ≡ (if t then a else b)) [
+          elim (int_lt a.moment b.moment) as (λ t. int_lt a.moment b.moment ≡ t → b ≡ (if t then b else a)) [
             | true ↦ λ more. refl
             | false ↦ λ more. absurd (differ (omega (arith, ints, less, more)))
           ] refl
     ] refl
 
-pub join_commutes : (a b : Held) → AreApart (under a) (under b) → a.head.moment ≢ b.head.moment → SameContent (join a b) (join b a)
+pub join_commutes : (a b : Collection) → AreApart (row_under a) (row_under b) → a.head.moment ≢ b.head.moment → SameContent (join a b) (join b a)
 join_commutes a b apart differ = record {
-  rows = λ name. rows_commute (under a) (under b) name apart;
+  rows = λ name. rows_commute (row_under a) (row_under b) name apart;
   tags = λ name. or-turned (has_tag a.head.tags name) (has_tag b.head.tags name);
   conf = ap (λ (head : Head). head.conf) (heads_commute a.head b.head differ);
   crt = ap (λ (head : Head). head.crt) (heads_commute a.head b.head differ);
@@ -91,11 +93,11 @@ no_graves tables.CardGrave graves is = grind (arith, is)
 no_graves tables.DeckGrave graves is = grind (arith, is)
 
 -- a name of a grave is dead nowhere
-pub undead : (at : At) (name : Name) (graves : Table) → graves_of name.table ≡ Some graves → is_dead at (record { table = graves; id = name.id }) ≡ false
+pub undead : (at : RowsByName) (name : Name) (graves : Table) → graves_of name.table ≡ Some graves → is_dead at (record { table = graves; id = name.id }) ≡ false
 undead at name graves is = ap (λ o. is_some (option_and_then (λ (table : Table). at (record { table = table; id = name.id })) o)) (no_graves name.table graves is)
 
 -- the join's graves are those of both
-dead_join : (a b j : At) (name : Name) → ((name : Name) → IsTrue (same_held (j name) (joined_under a b name))) → is_dead j name ≡ (is_dead a name || is_dead b name)
+dead_join : (a b j : RowsByName) (name : Name) → ((name : Name) → IsTrue (same_held (j name) (joined_under a b name))) → is_dead j name ≡ (is_dead a name || is_dead b name)
 dead_join a b j name joins =
     elim (graves_of name.table) as (λ o. graves_of name.table ≡ o → is_some (option_and_then (λ (table : Table). j (record { table = table; id = name.id })) o)
     ≡ (is_some (option_and_then (λ (table : Table). a (record { table = table; id = name.id })) o) || is_some (option_and_then (λ (table : Table). b (record { table = table; id = name.id })) o))) [
@@ -132,7 +134,7 @@ once_at true e x y z same = held-turned z None same
 once_at false true x y z same = held-turned z None same
 once_at false false x y z same = newest_once x y z same
 
-pub rows_once : (a b j : At) (name : Name) → ((name : Name) → IsTrue (same_held (j name) (joined_under a b name))) → IsTrue (same_held (joined_under a j name) (j name))
+pub rows_once : (a b j : RowsByName) (name : Name) → ((name : Name) → IsTrue (same_held (j name) (joined_under a b name))) → IsTrue (same_held (joined_under a j name) (j name))
 rows_once a b j name joins =
     rw (dead_join a b j name joins) (once_at (is_dead a name) (is_dead b name) (a name) (b name) (j name) (joins name))
 
@@ -140,12 +142,12 @@ or-once : (s t u : Bool) → u ≡ (s || t) → (s || u) ≡ u
 or-once true t u is = sym is
 or-once false t u is = refl
 
-pub join_once : (a b j : Held) → SameContent (content_of j) (join a b) → a.head.moment <ℤ j.head.moment → SameContent (join a j) (content_of j)
+pub join_once : (a b j : Collection) → SameContent (content_of j) (join a b) → a.head.moment <ℤ j.head.moment → SameContent (join a j) (content_of j)
 join_once a b j joins later =
-    let is_later : int_lt a.head.moment j.head.moment ≡ true = grind (arith, ints, later) in
+    let is_later : int_lt j.head.moment a.head.moment ≡ false = grind (arith, ints, later) in
     let head : newest_head a.head j.head ≡ j.head = rw is_later refl in
     record {
-      rows = λ name. rows_once (under a) (under b) (under j) name joins.rows;
+      rows = λ name. rows_once (row_under a) (row_under b) (row_under j) name joins.rows;
       tags = λ name. or-once (has_tag a.head.tags name) (has_tag b.head.tags name) (has_tag j.head.tags name) (joins.tags name);
       conf = ap (λ (head : Head). head.conf) head;
       crt = ap (λ (head : Head). head.crt) head;

@@ -1,4 +1,7 @@
 -- The check's walk over the rows of a part.
+use Rattle.ak_keep.specs.Marks.{WithMark}
+use Rattle.ak_keep.proofs.Told.{where_told-map}
+use Rattle.ak_base.specs.Tables.{all_tables}
 use Rattle.std.specs.Prelude.{◌≡◌, ℕ, zero, suc, ◌+◌, ◌<◌, pos, drop, get_or, Bool, true, false, cond, List, [], ◌∷◌, ◌++◌, find, Option, Some, None, IfSome}
 use Rattle.std.proofs.Common.{refl, sym, ap, ◌∙◌, arith}
 use Rattle.std.specs.Option.{option_map, option_or}
@@ -7,11 +10,11 @@ use Rattle.ak_base.specs.declared.names.Name.{Name}
 use Rattle.ak_base.specs.declared.names.Table.{Table}
 use Rattle.ak_base.specs.declared.names.Table.TheVariants as tables
 use Rattle.ak_base.specs.declared.rows.Row.{Row}
-use Rattle.ak_keep.specs.Collections.{Collection, Rows, rows_past}
+use Rattle.ak_keep.specs.Collections.{Holding, Rows, rows_past}
 use Rattle.ak_keep.specs.Keepers.{Keeping, WhereTold}
 use Rattle.ak_keep.specs.Walks.{ahead}
 use Rattle.ak_keep.specs.declared.walks.Walk.{Walk}
-use Rattle.ak_merge.specs.Parting.{first_torn, first_torn_in, first_torn_of, all_tables, is_torn}
+use Rattle.ak_merge.specs.Conflicts.{first_conflict, first_conflict_in, first_conflict_of, has_conflict}
 use Rattle.ak_merge.specs.Soundness.{first_bad, is_bad, table_of}
 use Rattle.ak_merge.specs.declared.checks.Part.{Part}
 
@@ -45,64 +48,61 @@ passed p page rest all whole same is none =
 abbrev pub HasPassed : Part → Walk → Rows → Type 0
 HasPassed part walk rows = find (is_bad part rows) (ahead walk rows) ≡ find (is_bad part rows) (rows_past (table_of part) (pos 0) rows)
 
+told_three : (k : Keeping) (P Q R S : Holding → Type 0) → ((h : Holding) → P h → Q h → R h → S h) → WhereTold k P → WhereTold k Q → WhereTold k R → WhereTold k S
+told_three k P Q R S so =
+    elim k.told as (λ (o : Option (WithMark Holding)). IfSome o (λ w. P w.current) → IfSome o (λ w. Q w.current) → IfSome o (λ w. R w.current) → IfSome o (λ w. S w.current)) [
+      | None ↦ λ _ _ _. tt
+      | Some w ↦ so w.current
+    ]
+
 pub bad_found : (k : Keeping) (part : Part) (walk next : Walk) (page : List Row) (name : Name)
     → WhereTold k (λ c. HasPassed part walk c.rows) → WhereTold k (λ c. ahead walk c.rows ≡ page ++ ahead next c.rows)
     → WhereTold k (λ c. Some name ≡ option_map name_of (find (is_bad part c.rows) page)) → WhereTold k (λ c. Some name ≡ first_bad part c.rows)
-bad_found k part walk next page name same is first = elim k.current.told as (λ (o : Option Collection). IfSome o (λ c. HasPassed part walk c.rows) → IfSome o (λ c. ahead walk c.rows ≡ page ++ ahead next c.rows)
-    → IfSome o (λ c. Some name ≡ option_map name_of (find (is_bad part c.rows) page)) → IfSome o (λ c. Some name ≡ first_bad part c.rows)) [
-      | None ↦ λ _ _ _. tt
-      | Some c ↦ λ same is first. found (is_bad part c.rows) page (ahead next c.rows) (ahead walk c.rows) (rows_past (table_of part) (pos 0) c.rows) name same is first
-    ] same is first
+bad_found k part walk next page name = told_three k (λ c. HasPassed part walk c.rows) (λ c. ahead walk c.rows ≡ page ++ ahead next c.rows)
+    (λ c. Some name ≡ option_map name_of (find (is_bad part c.rows) page)) (λ c. Some name ≡ first_bad part c.rows)
+    (λ c same is first. found (is_bad part c.rows) page (ahead next c.rows) (ahead walk c.rows) (rows_past (table_of part) (pos 0) c.rows) name same is first)
 
 pub bad_passed : (k : Keeping) (part : Part) (walk next : Walk) (page : List Row)
     → WhereTold k (λ c. HasPassed part walk c.rows) → WhereTold k (λ c. ahead walk c.rows ≡ page ++ ahead next c.rows)
     → WhereTold k (λ c. None ≡ option_map name_of (find (is_bad part c.rows) page)) → WhereTold k (λ c. HasPassed part next c.rows)
-bad_passed k part walk next page same is none = elim k.current.told as (λ (o : Option Collection). IfSome o (λ c. HasPassed part walk c.rows) → IfSome o (λ c. ahead walk c.rows ≡ page ++ ahead next c.rows)
-    → IfSome o (λ c. None ≡ option_map name_of (find (is_bad part c.rows) page)) → IfSome o (λ c. HasPassed part next c.rows)) [
-      | None ↦ λ _ _ _. tt
-      | Some c ↦ λ same is none. passed (is_bad part c.rows) page (ahead next c.rows) (ahead walk c.rows) (rows_past (table_of part) (pos 0) c.rows) same is none
-    ] same is none
-
-pub told_so : (k : Keeping) (P Q : Collection → Type 0) → ((c : Collection) → P c → Q c) → WhereTold k P → WhereTold k Q
-told_so k P Q so is = elim k.current.told as (λ (o : Option Collection). IfSome o P → IfSome o Q) [ None ↦ λ _. tt | Some c ↦ so c ] is
+bad_passed k part walk next page = told_three k (λ c. HasPassed part walk c.rows) (λ c. ahead walk c.rows ≡ page ++ ahead next c.rows)
+    (λ c. None ≡ option_map name_of (find (is_bad part c.rows) page)) (λ c. HasPassed part next c.rows)
+    (λ c same is none. passed (is_bad part c.rows) page (ahead next c.rows) (ahead walk c.rows) (rows_past (table_of part) (pos 0) c.rows) same is none)
 
 -- ---- where two keepers tell
 -- the first row ahead that is in doubt is the first of the table
 abbrev pub HaveAgreed : Table → Walk → Rows → Rows → Type 0
-HaveAgreed table walk a b = find (is_torn b) (ahead walk a) ≡ find (is_torn b) (rows_past table (pos 0) a)
+HaveAgreed table walk a b = find (has_conflict b) (ahead walk a) ≡ find (has_conflict b) (rows_past table (pos 0) a)
 
-both_told : (k m : Keeping) (P Q R S : Collection → Collection → Type 0) → ((c d : Collection) → P c d → Q c d → R c d → S c d)
+both_told : (k m : Keeping) (P Q R S : Holding → Holding → Type 0) → ((c d : Holding) → P c d → Q c d → R c d → S c d)
     → WhereTold k (λ c. WhereTold m (P c)) → WhereTold k (λ c. WhereTold m (Q c)) → WhereTold k (λ c. WhereTold m (R c)) → WhereTold k (λ c. WhereTold m (S c))
 both_told k m P Q R S so =
-    elim k.current.told as (λ (o : Option Collection). IfSome o (λ c. WhereTold m (P c)) → IfSome o (λ c. WhereTold m (Q c)) → IfSome o (λ c. WhereTold m (R c)) → IfSome o (λ c. WhereTold m (S c))) [
-      | None ↦ λ _ _ _. tt
-      | Some c ↦ elim m.current.told as (λ (o : Option Collection). IfSome o (P c) → IfSome o (Q c) → IfSome o (R c) → IfSome o (S c)) [ None ↦ λ _ _ _. tt | Some d ↦ so c d ]
-    ]
+    told_three k (λ c. WhereTold m (P c)) (λ c. WhereTold m (Q c)) (λ c. WhereTold m (R c)) (λ c. WhereTold m (S c)) (λ c. told_three m (P c) (Q c) (R c) (S c) (so c))
 
-told_one : (k m : Keeping) (P : Collection → Type 0) → WhereTold k P → WhereTold k (λ c. WhereTold m (λ d. P c))
-told_one k m P = told_so k P _ (λ c is. elim m.current.told as (λ (o : Option Collection). IfSome o (λ d. P c)) [ None ↦ tt | Some d ↦ is ])
+told_one : (k m : Keeping) (P : Holding → Type 0) → WhereTold k P → WhereTold k (λ c. WhereTold m (λ d. P c))
+told_one k m P = where_told-map k P _ (λ c is. elim m.told as (λ (o : Option (WithMark Holding)). IfSome o (λ w. P c)) [ None ↦ tt | Some w ↦ is ])
 
-told_other : (k m : Keeping) (P : Collection → Type 0) → WhereTold m P → WhereTold k (λ c. WhereTold m P)
-told_other k m P is = elim k.current.told as (λ (o : Option Collection). IfSome o (λ c. WhereTold m P)) [ None ↦ tt | Some c ↦ is ]
+told_other : (k m : Keeping) (P : Holding → Type 0) → WhereTold m P → WhereTold k (λ c. WhereTold m P)
+told_other k m P is = elim k.told as (λ (o : Option (WithMark Holding)). IfSome o (λ w. WhereTold m P)) [ None ↦ tt | Some w ↦ is ]
 
-pub torn_found : (k m : Keeping) (table : Table) (walk next : Walk) (page : List Row) (name : Name)
+pub conflict_found : (k m : Keeping) (table : Table) (walk next : Walk) (page : List Row) (name : Name)
     → WhereTold k (λ c. WhereTold m (λ d. HaveAgreed table walk c.rows d.rows)) → WhereTold k (λ c. ahead walk c.rows ≡ page ++ ahead next c.rows)
-    → WhereTold m (λ d. Some name ≡ option_map name_of (find (is_torn d.rows) page)) → WhereTold k (λ c. WhereTold m (λ d. Some name ≡ first_torn_in table c.rows d.rows))
-torn_found k m table walk next page name same is first = both_told k m (λ c d. HaveAgreed table walk c.rows d.rows) (λ c d. ahead walk c.rows ≡ page ++ ahead next c.rows)
-    (λ c d. Some name ≡ option_map name_of (find (is_torn d.rows) page)) (λ c d. Some name ≡ first_torn_in table c.rows d.rows)
-    (λ c d same is first. found (is_torn d.rows) page (ahead next c.rows) (ahead walk c.rows) (rows_past table (pos 0) c.rows) name same is first)
-    same (told_one k m (λ c. ahead walk c.rows ≡ page ++ ahead next c.rows) is) (told_other k m (λ d. Some name ≡ option_map name_of (find (is_torn d.rows) page)) first)
+    → WhereTold m (λ d. Some name ≡ option_map name_of (find (has_conflict d.rows) page)) → WhereTold k (λ c. WhereTold m (λ d. Some name ≡ first_conflict_in table c.rows d.rows))
+conflict_found k m table walk next page name same is first = both_told k m (λ c d. HaveAgreed table walk c.rows d.rows) (λ c d. ahead walk c.rows ≡ page ++ ahead next c.rows)
+    (λ c d. Some name ≡ option_map name_of (find (has_conflict d.rows) page)) (λ c d. Some name ≡ first_conflict_in table c.rows d.rows)
+    (λ c d same is first. found (has_conflict d.rows) page (ahead next c.rows) (ahead walk c.rows) (rows_past table (pos 0) c.rows) name same is first)
+    same (told_one k m (λ c. ahead walk c.rows ≡ page ++ ahead next c.rows) is) (told_other k m (λ d. Some name ≡ option_map name_of (find (has_conflict d.rows) page)) first)
 
-pub torn_passed : (k m : Keeping) (table : Table) (walk next : Walk) (page : List Row)
+pub conflict_passed : (k m : Keeping) (table : Table) (walk next : Walk) (page : List Row)
     → WhereTold k (λ c. WhereTold m (λ d. HaveAgreed table walk c.rows d.rows)) → WhereTold k (λ c. ahead walk c.rows ≡ page ++ ahead next c.rows)
-    → WhereTold m (λ d. None ≡ option_map name_of (find (is_torn d.rows) page)) → WhereTold k (λ c. WhereTold m (λ d. HaveAgreed table next c.rows d.rows))
-torn_passed k m table walk next page same is none = both_told k m (λ c d. HaveAgreed table walk c.rows d.rows) (λ c d. ahead walk c.rows ≡ page ++ ahead next c.rows)
-    (λ c d. None ≡ option_map name_of (find (is_torn d.rows) page)) (λ c d. HaveAgreed table next c.rows d.rows)
-    (λ c d same is none. passed (is_torn d.rows) page (ahead next c.rows) (ahead walk c.rows) (rows_past table (pos 0) c.rows) same is none)
-    same (told_one k m (λ c. ahead walk c.rows ≡ page ++ ahead next c.rows) is) (told_other k m (λ d. None ≡ option_map name_of (find (is_torn d.rows) page)) none)
+    → WhereTold m (λ d. None ≡ option_map name_of (find (has_conflict d.rows) page)) → WhereTold k (λ c. WhereTold m (λ d. HaveAgreed table next c.rows d.rows))
+conflict_passed k m table walk next page same is none = both_told k m (λ c d. HaveAgreed table walk c.rows d.rows) (λ c d. ahead walk c.rows ≡ page ++ ahead next c.rows)
+    (λ c d. None ≡ option_map name_of (find (has_conflict d.rows) page)) (λ c d. HaveAgreed table next c.rows d.rows)
+    (λ c d same is none. passed (has_conflict d.rows) page (ahead next c.rows) (ahead walk c.rows) (rows_past table (pos 0) c.rows) same is none)
+    same (told_one k m (λ c. ahead walk c.rows ≡ page ++ ahead next c.rows) is) (told_other k m (λ d. None ≡ option_map name_of (find (has_conflict d.rows) page)) none)
 
 -- ---- over the tables, in their order
-next_table : (n : ℕ) (a b : Rows) → n < 9 → first_torn_of (drop n all_tables) a b ≡ option_or (first_torn_in (get_or all_tables n tables.Note) a b) (first_torn_of (drop (suc n) all_tables) a b)
+next_table : (n : ℕ) (a b : Rows) → n < 9 → first_conflict_of (drop n all_tables) a b ≡ option_or (first_conflict_in (get_or all_tables n tables.Note) a b) (first_conflict_of (drop (suc n) all_tables) a b)
 next_table zero a b h = refl
 next_table (suc zero) a b h = refl
 next_table (suc (suc zero)) a b h = refl
@@ -119,16 +119,16 @@ one_more n = omega arith
 
 -- what is left of the tables holds the first of all
 abbrev pub IsLeft : ℕ → Rows → Rows → Type 0
-IsLeft n a b = first_torn_of (drop n all_tables) a b ≡ first_torn a b
+IsLeft n a b = first_conflict_of (drop n all_tables) a b ≡ first_conflict a b
 
-pub torn_ends : (k m : Keeping) (n : ℕ) (name : Name) → n < 9 → WhereTold k (λ c. WhereTold m (λ d. IsLeft n c.rows d.rows))
-    → WhereTold k (λ c. WhereTold m (λ d. Some name ≡ first_torn_in (get_or all_tables n tables.Note) c.rows d.rows)) → WhereTold k (λ c. WhereTold m (λ d. Some name ≡ first_torn c.rows d.rows))
-torn_ends k m n name small left first = both_told k m (λ c d. IsLeft n c.rows d.rows) (λ c d. Some name ≡ first_torn_in (get_or all_tables n tables.Note) c.rows d.rows)
-    (λ c d. IsLeft n c.rows d.rows) (λ c d. Some name ≡ first_torn c.rows d.rows)
-    (λ c d left first _. ap (λ o. option_or o (first_torn_of (drop (suc n) all_tables) c.rows d.rows)) first ∙ sym (next_table n c.rows d.rows small) ∙ left) left first left
+pub conflict_ends : (k m : Keeping) (n : ℕ) (name : Name) → n < 9 → WhereTold k (λ c. WhereTold m (λ d. IsLeft n c.rows d.rows))
+    → WhereTold k (λ c. WhereTold m (λ d. Some name ≡ first_conflict_in (get_or all_tables n tables.Note) c.rows d.rows)) → WhereTold k (λ c. WhereTold m (λ d. Some name ≡ first_conflict c.rows d.rows))
+conflict_ends k m n name small left first = both_told k m (λ c d. IsLeft n c.rows d.rows) (λ c d. Some name ≡ first_conflict_in (get_or all_tables n tables.Note) c.rows d.rows)
+    (λ c d. IsLeft n c.rows d.rows) (λ c d. Some name ≡ first_conflict c.rows d.rows)
+    (λ c d left first _. ap (λ o. option_or o (first_conflict_of (drop (suc n) all_tables) c.rows d.rows)) first ∙ sym (next_table n c.rows d.rows small) ∙ left) left first left
 
-pub torn_goes_on : (k m : Keeping) (n : ℕ) → n < 9 → WhereTold k (λ c. WhereTold m (λ d. IsLeft n c.rows d.rows))
-    → WhereTold k (λ c. WhereTold m (λ d. None ≡ first_torn_in (get_or all_tables n tables.Note) c.rows d.rows)) → WhereTold k (λ c. WhereTold m (λ d. IsLeft (n + 1) c.rows d.rows))
-torn_goes_on k m n small left none = both_told k m (λ c d. IsLeft n c.rows d.rows) (λ c d. None ≡ first_torn_in (get_or all_tables n tables.Note) c.rows d.rows)
+pub conflict_goes_on : (k m : Keeping) (n : ℕ) → n < 9 → WhereTold k (λ c. WhereTold m (λ d. IsLeft n c.rows d.rows))
+    → WhereTold k (λ c. WhereTold m (λ d. None ≡ first_conflict_in (get_or all_tables n tables.Note) c.rows d.rows)) → WhereTold k (λ c. WhereTold m (λ d. IsLeft (n + 1) c.rows d.rows))
+conflict_goes_on k m n small left none = both_told k m (λ c d. IsLeft n c.rows d.rows) (λ c d. None ≡ first_conflict_in (get_or all_tables n tables.Note) c.rows d.rows)
     (λ c d. IsLeft n c.rows d.rows) (λ c d. IsLeft (n + 1) c.rows d.rows)
-    (λ c d left none _. ap (λ i. first_torn_of (drop i all_tables) c.rows d.rows) (one_more n) ∙ ap (λ o. option_or o (first_torn_of (drop (suc n) all_tables) c.rows d.rows)) none ∙ sym (next_table n c.rows d.rows small) ∙ left) left none left
+    (λ c d left none _. ap (λ i. first_conflict_of (drop i all_tables) c.rows d.rows) (one_more n) ∙ ap (λ o. option_or o (first_conflict_of (drop (suc n) all_tables) c.rows d.rows)) none ∙ sym (next_table n c.rows d.rows small) ∙ left) left none left

@@ -1,4 +1,6 @@
 -- The basic check finds no fault exactly where a collection is sound.
+use Rattle.ak_merge.specs.Holdings.{name_in, RowsByName, AreNamed, AreChecked}
+use Rattle.ak_keep.proofs.RowsByName.{all_gets, entries_found}
 use Rattle.std.specs.Prelude.{◌≡◌, ◌↔◌, ℤ, pos, Bool, true, false, cond, not, ◌&&◌, ◌<ℤ◌, int_lt, List, [], ◌∷◌, map, filter, find, length, Option, Some, None}
 use Rattle.ak_base.proofs.Optional.{both_none, none_mapped}
 use Rattle.std.proofs.Common.{refl, sym, ap, ◌∙◌, arith}
@@ -17,10 +19,8 @@ use Rattle.ak_base.specs.declared.notes.Note.{Note}
 use Rattle.ak_base.specs.declared.rows.Row.{Row}
 use Rattle.ak_base.specs.declared.rows.Row.TheVariants as rows
 use Rattle.ak_keep.specs.Collections.{Rows, is_card_of, cards_among, cards_of, rows_past}
-use Rattle.ak_keep.specs.Entries.{all_gets, entries_found}
 use Rattle.ak_merge.proofs.Finding.{not_both, none_in_table, table_has_none, id_over_zero}
-use Rattle.ak_merge.specs.Holdings.{At, AreNamed, AreChecked}
-use Rattle.ak_merge.specs.Soundness.{IsSound, type_name, bad_card, bad_note, first_bad, first_fault, first_of, is_bad, is_empty, lacks_template, named, table_of, type_under}
+use Rattle.ak_merge.specs.Soundness.{IsSound, type_name, bad_card, bad_note, first_bad, first_fault, first_of, is_bad, is_empty, lacks_template, table_of, type_under}
 use Rattle.ak_merge.specs.declared.checks.CheckFault.{CheckFault}
 use Rattle.ak_merge.specs.declared.checks.CheckFault.TheVariants as faults
 use Rattle.ak_merge.specs.declared.checks.Part.{Part}
@@ -32,7 +32,7 @@ is_so {b = true} is = refl
 is_so {b = false} is = sym is
 
 -- ---- the cards of a note
-abbrev HasCard : Rows → ℤ → Type 0
+abbrev pub HasCard : Rows → ℤ → Type 0
 HasCard held note = (card : Card) × (name : Name) × (get held name ≡ Some (rows.Card card)) × (card.nid ≡ note)
 
 -- a row that is a card of the note
@@ -45,7 +45,7 @@ card_of_row held note name (rows.Deck d) has is = absurd (not_both is refl)
 card_of_row held note name (rows.Options o) has is = absurd (not_both is refl)
 card_of_row held note name (rows.Grave g) has is = absurd (not_both is refl)
 
-card_among : (held : Rows) (note : ℤ) (es : List (Name × Row)) → AllByRecursion (λ entry. get held entry.0 ≡ Some entry.1) es → is_empty (cards_among note es) ≡ false → HasCard held note
+pub card_among : (held : Rows) (note : ℤ) (es : List (Name × Row)) → AllByRecursion (λ entry. get held entry.0 ≡ Some entry.1) es → is_empty (cards_among note es) ≡ false → HasCard held note
 card_among held note [] found some = absurd (not_both refl some)
 card_among held note (e ∷ es) found some =
     let more = filter (λ (entry : Name × Row). is_card_of note entry.1) es in
@@ -65,7 +65,7 @@ none_of_note note (e ∷ es) none =
     ] refl none
 
 -- a note whose card stands has some
-has_some : (held : Rows) (note : ℤ) (name : Name) (card : Card) → get held name ≡ Some (rows.Card card) → card.nid ≡ note → is_empty (cards_of note held) ≡ false
+pub has_some : (held : Rows) (note : ℤ) (name : Name) (card : Card) → get held name ≡ Some (rows.Card card) → card.nid ≡ note → is_empty (cards_of note held) ≡ false
 has_some held note name card has of_it =
     elim (is_empty (cards_of note held)) as (λ b. is_empty (cards_of note held) ≡ b → b ≡ false) [
       | true ↦ λ none.
@@ -80,23 +80,23 @@ abbrev AreGood : Part → Rows → Type 0
 AreGood part held = (name : Name) (row : Row) → get held name ≡ Some row → is_bad part held row ≡ false
 
 good_cards : (part : Part) (held : Rows) → table_of part ≡ tables.Card → AreChecked (get held) → first_bad part held ≡ None
-    → (card : Card) → get held (named tables.Card card.id) ≡ Some (rows.Card card) → bad_card part held card ≡ false
+    → (card : Card) → get held (name_in tables.Card card.id) ≡ Some (rows.Card card) → bad_card part held card ≡ false
 good_cards part held is checked none card has =
     none_in_table (is_bad part held) tables.Card held (ap (λ (table : Table). find (is_bad part held) (rows_past table (pos 0) held)) (sym is) ∙ none_mapped name_of _ none)
-    (named tables.Card card.id) (rows.Card card) has (id_over_zero (rows.Card card) (checked _ (rows.Card card) has))
+    (name_in tables.Card card.id) (rows.Card card) has (id_over_zero (rows.Card card) (checked _ (rows.Card card) has))
 
 good_notes : (part : Part) (held : Rows) → table_of part ≡ tables.Note → AreChecked (get held) → first_bad part held ≡ None
-    → (note : Note) → get held (named tables.Note note.id) ≡ Some (rows.Note note) → bad_note part held note ≡ false
+    → (note : Note) → get held (name_in tables.Note note.id) ≡ Some (rows.Note note) → bad_note part held note ≡ false
 good_notes part held is checked none note has =
     none_in_table (is_bad part held) tables.Note held (ap (λ (table : Table). find (is_bad part held) (rows_past table (pos 0) held)) (sym is) ∙ none_mapped name_of _ none)
-    (named tables.Note note.id) (rows.Note note) has (id_over_zero (rows.Note note) (checked _ (rows.Note note) has))
+    (name_in tables.Note note.id) (rows.Note note) has (id_over_zero (rows.Note note) (checked _ (rows.Note note) has))
 
 none_bad : (part : Part) (held : Rows) → AreGood part held → first_bad part held ≡ None
 none_bad part held good = ap (option_map name_of) (table_has_none (is_bad part held) (table_of part) held (λ name row is _. good name row is))
 
 all_good : (part : Part) (held : Rows) → AreNamed (get held)
-    → ((note : Note) → get held (named tables.Note note.id) ≡ Some (rows.Note note) → bad_note part held note ≡ false)
-    → ((card : Card) → get held (named tables.Card card.id) ≡ Some (rows.Card card) → bad_card part held card ≡ false) → AreGood part held
+    → ((note : Note) → get held (name_in tables.Note note.id) ≡ Some (rows.Note note) → bad_note part held note ≡ false)
+    → ((card : Card) → get held (name_in tables.Card card.id) ≡ Some (rows.Card card) → bad_card part held card ≡ false) → AreGood part held
 all_good part held are_named notes cards name (rows.Note n) has = notes n (ap (get held) (are_named name (rows.Note n) has) ∙ has)
 all_good part held are_named notes cards name (rows.Card c) has = cards c (ap (get held) (are_named name (rows.Card c) has) ∙ has)
 all_good part held are_named notes cards name (rows.Review r) has = refl
@@ -109,8 +109,8 @@ all_good part held are_named notes cards name (rows.Grave g) has = refl
 not_over : (ord : ℤ) (count : ℤ) → not (int_lt ord count) ≡ false → ord <ℤ count
 not_over ord count is = let less : int_lt ord count ≡ true = is_so is in omega (arith, ints, less)
 
-pub has_place : (at : At) (name : Name) (ord : ℤ) (note : Note) (type : NoteType) → lacks_template ord (type_under at name) ≡ false → at name ≡ Some (rows.Note note)
-    → at (named tables.NoteType note.mid) ≡ Some (rows.NoteType type) → type.cloze ≡ false → ord <ℤ pos (length type.templates)
+pub has_place : (at : RowsByName) (name : Name) (ord : ℤ) (note : Note) (type : NoteType) → lacks_template ord (type_under at name) ≡ false → at name ≡ Some (rows.Note note)
+    → at (name_in tables.NoteType note.mid) ≡ Some (rows.NoteType type) → type.cloze ≡ false → ord <ℤ pos (length type.templates)
 has_place at name ord note type good is_note is_type standard =
     let there : type_under at name ≡ Some (rows.NoteType type) = ap (λ (o : Option Row). option_and_then at (type_name o)) is_note ∙ is_type in
     let at_type : (not type.cloze && not (int_lt ord (pos (length type.templates)))) ≡ false = ap (lacks_template ord) (sym there) ∙ good in
@@ -126,7 +126,7 @@ place_of_type ord type below =
           ap not less
     ] refl
 
-type_places : (at : At) (ord : ℤ) (name : Name) → ((type : NoteType) → at name ≡ Some (rows.NoteType type) → type.cloze ≡ false → ord <ℤ pos (length type.templates))
+type_places : (at : RowsByName) (ord : ℤ) (name : Name) → ((type : NoteType) → at name ≡ Some (rows.NoteType type) → type.cloze ≡ false → ord <ℤ pos (length type.templates))
     → lacks_template ord (at name) ≡ false
 type_places at ord name below = elim (at name) as (λ (o : Option Row). at name ≡ o → lacks_template ord o ≡ false) [
   | None ↦ λ _. refl
@@ -141,12 +141,12 @@ type_places at ord name below = elim (at name) as (λ (o : Option Row). at name 
   ]
 ] refl
 
-note_places : (at : At) (ord : ℤ) (name : Name) → ((note : Note) (type : NoteType) → at name ≡ Some (rows.Note note) → at (named tables.NoteType note.mid) ≡ Some (rows.NoteType type) → type.cloze ≡ false → ord <ℤ pos (length type.templates))
+note_places : (at : RowsByName) (ord : ℤ) (name : Name) → ((note : Note) (type : NoteType) → at name ≡ Some (rows.Note note) → at (name_in tables.NoteType note.mid) ≡ Some (rows.NoteType type) → type.cloze ≡ false → ord <ℤ pos (length type.templates))
     → lacks_template ord (type_under at name) ≡ false
 note_places at ord name below = elim (at name) as (λ (o : Option Row). at name ≡ o → lacks_template ord (option_and_then at (type_name o)) ≡ false) [
   | None ↦ λ _. refl
   | Some row ↦ elim row as (λ (x : Row). at name ≡ Some x → lacks_template ord (option_and_then at (type_name (Some x))) ≡ false) [
-    | rows.Note n ↦ λ is. type_places at ord (named tables.NoteType n.mid) (λ type. below n type is)
+    | rows.Note n ↦ λ is. type_places at ord (name_in tables.NoteType n.mid) (λ type. below n type is)
     | rows.Card c ↦ λ _. refl
     | rows.Review r ↦ λ _. refl
     | rows.NoteType t ↦ λ _. refl
@@ -182,7 +182,7 @@ finds_nothing held none =
 no_fault : (held : Rows) → FindsNothing held → first_fault held ≡ None
 no_fault held none = rw (none.card_note, none.note_card, none.note_type, none.template) refl
 
-has_card : (held : Rows) (note : Note) → AreNamed (get held) → HasCard held note.id → (card : Card) × (get held (named tables.Card card.id) ≡ Some (rows.Card card)) × (card.nid ≡ note.id)
+pub has_card : (held : Rows) (note : Note) → AreNamed (get held) → HasCard held note.id → (card : Card) × (get held (name_in tables.Card card.id) ≡ Some (rows.Card card)) × (card.nid ≡ note.id)
 has_card held note are_named (card, name, has, of_it) = (card, ap (get held) (are_named name (rows.Card card) has) ∙ has, of_it)
 
 sound_of : (held : Rows) → AreNamed (get held) → AreChecked (get held) → FindsNothing held → IsSound (get held)
@@ -190,11 +190,11 @@ sound_of held are_named checked none = record {
   card_note = λ card has. is_so (good_cards parts.CardNote held refl checked none.card_note card has);
   note_card = λ note has. has_card held note are_named (card_among held note.id (entries held) (entries_found held) (good_notes parts.NoteCard held refl checked none.note_card note has));
   note_type = λ note has. is_so (good_notes parts.NoteType held refl checked none.note_type note has);
-  template = λ card note type has. has_place (get held) (named tables.Note card.nid) card.ord note type (good_cards parts.CardTemplate held refl checked none.template card has);
+  template = λ card note type has. has_place (get held) (name_in tables.Note card.nid) card.ord note type (good_cards parts.CardTemplate held refl checked none.template card has);
 }
 
-some_card : (held : Rows) (note : Note) → ((card : Card) × (get held (named tables.Card card.id) ≡ Some (rows.Card card)) × (card.nid ≡ note.id)) → is_empty (cards_of note.id held) ≡ false
-some_card held note (card, has, of_it) = has_some held note.id (named tables.Card card.id) card has of_it
+some_card : (held : Rows) (note : Note) → ((card : Card) × (get held (name_in tables.Card card.id) ≡ Some (rows.Card card)) × (card.nid ≡ note.id)) → is_empty (cards_of note.id held) ≡ false
+some_card held note (card, has, of_it) = has_some held note.id (name_in tables.Card card.id) card has of_it
 
 nothing_of : (held : Rows) → AreNamed (get held) → IsSound (get held) → FindsNothing held
 nothing_of held are_named sound = record {
@@ -202,7 +202,7 @@ nothing_of held are_named sound = record {
   note_card = none_bad parts.NoteCard held (all_good parts.NoteCard held are_named (λ note has. some_card held note (sound.note_card note has)) (λ _ _. refl));
   note_type = none_bad parts.NoteType held (all_good parts.NoteType held are_named (λ note has. ap not (sound.note_type note has)) (λ _ _. refl));
   template = none_bad parts.CardTemplate held (all_good parts.CardTemplate held are_named (λ _ _. refl) (λ card has.
-      note_places (get held) card.ord (named tables.Note card.nid) (λ note type. sound.template card note type has)));
+      note_places (get held) card.ord (name_in tables.Note card.nid) (λ note type. sound.template card note type has)));
 }
 
 pub sound_has_no_fault : (held : Rows) → AreNamed (get held) → AreChecked (get held) → (first_fault held ≡ None) ↔ IsSound (get held)

@@ -1,5 +1,10 @@
 -- What stands under a name once rows were taken, whatever their order; and that taking all that another side holds gives the join.
-use Rattle.std.specs.Prelude.{◌≡◌, ℕ, zero, suc, ◌<◌, ℤ, pos, Bool, true, false, not, ◌||◌, ◌&&◌, if◌then◌else◌, int_lt, IsTrue, IfSome, length, List, [], ◌∷◌, Option, Some, None, is_some}
+use Rattle.ak_base.proofs.Burials.{graves_exactly, graves_of-buried_table}
+use Rattle.ak_base.specs.Tables.{graves_of, buried_in}
+use Rattle.ak_keep.proofs.RowsByName.{same_of_tied}
+use Rattle.ak_base.specs.Graves.{buried_table, grave_table}
+use Rattle.ak_base.specs.Rows.{buried_of, name_of, stamp_of, with_usn}
+use Rattle.std.specs.Prelude.{◌≡◌, ℕ, zero, suc, ◌<◌, ℤ, Bool, true, false, not, ◌||◌, ◌&&◌, if◌then◌else◌, int_lt, IsTrue, IfSome, length, List, [], ◌∷◌, Option, Some, None, is_some}
 use Rattle.std.proofs.Common.{refl, sym, ap, subst, ◌∙◌, arith}
 use Rattle.std.proofs.Math.Path.{fun_ext}
 use Rattle.std.proofs.lemmas.Int.{ints}
@@ -7,11 +12,9 @@ use Rattle.std.proofs.lemmas.List.Elements.{recursion_from_All}
 use Rattle.std.specs.Cmp.{eq_by_cmp_equiv}
 use Rattle.std.specs.FinMap.{get, insert, remove, get-insert, get-remove}
 use Rattle.std.specs.List.{AllByRecursion, Contains, slice_index_or}
-use Rattle.std.specs.Option.{option_and_then, option_map_or, option_or}
-use Rattle.std.specs.Ordering.{eq_by_cmp, int_eq}
-use Rattle.ak_base.specs.Graves.{grave_table}
+use Rattle.std.specs.Option.{option_and_then, option_map_or}
+use Rattle.std.specs.Ordering.{eq_by_cmp}
 use Rattle.ak_base.specs.Names.{name_cmp, names_total}
-use Rattle.ak_base.specs.Rows.{name_of, stamp_of, with_usn}
 use Rattle.ak_base.specs.declared.graves.Grave.{Grave}
 use Rattle.ak_base.specs.declared.names.Name.{Name}
 use Rattle.ak_base.specs.declared.names.Table.{Table}
@@ -19,13 +22,11 @@ use Rattle.ak_base.specs.declared.names.Table.TheVariants as tables
 use Rattle.ak_base.specs.declared.rows.Row.{Row}
 use Rattle.ak_base.specs.declared.rows.Row.TheVariants as rows
 use Rattle.ak_keep.specs.Collections.{Rows}
-use Rattle.ak_keep.specs.Entries.{same_of_tied}
-use Rattle.ak_merge.specs.Commits.{IsListOf, IsTakingOf}
-use Rattle.ak_merge.specs.Holdings.{At, Held, under, AreNamed, graves_of, grave_under, is_dead, IsSingle, tag_usn, content_of, same_held, SameContent}
+use Rattle.ak_merge.specs.Holdings.{RowsByName, AreNamed, grave_under, is_dead, IsSingle, same_held}
 use Rattle.ak_merge.proofs.JoinLaws.{no_graves}
-use Rattle.ak_merge.specs.Joins.{newest, joined_under, join}
+use Rattle.ak_merge.specs.Joins.{newest, joined_under}
 use Rattle.ak_base.proofs.RowFacts.{stamp_of-with_usn, same-with_usn, same-itself}
-use Rattle.ak_merge.specs.Takings.{is_newer, takes, buried_table, buried_name, buried, taken, all_taken}
+use Rattle.ak_merge.specs.Takings.{IsListOf, is_newer, takes, buried, taken, all_taken}
 
 -- ---- what stands under a name after taking
 -- the row that came where it is newer or none was held, with this update sequence number; else the one that is held
@@ -42,7 +43,7 @@ received_by usn held (Some grave) came None = held
 received_by usn held None came None = received usn held came
 
 -- what stands under each name once this was taken
-abbrev pub received_under : ℤ → At → At → At
+abbrev pub received_under : ℤ → RowsByName → RowsByName → RowsByName
 received_under usn at from name = received_by usn (at name) (grave_under at name) (from name) (grave_under from name)
 
 -- whether two names are one
@@ -50,11 +51,11 @@ abbrev pub is_name : Name → Name → Bool
 is_name = eq_by_cmp name_cmp
 
 -- what stands under each name, behind this row: of two that are as new it comes first
-abbrev pub led_by : Row → At → At
+abbrev pub led_by : Row → RowsByName → RowsByName
 led_by row from name = newest (if is_name name (name_of row) then Some row else None) (from name)
 
 -- under each name the newest of the rows that a list has of it, and of those that are as new the first
-abbrev pub newest_in : List Row → At
+abbrev pub newest_in : List Row → RowsByName
 newest_in [] name = None
 newest_in (row ∷ more) name = led_by row (newest_in more) name
 
@@ -69,44 +70,12 @@ other_name name other apart =
       | false ↦ λ is. refl
     ] refl
 
--- the table whose rows leave these graves
-row_table : Table → Option Table
-row_table tables.NoteGrave = Some tables.Note
-row_table tables.CardGrave = Some tables.Card
-row_table tables.DeckGrave = Some tables.Deck
-row_table tables.Note = None
-row_table tables.Card = None
-row_table tables.Deck = None
-row_table tables.Review = None
-row_table tables.NoteType = None
-row_table tables.Options = None
-
-row_table-graves_of : (table graves : Table) → graves_of table ≡ Some graves → row_table graves ≡ Some table
-unfolding row_table
-row_table-graves_of tables.Note graves is = sym (ap (λ o. option_and_then row_table o) is)
-row_table-graves_of tables.Card graves is = sym (ap (λ o. option_and_then row_table o) is)
-row_table-graves_of tables.Deck graves is = sym (ap (λ o. option_and_then row_table o) is)
-row_table-graves_of tables.Review graves is = grind (arith, is)
-row_table-graves_of tables.NoteType graves is = grind (arith, is)
-row_table-graves_of tables.Options graves is = grind (arith, is)
-row_table-graves_of tables.NoteGrave graves is = grind (arith, is)
-row_table-graves_of tables.CardGrave graves is = grind (arith, is)
-row_table-graves_of tables.DeckGrave graves is = grind (arith, is)
-
-graves_of-buried_table : (kind : ℤ) → graves_of (buried_table kind) ≡ Some (grave_table kind)
-graves_of-buried_table kind =
-    elim (int_eq kind (pos 0)) as (λ s. graves_of (if s then tables.Card else if int_eq kind (pos 1) then tables.Note else tables.Deck)
-    ≡ Some (if s then tables.CardGrave else if int_eq kind (pos 1) then tables.NoteGrave else tables.DeckGrave)) [
-      | true ↦ refl
-      | false ↦ elim (int_eq kind (pos 1)) as (λ t. graves_of (if t then tables.Note else tables.Deck) ≡ Some (if t then tables.NoteGrave else tables.DeckGrave)) [ true ↦ refl | false ↦ refl ]
-    ]
-
-row_table-grave_table : (kind : ℤ) → row_table (grave_table kind) ≡ Some (buried_table kind)
-row_table-grave_table kind = row_table-graves_of (buried_table kind) (grave_table kind) (graves_of-buried_table kind)
+buried_in-grave_table : (kind : ℤ) → buried_in (grave_table kind) ≡ Some (buried_table kind)
+buried_in-grave_table kind = (graves_exactly (buried_table kind) (grave_table kind)).0 (graves_of-buried_table kind)
 
 -- whether a row is the grave of this name
-abbrev buries : Row → Name → Bool
-buries row name = option_map_or (λ (other : Name). is_name name other) (buried_name row) false
+abbrev pub buries : Row → Name → Bool
+buries row name = option_map_or (λ (other : Name). is_name name other) (buried_of row) false
 
 -- the name of what a grave buries
 abbrev of_grave : Grave → Name
@@ -171,16 +140,15 @@ not_its_grave (rows.Grave g) name graves is apart = other_name name (of_grave g)
     let tied : is_name grave (name_of (rows.Grave g)) ≡ true = ap (is_name grave) (sym both) ∙ name-itself grave in
     grind (arith, tied, apart))
 
-no_table : (table graves other : Table) → graves_of table ≡ Some graves → graves ≡ other → row_table other ≡ None → ⊥
+pub no_table : (table graves other : Table) → graves_of table ≡ Some graves → graves ≡ other → buried_in other ≡ None → ⊥
 no_table table graves other is same none =
-    let one = row_table-graves_of table graves is in
-    let two : row_table graves ≡ row_table other = ap row_table same in
+    let one = (graves_exactly table graves).0 is in
+    let two : buried_in graves ≡ buried_in other = ap buried_in same in
     grind (arith, one, two, none)
 
 -- what stands under the grave's name is a grave that buries it
-its_grave : (row : Row) (name : Name) (graves : Table) → graves_of name.table ≡ Some graves → record { table = graves; id = name.id } ≡ name_of row
+pub its_grave : (row : Row) (name : Name) (graves : Table) → graves_of name.table ≡ Some graves → record { table = graves; id = name.id } ≡ name_of row
     → buries row name ≡ true
-unfolding row_table
 its_grave (rows.Note n) name graves is same = absurd (no_table name.table graves tables.Note is (ap (λ (n : Name). n.table) same) refl)
 its_grave (rows.Card c) name graves is same = absurd (no_table name.table graves tables.Card is (ap (λ (n : Name). n.table) same) refl)
 its_grave (rows.Review r) name graves is same = absurd (no_table name.table graves tables.Review is (ap (λ (n : Name). n.table) same) refl)
@@ -188,9 +156,9 @@ its_grave (rows.NoteType t) name graves is same = absurd (no_table name.table gr
 its_grave (rows.Deck d) name graves is same = absurd (no_table name.table graves tables.Deck is (ap (λ (n : Name). n.table) same) refl)
 its_grave (rows.Options o) name graves is same = absurd (no_table name.table graves tables.Options is (ap (λ (n : Name). n.table) same) refl)
 its_grave (rows.Grave g) name graves is same =
-    let one = row_table-graves_of name.table graves is in
-    let two : row_table graves ≡ row_table (grave_table g.kind) = ap (λ (n : Name). row_table n.table) same in
-    let three = row_table-grave_table g.kind in
+    let one = (graves_exactly name.table graves).0 is in
+    let two : buried_in graves ≡ buried_in (grave_table g.kind) = ap (λ (n : Name). buried_in n.table) same in
+    let three = buried_in-grave_table g.kind in
     let table : name.table ≡ buried_table g.kind = grind (arith, one, two, three) in
     let id : name.id ≡ g.oid = ap (λ (n : Name). n.id) same in
     let both : name ≡ of_grave g = λ i. record { table = table i; id = id i } in
@@ -198,14 +166,14 @@ its_grave (rows.Grave g) name graves is same =
 
 -- ---- one row
 -- what stands under each name once this row was taken
-abbrev stepped : ℤ → Row → At → At
+abbrev stepped : ℤ → Row → RowsByName → RowsByName
 stepped usn row at name =
     if is_name name (name_of row) then (if takes at row then Some (with_usn row usn) else if buries row name then None else at name)
     else if buries row name then None else at name
 
 buried_at : (row : Row) (held : Rows) (name : Name) → get (buried row held) name ≡ (if buries row name then None else get held name)
 buried_at row held name =
-    elim (buried_name row) as (λ o. get (option_map_or (λ (other : Name). remove held other) o held) name ≡ (if option_map_or (λ (other : Name). is_name name other) o false then None else get held name)) [
+    elim (buried_of row) as (λ o. get (option_map_or (λ (other : Name). remove held other) o held) name ≡ (if option_map_or (λ (other : Name). is_name name other) o false then None else get held name)) [
       | None ↦ refl
       | Some other ↦ get-remove names_total held other name
     ]
@@ -223,23 +191,23 @@ taken_at usn row held name =
     ]
 
 -- of the graves of a name that stand there
-abbrev pub grave_in : At → Name → Option Table → Option Row
+abbrev pub grave_in : RowsByName → Name → Option Table → Option Row
 grave_in at name graves = option_and_then (λ (table : Table). at (record { table = table; id = name.id })) graves
 
-stepped_own : (usn : ℤ) (row : Row) (at : At) → stepped usn row at (name_of row) ≡ (if takes at row then Some (with_usn row usn) else at (name_of row))
+stepped_own : (usn : ℤ) (row : Row) (at : RowsByName) → stepped usn row at (name_of row) ≡ (if takes at row then Some (with_usn row usn) else at (name_of row))
 stepped_own usn row at = rw (name-itself (name_of row), own_clear row) refl
 
-stepped_other : (usn : ℤ) (row : Row) (at : At) (name : Name) → is_name name (name_of row) ≡ false → stepped usn row at name ≡ (if buries row name then None else at name)
+stepped_other : (usn : ℤ) (row : Row) (at : RowsByName) (name : Name) → is_name name (name_of row) ≡ false → stepped usn row at name ≡ (if buries row name then None else at name)
 stepped_other usn row at name apart = rw apart refl
 
-led_own : (row : Row) (from : At) → led_by row from (name_of row) ≡ newest (Some row) (from (name_of row))
+led_own : (row : Row) (from : RowsByName) → led_by row from (name_of row) ≡ newest (Some row) (from (name_of row))
 led_own row from = rw (name-itself (name_of row)) refl
 
 newest_none : (x : Option Row) → newest None x ≡ x
 newest_none None = refl
 newest_none (Some x) = refl
 
-led_other : (row : Row) (from : At) (name : Name) → is_name name (name_of row) ≡ false → led_by row from name ≡ from name
+led_other : (row : Row) (from : RowsByName) (name : Name) → is_name name (name_of row) ≡ false → led_by row from name ≡ from name
 led_other row from name apart = rw apart (newest_none (from name))
 
 -- a row is no grave of its own name
@@ -250,19 +218,19 @@ own_grave row graves is = other_name _ (name_of row) (λ same.
     grind (arith, none, one, is))
 
 -- taking a row leaves the grave that does not stand under its name
-grave_kept : (usn : ℤ) (row : Row) (at : At) (name : Name) (graves : Table) → graves_of name.table ≡ Some graves
+grave_kept : (usn : ℤ) (row : Row) (at : RowsByName) (name : Name) (graves : Table) → graves_of name.table ≡ Some graves
     → is_name (record { table = graves; id = name.id }) (name_of row) ≡ false
     → stepped usn row at (record { table = graves; id = name.id }) ≡ at (record { table = graves; id = name.id })
 grave_kept usn row at name graves is apart = stepped_other usn row at _ apart ∙ ap (λ b. if b then None else at (record { table = graves; id = name.id })) (graves_clear row name graves is)
 
-own_grave_kept : (usn : ℤ) (row : Row) (at : At) → grave_under (stepped usn row at) (name_of row) ≡ grave_under at (name_of row)
+own_grave_kept : (usn : ℤ) (row : Row) (at : RowsByName) → grave_under (stepped usn row at) (name_of row) ≡ grave_under at (name_of row)
 own_grave_kept usn row at =
     elim (graves_of (name_of row).table) as (λ o. graves_of (name_of row).table ≡ o → grave_in (stepped usn row at) (name_of row) o ≡ grave_in at (name_of row) o) [
       | None ↦ λ is. refl
       | Some graves ↦ λ is. grave_kept usn row at (name_of row) graves is (own_grave row graves is)
     ] refl
 
-own_grave_led : (row : Row) (from : At) → grave_under (led_by row from) (name_of row) ≡ grave_under from (name_of row)
+own_grave_led : (row : Row) (from : RowsByName) → grave_under (led_by row from) (name_of row) ≡ grave_under from (name_of row)
 own_grave_led row from =
     elim (graves_of (name_of row).table) as (λ o. graves_of (name_of row).table ≡ o → grave_in (led_by row from) (name_of row) o ≡ grave_in from (name_of row) o) [
       | None ↦ λ is. refl
@@ -300,7 +268,7 @@ own_cell usn row x g y (Some h) = refl
 own_cell usn row x (Some g) y None = refl
 own_cell usn row x None y None = received_first usn row x y
 
-own_step : (usn : ℤ) (row : Row) (at from : At) → received_under usn (stepped usn row at) from (name_of row) ≡ received_under usn at (led_by row from) (name_of row)
+own_step : (usn : ℤ) (row : Row) (at from : RowsByName) → received_under usn (stepped usn row at) from (name_of row) ≡ received_under usn at (led_by row from) (name_of row)
 own_step usn row at from =
     ap (λ x. received_by usn x (grave_under (stepped usn row at) (name_of row)) (from (name_of row)) (grave_under from (name_of row))) (stepped_own usn row at)
     ∙ ap (λ g. received_by usn (if takes at row then Some (with_usn row usn) else at (name_of row)) g (from (name_of row)) (grave_under from (name_of row))) (own_grave_kept usn row at)
@@ -319,13 +287,13 @@ grave_cell usn row x g y None = nothing g
 grave_cell usn row x g y (Some h) = elim (int_lt (stamp_of row) (stamp_of h)) as (λ s. None ≡ received_by usn x g y (if s then Some h else Some row)) [ true ↦ refl | false ↦ refl ]
 
 -- a grave is taken where none is held
-takes_grave : (at : At) (row : Row) (name : Name) (graves : Table) → graves_of name.table ≡ Some graves → record { table = graves; id = name.id } ≡ name_of row
+takes_grave : (at : RowsByName) (row : Row) (name : Name) (graves : Table) → graves_of name.table ≡ Some graves → record { table = graves; id = name.id } ≡ name_of row
     → takes at row ≡ is_newer (at (record { table = graves; id = name.id })) row
 takes_grave at row name graves is same =
     let undead : is_dead at (record { table = graves; id = name.id }) ≡ false = ap (λ o. is_some (option_and_then (λ (table : Table). at (record { table = table; id = name.id })) o)) (no_graves name.table graves is) in
     ap (λ n. not (is_dead at n) && is_newer (at n) row) (sym same) ∙ ap (λ b. not b && is_newer (at (record { table = graves; id = name.id })) row) undead
 
-grave_step : (usn : ℤ) (row : Row) (at from : At) (name : Name) (graves : Table) → is_name name (name_of row) ≡ false → graves_of name.table ≡ Some graves
+grave_step : (usn : ℤ) (row : Row) (at from : RowsByName) (name : Name) (graves : Table) → is_name name (name_of row) ≡ false → graves_of name.table ≡ Some graves
     → record { table = graves; id = name.id } ≡ name_of row
     → received_by usn (stepped usn row at name) (grave_in (stepped usn row at) name (Some graves)) (from name) (grave_in from name (Some graves))
     ≡ received_by usn (at name) (grave_in at name (Some graves)) (led_by row from name) (grave_in (led_by row from) name (Some graves))
@@ -342,7 +310,7 @@ grave_step usn row at from name graves apart is same =
     ∙ sym (ap (λ y. received_by usn (at name) (at grave) y (led_by row from grave)) (led_other row from name apart) ∙ ap (λ h. received_by usn (at name) (at grave) (from name) h) led)
 
 -- a row of another name, and no grave of this one
-other_step : (usn : ℤ) (row : Row) (at from : At) (name : Name) (graves : Option Table) → is_name name (name_of row) ≡ false → graves_of name.table ≡ graves
+other_step : (usn : ℤ) (row : Row) (at from : RowsByName) (name : Name) (graves : Option Table) → is_name name (name_of row) ≡ false → graves_of name.table ≡ graves
     → received_by usn (stepped usn row at name) (grave_in (stepped usn row at) name graves) (from name) (grave_in from name graves)
     ≡ received_by usn (at name) (grave_in at name graves) (led_by row from name) (grave_in (led_by row from) name graves)
 other_step usn row at from name None apart is =
@@ -359,7 +327,7 @@ other_step usn row at from name (Some graves) apart is =
           ∙ sym (ap (λ y. received_by usn (at name) (at grave) y (led_by row from grave)) (led_other row from name apart) ∙ ap (λ h. received_by usn (at name) (at grave) (from name) h) (led_other row from grave not_same))
     ] refl
 
-one_step : (usn : ℤ) (row : Row) (at from : At) (name : Name) → received_under usn (stepped usn row at) from name ≡ received_under usn at (led_by row from) name
+one_step : (usn : ℤ) (row : Row) (at from : RowsByName) (name : Name) → received_under usn (stepped usn row at) from name ≡ received_under usn at (led_by row from) name
 one_step usn row at from name =
     elim (is_name name (name_of row)) as (λ b. is_name name (name_of row) ≡ b → received_under usn (stepped usn row at) from name ≡ received_under usn at (led_by row from) name) [
       | true ↦ λ same. subst (λ (n : Name). received_under usn (stepped usn row at) from n ≡ received_under usn at (led_by row from) n) (sym (same_of_tied name (name_of row) same)) (own_step usn row at from)
@@ -381,7 +349,7 @@ pub all_taken_at : (usn : ℤ) (came : List Row) (held : Rows) (name : Name) →
 all_taken_at usn [] held name = nothing_came usn (get held name) (grave_under (get held) name) ∙ ap (received_by usn (get held name) (grave_under (get held) name) None) (no_grave_came name (graves_of name.table))
 all_taken_at usn (row ∷ more) held name =
     all_taken_at usn more (taken usn row held) name
-    ∙ ap (λ (at : At). received_under usn at (newest_in more) name) (fun_ext (taken_at usn row held))
+    ∙ ap (λ (at : RowsByName). received_under usn at (newest_in more) name) (fun_ext (taken_at usn row held))
     ∙ one_step usn row (get held) (newest_in more) name
 
 -- ---- what a list has of a name
@@ -423,7 +391,7 @@ pub has_newest : (came : List Row) (row : Row) → Contains came row → is_some
 has_newest came row contains = has_at came row contains.0 contains.1 contains.2
 
 -- the rows that stand somewhere, listed, are what stands there
-pub newest_listed : (came : List Row) (from : At) (name : Name) → IsListOf came from → AreNamed from → newest_in came name ≡ from name
+pub newest_listed : (came : List Row) (from : RowsByName) (name : Name) → IsListOf came from → AreNamed from → newest_in came name ≡ from name
 newest_listed came from name listed named =
     elim (newest_in came name) as (λ o. newest_in came name ≡ o → o ≡ from name) [
       | None ↦ λ none. elim (from name) as (λ y. from name ≡ y → None ≡ y) [
@@ -440,7 +408,7 @@ newest_listed came from name listed named =
           sym (ap from (sym stands.1) ∙ stands.0)
     ] refl
 
-pub listed_newest : (came : List Row) (from : At) → IsListOf came from → AreNamed from → newest_in came ≡ from
+pub listed_newest : (came : List Row) (from : RowsByName) → IsListOf came from → AreNamed from → newest_in came ≡ from
 listed_newest came from listed named = fun_ext (λ name. newest_listed came from name listed named)
 
 -- ---- taking all gives the join
@@ -458,26 +426,11 @@ joined_cell usn x None y (Some h) single = refl
 joined_cell usn x (Some g) y None single = ap (λ o. same_held o None) (single refl)
 joined_cell usn x (Some g) y (Some h) single = refl
 
-pub received_joins : (usn : ℤ) (at from : At) (name : Name) → IsSingle at → IsTrue (same_held (received_under usn at from name) (joined_under at from name))
+pub received_joins : (usn : ℤ) (at from : RowsByName) (name : Name) → IsSingle at → IsTrue (same_held (received_under usn at from name) (joined_under at from name))
 received_joins usn at from name single = joined_cell usn (at name) (grave_under at name) (from name) (grave_under from name) (single name)
 
 pub taking_joins : (usn : ℤ) (came : List Row) (a b : Rows) → IsListOf came (get b) → AreNamed (get b) → IsSingle (get a) → (name : Name)
     → IsTrue (same_held (get (all_taken usn came a) name) (joined_under (get a) (get b) name))
 taking_joins usn came a b listed named single name =
-    ap (λ o. same_held o (joined_under (get a) (get b) name)) (all_taken_at usn came a name ∙ ap (λ (from : At). received_under usn (get a) from name) (listed_newest came (get b) listed named))
+    ap (λ o. same_held o (joined_under (get a) (get b) name)) (all_taken_at usn came a name ∙ ap (λ (from : RowsByName). received_under usn (get a) from name) (listed_newest came (get b) listed named))
     ∙ received_joins usn (get a) (get b) name single
-
-tags_joined : (before came after : Option ℤ) (usn : ℤ) → after ≡ option_or before (if is_some came then Some usn else None)
-    → is_some after ≡ (is_some before || is_some came)
-tags_joined None None after usn is = ap is_some is
-tags_joined None (Some n) after usn is = ap is_some is
-tags_joined (Some m) came after usn is = ap is_some is
-
-pub taking_all_joins : (usn : ℤ) (came : List Row) (a b j : Held) → IsTakingOf usn came a b j → AreNamed (under b) → IsSingle (under a)
-    → SameContent (content_of j) (join a b)
-taking_all_joins usn came a b j all named single = record {
-  rows = λ name. ap (λ (rows : Rows). same_held (get rows name) (joined_under (under a) (under b) name)) all.rows ∙ taking_joins usn came a.rows b.rows all.listed named single name;
-  tags = λ name. tags_joined (tag_usn a.head.tags name) (tag_usn b.head.tags name) (tag_usn j.head.tags name) usn (all.tags name);
-  conf = all.conf;
-  crt = all.crt;
-}

@@ -1,4 +1,8 @@
 -- An undo keeps a device's collection linked, and gives the collection before the edit.
+use Rattle.ak_merge.specs.Holdings.{name_in, RowsByName, row_under, AreNamed, grave_under, IsSingle, tag_usn}
+use Rattle.ak_keep.specs.Collections.{Collection}
+use Rattle.ak_base.specs.Tables.{has_stamps}
+use Rattle.ak_base.specs.Contents.{same_but_stamp_and_usn}
 use Rattle.std.specs.Prelude.{◌≡◌, ℤ, ◌≤ℤ◌, ◌<ℤ◌, Bool, true, false, not, IsTrue, List, ◌∷◌, Option, Some, None, IfSome, is_some}
 use Rattle.std.proofs.lemmas.Option.{same_Some}
 use Rattle.std.proofs.Common.{cond, inl, inr, refl, sym, ap, subst, ◌∙◌}
@@ -10,13 +14,12 @@ use Rattle.ak_base.specs.declared.names.Name.{Name}
 use Rattle.ak_base.specs.declared.names.Table.{Table}
 use Rattle.ak_base.specs.declared.names.Table.TheVariants as tables
 use Rattle.ak_base.specs.declared.rows.Row.{Row}
-use Rattle.ak_merge.proofs.EditFacts.{edited_name, edited_fields, own_fields, true_false, none_held, held_none, edited_usn, edited_pending, edited_unsettled, edited_stamp, risen_past, least_risen, LinkedParts, parts_of, linked_of}
-use Rattle.ak_merge.specs.Holdings.{At, Held, under, AreNamed, grave_under, IsSingle, tag_usn}
-use Rattle.ak_merge.specs.Links.{has_stamps, IsOwn, IsNewerUnsent, HasTaken, IsKnown, IsShared, IsTagShared, AreLinked}
-use Rattle.ak_merge.specs.Settling.{Edit, has_fields, changes_row, goes, grave_left, settled_row, edited, risen, second_of, Step, IsSettled, step_of, settled_under, name_in}
-use Rattle.ak_merge.specs.Undoing.{undone_row, undone_stamp, IsUndone, same_fields, IsBack, StepFitsParts, StepFits, buries, IsTagKept, StepSuits, put_back, StepsSuit}
-use Rattle.ak_merge.proofs.SettlingCells.{settled_grave}
-use Rattle.ak_merge.proofs.StepLists.{single_same, suits_single, undone_held, lists_suit_after_undo}
+use Rattle.ak_merge.proofs.EditFacts.{edited_name, edited_fields, own_fields, true_false, none_held, held_none, edited_usn, edited_pending, edited_unsettled, edited_stamp, advanced_past, least_advanced, LinkedParts, parts_of, linked_of}
+use Rattle.ak_merge.specs.Links.{IsOwn, IsNewerUnsent, HasTaken, IsKnown, IsShared, IsTagShared, AreLinked}
+use Rattle.ak_merge.specs.Edits.{Edit, changes_row, goes, grave_left, edited_row, edited, advanced, second_of, Reversal, IsEdited, reversal_of, edited_under}
+use Rattle.ak_merge.specs.Undoing.{undone_row, undone_stamp, IsUndone, same_fields, IsBack, StepFitsParts, StepFits, adds_grave, IsTagKept, StepSuits, put_back, StepsSuit}
+use Rattle.ak_merge.proofs.EditCells.{edited_grave}
+use Rattle.ak_merge.proofs.ReversalLists.{single_same, suits_single, undone_held, lists_suit_after_undo}
 
 -- ---- an undo, name by name
 undone_number : (u now : ℤ) (e : Option (Option Row)) (x : Option Row) → IfSome x (λ row. IsOwn u (usn_of row)) → IfSome (undone_row now e x) (λ row. IsOwn u (usn_of row))
@@ -26,9 +29,9 @@ undone_number u now (Some (Some before)) x own = inl (edited_usn (undone_stamp n
 
 -- a row that is put back is newer than before the step
 undone_over : (now : ℤ) (before : Row) (x : Option Row) (least : ℤ) → least ≤ℤ stamp_of before → least <ℤ undone_stamp now before x
-undone_over now before None least below = risen_past least now (stamp_of before) below
+undone_over now before None least below = advanced_past least now (stamp_of before) below
 undone_over now before (Some present) least below =
-    least_risen least (risen now (stamp_of before)) (stamp_of present) (risen_past least now (stamp_of before) below)
+    least_advanced least (advanced now (stamp_of before)) (stamp_of present) (advanced_past least now (stamp_of before) below)
 
 newer_undone : (now : ℤ) (before y : Row) (x : Option Row) → IsTrue (has_stamps (name_of before).table) → stamp_of y ≤ℤ stamp_of before
     → IsNewerUnsent y (edited (undone_stamp now before x) before)
@@ -75,22 +78,22 @@ kept_entry now (Some None) g added held = absurd (added refl)
 kept_entry now (Some (Some before)) g added held = absurd (held before refl)
 
 -- ---- an undo
-module _ (now : ℤ) (c : Held) (step : Step) (suits : StepSuits step (under c) c.head.tags) where
+module _ (now : ℤ) (c : Collection) (step : Reversal) (suits : StepSuits step (row_under c) c.head.tags) where
   -- what stands under a name after the undo
-  abbrev undone : At
-  undone name = undone_row now (step.rows name) (under c name)
+  abbrev undone : RowsByName
+  undone name = undone_row now (step.rows name) (row_under c name)
 
   -- where the step left a row alone, it left the row's grave alone
-  grave_at : (name grave : Name) → has_stamps grave.table ≡ false → (step.rows grave ≡ Some None → IsTrue (buries step name)) → step.rows name ≡ None → undone grave ≡ under c grave
+  grave_at : (name grave : Name) → has_stamps grave.table ≡ false → (step.rows grave ≡ Some None → IsTrue (adds_grave step name)) → step.rows name ≡ None → undone grave ≡ row_under c grave
   grave_at name grave none buried alone =
-      kept_entry now (step.rows grave) (under c grave) (λ added. none_held (sym alone ∙ (suits.graves name (buried added)).1))
+      kept_entry now (step.rows grave) (row_under c grave) (λ added. none_held (sym alone ∙ (suits.graves name (buried added)).1))
       (λ before is. true_false (sym (suits.kinds grave before is) ∙ none))
 
   -- an added grave
   abbrev is_added : Option (Option Row) → Bool
   is_added f = option_map_or (λ (before : Option Row). not (is_some before)) f false
 
-  grave_alone : (table : Table) (id : ℤ) → step.rows (name_in table id) ≡ None → grave_under undone (name_in table id) ≡ grave_under (under c) (name_in table id)
+  grave_alone : (table : Table) (id : ℤ) → step.rows (name_in table id) ≡ None → grave_under undone (name_in table id) ≡ grave_under (row_under c) (name_in table id)
   grave_alone tables.Note id alone = grave_at (name_in tables.Note id) (name_in tables.NoteGrave id) refl (ap is_added) alone
   grave_alone tables.Card id alone = grave_at (name_in tables.Card id) (name_in tables.CardGrave id) refl (ap is_added) alone
   grave_alone tables.Deck id alone = grave_at (name_in tables.Deck id) (name_in tables.DeckGrave id) refl (ap is_added) alone
@@ -105,17 +108,17 @@ module _ (now : ℤ) (c : Held) (step : Step) (suits : StepSuits step (under c) 
   stamped_before : (name : Name) (before : Row) → step.rows name ≡ Some (Some before) → IsTrue (has_stamps (name_of before).table)
   stamped_before name before is = ap (λ (n : Name). has_stamps n.table) (suits.named name before is) ∙ suits.kinds name before is
 
-  undone_parts : (s : Held) → IsSingle undone → StepFitsParts c.head.usn step s → LinkedParts c.head.usn (under c) (tag_usn c.head.tags) s
+  undone_parts : (s : Collection) → IsSingle undone → StepFitsParts c.head.usn step s → LinkedParts c.head.usn (row_under c) (tag_usn c.head.tags) s
       → LinkedParts c.head.usn undone (tag_usn step.tags) s
   undone_parts s single fits l = record {
     usn = l.usn;
     given = l.given;
-    numbers = λ name. undone_number c.head.usn now (step.rows name) (under c name) (l.numbers name);
+    numbers = λ name. undone_number c.head.usn now (step.rows name) (row_under c name) (l.numbers name);
     tag_numbers = λ tag. undone_tag_number c.head.usn (tag_usn step.tags tag) (tag_usn c.head.tags tag) (suits.tags_kept tag) (l.tag_numbers tag);
-    taken = λ name has. undone_taken c.head.usn now (step.rows name) (under c name) (grave_under (under c) name) (grave_under undone name) (under s name)
+    taken = λ name has. undone_taken c.head.usn now (step.rows name) (row_under c name) (grave_under (row_under c) name) (grave_under undone name) (row_under s name)
         (grave_alone name.table name.id) (stamped_before name) (fits.added name) (fits.older name) (l.taken name has);
-    known = λ name has. undone_known c.head.usn now (step.rows name) (under c name) (under s name) (grave_under (under s) name) (l.known name has);
-    shared = λ name none. undone_shared c.head.usn now (step.rows name) (under c name) (under s name) (fits.added name)
+    known = λ name has. undone_known c.head.usn now (step.rows name) (row_under c name) (row_under s name) (grave_under (row_under s) name) (l.known name has);
+    shared = λ name none. undone_shared c.head.usn now (step.rows name) (row_under c name) (row_under s name) (fits.added name)
         (λ before is. true_false (sym (suits.kinds name before is) ∙ none)) (l.shared name none);
     tags = λ tag. undone_tag c.head.usn (tag_usn step.tags tag) (tag_usn c.head.tags tag) (tag_usn s.head.tags tag) (suits.tags_kept tag) (fits.tags tag) (l.tags tag);
     own_single = single;
@@ -123,20 +126,20 @@ module _ (now : ℤ) (c : Held) (step : Step) (suits : StepSuits step (under c) 
   }
 
 -- an undo keeps linked with every collection of a server that its step fits
-pub undos_keep_links : (at : ℤ) (c after s : Held) (step : Step) (steps : List Step) → IsUndone at c step after → StepsSuit (step ∷ steps) (under c) c.head.tags → StepFits c step s
+pub undos_keep_links : (at : ℤ) (c after s : Collection) (step : Reversal) (steps : List Reversal) → IsUndone at c step after → StepsSuit (step ∷ steps) (row_under c) c.head.tags → StepFits c step s
     → AreLinked c s → AreLinked after s
 undos_keep_links at c after s step steps undone suits fits (inl differ) = inl (λ equal. differ (sym undone.schema ∙ equal))
 undos_keep_links at c after s step steps undone suits (inl differ) (inr parts) = inl (λ equal. differ (sym undone.schema ∙ equal))
 undos_keep_links at c after s step steps undone suits (inr fits) (inr parts) =
-    let single : IsSingle (λ name. undone_row (second_of at) (step.rows name) (under c name)) =
-    single_same (put_back step (under c)) (λ name. undone_row (second_of at) (step.rows name) (under c name))
-    (λ name. undone_held (second_of at) (step.rows name) (under c name)) (suits_single steps (put_back step (under c)) step.tags suits.2) in
-    inr (linked_of c.head.usn (λ name. undone_row (second_of at) (step.rows name) (under c name)) (tag_usn step.tags) after s undone.usn undone.rows
+    let single : IsSingle (λ name. undone_row (second_of at) (step.rows name) (row_under c name)) =
+    single_same (put_back step (row_under c)) (λ name. undone_row (second_of at) (step.rows name) (row_under c name))
+    (λ name. undone_held (second_of at) (step.rows name) (row_under c name)) (suits_single steps (put_back step (row_under c)) step.tags suits.2) in
+    inr (linked_of c.head.usn (λ name. undone_row (second_of at) (step.rows name) (row_under c name)) (tag_usn step.tags) after s undone.usn undone.rows
     (λ tag. ap (λ (tags : List Tag). tag_usn tags tag) undone.tags)
     (undone_parts (second_of at) c step suits.1 s single fits (parts_of c s parts)))
 
 -- a step that fits still does after further edits and undos
-pub steps_still_fit : (c after s : Held) (step : Step) → after.head.schema ≡ c.head.schema → after.head.usn ≡ c.head.usn → StepFits c step s → StepFits after step s
+pub steps_still_fit : (c after s : Collection) (step : Reversal) → after.head.schema ≡ c.head.schema → after.head.usn ≡ c.head.usn → StepFits c step s → StepFits after step s
 steps_still_fit c after s step schema usn (inl differ) = inl (λ equal. differ (sym schema ∙ equal))
 steps_still_fit c after s step schema usn (inr parts) = inr (subst (λ (u : ℤ). StepFitsParts u step s) (sym usn) parts)
 
@@ -149,11 +152,11 @@ undone_named now name (Some (Some before)) x stands held row is =
     sym (ap name_of (same_Some _ _ is)) ∙ edited_name (undone_stamp now before x) before ∙ held before refl
 
 -- after an undo each row stands under its name, and none beside its own grave
-pub undos_keep_names : (at : ℤ) (c after : Held) (step : Step) (steps : List Step) → IsUndone at c step after → StepsSuit (step ∷ steps) (under c) c.head.tags → AreNamed (under c)
-    → AreNamed (under after) × IsSingle (under after)
+pub undos_keep_names : (at : ℤ) (c after : Collection) (step : Reversal) (steps : List Reversal) → IsUndone at c step after → StepsSuit (step ∷ steps) (row_under c) c.head.tags → AreNamed (row_under c)
+    → AreNamed (row_under after) × IsSingle (row_under after)
 undos_keep_names at c after step steps undone suits named = (
-  (λ name row is. undone_named (second_of at) name (step.rows name) (under c name) (named name) (suits.1.named name) row (sym (undone.rows name) ∙ is)),
-  suits_single steps (under after) after.head.tags (lists_suit_after_undo at c after step steps undone suits),
+  (λ name row is. undone_named (second_of at) name (step.rows name) (row_under c name) (named name) (suits.1.named name) row (sym (undone.rows name) ∙ is)),
+  suits_single steps (row_under after) after.head.tags (lists_suit_after_undo at c after step steps undone suits),
 )
 
 -- ---- an edit and its undo
@@ -161,14 +164,14 @@ same_itself : (x : Option Row) → IsTrue (same_fields x x)
 same_itself None = refl
 same_itself (Some row) = own_fields row
 
-row_back : (now later : ℤ) (x m : Option Row) → IsTrue (same_fields x (undone_row later (cond (changes_row x m) (Some x) None) (settled_row now x m)))
+row_back : (now later : ℤ) (x m : Option Row) → IsTrue (same_fields x (undone_row later (cond (changes_row x m) (Some x) None) (edited_row now x m)))
 row_back now later None None = refl
 row_back now later None (Some row) = refl
 row_back now later (Some b) None = edited_fields (undone_stamp later b None) b
 row_back now later (Some b) (Some row) =
-    elim (has_fields row b) as (λ (t : Bool). IsTrue (same_fields (Some b) (undone_row later (cond (not t) (Some (Some b)) None) (cond t (Some b) (Some (edited (risen now (stamp_of b)) row)))))) [
+    elim (same_but_stamp_and_usn row b) as (λ (t : Bool). IsTrue (same_fields (Some b) (undone_row later (cond (not t) (Some (Some b)) None) (cond t (Some b) (Some (edited (advanced now (stamp_of b)) row)))))) [
       | true ↦ own_fields b
-      | false ↦ edited_fields (undone_stamp later b (Some (edited (risen now (stamp_of b)) row))) b
+      | false ↦ edited_fields (undone_stamp later b (Some (edited (advanced now (stamp_of b)) row))) b
     ]
 
 grave_back : (later : ℤ) (left : Bool) (new g : Option Row) → IsTrue (same_fields g (undone_row later (cond left (Some g) None) (cond left new g)))
@@ -176,19 +179,19 @@ grave_back later true new None = refl
 grave_back later true new (Some row) = edited_fields (undone_stamp later row new) row
 grave_back later false new g = same_itself g
 
-module _ (now later : ℤ) (c : Held) (edit : Edit) where
+module _ (now later : ℤ) (c : Collection) (edit : Edit) where
   -- what stands under a name after the edit and its undo
-  abbrev both : At
-  both name = undone_row later ((step_of c edit).rows name) (settled_under now (under c) edit.rows name)
+  abbrev both : RowsByName
+  both name = undone_row later ((reversal_of c edit).rows name) (edited_under now (row_under c) edit.rows name)
 
-  row_both : (name : Name) → IsTrue (same_fields (under c name) (undone_row later (cond (changes_row (under c name) (edit.rows name)) (Some (under c name)) None) (settled_row now (under c name) (edit.rows name))))
-  row_both name = row_back now later (under c name) (edit.rows name)
+  row_both : (name : Name) → IsTrue (same_fields (row_under c name) (undone_row later (cond (changes_row (row_under c name) (edit.rows name)) (Some (row_under c name)) None) (edited_row now (row_under c name) (edit.rows name))))
+  row_both name = row_back now later (row_under c name) (edit.rows name)
 
-  grave_both : (name buried : Name) → IsTrue (same_fields (under c name) (undone_row later (cond (goes (under c buried) (edit.rows buried)) (Some (under c name)) None)
-      (settled_grave (grave_left buried) (under c buried) (edit.rows buried) (under c name))))
-  grave_both name buried = grave_back later (goes (under c buried) (edit.rows buried)) (grave_left buried) (under c name)
+  grave_both : (name buried : Name) → IsTrue (same_fields (row_under c name) (undone_row later (cond (goes (row_under c buried) (edit.rows buried)) (Some (row_under c name)) None)
+      (edited_grave (grave_left buried) (row_under c buried) (edit.rows buried) (row_under c name))))
+  grave_both name buried = grave_back later (goes (row_under c buried) (edit.rows buried)) (grave_left buried) (row_under c name)
 
-  both_at : (table : Table) (id : ℤ) → IsTrue (same_fields (under c (name_in table id)) (both (name_in table id)))
+  both_at : (table : Table) (id : ℤ) → IsTrue (same_fields (row_under c (name_in table id)) (both (name_in table id)))
   both_at tables.Note id = row_both (name_in tables.Note id)
   both_at tables.Card id = row_both (name_in tables.Card id)
   both_at tables.Review id = row_both (name_in tables.Review id)
@@ -200,12 +203,12 @@ module _ (now later : ℤ) (c : Held) (edit : Edit) where
   both_at tables.DeckGrave id = grave_both (name_in tables.DeckGrave id) (name_in tables.Deck id)
 
 -- the undo of an edit gives the collection before it, stamps and update sequence numbers aside
-pub undos_give_back : (at later : ℤ) (c after back : Held) (edit : Edit) → IsSettled at c edit after → IsUndone later after (step_of c edit) back → IsBack c back
-undos_give_back at later c after back edit settled undone = record {
-  rows = λ name. subst (λ (o : Option Row). IsTrue (same_fields (under c name) o))
-      (sym (undone.rows name ∙ ap (undone_row (second_of later) ((step_of c edit).rows name)) (settled.rows name)))
+pub undos_give_back : (at later : ℤ) (c after back : Collection) (edit : Edit) → IsEdited at c edit after → IsUndone later after (reversal_of c edit) back → IsBack c back
+undos_give_back at later c after back edit is_edited undone = record {
+  rows = λ name. subst (λ (o : Option Row). IsTrue (same_fields (row_under c name) o))
+      (sym (undone.rows name ∙ ap (undone_row (second_of later) ((reversal_of c edit).rows name)) (is_edited.rows name)))
       (both_at (second_of at) (second_of later) c edit name.table name.id);
   tags = undone.tags;
   conf = undone.conf;
-  crt = undone.crt ∙ settled.crt;
+  crt = undone.crt ∙ is_edited.crt;
 }

@@ -1,25 +1,12 @@
 -- When a device's collection and a server's committed one are linked: what a sync by update sequence numbers rests on.
-use Rattle.std.specs.Prelude.{◌≡◌, ◌≢◌, ℕ, ℤ, pos, negsuc, ◌≤ℤ◌, ◌<ℤ◌, Bool, true, false, IsTrue, List, Option, Some, None, IfSome, is_some, ⊤, ◌⊎◌}
+use Rattle.ak_base.specs.Tables.{has_stamps}
+use Rattle.ak_keep.specs.Collections.{Collection, is_pending, is_settled}
+use Rattle.std.specs.Prelude.{◌≡◌, ◌≢◌, ℕ, ℤ, pos, negsuc, ◌≤ℤ◌, ◌<ℤ◌, false, IsTrue, List, Option, Some, None, IfSome, is_some, ⊤, ◌⊎◌}
 use Rattle.ak_base.specs.Contents.{same_content}
 use Rattle.ak_base.specs.Rows.{stamp_of, usn_of}
 use Rattle.ak_base.specs.declared.names.Name.{Name}
-use Rattle.ak_base.specs.declared.names.Table.{Table}
-use Rattle.ak_base.specs.declared.names.Table.TheVariants as tables
 use Rattle.ak_base.specs.declared.rows.Row.{Row}
-use Rattle.ak_keep.specs.Collections.{is_pending, is_settled}
-use Rattle.ak_merge.specs.Holdings.{Held, under, grave_under, IsSingle, tag_usn}
-
--- whether the rows of a table have stamps: all but reviews and graves
-abbrev pub has_stamps : Table → Bool
-has_stamps tables.Note = true
-has_stamps tables.Card = true
-has_stamps tables.NoteType = true
-has_stamps tables.Deck = true
-has_stamps tables.Options = true
-has_stamps tables.Review = false
-has_stamps tables.NoteGrave = false
-has_stamps tables.CardGrave = false
-has_stamps tables.DeckGrave = false
+use Rattle.ak_merge.specs.Holdings.{row_under, grave_under, IsSingle, tag_usn}
 
 -- ---- the numbers
 -- from 0 to below a head's update sequence number
@@ -32,8 +19,8 @@ abbrev pub IsOwn : ℤ → ℤ → Type 0
 IsOwn usn number = (number ≡ negsuc 0) ⊎ IsGiven usn number
 
 -- each row and each tag has a number of this kind
-pub record AreNumbered (Fits : ℤ → ℤ → Type 0) (c : Held) : Type 0 where
-  pub rows : (name : Name) → IfSome (under c name) (λ row. Fits c.head.usn (usn_of row))
+pub record AreNumbered (Fits : ℤ → ℤ → Type 0) (c : Collection) : Type 0 where
+  pub rows : (name : Name) → IfSome (row_under c name) (λ row. Fits c.head.usn (usn_of row))
   pub tags : (name : List ℕ) → IfSome (tag_usn c.head.tags name) (Fits c.head.usn)
 
 -- ---- the cells: what stands under one name, and the grave of that name
@@ -57,29 +44,30 @@ abbrev pub IsThere : Option Row → (Row → Type 0) → Type 0
 IsThere None P = ⊥
 IsThere (Some x) P = P x
 
--- of the server's row y: where its number is below the device's, the device's row x or grave g accounts for it
+-- of the server's row y: if its number is below the device's, the device's row x or grave g accounts for it
 abbrev pub HasTaken : ℤ → Option Row → Option Row → Option Row → Type 0
 HasTaken usn x g None = ⊤
 HasTaken usn x g (Some y) = usn_of y <ℤ usn → IsHeldLike y x ⊎ IsThere x (IsNewerUnsent y) ⊎ IsThere g (λ grave. IsTrue (is_pending grave))
 
--- of the device's row x: where it is settled, the server's row y or grave h accounts for it
+-- of the device's row x: if it is settled, the server's row y or grave h accounts for it
 abbrev pub IsKnown : ℤ → Option Row → Option Row → Option Row → Type 0
 IsKnown usn None y h = ⊤
 IsKnown usn (Some x) y h = IsTrue (is_settled x) → IsHeldLike x y ⊎ IsThere y (IsNewerFrom usn x) ⊎ IsThere h (λ grave. usn ≤ℤ usn_of grave)
 
--- of a review or grave, or of a tag, which only come: where the device's is settled the server has it, and where the server's number
+-- of a review or grave, or of a tag, which only come: if the device's is settled the server has it, and if the server's number
 -- is below the device's the device has it
 pub record IsShared (usn : ℤ) (x y : Option Row) : Type 0 where
   pub sent : IfSome x (λ row. IsTrue (is_settled row) → IsHeldLike row y)
   pub came : IfSome y (λ row. usn_of row <ℤ usn → IsHeldLike row x)
 
+-- the same of a tag, by its numbers on the two sides
 pub record IsTagShared (usn : ℤ) (x y : Option ℤ) : Type 0 where
   pub sent : IfSome x (λ number. number ≢ negsuc 0 → IsTrue (is_some y))
   pub came : IfSome y (λ number. number <ℤ usn → IsTrue (is_some x))
 
 -- ---- linked
 -- the five parts, for a device's collection c and a server's committed collection s of one schema moment
-pub record AreLinkedParts (c s : Held) : Type 0 where
+pub record AreLinkedParts (c s : Collection) : Type 0 where
   -- 1. The device's number is at most the server's. Each number in the server's is from 0 to below its own; each in the device's
   -- is -1, or from 0 to below its own.
   pub usn : c.head.usn ≤ℤ s.head.usn
@@ -87,18 +75,18 @@ pub record AreLinkedParts (c s : Held) : Type 0 where
   pub own : AreNumbered IsOwn c
   -- 2. For each note, card, note type, deck or options row of the server with a number below the device's, the device holds an
   -- equal row, or a row of that name that was not sent yet and is newer, or a grave of it that was not sent yet.
-  pub taken : (name : Name) → IsTrue (has_stamps name.table) → HasTaken c.head.usn (under c name) (grave_under (under c) name) (under s name)
+  pub taken : (name : Name) → IsTrue (has_stamps name.table) → HasTaken c.head.usn (row_under c name) (grave_under (row_under c) name) (row_under s name)
   -- 3. For each settled row of these five tables in the device's, the server holds an equal row, or one that is newer with a number
   -- of at least the device's, or its grave with such a number.
-  pub known : (name : Name) → IsTrue (has_stamps name.table) → IsKnown c.head.usn (under c name) (under s name) (grave_under (under s) name)
+  pub known : (name : Name) → IsTrue (has_stamps name.table) → IsKnown c.head.usn (row_under c name) (row_under s name) (grave_under (row_under s) name)
   -- 4. Each settled grave, review and tag of the device's is held by the server. Each of the server's with a number below the
   -- device's is held by the device. Reviews are then equal.
-  pub shared : (name : Name) → has_stamps name.table ≡ false → IsShared c.head.usn (under c name) (under s name)
+  pub shared : (name : Name) → has_stamps name.table ≡ false → IsShared c.head.usn (row_under c name) (row_under s name)
   pub tags : (name : List ℕ) → IsTagShared c.head.usn (tag_usn c.head.tags name) (tag_usn s.head.tags name)
   -- 5. In neither does a row stand beside its own grave.
-  pub own_single : IsSingle (under c)
-  pub single : IsSingle (under s)
+  pub own_single : IsSingle (row_under c)
+  pub single : IsSingle (row_under s)
 
 -- the schema moments differ, or all five parts hold
-abbrev pub AreLinked : Held → Held → Type 0
+abbrev pub AreLinked : Collection → Collection → Type 0
 AreLinked c s = (c.head.schema ≢ s.head.schema) ⊎ AreLinkedParts c s

@@ -1,14 +1,14 @@
 ghost use Rattle.std.specs.Prelude.{◌≡◌, pos, true, is_some, IfOk, OnOk, OnErr};
 ghost use Rattle.std.specs.FinMap.{get};
 ghost use Rattle.ak_base.specs.Heads.{IsWithin};
-ghost use Rattle.ak_base.specs.Rows.{with_usn};
-ghost use Rattle.ak_keep.specs.Collections.{IsChecked};
-ghost use Rattle.ak_keep.specs.Keepers.{KeepCause, WhereTold, is_marked, changed, put};
-ghost use Rattle.ak_merge.specs.Holdings.{grave_name, is_dead};
-ghost use Rattle.ak_merge.specs.Takings.{without_buried, buried_name, buried_table, is_newer, is_newer_of, with_taken, takes};
+ghost use Rattle.ak_base.specs.Rows.{IsChecked, with_usn};
+ghost use Rattle.ak_keep.specs.Keepers.{IsMarkedAt, KeepCause, WhereTold, back, is_marked, changed, put};
+ghost use Rattle.ak_keep.specs.Readings.{ReadsBy};
+ghost use Rattle.ak_merge.specs.Holdings.{is_dead};
+ghost use Rattle.ak_merge.specs.Takings.{without_buried, is_newer, is_newer_of, with_taken, takes};
 
-use ak_base::{Grave, Name, Row, Table};
-use ak_keep::{KeepFault, Keeper};
+use ak_base::{Name, Row};
+use ak_keep::{KeepFault, Keeper, Lookup};
 
 /// Whether `came` has the name of `held` and was changed later: its stamp is greater.
 pub fn newer(held: &Row, came: &Row) -> bool
@@ -18,16 +18,16 @@ pub fn newer(held: &Row, came: &Row) -> bool
 }
 
 /// Takes a row that came from the other side, with this update sequence number, by the rule of a sync; answers
-/// whether it is held now. A grave takes its row away in any case. Where it is refused, a part may be done: the
+/// whether it is held now. A grave takes its row away in any case. If it is refused, a part may be done: the
 /// keeper stays marked, and its mark is as it was.
 pub fn take_row<K: Keeper>(keeper: &mut K, row: Row, usn: i64) -> Result<bool, KeepFault>
     requires marked { is_marked (K.keeping keeper.old) ≡ true }
     requires checked { IsChecked row }
     requires usn { IsWithin (pos 0) (pos 2_147_483_647) usn }
     ensures ok { IfOk result (λ is_taken. K.keeping keeper.new ≡ changed (with_taken usn row) (K.keeping keeper.old)) }
-    ensures taken { IfOk result (λ is_taken. WhereTold (K.keeping keeper.old) (λ c. is_taken ≡ takes (get c.rows) row)) }
-    ensures mark { (K.keeping keeper.new).mark ≡ (K.keeping keeper.old).mark }
-    ensures cause { KeepCause (K.fault_count keeper.old) (K.fault_count keeper.new) result }
+    ensures taken { IfOk result (λ is_taken. WhereTold (K.keeping keeper.old) (λ h. is_taken ≡ takes (get h.rows) row)) }
+    ensures stays { IsMarkedAt (back (K.keeping keeper.old)) (K.keeping keeper.new) }
+    ensures cause { KeepCause (K.health keeper.old) (K.health keeper.new) result }
 {
     let takes = takes(keeper, &row)?;
     bury(keeper, &row)?;
@@ -40,19 +40,18 @@ pub fn take_row<K: Keeper>(keeper: &mut K, row: Row, usn: i64) -> Result<bool, K
 }
 
 /// Whether the row is to be held: its grave is not held, and no row of its name is or an older one.
-fn takes<K: Keeper>(keeper: &mut K, row: &Row) -> Result<bool, KeepFault>
-    ensures takes { IfOk result (λ is_taken. WhereTold (K.keeping keeper.old) (λ c. is_taken ≡ takes (get c.rows) row.now)) }
-    ensures same { K.keeping keeper.new ≡ K.keeping keeper.old }
-    ensures cause { KeepCause (K.fault_count keeper.old) (K.fault_count keeper.new) result }
+fn takes<L: Lookup>(from: &mut L, row: &Row) -> Result<bool, KeepFault>
+    ensures reads { ReadsBy L.Lookup from.old from.new result (λ h is_taken. is_taken ≡ takes (get h.rows) row.now) }
 {
     let name = row.name();
-    if is_dead(keeper, name)? {
+    if is_dead(from, name)? {
         return Ok(false);
     }
-    let held = keeper.get(name)?;
+    let held = from.get(name)?;
     Ok(is_newer(&held, row))
 }
 
+/// Whether no row is held, or one with a lesser stamp than `came` has.
 fn is_newer(held: &Option<Row>, came: &Row) -> bool
     ensures { result ≡ is_newer held.now came.now }
 {
@@ -64,36 +63,21 @@ fn is_newer(held: &Option<Row>, came: &Row) -> bool
 
 /// Whether the grave of a row of this name is held.
 #[tactic(auto, using(crate::proofs::Taking::dead_by_name))]
-fn is_dead<K: Keeper>(keeper: &mut K, name: Name) -> Result<bool, KeepFault>
-    ensures dead { IfOk result (λ dead. WhereTold (K.keeping keeper.old) (λ c. dead ≡ is_dead (get c.rows) name)) }
-    ensures same { K.keeping keeper.new ≡ K.keeping keeper.old }
-    ensures cause { KeepCause (K.fault_count keeper.old) (K.fault_count keeper.new) result }
+fn is_dead<L: Lookup>(from: &mut L, name: Name) -> Result<bool, KeepFault>
+    ensures reads { ReadsBy L.Lookup from.old from.new result (λ h dead. dead ≡ is_dead (get h.rows) name) }
 {
-    match grave_name(name) {
-        Some(grave) => is_held(keeper, grave),
+    match name.grave() {
+        Some(grave) => is_held(from, grave),
         None => Ok(false),
     }
 }
 
-fn is_held<K: Keeper>(keeper: &mut K, name: Name) -> Result<bool, KeepFault>
-    ensures held { IfOk result (λ held. WhereTold (K.keeping keeper.old) (λ c. held ≡ is_some (get c.rows name))) }
-    ensures same { K.keeping keeper.new ≡ K.keeping keeper.old }
-    ensures cause { KeepCause (K.fault_count keeper.old) (K.fault_count keeper.new) result }
+/// Whether a row of this name is held.
+fn is_held<L: Lookup>(from: &mut L, name: Name) -> Result<bool, KeepFault>
+    ensures reads { ReadsBy L.Lookup from.old from.new result (λ h held. held ≡ is_some (get h.rows name)) }
 {
-    let row = keeper.get(name)?;
+    let row = from.get(name)?;
     Ok(row.is_some())
-}
-
-fn grave_name(name: Name) -> Option<Name>
-    ensures { result ≡ grave_name name }
-{
-    let table = match name.table {
-        Table::Note => Table::NoteGrave,
-        Table::Card => Table::CardGrave,
-        Table::Deck => Table::DeckGrave,
-        _ => return None,
-    };
-    Some(Name { table, id: name.id })
 }
 
 /// Takes out the row whose grave this is.
@@ -102,34 +86,12 @@ fn bury<K: Keeper>(keeper: &mut K, row: &Row) -> Result<(), KeepFault>
     requires marked { is_marked (K.keeping keeper.old) ≡ true }
     ensures ok { OnOk result (K.keeping keeper.new ≡ changed (without_buried row.now) (K.keeping keeper.old)) }
     ensures err { OnErr result (K.keeping keeper.new ≡ K.keeping keeper.old) }
-    ensures cause { KeepCause (K.fault_count keeper.old) (K.fault_count keeper.new) result }
+    ensures stays { IsMarkedAt (back (K.keeping keeper.old)) (K.keeping keeper.new) }
+    ensures cause { KeepCause (K.health keeper.old) (K.health keeper.new) result }
 {
-    match buried_name(row) {
+    match row.buried() {
         Some(name) => keeper.remove(name),
         None => Ok(()),
-    }
-}
-
-fn buried_name(row: &Row) -> Option<Name>
-    ensures { result ≡ buried_name row.now }
-{
-    match row {
-        Row::Grave(grave) => Some(name_buried(grave)),
-        _ => None,
-    }
-}
-
-fn name_buried(grave: &Grave) -> Name
-    ensures { result ≡ record { table = buried_table grave.now.kind; id = grave.now.oid } }
-{
-    let table = match grave.kind {
-        0 => Table::Card,
-        1 => Table::Note,
-        _ => Table::Deck,
-    };
-    Name {
-        table,
-        id: grave.oid,
     }
 }
 
@@ -141,7 +103,8 @@ fn put_with<K: Keeper>(keeper: &mut K, row: Row, usn: i64) -> Result<(), KeepFau
     requires usn { IsWithin (pos 0) (pos 2_147_483_647) usn }
     ensures ok { OnOk result (K.keeping keeper.new ≡ put (with_usn row usn) (K.keeping keeper.old)) }
     ensures err { OnErr result (K.keeping keeper.new ≡ K.keeping keeper.old) }
-    ensures cause { KeepCause (K.fault_count keeper.old) (K.fault_count keeper.new) result }
+    ensures stays { IsMarkedAt (back (K.keeping keeper.old)) (K.keeping keeper.new) }
+    ensures cause { KeepCause (K.health keeper.old) (K.health keeper.new) result }
 {
     let mut row = row;
     row.set_usn(usn);

@@ -7,18 +7,18 @@ use Rattle.ak_base.specs.Cards.{card_faults, place_faults, schedule_faults, mark
 use Rattle.ak_base.specs.OptionGroups.{options_faults, general_faults, new_faults, rev_faults, lapse_faults}
 use Rattle.ak_base.specs.declared.cards.Card.{Card}
 use Rattle.ak_base.specs.declared.option_groups.Options.{Options}
-use Rattle.ak_sched.specs.Naturals.{natural, next_count}
+use Rattle.ak_sched.specs.Counts.{clamped_to_zero, next_count}
 use Rattle.ak_sched.specs.Answers.{queue_after, due_after, kind_code, card_after}
 use Rattle.ak_sched.specs.Ranges.{AreColumns, AreOptions, IsMade, IsLogged}
-use Rattle.ak_sched.specs.declared.standings.Kind.{Kind}
-use Rattle.ak_sched.specs.declared.standings.Kind.TheVariants.{Learning, Relearning, Review}
-use Rattle.ak_sched.specs.declared.standings.Standing.{Standing}
-use Rattle.ak_sched.specs.declared.standings.Outcome.{Outcome}
+use Rattle.ak_sched.specs.declared.card_states.Kind.{Kind}
+use Rattle.ak_sched.specs.declared.card_states.Kind.TheVariants.{Learning, Relearning, Review}
+use Rattle.ak_sched.specs.declared.card_states.CardState.{CardState}
+use Rattle.ak_sched.specs.declared.card_states.Outcome.{Outcome}
 use Rattle.ak_base.specs.Reviews.{review_faults}
 use Rattle.ak_base.specs.Days.{IsDay}
 use Rattle.ak_base.specs.declared.days.Day.{Day}
 use Rattle.ak_base.specs.declared.reviews.Review.{Review as LogRow}
-use Rattle.ak_sched.proofs.Numbers.{natural_le, le_natural, pos_natural}
+use Rattle.ak_sched.proofs.Numbers.{clamped_le, le_clamped, pos_clamped}
 use Rattle.ak_sched.proofs.Faults.{all_free, good_if_free, both_free, code_free, front_free, rest_free, code_low, code_high, steps_in_range}
 
 pub columns_in_range : (c : Card) → IsOk (first_fault (card_faults c)) → AreColumns c
@@ -26,11 +26,11 @@ unfolding schedule_faults
 columns_in_range c h =
     let kept = all_free (schedule_faults c) (front_free (schedule_faults c) (mark_faults c) (rest_free (place_faults c) _ h)) in
     record {
-      left = natural_le _ _ (code_high _ _ _ _ kept.1.1.1.1.1.1.1.0);
-      ivl = natural_le _ _ (code_high _ _ _ _ kept.1.1.1.0);
-      factor = natural_le _ _ (code_high _ _ _ _ kept.1.1.1.1.0);
+      left = clamped_le _ _ (code_high _ _ _ _ kept.1.1.1.1.1.1.1.0);
+      ivl = clamped_le _ _ (code_high _ _ _ _ kept.1.1.1.0);
+      factor = clamped_le _ _ (code_high _ _ _ _ kept.1.1.1.1.0);
       factor_sign = code_low _ _ _ _ kept.1.1.1.1.0;
-      lapses = natural_le _ _ (code_high _ _ _ _ kept.1.1.1.1.1.1.0);
+      lapses = clamped_le _ _ (code_high _ _ _ _ kept.1.1.1.1.1.1.0);
       due_low = code_low _ _ _ _ kept.1.1.0;
       due_high = code_high _ _ _ _ kept.1.1.0;
     }
@@ -48,20 +48,20 @@ options_in_range o h =
     let reviews = all_free (rev_faults o) (front_free (rev_faults o) _ last) in
     let lapses = all_free (lapse_faults o) (rest_free (rev_faults o) _ last) in
     record {
-      max_taken = natural_le _ _ (code_high _ _ _ _ general.1.1.1.1.0);
+      max_taken = clamped_le _ _ (code_high _ _ _ _ general.1.1.1.1.0);
       new_steps = steps_in_range _ _ new.0;
-      grad_ivl = natural_le _ _ (code_high _ _ _ _ new.1.0);
-      easy_ivl = natural_le _ _ (code_high _ _ _ _ new.1.1.0);
-      initial_low = le_natural _ _ (code_low _ _ _ _ new.1.1.1.0);
-      initial_high = natural_le _ _ (code_high _ _ _ _ new.1.1.1.0);
-      ease4 = natural_le _ _ (code_high _ _ _ _ reviews.1.0);
-      ivl_fct = natural_le _ _ (code_high _ _ _ _ reviews.1.1.0);
-      max_ivl = natural_le _ _ (code_high _ _ _ _ reviews.1.1.1.0);
+      grad_ivl = clamped_le _ _ (code_high _ _ _ _ new.1.0);
+      easy_ivl = clamped_le _ _ (code_high _ _ _ _ new.1.1.0);
+      initial_low = le_clamped _ _ (code_low _ _ _ _ new.1.1.1.0);
+      initial_high = clamped_le _ _ (code_high _ _ _ _ new.1.1.1.0);
+      ease4 = clamped_le _ _ (code_high _ _ _ _ reviews.1.0);
+      ivl_fct = clamped_le _ _ (code_high _ _ _ _ reviews.1.1.0);
+      max_ivl = clamped_le _ _ (code_high _ _ _ _ reviews.1.1.1.0);
       max_sign = at_least_one o.max_ivl (code_low _ _ _ _ reviews.1.1.1.0);
-      hard_factor = natural_le _ _ (code_high _ _ _ _ reviews.1.1.1.1.0);
+      hard_factor = clamped_le _ _ (code_high _ _ _ _ reviews.1.1.1.1.0);
       lapse_steps = steps_in_range _ _ lapses.0;
-      mult = natural_le _ _ (code_high _ _ _ _ lapses.1.0);
-      min_int = natural_le _ _ (code_high _ _ _ _ lapses.1.1.0);
+      mult = clamped_le _ _ (code_high _ _ _ _ lapses.1.0);
+      min_int = clamped_le _ _ (code_high _ _ _ _ lapses.1.1.0);
     }
 
 -- a row of the review log whose ids are in range passes the check
@@ -121,13 +121,13 @@ due_low day word days None h = omega (arith, ints)
 
 pub due_high : (day : Day) (word days : ℕ) (delay : Option ℕ) → IsDay day → days ≤ 1_000_000 → IfSome delay (λ d. d ≤ 90_000_000) → due_after day word days delay ≤ℤ pos 1_099_511_627_776
 due_high day word days (Some delay) h few short =
-    let now = natural_le day.now 4_294_967_294 (omega (arith, ints)) in
-    let cutoff = natural_le day.cutoff 4_295_053_694 (omega (arith, ints)) in
+    let now = clamped_le day.now 4_294_967_294 (omega (arith, ints)) in
+    let cutoff = clamped_le day.cutoff 4_295_053_694 (omega (arith, ints)) in
     grind (arith, ints, nat_tests)
 due_high day word days None h few short = omega (arith, ints)
 
 -- the card that an answer makes passes the check
-pub card_is_good : (c : Card) (day : Day) (word : ℕ) (s : Standing) (out : Outcome) → IsOk (first_fault (card_faults c)) → IsDay day → IsMade s out → IsOk (first_fault (card_faults (card_after c day word out)))
+pub card_is_good : (c : Card) (day : Day) (word : ℕ) (s : CardState) (out : Outcome) → IsOk (first_fault (card_faults c)) → IsDay day → IsMade s out → IsOk (first_fault (card_faults (card_after c day word out)))
 unfolding place_faults schedule_faults mark_faults
 card_is_good c day word s out h today made =
     let new : Card = card_after c day word out in
@@ -144,7 +144,7 @@ card_is_good c day word s out h today made =
             (
               code_free 10 (pos out.factor) (pos 0) (pos 100_000) (omega (arith, ints)) (omega (arith, ints, made.factor)),
               (
-                code_free 11 (pos (next_count (natural c.reps))) (pos 0) (pos 2_147_483_647) (omega (arith, ints)) (omega (arith, ints)),
+                code_free 11 (pos (next_count (clamped_to_zero c.reps))) (pos 0) (pos 2_147_483_647) (omega (arith, ints)) (omega (arith, ints)),
                 (
                   code_free 12 (pos out.lapses) (pos 0) (pos 2_147_483_647) (omega (arith, ints)) (omega (arith, ints, made.lapses)),
                   (
@@ -164,6 +164,6 @@ unfolding place_faults
 card_id_is_good c h = (all_free (place_faults c) (front_free (place_faults c) _ h)).0
 
 -- a factor is lifted to 1300, or stays
-pub factor_kept : (c : Card) (s : Standing) (out : Outcome) → AreColumns c → s.factor ≡ natural c.factor → (1_300 ≤ out.factor) ⊎ (out.factor ≡ s.factor) → (pos 1_300 ≤ℤ pos out.factor) ⊎ (pos out.factor ≡ c.factor)
+pub factor_kept : (c : Card) (s : CardState) (out : Outcome) → AreColumns c → s.factor ≡ clamped_to_zero c.factor → (1_300 ≤ out.factor) ⊎ (out.factor ≡ s.factor) → (pos 1_300 ≤ℤ pos out.factor) ⊎ (pos out.factor ≡ c.factor)
 factor_kept c s out columns same (inl low) = inl (omega (arith, ints))
-factor_kept c s out columns same (inr kept) = inr (ap pos (kept ∙ same) ∙ pos_natural c.factor columns.factor_sign)
+factor_kept c s out columns same (inr kept) = inr (ap pos (kept ∙ same) ∙ pos_clamped c.factor columns.factor_sign)

@@ -23,11 +23,11 @@ sum_more ds from done h = grind (arith, common_steps, get_or-drop {A = ℕ}, len
 
 -- the walk stops before a sum that does not fit
 pub today_before :
-    (ds : List ℕ) (budget left done today : ℕ) → today ≡ max done 1 → done < counted ds left →
-    sum (take done (last_delays ds (counted ds left))) ≤ budget →
-    budget < sum (take (done + 1) (last_delays ds (counted ds left))) →
-    IsStepsToday ds budget left today
-today_before ds budget left zero today is below within over =
+    (ds : List ℕ) (seconds_left left done today : ℕ) → today ≡ max done 1 → done < counted ds left →
+    sum (take done (last_delays ds (counted ds left))) ≤ seconds_left →
+    seconds_left < sum (take (done + 1) (last_delays ds (counted ds left))) →
+    IsStepsToday ds seconds_left left today
+today_before ds seconds_left left zero today is below within over =
     let one : today ≡ 1 = omega arith in
     record {
       one = omega arith;
@@ -37,7 +37,7 @@ today_before ds budget left zero today is below within over =
           let grows = sum_take_le (last_delays ds (counted ds left)) 1 more (omega arith) in
           omega arith;
     }
-today_before ds budget left (suc done) today is below within over =
+today_before ds seconds_left left (suc done) today is below within over =
     let same : today ≡ suc done = omega arith in
     record {
       one = omega arith;
@@ -50,13 +50,13 @@ today_before ds budget left (suc done) today is below within over =
 
 -- the same as the walk has it
 pub today_at :
-    (ds : List ℕ) (budget left done today count most total delay : ℕ) →
+    (ds : List ℕ) (seconds_left left done today count most total delay : ℕ) →
     count ≡ length ds → 1 ≤ count → most ≡ counted ds left → today ≡ max done 1 → done < most →
-    total ≡ sum (take done (drop (count - most) ds)) → total ≤ budget →
-    delay ≡ get_or ds (count - most + done) 0 → budget < total + delay →
-    IsStepsToday ds budget left today
-today_at ds budget left done today count most total delay whole some most_is today_is below total_is within delay_is over =
+    total ≡ sum (take done (drop (count - most) ds)) → total ≤ seconds_left →
+    delay ≡ get_or ds (count - most + done) 0 → seconds_left < total + delay →
+    IsStepsToday ds seconds_left left today
+today_at ds seconds_left left done today count most total delay whole some most_is today_is below total_is within delay_is over =
     let here : sum (take done (drop (count - most) ds)) ≡ sum (take done (last_delays ds (counted ds left))) = cc in
     let there : sum (take (done + 1) (drop (count - most) ds)) ≡ sum (take (done + 1) (last_delays ds (counted ds left))) = cc in
     let more : sum (take (done + 1) (drop (count - most) ds)) ≡ sum (take done (drop (count - most) ds)) + get_or ds (count - most + done) 0 = sum_more ds (count - most) done (omega arith) in
-    today_before ds budget left done today today_is (omega arith) (omega arith) (omega arith)
+    today_before ds seconds_left left done today today_is (omega arith) (omega arith) (omega arith)

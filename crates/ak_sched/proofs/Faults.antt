@@ -1,14 +1,14 @@
 -- What a check that finds no fault says of the columns.
-use Rattle.std.proofs.Common.{◌≡◌, ℕ, zero, suc, ℤ, pos, ◌<◌, ◌≤◌, List, [], ◌∷◌, ◌++◌, length, get_or, Option, Some, None, IsOk, refl, ◌≤ℤ◌, arith, rules}
+use Rattle.std.proofs.Common.{◌≡◌, ℕ, zero, suc, ℤ, pos, ◌<◌, ◌≤◌, List, [], ◌∷◌, ◌++◌, length, get_or, Option, Some, None, Ok, IsOk, refl, ◌≤ℤ◌, arith, rules}
 use Rattle.ak_base.proofs.Optional.{first_none, second_none}
 use Rattle.std.proofs.lemmas.Int.{ints}
 use Rattle.std.proofs.lemmas.Bool.Decides.{nat_tests}
 use Rattle.ak_base.specs.Columns.{code_fault, long_fault, first_fault}
 use Rattle.ak_base.specs.OptionGroups.{bad_step, steps_fault}
 use Rattle.ak_base.specs.declared.errors.RowFault.{RowFault}
-use Rattle.ak_sched.specs.Naturals.{natural}
+use Rattle.ak_sched.specs.Counts.{clamped_to_zero}
 use Rattle.ak_sched.specs.Ranges.{AreSteps}
-use Rattle.ak_sched.proofs.Numbers.{natural_le}
+use Rattle.ak_sched.proofs.Numbers.{clamped_le}
 
 -- no column has a fault
 abbrev pub AllFree : List (Option RowFault) → Type 0
@@ -24,6 +24,16 @@ pub good_if_free : (fs : List (Option RowFault)) → AllFree fs → IsOk (first_
 good_if_free [] h = refl
 good_if_free (None ∷ fs) h = good_if_free fs h.1
 good_if_free (Some fault ∷ fs) h = let e : Some fault ≡ None = h.0 in cc
+
+pub checked_ok : (fs : List (Option RowFault)) → first_fault fs ≡ Ok tt → IsOk (first_fault fs)
+checked_ok [] e = refl
+checked_ok (None ∷ fs) e = checked_ok fs e
+checked_ok (Some fault ∷ fs) e = cc
+
+pub ok_checked : (fs : List (Option RowFault)) → IsOk (first_fault fs) → first_fault fs ≡ Ok tt
+ok_checked [] h = refl
+ok_checked (None ∷ fs) h = ok_checked fs h
+ok_checked (Some fault ∷ fs) h = cc
 
 pub front_free : (fs gs : List (Option RowFault)) → IsOk (first_fault (fs ++ gs)) → IsOk (first_fault fs)
 front_free [] gs h = search rules
@@ -56,10 +66,10 @@ pub long_high : (column length most : ℕ) → long_fault column length most ≡
 unfolding long_fault
 long_high column length most e = grind (arith, nat_tests)
 
-pub step_high : (column : ℕ) (steps : List ℤ) (i : ℕ) → bad_step column steps ≡ None → i < length steps → natural (get_or steps i (pos 0)) ≤ 1_000_000
+pub step_high : (column : ℕ) (steps : List ℤ) (i : ℕ) → bad_step column steps ≡ None → i < length steps → clamped_to_zero (get_or steps i (pos 0)) ≤ 1_000_000
 step_high column [] i e h = omega arith
 step_high column (step ∷ steps) zero e h =
-    natural_le step 1_000_000 (code_high column step (pos 1) (pos 1_000_000) (first_none _ (bad_step column steps) e))
+    clamped_le step 1_000_000 (code_high column step (pos 1) (pos 1_000_000) (first_none _ (bad_step column steps) e))
 step_high column (step ∷ steps) (suc i) e h =
     step_high column steps i (second_none (code_fault column step (pos 1) (pos 1_000_000)) _ e) (omega arith)
 

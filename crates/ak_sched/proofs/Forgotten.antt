@@ -2,21 +2,21 @@
 use Rattle.std.proofs.Common.{◌≡◌, ◌≢◌, ℕ, pos, ◌↔◌, Bool, true, false, IsTrue, [], length, Some, None, refl, sym, subst}
 use Rattle.ak_base.specs.declared.option_groups.Options.{Options}
 use Rattle.ak_base.specs.declared.days.Day.{Day}
-use Rattle.ak_sched.specs.Naturals.{natural, next_count}
+use Rattle.ak_sched.specs.Counts.{clamped_to_zero, next_count}
 use Rattle.ak_sched.specs.Steps.{delays, delay_at, IsLeft}
 use Rattle.ak_sched.specs.Leeches.{IsLeech}
-use Rattle.ak_sched.specs.Lessons.{budget, forgotten, IsLapse}
-use Rattle.ak_sched.specs.declared.standings.Kind.TheVariants.{Relearning, Review}
-use Rattle.ak_sched.specs.declared.standings.Standing.{Standing}
-use Rattle.ak_sched.specs.declared.standings.Outcome.{Outcome}
+use Rattle.ak_sched.specs.Transitions.{seconds_left_today, forgotten, IsLapse}
+use Rattle.ak_sched.specs.declared.card_states.Kind.TheVariants.{Relearning, Review}
+use Rattle.ak_sched.specs.declared.card_states.CardState.{CardState}
+use Rattle.ak_sched.specs.declared.card_states.Outcome.{Outcome}
 
 -- what the test for a leech and the options' action say
-pub record Judged (o : Options) (s : Standing) (leech suspended : Bool) : Type 0 where
-  pub met : IsTrue leech ↔ IsLeech (next_count s.lapses) (natural o.leech_fails)
+pub record Judged (o : Options) (s : CardState) (leech suspended : Bool) : Type 0 where
+  pub met : IsTrue leech ↔ IsLeech (next_count s.lapses) (clamped_to_zero o.leech_fails)
   pub acts : IsTrue suspended ↔ (IsTrue leech × (o.leech_action ≡ pos 0))
 
 pub lapse_suspended :
-    (o : Options) (day : Day) (s : Standing) (out : Outcome) (leech suspended : Bool) →
+    (o : Options) (day : Day) (s : CardState) (out : Outcome) (leech suspended : Bool) →
     Judged o s leech suspended → suspended ≡ true →
     out ≡ forgotten o s Review 0 leech true None → IsLapse o day s out
 lapse_suspended o day s out leech suspended judged acts is =
@@ -30,7 +30,7 @@ lapse_suspended o day s out leech suspended judged acts is =
     })
 
 pub lapse_without_steps :
-    (o : Options) (day : Day) (s : Standing) (out : Outcome) (leech suspended : Bool) →
+    (o : Options) (day : Day) (s : CardState) (out : Outcome) (leech suspended : Bool) →
     Judged o s leech suspended → suspended ≡ false → o.lapse_steps ≡ [] →
     out ≡ forgotten o s Review 0 leech false None → IsLapse o day s out
 lapse_without_steps o day s out leech suspended judged stays none is =
@@ -44,9 +44,9 @@ lapse_without_steps o day s out leech suspended judged stays none is =
     })
 
 pub lapse_with_steps :
-    (o : Options) (day : Day) (s : Standing) (out : Outcome) (leech suspended : Bool) (left : ℕ) →
+    (o : Options) (day : Day) (s : CardState) (out : Outcome) (leech suspended : Bool) (left : ℕ) →
     Judged o s leech suspended → suspended ≡ false → o.lapse_steps ≢ [] →
-    IsLeft (delays o.lapse_steps) (budget day) (length (delays o.lapse_steps)) left →
+    IsLeft (delays o.lapse_steps) (seconds_left_today day) (length (delays o.lapse_steps)) left →
     out ≡ forgotten o s Relearning left leech false (Some (delay_at (delays o.lapse_steps) (length (delays o.lapse_steps)))) →
     IsLapse o day s out
 lapse_with_steps o day s out leech suspended left judged stays some all is =

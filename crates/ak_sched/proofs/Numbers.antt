@@ -1,16 +1,16 @@
 -- Stored numbers that are counted from 0.
 use Rattle.std.proofs.Common.{◌≡◌, ℕ, ℤ, pos, negsuc, ◌≤◌, ◌≤ℤ◌, arith, refl}
 use Rattle.std.proofs.lemmas.Int.{ints}
-use Rattle.ak_sched.specs.Naturals.{natural}
+use Rattle.ak_sched.specs.Counts.{clamped_to_zero}
 
-pub natural_le : (z : ℤ) (n : ℕ) → z ≤ℤ pos n → natural z ≤ n
-natural_le (pos m) n h = omega (arith, ints)
-natural_le (negsuc m) n h = omega (arith, ints)
+pub clamped_le : (z : ℤ) (n : ℕ) → z ≤ℤ pos n → clamped_to_zero z ≤ n
+clamped_le (pos m) n h = omega (arith, ints)
+clamped_le (negsuc m) n h = omega (arith, ints)
 
-pub le_natural : (z : ℤ) (n : ℕ) → pos n ≤ℤ z → n ≤ natural z
-le_natural (pos m) n h = omega (arith, ints)
-le_natural (negsuc m) n h = omega (arith, ints)
+pub le_clamped : (z : ℤ) (n : ℕ) → pos n ≤ℤ z → n ≤ clamped_to_zero z
+le_clamped (pos m) n h = omega (arith, ints)
+le_clamped (negsuc m) n h = omega (arith, ints)
 
-pub pos_natural : (z : ℤ) → pos 0 ≤ℤ z → pos (natural z) ≡ z
-pos_natural (pos m) h = refl
-pos_natural (negsuc m) h = omega (arith, ints)
+pub pos_clamped : (z : ℤ) → pos 0 ≤ℤ z → pos (clamped_to_zero z) ≡ z
+pos_clamped (pos m) h = refl
+pos_clamped (negsuc m) h = omega (arith, ints)

@@ -1,7 +1,7 @@
 -- The days that an interval is fuzzed to, so that cards learned together come apart.
 use Rattle.std.specs.Prelude.{ℕ, ◌+◌, ◌-◌, ◌*◌, ◌/◌, ◌%◌, max, if◌then◌else◌, nat_eq, nat_lt}
 
--- so many days to either side
+-- the days to either side of a number of days
 abbrev pub around : ℕ → ℕ → ℕ × ℕ
 around days spread = (days - spread, days + spread)
 

@@ -1,7 +1,6 @@
 -- Laws of the answers, over every card, options, button, day and word of chance.
-use Rattle.std.specs.Prelude.{◌≡◌, ℕ, ℤ, pos, ◌<ℤ◌, ◌⊎◌, IsOk}
-use Rattle.ak_base.specs.Columns.{first_fault}
-use Rattle.ak_base.specs.OptionGroups.{options_faults}
+use Rattle.std.specs.Prelude.{◌≡◌, ℕ, ℤ, pos, ◌<ℤ◌, ◌⊎◌}
+use Rattle.ak_base.specs.OptionGroups.{IsCheckedOptions}
 use Rattle.ak_base.specs.declared.cards.Card.{Card}
 use Rattle.ak_base.specs.declared.days.Day.{Day}
 use Rattle.ak_base.specs.declared.option_groups.Options.{Options}
@@ -19,6 +18,6 @@ HasOneAnswer =
 abbrev pub IsAbove : ℕ → ℕ → Type 0
 IsAbove below above =
     (c : Card) (o : Options) (day : Day) (word taken longer : ℕ) (id next : ℤ) (new other : Card) (told again : Answered) →
-    IsOk (first_fault (options_faults o)) → c.kind ≡ pos 2 →
+    IsCheckedOptions o → c.kind ≡ pos 2 →
     IsAnswer c o below day word taken id new told → IsAnswer c o above day word longer next other again →
     (new.ivl <ℤ other.ivl) ⊎ (other.ivl ≡ o.max_ivl)

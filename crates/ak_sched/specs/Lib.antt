@@ -1,9 +1,9 @@
-pub mod Naturals
+pub mod Counts
 pub mod Fuzzes
 pub mod Steps
 pub mod Intervals
 pub mod Leeches
-pub mod Lessons
+pub mod Transitions
 pub mod Answers
-pub mod Ranges
 pub mod Laws
+pub mod Ranges

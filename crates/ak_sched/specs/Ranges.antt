@@ -1,47 +1,47 @@
--- The ranges of the numbers that an answer reads and makes.
+-- The ranges of the numbers that an answer reads and makes. The contracts of private functions alone cite them.
 use Rattle.std.specs.Prelude.{◌≡◌, ℕ, ℤ, pos, negsuc, ◌<◌, ◌≤◌, ◌≤ℤ◌, List, length, get_or, IfSome, ◌⊎◌}
 use Rattle.ak_base.specs.declared.cards.Card.{Card}
 use Rattle.ak_base.specs.declared.reviews.Review.{Review as LogRow}
 use Rattle.ak_base.specs.declared.option_groups.Options.{Options}
-use Rattle.ak_sched.specs.Naturals.{natural}
-use Rattle.ak_sched.specs.declared.standings.Kind.TheVariants.{Review}
-use Rattle.ak_sched.specs.declared.standings.Standing.{Standing}
-use Rattle.ak_sched.specs.declared.standings.Outcome.{Outcome}
+use Rattle.ak_sched.specs.Counts.{clamped_to_zero}
+use Rattle.ak_sched.specs.declared.card_states.Kind.TheVariants.{Review}
+use Rattle.ak_sched.specs.declared.card_states.CardState.{CardState}
+use Rattle.ak_sched.specs.declared.card_states.Outcome.{Outcome}
 
 -- at most 50 steps, each of at most 1,000,000 minutes
 pub record AreSteps (steps : List ℤ) : Type 0 where
   pub few : length steps ≤ 50
-  pub short : (i : ℕ) → i < length steps → natural (get_or steps i (pos 0)) ≤ 1_000_000
+  pub short : (i : ℕ) → i < length steps → clamped_to_zero (get_or steps i (pos 0)) ≤ 1_000_000
 
 -- the options' numbers
 pub record AreOptions (o : Options) : Type 0 where
-  pub max_taken : natural o.max_taken ≤ 86_400
+  pub max_taken : clamped_to_zero o.max_taken ≤ 86_400
   pub new_steps : AreSteps o.new_steps
-  pub grad_ivl : natural o.grad_ivl ≤ 100_000
-  pub easy_ivl : natural o.easy_ivl ≤ 100_000
-  pub initial_low : 1_300 ≤ natural o.initial_factor
-  pub initial_high : natural o.initial_factor ≤ 100_000
-  pub ease4 : natural o.ease4 ≤ 100_000
-  pub ivl_fct : natural o.ivl_fct ≤ 100_000
-  pub max_ivl : natural o.max_ivl ≤ 100_000
+  pub grad_ivl : clamped_to_zero o.grad_ivl ≤ 100_000
+  pub easy_ivl : clamped_to_zero o.easy_ivl ≤ 100_000
+  pub initial_low : 1_300 ≤ clamped_to_zero o.initial_factor
+  pub initial_high : clamped_to_zero o.initial_factor ≤ 100_000
+  pub ease4 : clamped_to_zero o.ease4 ≤ 100_000
+  pub ivl_fct : clamped_to_zero o.ivl_fct ≤ 100_000
+  pub max_ivl : clamped_to_zero o.max_ivl ≤ 100_000
   pub max_sign : pos 0 ≤ℤ o.max_ivl
-  pub hard_factor : natural o.hard_factor ≤ 100_000
+  pub hard_factor : clamped_to_zero o.hard_factor ≤ 100_000
   pub lapse_steps : AreSteps o.lapse_steps
-  pub mult : natural o.mult ≤ 1_000
-  pub min_int : natural o.min_int ≤ 100_000
+  pub mult : clamped_to_zero o.mult ≤ 1_000
+  pub min_int : clamped_to_zero o.min_int ≤ 100_000
 
 -- the columns of a card that an answer reads
 pub record AreColumns (c : Card) : Type 0 where
-  pub left : natural c.left ≤ 999_999
-  pub ivl : natural c.ivl ≤ 1_000_000
-  pub factor : natural c.factor ≤ 100_000
+  pub left : clamped_to_zero c.left ≤ 999_999
+  pub ivl : clamped_to_zero c.ivl ≤ 1_000_000
+  pub factor : clamped_to_zero c.factor ≤ 100_000
   pub factor_sign : pos 0 ≤ℤ c.factor
-  pub lapses : natural c.lapses ≤ 2_147_483_647
+  pub lapses : clamped_to_zero c.lapses ≤ 2_147_483_647
   pub due_low : negsuc 2_147_483_647 ≤ℤ c.due
   pub due_high : c.due ≤ℤ pos 1_099_511_627_776
 
 -- a card before the answer
-pub record IsInRange (s : Standing) : Type 0 where
+pub record IsInRange (s : CardState) : Type 0 where
   pub left : s.left ≤ 999_999
   pub ivl : s.ivl ≤ 1_000_000
   pub factor : s.factor ≤ 100_000
@@ -49,7 +49,7 @@ pub record IsInRange (s : Standing) : Type 0 where
   pub late : s.late ≤ 2_147_533_358
 
 -- a card after the answer: its factor is at least 1300, or what it was for a card that was learned
-pub record IsMade (s : Standing) (out : Outcome) : Type 0 where
+pub record IsMade (s : CardState) (out : Outcome) : Type 0 where
   pub left : out.left ≤ 999_999
   pub ivl : out.ivl ≤ 1_000_000
   pub factor : out.factor ≤ 100_000

@@ -1,22 +1,22 @@
 -- The steps of a card that is learned.
-use Rattle.std.specs.Prelude.{◌≡◌, ℕ, ℤ, pos, ◌+◌, ◌-◌, ◌*◌, ◌/◌, ◌<◌, ◌≤◌, ◌&&◌, min, max, List, [], ◌∷◌, map, length, get_or, take, drop, if◌then◌else◌, nat_le, ◌⊎◌}
+use Rattle.std.specs.Prelude.{◌≡◌, ℕ, ℤ, ◌+◌, ◌-◌, ◌*◌, ◌/◌, ◌<◌, ◌≤◌, ◌&&◌, min, max, List, [], ◌∷◌, map, length, get_or, take, drop, if◌then◌else◌, nat_le, ◌⊎◌}
 use Rattle.std.specs.List.{sum}
-use Rattle.ak_sched.specs.Naturals.{natural}
+use Rattle.ak_sched.specs.Counts.{clamped_to_zero}
 
 -- a step in seconds: steps are kept in minutes
 abbrev pub seconds : ℤ → ℕ
-seconds step = natural step * 60
+seconds step = clamped_to_zero step * 60
 
--- the delays of the steps, in seconds. No step counts as one of a minute
+-- the delays of the steps, in seconds. An empty list is one delay of a minute, whatever the unit of the steps is
 abbrev pub delays : List ℤ → List ℕ
-delays [] = seconds (pos 1) ∷ []
+delays [] = 60 ∷ []
 delays (step ∷ steps) = map seconds (step ∷ steps)
 
--- the delay where so many steps are left; the first one where there are not so many steps
+-- the delay if that many steps are left; the first one, if there are not as many steps
 abbrev pub delay_at : List ℕ → ℕ → ℕ
 delay_at ds left = if nat_le 1 left && nat_le left (length ds) then get_or ds (length ds - left) 0 else get_or ds 0 0
 
--- the delay of Hard: halfway to the next step's, which is twice the delay where there is one step
+-- the delay of Hard: halfway to the next step's, which is twice the delay if there is one step
 abbrev pub hard_delay : List ℕ → ℕ → ℕ
 hard_delay ds left =
     let delay = delay_at ds left in
@@ -27,19 +27,23 @@ hard_delay ds left =
 abbrev pub counted : List ℕ → ℕ → ℕ
 counted ds left = max (min left (length ds)) 1
 
--- the last of the delays, so many
+-- that many of the delays, the last ones
 abbrev pub last_delays : List ℕ → ℕ → List ℕ
 last_delays ds count = drop (length ds - count) ds
 
--- of the steps that are left, so many can be done within the seconds of the day: the most that fit, and at least one
-pub record IsStepsToday (ds : List ℕ) (budget : ℕ) (left : ℕ) (today : ℕ) : Type 0 where
+-- how many of the steps that are left fit into the seconds of the day: the most that fit, and at least one
+pub record IsStepsToday (ds : List ℕ) (seconds_left : ℕ) (left : ℕ) (today : ℕ) : Type 0 where
   pub one : 1 ≤ today
   pub all : today ≤ counted ds left
-  pub fits : (today ≡ 1) ⊎ (sum (take today (last_delays ds (counted ds left))) ≤ budget)
-  pub most : (more : ℕ) → today < more → more ≤ counted ds left → budget < sum (take more (last_delays ds (counted ds left)))
+  pub fits : (today ≡ 1) ⊎ (sum (take today (last_delays ds (counted ds left))) ≤ seconds_left)
+  pub most : (more : ℕ) → today < more → more ≤ counted ds left → seconds_left < sum (take more (last_delays ds (counted ds left)))
 
 -- the column `left`: the steps that are left, and 1000 times those that fit into the day
-pub record IsLeft (ds : List ℕ) (budget : ℕ) (steps : ℕ) (left : ℕ) : Type 0 where
+pub record IsLeft (ds : List ℕ) (seconds_left : ℕ) (steps : ℕ) (left : ℕ) : Type 0 where
   pub today : ℕ
-  pub fits : IsStepsToday ds budget steps today
+  pub fits : IsStepsToday ds seconds_left steps today
   pub packed : left ≡ steps + 1000 * today
+
+-- all steps are left
+abbrev pub HasAllLeft : List ℤ → ℕ → ℕ → Type 0
+HasAllLeft steps seconds_left left = IsLeft (delays steps) seconds_left (length (delays steps)) left

@@ -1,16 +1,28 @@
 ghost use Rattle.std.specs.Prelude.{◌≡◌, ◌≤◌, ◌+◌, ◌*◌, pos, ◌≤ℤ◌};
-ghost use Rattle.ak_sched.specs.Naturals.{natural};
+ghost use Rattle.ak_sched.specs.Counts.{clamped_to_zero};
 ghost use Rattle.ak_sched.specs.Fuzzes.{around, fuzz_range, fuzzed};
 
-use crate::naturals::natural;
+use crate::counts::clamped_to_zero;
 
-/// So many days to either side.
-fn around(days: u64, spread: u64) -> (u64, u64)
-    requires least { spread ≤ days }
-    requires most { days ≤ 1_000_000_000 }
-    ensures { result ≡ around days spread }
+/// The first and the last number of days that an interval is fuzzed to. An interval under two days,
+/// also a negative one, stays one day.
+pub fn fuzz_range(ivl: i64) -> (i64, i64)
+    requires { ivl ≤ℤ pos 1_000_000_000 }
+    ensures { result ≡ (pos (fuzz_range (clamped_to_zero ivl)).0, pos (fuzz_range (clamped_to_zero ivl)).1) }
 {
-    (days - spread, days + spread)
+    let (low, high) = range_of(clamped_to_zero(ivl));
+    (low as i64, high as i64)
+}
+
+/// The day of the range that a word of chance picks.
+pub(crate) fn fuzzed(days: u64, word: u64) -> u64
+    requires { days ≤ 1_000_000_000 }
+    ensures value { result ≡ fuzzed days word }
+    ensures low { 1 ≤ result }
+    ensures high { result ≤ 2 * days + 1 }
+{
+    let (low, high) = range_of(days);
+    low + word % (high - low + 1)
 }
 
 /// The range that an interval is fuzzed in: this project's table.
@@ -30,23 +42,11 @@ fn range_of(days: u64) -> (u64, u64)
     }
 }
 
-/// The first and the last number of days that an interval is fuzzed to. An interval under two days,
-/// also a negative one, stays one day.
-pub fn fuzz_range(ivl: i64) -> (i64, i64)
-    requires { ivl ≤ℤ pos 1_000_000_000 }
-    ensures { result ≡ (pos (fuzz_range (natural ivl)).0, pos (fuzz_range (natural ivl)).1) }
+/// The days to either side of a number of days.
+fn around(days: u64, spread: u64) -> (u64, u64)
+    requires least { spread ≤ days }
+    requires most { days ≤ 1_000_000_000 }
+    ensures { result ≡ around days spread }
 {
-    let (low, high) = range_of(natural(ivl));
-    (low as i64, high as i64)
-}
-
-/// The day of the range that a word of chance picks.
-pub(crate) fn fuzzed(days: u64, word: u64) -> u64
-    requires { days ≤ 1_000_000_000 }
-    ensures value { result ≡ fuzzed days word }
-    ensures low { 1 ≤ result }
-    ensures high { result ≤ 2 * days + 1 }
-{
-    let (low, high) = range_of(days);
-    low + word % (high - low + 1)
+    (days - spread, days + spread)
 }

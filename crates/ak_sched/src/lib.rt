@@ -2,17 +2,15 @@
 #![tactic(auto)]
 
 mod answers;
-#[cfg(test)]
-mod examples;
+mod card_states;
+mod counts;
 mod fuzzes;
 mod intervals;
 mod laws;
 mod leeches;
-mod lessons;
-mod naturals;
 mod places;
-mod standings;
 mod steps;
+mod transitions;
 
 pub use answers::{Answered, answer, can_answer};
 pub use fuzzes::fuzz_range;

@@ -1,19 +1,41 @@
 ghost use Rattle.std.specs.Prelude.{◌≡◌, ◌≤◌, ◌<◌, ◌+◌, ◌*◌, length, get_or};
-ghost use Rattle.ak_sched.specs.Naturals.{natural};
+ghost use Rattle.ak_sched.specs.Counts.{clamped_to_zero};
 ghost use Rattle.ak_sched.specs.Steps.{seconds, delays, delay_at, hard_delay, IsStepsToday, IsLeft};
 ghost use Rattle.ak_sched.specs.Ranges.{AreSteps};
 
-use crate::naturals::natural;
+use crate::counts::clamped_to_zero;
 
-/// A step in seconds. Steps are kept in minutes.
-fn seconds(step: i64) -> u64
-    requires { natural step ≤ 1_000_000 }
-    ensures { result ≡ seconds step }
+/// The column `left` if that many steps are left.
+pub(crate) fn left_of(steps: &[i64], seconds_left: u64, left: u64) -> u64
+    requires steps { AreSteps steps.now }
+    requires seconds_left { seconds_left ≤ 86_400 }
+    requires left { left < 1_000 }
+    ensures left { IsLeft (delays steps.now) seconds_left left result }
+    ensures high { result ≤ 50_999 }
 {
-    natural(step) * 60
+    left + 1_000 * steps_today(steps, seconds_left, left)
 }
 
-/// How many steps there are. No step counts as one.
+/// How many of the steps that are left fit into the seconds: at least one.
+fn steps_today(steps: &[i64], seconds_left: u64, left: u64) -> u64
+    requires steps { AreSteps steps.now }
+    requires seconds_left { seconds_left ≤ 86_400 }
+    ensures today { IsStepsToday (delays steps.now) seconds_left left result }
+    ensures high { result ≤ 50 }
+{
+    let count = count_of(steps);
+    let most = left.min(count).max(1);
+    let mut total = 0;
+    for done in 0..most {
+        total += delay_of(steps, count - most + done);
+        if total > seconds_left {
+            return done.max(1);
+        }
+    }
+    most
+}
+
+/// How many steps there are. An empty list counts as one.
 pub(crate) fn count_of(steps: &[i64]) -> u64
     requires { length steps.now ≤ 50 }
     ensures value { result ≡ length (delays steps.now) }
@@ -27,7 +49,8 @@ pub(crate) fn count_of(steps: &[i64]) -> u64
     }
 }
 
-/// The delay of the step at a place, from 0. No step counts as one of a minute.
+/// The delay of the step at a place, from 0, in seconds. An empty list is one delay of 60 seconds, whatever the unit
+/// of the steps is.
 fn delay_of(steps: &[i64], place: u64) -> u64
     requires steps { AreSteps steps.now }
     requires place { place < length (delays steps.now) }
@@ -35,14 +58,22 @@ fn delay_of(steps: &[i64], place: u64) -> u64
     ensures high { result ≤ 60_000_000 }
 {
     if steps.is_empty() {
-        seconds(1)
+        60
     } else {
         seconds(steps[place as usize])
     }
 }
 
-/// The delay where so many steps are left. The options may have changed since, so that there are not
-/// as many: then it is the first step's.
+/// A step in seconds. Steps are kept in minutes.
+fn seconds(step: i64) -> u64
+    requires { clamped_to_zero step ≤ 1_000_000 }
+    ensures { result ≡ seconds step }
+{
+    clamped_to_zero(step) * 60
+}
+
+/// The delay if that many steps are left. The options may have changed since, so that there are not as many: then it
+/// is the first step's.
 pub(crate) fn delay_at(steps: &[i64], left: u64) -> u64
     requires { AreSteps steps.now }
     ensures value { result ≡ delay_at (delays steps.now) left }
@@ -69,34 +100,4 @@ pub(crate) fn hard_delay(steps: &[i64], left: u64) -> u64
         delay_at(steps, left.saturating_sub(1))
     };
     (delay + delay.max(next)) / 2
-}
-
-/// How many of the steps that are left can be done within so many seconds: at least one.
-fn steps_today(steps: &[i64], budget: u64, left: u64) -> u64
-    requires steps { AreSteps steps.now }
-    requires budget { budget ≤ 86_400 }
-    ensures today { IsStepsToday (delays steps.now) budget left result }
-    ensures high { result ≤ 50 }
-{
-    let count = count_of(steps);
-    let most = left.min(count).max(1);
-    let mut total = 0;
-    for done in 0..most {
-        total += delay_of(steps, count - most + done);
-        if total > budget {
-            return done.max(1);
-        }
-    }
-    most
-}
-
-/// The column `left` where so many steps are left.
-pub(crate) fn left_of(steps: &[i64], budget: u64, left: u64) -> u64
-    requires steps { AreSteps steps.now }
-    requires budget { budget ≤ 86_400 }
-    requires left { left < 1_000 }
-    ensures left { IsLeft (delays steps.now) budget left result }
-    ensures high { result ≤ 50_999 }
-{
-    left + 1_000 * steps_today(steps, budget, left)
 }

@@ -11,17 +11,17 @@ use Rattle.ak_base.specs.declared.days.Day.{Day}
 use Rattle.ak_base.specs.declared.rows.Row.{Row}
 use Rattle.ak_keep.specs.Collections.{Rows}
 use Rattle.ak_search.specs.declared.answers.Answers.{Answers}
-use Rattle.ak_search.specs.declared.holds.Asking.{Asking}
-use Rattle.ak_search.specs.declared.looks.Around.{Around}
+use Rattle.ak_search.specs.declared.holds.SearchContext.{SearchContext}
+use Rattle.ak_search.specs.declared.related.Related.{Related}
 use Rattle.ak_search.specs.declared.terms.Term.{Term}
 use Rattle.ak_search.specs.declared.terms.Term.TheVariants as terms
 use Rattle.ak_search.specs.declared.tokens.Piece.{Piece}
 use Rattle.ak_search.specs.declared.tokens.Piece.TheVariants.{Test, BadValue, Open, Close, Or, And, OpenQuote}
-use Rattle.ak_search.specs.declared.courses.Group.{Group as Outer}
+use Rattle.ak_search.specs.declared.evaluator.Group.{Group as Outer}
 use Rattle.ak_search.specs.Holds.{held_and, holds}
-use Rattle.ak_search.specs.Looks.{Seen, seen, is_since, is_answer, is_answered, is_answer_in}
+use Rattle.ak_search.specs.CardFacts.{Seen, seen, is_since, is_answer, is_answered, is_answer_in}
 use Rattle.ak_search.specs.Meanings.{walk, negated_by}
-use Rattle.ak_search.specs.Passes.{AreAnswersOf, Serves, around_in, asked, is_on_answers, is_on_around, is_shown, pair_cmp, seen_by, some_term}
+use Rattle.ak_search.specs.Passes.{AreAnswersOf, Serves, related_in, asked, needs_answers, needs_related, is_shown, pair_cmp, seen_by, some_term}
 
 -- ---- the later of two ids
 pub later_since : (one other least : ℤ) → int_lt one other ≡ true → is_since other least ≡ (is_since one least || is_since other least)
@@ -37,15 +37,15 @@ in_append card ease least (row ∷ front) rest =
     ap (λ v. is_answer card ease least row || v) (in_append card ease least front rest) ∙ sym (or_assoc (is_answer card ease least row) (is_answer_in card ease least front) (is_answer_in card ease least rest))
 
 -- ---- a term that asks for no answers holds whatever they are
-same_unless : (day : Day) (s : Seen) (f : ℤ → ℤ → Bool) (term : Term) → is_on_answers term ≡ false → holds day s term ≡ holds day (record s { answered = f }) term
-same_unless day s f (terms.Contains marks) h = refl
-same_unless day s f (terms.Word marks) h = refl
-same_unless day s f (terms.Field name marks) h = refl
-same_unless day s f (terms.Deck marks) h = refl
-same_unless day s f (terms.Tag marks) h = refl
+same_unless : (day : Day) (s : Seen) (f : ℤ → ℤ → Bool) (term : Term) → needs_answers term ≡ false → holds day s term ≡ holds day (record s { answered = f }) term
+same_unless day s f (terms.Contains pattern) h = refl
+same_unless day s f (terms.Word pattern) h = refl
+same_unless day s f (terms.Field name pattern) h = refl
+same_unless day s f (terms.Deck pattern) h = refl
+same_unless day s f (terms.Tag pattern) h = refl
 same_unless day s f terms.Untagged h = refl
-same_unless day s f (terms.NoteType marks) h = refl
-same_unless day s f (terms.Template marks) h = refl
+same_unless day s f (terms.NoteType pattern) h = refl
+same_unless day s f (terms.Template pattern) h = refl
 same_unless day s f (terms.InState state) h = refl
 same_unless day s f (terms.Prop what comparison bound) h = refl
 same_unless day s f (terms.Flag number) h = refl
@@ -57,24 +57,24 @@ same_unless day s f (terms.NoteIds ids) h = refl
 same_unless day s f (terms.CardIds ids) h = refl
 
 -- a term that asks for the card alone holds whatever is around it
-same_around : (day : Day) (answers : Answers) (c : Card) (one other : Around) (term : Term) → is_on_around term ≡ false → holds day (seen_by answers c one) term ≡ holds day (seen_by answers c other) term
-same_around day answers c one other (terms.Contains marks) h = grind (arith, h)
-same_around day answers c one other (terms.Word marks) h = grind (arith, h)
-same_around day answers c one other (terms.Field name marks) h = grind (arith, h)
-same_around day answers c one other (terms.Deck marks) h = grind (arith, h)
-same_around day answers c one other (terms.Tag marks) h = grind (arith, h)
-same_around day answers c one other terms.Untagged h = grind (arith, h)
-same_around day answers c one other (terms.NoteType marks) h = grind (arith, h)
-same_around day answers c one other (terms.Template marks) h = grind (arith, h)
-same_around day answers c one other (terms.InState state) h = refl
-same_around day answers c one other (terms.Prop what comparison bound) h = refl
-same_around day answers c one other (terms.Flag number) h = refl
-same_around day answers c one other (terms.Rated days) h = refl
-same_around day answers c one other (terms.RatedWith days ease) h = refl
-same_around day answers c one other (terms.Added days) h = refl
-same_around day answers c one other (terms.Edited days) h = grind (arith, h)
-same_around day answers c one other (terms.NoteIds ids) h = refl
-same_around day answers c one other (terms.CardIds ids) h = refl
+same_related : (day : Day) (answers : Answers) (c : Card) (one other : Related) (term : Term) → needs_related term ≡ false → holds day (seen_by answers c one) term ≡ holds day (seen_by answers c other) term
+same_related day answers c one other (terms.Contains pattern) h = grind (arith, h)
+same_related day answers c one other (terms.Word pattern) h = grind (arith, h)
+same_related day answers c one other (terms.Field name pattern) h = grind (arith, h)
+same_related day answers c one other (terms.Deck pattern) h = grind (arith, h)
+same_related day answers c one other (terms.Tag pattern) h = grind (arith, h)
+same_related day answers c one other terms.Untagged h = grind (arith, h)
+same_related day answers c one other (terms.NoteType pattern) h = grind (arith, h)
+same_related day answers c one other (terms.Template pattern) h = grind (arith, h)
+same_related day answers c one other (terms.InState state) h = refl
+same_related day answers c one other (terms.Prop what comparison bound) h = refl
+same_related day answers c one other (terms.Flag number) h = refl
+same_related day answers c one other (terms.Rated days) h = refl
+same_related day answers c one other (terms.RatedWith days ease) h = refl
+same_related day answers c one other (terms.Added days) h = refl
+same_related day answers c one other (terms.Edited days) h = grind (arith, h)
+same_related day answers c one other (terms.NoteIds ids) h = refl
+same_related day answers c one other (terms.CardIds ids) h = refl
 
 -- two tests that agree on all terms but some lead to the same where none of those is asked
 same_walk : (apart f g : Term → Bool) → ((term : Term) → apart term ≡ false → f term ≡ g term) → (outer : List Outer) (either all : Bool) (ps : List Piece) → some_term apart ps ≡ false → walk f outer either all ps ≡ walk g outer either all ps
@@ -90,28 +90,28 @@ same_walk apart f g same outer either all (Or ∷ ps) h = same_walk apart f g sa
 same_walk apart f g same outer either all (And ∷ ps) h = same_walk apart f g same outer either all ps h
 same_walk apart f g same outer either all (OpenQuote ∷ ps) h = same_walk apart f g same outer either all ps h
 
--- what is seen of a card decides as what is held does, first by what is around it and then by the answers
-by_around : (day : Day) (held : Rows) (asking : Asking) (c : Card) (around : Around) (ps : List Piece) → (some_term is_on_around ps ≡ true → asking.around ≡ true) → (asking.around ≡ true → around ≡ around_in held c)
-    → asked ps (holds day (seen_by asking.answers c around)) ≡ asked ps (holds day (seen_by asking.answers c (around_in held c)))
-by_around day held asking c around ps looks is =
-    elim (some_term is_on_around ps) as (λ b. some_term is_on_around ps ≡ b → asked ps (holds day (seen_by asking.answers c around)) ≡ asked ps (holds day (seen_by asking.answers c (around_in held c)))) [
-      | true ↦ λ asks. ap (λ (a : Around). asked ps (holds day (seen_by asking.answers c a))) (is (looks asks))
-      | false ↦ λ asks. same_walk is_on_around (holds day (seen_by asking.answers c around)) (holds day (seen_by asking.answers c (around_in held c))) (same_around day asking.answers c around (around_in held c)) [] false true ps asks
+-- what is seen of a card decides as what is held does, first by what it belongs to and then by the answers
+by_related : (day : Day) (held : Rows) (context : SearchContext) (c : Card) (related : Related) (ps : List Piece) → (some_term needs_related ps ≡ true → context.needs_related ≡ true) → (context.needs_related ≡ true → related ≡ related_in held c)
+    → asked ps (holds day (seen_by context.answers c related)) ≡ asked ps (holds day (seen_by context.answers c (related_in held c)))
+by_related day held context c related ps looks is =
+    elim (some_term needs_related ps) as (λ b. some_term needs_related ps ≡ b → asked ps (holds day (seen_by context.answers c related)) ≡ asked ps (holds day (seen_by context.answers c (related_in held c)))) [
+      | true ↦ λ asks. ap (λ (a : Related). asked ps (holds day (seen_by context.answers c a))) (is (looks asks))
+      | false ↦ λ asks. same_walk needs_related (holds day (seen_by context.answers c related)) (holds day (seen_by context.answers c (related_in held c))) (same_related day context.answers c related (related_in held c)) [] false true ps asks
     ] refl
 
-by_answers : (day : Day) (held : Rows) (answers : Answers) (c : Card) (ps : List Piece) → (some_term is_on_answers ps ≡ true → AreAnswersOf answers held)
-    → asked ps (holds day (seen_by answers c (around_in held c))) ≡ asked ps (holds day (seen held c))
+by_answers : (day : Day) (held : Rows) (answers : Answers) (c : Card) (ps : List Piece) → (some_term needs_answers ps ≡ true → AreAnswersOf answers held)
+    → asked ps (holds day (seen_by answers c (related_in held c))) ≡ asked ps (holds day (seen held c))
 by_answers day held answers c ps serve =
-    elim (some_term is_on_answers ps) as (λ b. some_term is_on_answers ps ≡ b → asked ps (holds day (seen_by answers c (around_in held c))) ≡ asked ps (holds day (seen held c))) [
+    elim (some_term needs_answers ps) as (λ b. some_term needs_answers ps ≡ b → asked ps (holds day (seen_by answers c (related_in held c))) ≡ asked ps (holds day (seen held c))) [
       | true ↦ λ asks.
           let same : is_shown answers c.id ≡ is_answered held c.id = λ i ease least. serve asks c.id ease least i in
           ap (λ (f : ℤ → ℤ → Bool). asked ps (holds day (record (seen held c) { answered = f }))) same
-      | false ↦ λ asks. same_walk is_on_answers (holds day (seen_by answers c (around_in held c))) (holds day (seen held c)) (λ term h. same_unless day (seen_by answers c (around_in held c)) (is_answered held c.id) term h) [] false true ps asks
+      | false ↦ λ asks. same_walk needs_answers (holds day (seen_by answers c (related_in held c))) (holds day (seen held c)) (λ term h. same_unless day (seen_by answers c (related_in held c)) (is_answered held c.id) term h) [] false true ps asks
     ] refl
 
-pub serves : (day : Day) (held : Rows) (asking : Asking) (c : Card) (around : Around) (ps : List Piece) → Serves asking ps held → (asking.around ≡ true → around ≡ around_in held c)
-    → asked ps (holds day (seen_by asking.answers c around)) ≡ asked ps (holds day (seen held c))
-serves day held asking c around ps serve is = by_around day held asking c around ps serve.around is ∙ by_answers day held asking.answers c ps serve.answers
+pub serves : (day : Day) (held : Rows) (context : SearchContext) (c : Card) (related : Related) (ps : List Piece) → Serves context ps held → (context.needs_related ≡ true → related ≡ related_in held c)
+    → asked ps (holds day (seen_by context.answers c related)) ≡ asked ps (holds day (seen held c))
+serves day held context c related ps serve is = by_related day held context c related ps serve.related is ∙ by_answers day held context.answers c ps serve.answers
 
 -- ---- one more review
 pub added : (old new : Answers) (cid own last id cid' own' last' : ℤ) → cid' ≡ cid → own' ≡ own → last' ≡ last
@@ -137,7 +137,7 @@ added old new cid own last id cid' own' last' cid_is own_is last_is puts since c
       | false ↦ λ e. sym (or-false (is_shown old card ease least))
     ] refl
 
--- what a look-up by such numbers found
+-- what a read_related-up by such numbers found
 pub looked_up : (answers : Answers) (card ease least card' ease' : ℤ) (found : Option ℤ) → card' ≡ card → ease' ≡ ease → found ≡ get pair_cmp answers.last (card', ease')
     → held_and (λ (last : ℤ). is_since last least) found ≡ is_shown answers card ease least
 looked_up answers card ease least card' ease' found card_is ease_is is =

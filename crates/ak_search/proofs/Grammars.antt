@@ -10,7 +10,7 @@ use Rattle.ak_search.specs.declared.tokens.Piece.{Piece}
 use Rattle.ak_search.specs.declared.tokens.Piece.TheVariants.{Test, BadValue, Open, Close, Or, And, OpenQuote}
 use Rattle.ak_search.specs.declared.faults.SearchFault.{SearchFault}
 use Rattle.ak_search.specs.declared.faults.SearchFault.TheVariants as faults
-use Rattle.ak_search.specs.Trees.{Tree, End, Asks, Group, Either, Also, laid, begins, IsWhole, Nests}
+use Rattle.ak_search.specs.Trees.{Tree, End, Asks, Group, Either, Also, pieces_of, begins, IsWhole, Nests}
 use Rattle.ak_search.specs.Grammar.{ReadsSearch, tokens, pieces_in, closes, begins_part, begins_close, ends_part, depth_behind, group_fault, fault_at, fault_in, first_fault}
 
 -- ---- one tree: it is read back from its pieces
@@ -30,20 +30,20 @@ abbrev pub read_back : List Piece → Tree × List Tree
 read_back [] = (End, [])
 read_back (piece ∷ pieces) = grown piece (read_back pieces)
 
-laid_back : (tree : Tree) (pieces : List Piece) (others : List Tree) → read_back pieces ≡ (End, others) → read_back (laid tree ++ pieces) ≡ (tree, others)
-laid_back End pieces others h = h
-laid_back (Asks negated term after) pieces others h = ap (grown (Test negated term)) (laid_back after pieces others h)
-laid_back (Either after) pieces others h = ap (grown Or) (laid_back after pieces others h)
-laid_back (Also after) pieces others h = ap (grown And) (laid_back after pieces others h)
-laid_back (Group negated inside after) pieces others h =
-    ap (λ xs. grown (Open negated) (read_back xs)) (append_assoc (laid inside) (Close ∷ laid after) pieces)
-    ∙ ap (grown (Open negated)) (laid_back inside (Close ∷ (laid after ++ pieces)) (after ∷ others) (ap (grown Close) (laid_back after pieces others h)))
+pieces_of_back : (tree : Tree) (pieces : List Piece) (others : List Tree) → read_back pieces ≡ (End, others) → read_back (pieces_of tree ++ pieces) ≡ (tree, others)
+pieces_of_back End pieces others h = h
+pieces_of_back (Asks negated term after) pieces others h = ap (grown (Test negated term)) (pieces_of_back after pieces others h)
+pieces_of_back (Either after) pieces others h = ap (grown Or) (pieces_of_back after pieces others h)
+pieces_of_back (Also after) pieces others h = ap (grown And) (pieces_of_back after pieces others h)
+pieces_of_back (Group negated inside after) pieces others h =
+    ap (λ xs. grown (Open negated) (read_back xs)) (append_assoc (pieces_of inside) (Close ∷ pieces_of after) pieces)
+    ∙ ap (grown (Open negated)) (pieces_of_back inside (Close ∷ (pieces_of after ++ pieces)) (after ∷ others) (ap (grown Close) (pieces_of_back after pieces others h)))
 
 nothing_back : read_back [] ≡ (End, [])
 nothing_back = refl
 
-own_tree : (tree : Tree) → (read_back (laid tree ++ [])).0 ≡ tree
-own_tree tree = ap (λ (p : Tree × List Tree). p.0) (laid_back tree [] [] nothing_back)
+own_tree : (tree : Tree) → (read_back (pieces_of tree ++ [])).0 ≡ tree
+own_tree tree = ap (λ (p : Tree × List Tree). p.0) (pieces_of_back tree [] [] nothing_back)
 
 pub one_tree : (text : List ℕ) (one other : Tree) → ReadsSearch text one → ReadsSearch text other → one ≡ other
 one_tree text one other h g = sym (own_tree one) ∙ ap (λ xs. (read_back (xs ++ [])).0) (sym h.pieces ∙ g.pieces) ∙ own_tree other
@@ -52,8 +52,8 @@ one_tree text one other h g = sym (own_tree one) ∙ ap (λ xs. (read_back (xs +
 
 -- what stands behind so many open groups: the rest of the innermost, its end, and so on outwards
 abbrev pub Fills : ℕ → Bool → List Piece → Type 0
-Fills zero before ps = (tree : Tree) × (ps ≡ laid tree) × IsWhole before tree × Nests 0 tree × (begins tree ≡ begins_part ps)
-Fills (suc depth) before ps = (inside : Tree) × (rest : List Piece) × (ps ≡ laid inside ++ (Close ∷ rest)) × IsWhole before inside × Nests (suc depth) inside × (begins inside ≡ begins_part ps) × Fills depth true rest
+Fills zero before ps = (tree : Tree) × (ps ≡ pieces_of tree) × IsWhole before tree × Nests 0 tree × (begins tree ≡ begins_part ps)
+Fills (suc depth) before ps = (inside : Tree) × (rest : List Piece) × (ps ≡ pieces_of inside ++ (Close ∷ rest)) × IsWhole before inside × Nests (suc depth) inside × (begins inside ≡ begins_part ps) × Fills depth true rest
 
 -- the pieces close all of so many open groups
 abbrev pub CloseAll : ℕ → List Piece → Type 0
@@ -74,7 +74,7 @@ all_outside (suc depth) ps h = h
 
 -- one more piece in front that is no parenthesis
 fill_part : (depth : ℕ) (before : Bool) (p : Piece) (ps : List Piece) (part : Tree → Tree)
-    → ((tree : Tree) → laid (part tree) ≡ p ∷ laid tree)
+    → ((tree : Tree) → pieces_of (part tree) ≡ p ∷ pieces_of tree)
     → ((k : ℕ) (tree : Tree) → Nests k tree → Nests k (part tree))
     → ((tree : Tree) → begins tree ≡ begins_part ps → IsWhole (ends_part p) tree → IsWhole before (part tree))
     → ((tree : Tree) → begins (part tree) ≡ begins_part (p ∷ ps))
@@ -86,9 +86,9 @@ fill_part (suc depth) before p ps part lays nests whole first h =
 
 fill_group : (depth : ℕ) (before negated : Bool) (ps : List Piece) → depth < 32 → begins_part ps ≡ true → Fills (suc depth) false ps → Fills depth before (Open negated ∷ ps)
 fill_group zero before negated ps few some (inside, rest, e, w, n, b, (after, f, v, m, a)) =
-    (Group negated inside after, ap (λ ys. Open negated ∷ ys) (e ∙ ap (λ ys. laid inside ++ (Close ∷ ys)) f), (b ∙ some, w, v), (few, n, m), refl)
+    (Group negated inside after, ap (λ ys. Open negated ∷ ys) (e ∙ ap (λ ys. pieces_of inside ++ (Close ∷ ys)) f), (b ∙ some, w, v), (few, n, m), refl)
 fill_group (suc depth) before negated ps few some (inside, rest, e, w, n, b, (after, others, f, v, m, a, later)) =
-    (Group negated inside after, others, ap (λ ys. Open negated ∷ ys) (e ∙ ap (λ ys. laid inside ++ (Close ∷ ys)) f ∙ sym (append_assoc (laid inside) (Close ∷ laid after) (Close ∷ others))), (b ∙ some, w, v), (few, n, m), refl, later)
+    (Group negated inside after, others, ap (λ ys. Open negated ∷ ys) (e ∙ ap (λ ys. pieces_of inside ++ (Close ∷ ys)) f ∙ sym (append_assoc (pieces_of inside) (Close ∷ pieces_of after) (Close ∷ others))), (b ∙ some, w, v), (few, n, m), refl, later)
 
 group_passed : (v w : Bool) (few : Bool) (empty deep unclosed : SearchFault) → cond v (cond w (Some empty) (cond few None (Some deep))) (Some unclosed) ≡ None → (v ≡ true) × (w ≡ false) × (few ≡ true)
 group_passed true true few empty deep unclosed h = grind (arith, h)
@@ -144,24 +144,24 @@ has_tree text h = let found = fills 0 false (tokens text) h tt in (found.0, reco
 
 -- ---- a text with a tree has no fault
 
-closes_laid : (tree : Tree) (depth : ℕ) (rest : List Piece) → closes depth (laid tree ++ rest) ≡ closes depth rest
-closes_laid End depth rest = refl
-closes_laid (Asks negated term after) depth rest = closes_laid after depth rest
-closes_laid (Either after) depth rest = closes_laid after depth rest
-closes_laid (Also after) depth rest = closes_laid after depth rest
-closes_laid (Group negated inside after) depth rest =
-    ap (closes (suc depth)) (append_assoc (laid inside) (Close ∷ laid after) rest)
-    ∙ closes_laid inside (suc depth) (Close ∷ (laid after ++ rest))
-    ∙ closes_laid after depth rest
+closes_pieces_of : (tree : Tree) (depth : ℕ) (rest : List Piece) → closes depth (pieces_of tree ++ rest) ≡ closes depth rest
+closes_pieces_of End depth rest = refl
+closes_pieces_of (Asks negated term after) depth rest = closes_pieces_of after depth rest
+closes_pieces_of (Either after) depth rest = closes_pieces_of after depth rest
+closes_pieces_of (Also after) depth rest = closes_pieces_of after depth rest
+closes_pieces_of (Group negated inside after) depth rest =
+    ap (closes (suc depth)) (append_assoc (pieces_of inside) (Close ∷ pieces_of after) rest)
+    ∙ closes_pieces_of inside (suc depth) (Close ∷ (pieces_of after ++ rest))
+    ∙ closes_pieces_of after depth rest
 
-begins_laid : (tree : Tree) (rest : List Piece) → begins tree ≡ true → begins_part (laid tree ++ rest) ≡ true
-begins_laid End rest h = grind (arith, h)
-begins_laid (Asks negated term after) rest h = refl
-begins_laid (Group negated inside after) rest h = refl
-begins_laid (Either after) rest h = grind (arith, h)
-begins_laid (Also after) rest h = grind (arith, h)
+begins_pieces_of : (tree : Tree) (rest : List Piece) → begins tree ≡ true → begins_part (pieces_of tree ++ rest) ≡ true
+begins_pieces_of End rest h = grind (arith, h)
+begins_pieces_of (Asks negated term after) rest h = refl
+begins_pieces_of (Group negated inside after) rest h = refl
+begins_pieces_of (Either after) rest h = grind (arith, h)
+begins_pieces_of (Also after) rest h = grind (arith, h)
 
-no_close : (tree : Tree) (rest : List Piece) → begins tree ≡ true → begins_close (laid tree ++ rest) ≡ false
+no_close : (tree : Tree) (rest : List Piece) → begins tree ≡ true → begins_close (pieces_of tree ++ rest) ≡ false
 no_close End rest h = grind (arith, h)
 no_close (Asks negated term after) rest h = refl
 no_close (Group negated inside after) rest h = refl
@@ -225,20 +225,20 @@ pass_open depth before negated ps behind rest (t ∷ ts) e free inner later =
     let closed = pass_close depth inside.1 behind rest inside.0 inside.2 later in
     (closed.0, closed.1, closed.2, no_fault_here depth before t ts (Open negated) head (free t.place ts tail) ∙ inside.3 ∙ closed.3)
 
-passes : (tree : Tree) (depth : ℕ) (before : Bool) (ts : List Token) (rest : List Piece) → Nests depth tree → IsWhole before tree → pieces_in ts ≡ laid tree ++ rest → Passes depth before ts rest
+passes : (tree : Tree) (depth : ℕ) (before : Bool) (ts : List Token) (rest : List Piece) → Nests depth tree → IsWhole before tree → pieces_in ts ≡ pieces_of tree ++ rest → Passes depth before ts rest
 unfolding Passes
 passes End depth before ts rest n w e = (ts, before, e, refl)
 passes (Asks negated term after) depth before ts rest n w e =
-    pass_part depth before (Test negated term) (laid after ++ rest) rest ts e refl (λ place us h. refl) (λ us h. passes after depth true us rest n w h)
+    pass_part depth before (Test negated term) (pieces_of after ++ rest) rest ts e refl (λ place us h. refl) (λ us h. passes after depth true us rest n w h)
 passes (Either after) depth before ts rest n w e =
-    pass_part depth before Or (laid after ++ rest) rest ts e refl (λ place us h. lone_free before (begins_part (pieces_in us)) (faults.LoneOr place) w.0 (ap begins_part h ∙ begins_laid after rest w.1)) (λ us h. passes after depth false us rest n w.2 h)
+    pass_part depth before Or (pieces_of after ++ rest) rest ts e refl (λ place us h. lone_free before (begins_part (pieces_in us)) (faults.LoneOr place) w.0 (ap begins_part h ∙ begins_pieces_of after rest w.1)) (λ us h. passes after depth false us rest n w.2 h)
 passes (Also after) depth before ts rest n w e =
-    pass_part depth before And (laid after ++ rest) rest ts e refl (λ place us h. lone_free before (begins_part (pieces_in us)) (faults.LoneOr place) w.0 (ap begins_part h ∙ begins_laid after rest w.1)) (λ us h. passes after depth false us rest n w.2 h)
+    pass_part depth before And (pieces_of after ++ rest) rest ts e refl (λ place us h. lone_free before (begins_part (pieces_in us)) (faults.LoneOr place) w.0 (ap begins_part h ∙ begins_pieces_of after rest w.1)) (λ us h. passes after depth false us rest n w.2 h)
 passes (Group negated inside after) depth before ts rest n w e =
-    let behind = laid after ++ rest in
-    let split : pieces_in ts ≡ Open negated ∷ (laid inside ++ (Close ∷ behind)) = e ∙ ap (λ ys. Open negated ∷ ys) (append_assoc (laid inside) (Close ∷ laid after) rest) in
-    pass_open depth before negated (laid inside ++ (Close ∷ behind)) behind rest ts split
-    (λ place us h. group_free (closes 0 (pieces_in us)) (begins_close (pieces_in us)) (nat_lt depth 32) (faults.EmptyGroup place) (faults.TooDeep place) (faults.OpenGroup place) (ap (closes 0) h ∙ closes_laid inside 0 (Close ∷ behind)) (ap begins_close h ∙ no_close inside (Close ∷ behind) w.0) (lt-ltb depth 32 n.0))
+    let behind = pieces_of after ++ rest in
+    let split : pieces_in ts ≡ Open negated ∷ (pieces_of inside ++ (Close ∷ behind)) = e ∙ ap (λ ys. Open negated ∷ ys) (append_assoc (pieces_of inside) (Close ∷ pieces_of after) rest) in
+    pass_open depth before negated (pieces_of inside ++ (Close ∷ behind)) behind rest ts split
+    (λ place us h. group_free (closes 0 (pieces_in us)) (begins_close (pieces_in us)) (nat_lt depth 32) (faults.EmptyGroup place) (faults.TooDeep place) (faults.OpenGroup place) (ap (closes 0) h ∙ closes_pieces_of inside 0 (Close ∷ behind)) (ap begins_close h ∙ no_close inside (Close ∷ behind) w.0) (lt-ltb depth 32 n.0))
     (λ us h. passes inside (suc depth) false us (Close ∷ behind) n.1 w.1 h)
     (λ us h. passes after depth true us rest n.2 w.2 h)
 
@@ -249,5 +249,5 @@ none_left (t ∷ ts) h = grind (arith, h)
 pub no_fault : (text : List ℕ) (tree : Tree) → ReadsSearch text tree → first_fault text ≡ None
 unfolding Passes
 no_fault text tree h =
-    let passed = passes tree 0 false (tokens text) [] h.nests h.whole (h.pieces ∙ sym (append-nil (laid tree))) in
+    let passed = passes tree 0 false (tokens text) [] h.nests h.whole (h.pieces ∙ sym (append-nil (pieces_of tree))) in
     passed.3 ∙ ap (fault_in 0 passed.1) (none_left passed.0 passed.2)

@@ -1,6 +1,7 @@
 pub mod Answering
-pub mod Cuttings
+pub mod Faulting
 pub mod Grammars
+pub mod Lexing
 pub mod Looking
 pub mod OnePass
 pub mod Orders

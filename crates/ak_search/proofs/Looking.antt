@@ -1,38 +1,8 @@
--- The names on the way down to a name, the template at a place, and the fields that a note lacks.
-use Rattle.std.proofs.Common.{◌≡◌, ◌≤◌, ◌<◌, ℕ, zero, suc, length, true, false, ◌||◌, cond, ℤ, pos, negsuc, int_lt, unsigned_abs, slice_get, None, List, [], ◌∷◌, ◌++◌, drop, map, refl, ap, sym, subst, ◌∙◌, arith, append_assoc, append-nil}
+-- The template at a place, and the fields that a note lacks.
+use Rattle.std.proofs.Common.{◌≡◌, ◌≤◌, ◌<◌, ℕ, zero, suc, length, true, false, ℤ, pos, negsuc, int_lt, unsigned_abs, slice_get, None, List, [], ◌∷◌, ◌++◌, map, refl, ap, sym, subst, ◌∙◌, arith}
 use Rattle.std.proofs.lemmas.List.{length-map, map-append}
-use Rattle.std.specs.Prelude.{codes}
-use Rattle.std.proofs.lemmas.Bool.{or_parts}
-use Rattle.ak_filters.specs.Cuts.{begins, has, front, behind}
 use Rattle.ak_base.specs.declared.note_types.CardTemplate.{CardTemplate}
-use Rattle.ak_search.specs.Looks.{filled, way_from, template_at}
-
-begun : (above : List ℕ) (b : ℕ) (bs : List ℕ) → begins (codes "::") (b ∷ bs) ≡ true → way_from 1 (above ++ b ∷ []) bs ≡ way_from 0 (above ++ codes "::") (drop 1 bs)
-begun above b [] h = grind (arith, h)
-begun above b (c ∷ cs) h =
-    let one : b ≡ 58 = grind (arith, h) in
-    let two : c ≡ 58 = grind (arith, h) in
-    ap (λ ys. way_from 0 ys cs) (append_assoc above (b ∷ []) (c ∷ []) ∙ ap (λ d. above ++ (d ∷ c ∷ [])) one ∙ ap (λ d. above ++ (58 ∷ d ∷ [])) two)
-
-pub level_first : (above xs : List ℕ) → has (codes "::") xs ≡ true → way_from 0 above xs ≡ (above ++ front (codes "::") xs) ∷ way_from 0 ((above ++ front (codes "::") xs) ++ codes "::") (behind (codes "::") xs)
-level_first above [] h = grind (arith, h)
-level_first above (b ∷ bs) h =
-    elim (begins (codes "::") (b ∷ bs)) as (λ v. begins (codes "::") (b ∷ bs) ≡ v → (v || has (codes "::") bs) ≡ true
-    → cond v (above ∷ way_from 1 (above ++ b ∷ []) bs) (way_from 0 (above ++ b ∷ []) bs)
-    ≡ (above ++ cond v [] (b ∷ front (codes "::") bs)) ∷ way_from 0 ((above ++ cond v [] (b ∷ front (codes "::") bs)) ++ codes "::") (cond v (drop 1 bs) (behind (codes "::") bs))) [
-      | true ↦ λ e h.
-          ap (λ ys. above ∷ ys) (begun above b bs e) ∙ ap (λ ys. ys ∷ way_from 0 (ys ++ codes "::") (drop 1 bs)) (sym (append-nil above))
-      | false ↦ λ e h.
-          level_first (above ++ b ∷ []) bs h ∙ ap (λ ys. ys ∷ way_from 0 (ys ++ codes "::") (behind (codes "::") bs)) (append_assoc above (b ∷ []) (front (codes "::") bs))
-    ] refl h
-
-pub level_last : (above xs : List ℕ) → has (codes "::") xs ≡ false → way_from 0 above xs ≡ (above ++ xs) ∷ []
-level_last above [] h = ap (λ ys. ys ∷ []) (sym (append-nil above))
-level_last above (b ∷ bs) h =
-    let both = or_parts (begins (codes "::") (b ∷ bs)) (has (codes "::") bs) h in
-    ap (λ v. cond v (above ∷ way_from 1 (above ++ b ∷ []) bs) (way_from 0 (above ++ b ∷ []) bs)) both.0
-    ∙ level_last (above ++ b ∷ []) bs both.1
-    ∙ ap (λ ys. ys ∷ []) (append_assoc above (b ∷ []) bs)
+use Rattle.ak_search.specs.CardFacts.{filled, template_at}
 
 -- ---- the template at a place
 pub template_there : (templates : List CardTemplate) (place : ℤ) → int_lt place (pos 0) ≡ false → template_at templates place ≡ slice_get templates (unsigned_abs place)

@@ -10,7 +10,7 @@ use Rattle.ak_base.specs.declared.days.Day.{Day}
 use Rattle.ak_base.specs.declared.names.Table.TheVariants as tables
 use Rattle.ak_base.specs.declared.rows.Row.{Row}
 use Rattle.ak_keep.specs.Collections.{Rows, is_past}
-use Rattle.ak_keep.specs.Pages.{compared_less, int_chain}
+use Rattle.ak_keep.proofs.Paging.{compared_less, int_chain}
 use Rattle.ak_search.specs.Holds.{is_hit, ids_of_hits}
 use Rattle.ak_search.specs.Passes.{AscendFrom, TakesFrom}
 use Rattle.ak_search.specs.declared.terms.Term.{Term}

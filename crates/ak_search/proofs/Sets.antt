@@ -10,9 +10,9 @@ use Rattle.ak_base.specs.declared.names.Table.TheVariants as tables
 use Rattle.ak_base.specs.declared.rows.Row.{Row}
 use Rattle.ak_base.specs.declared.rows.Row.TheVariants as rows
 use Rattle.ak_keep.specs.Collections.{Rows, StandsUnderNames, AscendsPast, rows_past}
-use Rattle.ak_keep.specs.Pages.{rows_past-ascend}
+use Rattle.ak_keep.proofs.Paging.{rows_past-ascend}
 use Rattle.ak_search.specs.Holds.{is_listed, holds, is_hit, is_card, hits, cards, asked_by}
-use Rattle.ak_search.specs.Looks.{seen}
+use Rattle.ak_search.specs.CardFacts.{seen}
 use Rattle.ak_search.specs.Meanings.{followed, has_no_or}
 use Rattle.ak_search.specs.Trees.{Tree, End, Group, Either}
 use Rattle.ak_search.proofs.Walking.{either_meets, both_meet, none_meets}

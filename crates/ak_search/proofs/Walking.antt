@@ -4,13 +4,13 @@ use Rattle.std.proofs.Math.Bool.{and_assoc, or_assoc}
 use Rattle.ak_search.specs.declared.terms.Term.{Term}
 use Rattle.ak_search.specs.declared.tokens.Piece.{Piece}
 use Rattle.ak_search.specs.declared.tokens.Piece.TheVariants.{Close}
-use Rattle.ak_search.specs.declared.courses.Group.{Group as Outer}
-use Rattle.ak_search.specs.Trees.{Tree, End, Asks, Group, Either, Also, laid}
+use Rattle.ak_search.specs.declared.evaluator.Group.{Group as Outer}
+use Rattle.ak_search.specs.Trees.{Tree, End, Asks, Group, Either, Also, pieces_of}
 use Rattle.ak_search.specs.Meanings.{negated_by, meets_from, meets, followed, has_no_or, walk}
 
 -- the two truth values behind a tree say whether it is met, whatever comes then
 Walked : (Term → Bool) → List Outer → Bool → Bool → Tree → Type 0
-Walked holds outer either all tree = (e : Bool) × (a : Bool) × ((e || a) ≡ meets_from holds either all tree) × ((ps : List Piece) → walk holds outer either all (laid tree ++ ps) ≡ walk holds outer e a ps)
+Walked holds outer either all tree = (e : Bool) × (a : Bool) × ((e || a) ≡ meets_from holds either all tree) × ((ps : List Piece) → walk holds outer either all (pieces_of tree ++ ps) ≡ walk holds outer e a ps)
 
 walked_tree : (holds : Term → Bool) (tree : Tree) (outer : List Outer) (either all : Bool) → Walked holds outer either all tree
 unfolding Walked
@@ -25,14 +25,14 @@ walked_tree holds (Group negated inside after) outer either all =
       later.0,
       later.1,
       later.2 ∙ ap (λ v. meets_from holds either (all && negated_by negated v) after) inner.2,
-      λ ps. ap (walk holds (group ∷ outer) false true) (append_assoc (laid inside) (Close ∷ laid after) ps) ∙ inner.3 (Close ∷ (laid after ++ ps)) ∙ later.3 ps,
+      λ ps. ap (walk holds (group ∷ outer) false true) (append_assoc (pieces_of inside) (Close ∷ pieces_of after) ps) ∙ inner.3 (Close ∷ (pieces_of after ++ ps)) ∙ later.3 ps,
     )
 
-pub walked : (holds : Term → Bool) (tree : Tree) → walk holds [] false true (laid tree) ≡ meets holds tree
+pub walked : (holds : Term → Bool) (tree : Tree) → walk holds [] false true (pieces_of tree) ≡ meets holds tree
 unfolding Walked
 walked holds tree =
     let whole = walked_tree holds tree [] false true in
-    ap (walk holds [] false true) (sym (append-nil (laid tree))) ∙ whole.3 [] ∙ whole.2
+    ap (walk holds [] false true) (sym (append-nil (pieces_of tree))) ∙ whole.3 [] ∙ whole.2
 
 -- ---- union, intersection, complement
 

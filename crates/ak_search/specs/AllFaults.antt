@@ -10,5 +10,6 @@ abbrev pub faults_in : ℕ → Bool → List Token → List SearchFault
 faults_in depth before [] = []
 faults_in depth before (t ∷ ts) = option_to_list (fault_at depth before t.place t.piece (pieces_in ts)) ++ faults_in (depth_behind depth t.piece) (ends_part t.piece) ts
 
+-- all faults of a text, by ascending place
 abbrev pub all_faults : List ℕ → List SearchFault
 all_faults text = faults_in 0 false (tokens text)

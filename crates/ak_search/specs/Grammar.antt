@@ -6,21 +6,22 @@ use Rattle.ak_search.specs.declared.tokens.Piece.{Piece}
 use Rattle.ak_search.specs.declared.tokens.Piece.TheVariants.{Test, BadValue, Open, Close, Or, And, OpenQuote}
 use Rattle.ak_search.specs.declared.faults.SearchFault.{SearchFault}
 use Rattle.ak_search.specs.declared.faults.SearchFault.TheVariants as faults
-use Rattle.ak_search.specs.Signs.{signs}
+use Rattle.ak_search.specs.SourceChars.{source_chars}
 use Rattle.ak_search.specs.Tokens.{tokens_from}
-use Rattle.ak_search.specs.Trees.{Tree, laid, IsWhole, Nests}
+use Rattle.ak_search.specs.Trees.{Tree, pieces_of, IsWhole, Nests}
 
 -- the tokens of a text, and the pieces that they are
 abbrev pub tokens : List ℕ → List Token
-tokens text = tokens_from 0 false false (signs text)
+tokens text = tokens_from 0 false false (source_chars text)
 
+-- the pieces of tokens, without their places
 abbrev pub pieces_in : List Token → List Piece
 pieces_in ts = map (λ (t : Token). t.piece) ts
 
 -- the text has the tree: its pieces are the tree from front to back; each `or` and `and` has a term or group on both
 -- sides, and each group one inside; and groups nest at most 32 deep
 pub record ReadsSearch (text : List ℕ) (tree : Tree) : Type 0 where
-  pub pieces : pieces_in (tokens text) ≡ laid tree
+  pub pieces : pieces_in (tokens text) ≡ pieces_of tree
   pub whole : IsWhole false tree
   pub nests : Nests 0 tree
 
@@ -49,6 +50,7 @@ begins_part (Or ∷ ps) = false
 begins_part (And ∷ ps) = false
 begins_part (OpenQuote ∷ ps) = true
 
+-- whether a `)` comes first
 abbrev pub begins_close : List Piece → Bool
 begins_close [] = false
 begins_close (Test negated term ∷ ps) = false
@@ -83,6 +85,7 @@ depth_behind depth OpenQuote = depth
 abbrev pub lone_fault : Bool → ℕ → List Piece → Option SearchFault
 lone_fault before place rest = if before && begins_part rest then None else Some (faults.LoneOr place)
 
+-- the fault of a `(`: its group is never closed, has nothing inside, or nests over 32 deep
 abbrev pub group_fault : ℕ → ℕ → List Piece → Option SearchFault
 group_fault depth place rest =
     if closes 0 rest then
@@ -105,6 +108,7 @@ abbrev pub fault_in : ℕ → Bool → List Token → Option SearchFault
 fault_in depth before [] = None
 fault_in depth before (t ∷ ts) = option_or (fault_at depth before t.place t.piece (pieces_in ts)) (fault_in (depth_behind depth t.piece) (ends_part t.piece) ts)
 
+-- the first fault of a text, if it has one
 abbrev pub first_fault : List ℕ → Option SearchFault
 first_fault text = fault_in 0 false (tokens text)
 
@@ -117,3 +121,13 @@ place_of (faults.LoneOr place) = place
 place_of (faults.BadValue place) = place
 place_of (faults.TooDeep place) = place
 place_of faults.Memory = 0
+
+-- the number of a fault among the refusals
+abbrev pub fault_number : SearchFault → ℕ
+fault_number (faults.OpenQuote place) = 1
+fault_number (faults.OpenGroup place) = 2
+fault_number (faults.EmptyGroup place) = 3
+fault_number (faults.LoneOr place) = 4
+fault_number (faults.BadValue place) = 5
+fault_number (faults.TooDeep place) = 6
+fault_number faults.Memory = 0

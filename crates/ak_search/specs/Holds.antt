@@ -4,6 +4,8 @@ use Rattle.std.specs.Fmt.{signed_decimal}
 use Rattle.std.specs.Int.{int_rem_euclid}
 use Rattle.std.specs.List.{list_any}
 use Rattle.std.specs.Ordering.{int_eq}
+use Rattle.ak_base.specs.NoteTexts.{tags_in}
+use Rattle.ak_base.specs.Paths.{ancestors}
 use Rattle.ak_base.specs.Rows.{name_of}
 use Rattle.ak_base.specs.declared.cards.Card.{Card}
 use Rattle.ak_base.specs.declared.days.Day.{Day}
@@ -15,7 +17,7 @@ use Rattle.ak_base.specs.declared.notes.Note.{Note}
 use Rattle.ak_base.specs.declared.rows.Row.{Row}
 use Rattle.ak_base.specs.declared.rows.Row.TheVariants as rows
 use Rattle.ak_keep.specs.Collections.{Rows, rows_past}
-use Rattle.ak_search.specs.declared.marks.Mark.{Mark}
+use Rattle.ak_search.specs.declared.patterns.PatternItem.{PatternItem}
 use Rattle.ak_search.specs.declared.terms.Comparison.{Comparison}
 use Rattle.ak_search.specs.declared.terms.Comparison.TheVariants as comparisons
 use Rattle.ak_search.specs.declared.terms.Property.{Property}
@@ -24,9 +26,9 @@ use Rattle.ak_search.specs.declared.terms.State.{State}
 use Rattle.ak_search.specs.declared.terms.State.TheVariants as states
 use Rattle.ak_search.specs.declared.terms.Term.{Term}
 use Rattle.ak_search.specs.declared.terms.Term.TheVariants as terms
-use Rattle.ak_search.specs.declared.texts.Way.{Way}
-use Rattle.ak_search.specs.declared.texts.Way.TheVariants as ways
-use Rattle.ak_search.specs.Looks.{Seen, seen, is_since, some_field, named_field, fields_seen, tags_in, way_to, template_of, template_place}
+use Rattle.ak_search.specs.declared.texts.MatchMode.{MatchMode}
+use Rattle.ak_search.specs.declared.texts.MatchMode.TheVariants as modes
+use Rattle.ak_search.specs.CardFacts.{Seen, seen, is_since, some_field, named_field, fields_seen, template_of, template_place}
 use Rattle.ak_search.specs.Meanings.{meets}
 use Rattle.ak_search.specs.Patterns.{are_letters, matches, matches_spaced}
 use Rattle.ak_search.specs.Trees.{Tree}
@@ -99,40 +101,40 @@ answered_since answered least eases = list_any (λ ease. answered ease least) ea
 
 -- ---- texts
 
--- whether the marks stand for a text as it is looked through
-abbrev pub passes : Way → List Mark → List ℕ → Bool
-passes ways.Whole marks text = matches marks text
-passes ways.Spaced marks text = matches_spaced marks text
+-- whether the pattern stands for a text as it is looked through
+abbrev pub passes : MatchMode → List PatternItem → List ℕ → Bool
+passes modes.Whole pattern text = matches pattern text
+passes modes.Spaced pattern text = matches_spaced pattern text
 
 -- whether the stripped text of a field of that name matches whole
-abbrev pub field_matches : List ℕ → List Mark → Option Note → Option NoteType → Bool
-field_matches name marks (Some n) (Some t) = named_field name (matches marks) t.fields (fields_seen (Some t) n)
-field_matches name marks (Some n) None = false
-field_matches name marks None note_type = false
+abbrev pub field_matches : List ℕ → List PatternItem → Option Note → Option NoteType → Bool
+field_matches name pattern (Some n) (Some t) = named_field name (matches pattern) t.fields (fields_seen (Some t) n)
+field_matches name pattern (Some n) None = false
+field_matches name pattern None note_type = false
 
 -- whether the name of a deck or tag matches, or that of one that it is below
-abbrev pub way_matches : List Mark → List ℕ → Bool
-way_matches marks name = list_any (matches marks) (way_to name)
+abbrev pub path_matches : List PatternItem → List ℕ → Bool
+path_matches pattern name = list_any (matches pattern) (ancestors name)
 
 -- whether some tag matches, or one that it is below
-abbrev pub has_tag : List Mark → Note → Bool
-has_tag marks n = list_any (way_matches marks) (tags_in n.tags)
+abbrev pub has_tag : List PatternItem → Note → Bool
+has_tag pattern n = list_any (path_matches pattern) (tags_in n.tags)
 
 -- whether a note has no tag
 abbrev pub is_untagged : Note → Bool
 is_untagged n = length (tags_in n.tags) == 0
 
 -- whether the name of a type matches
-abbrev pub is_type : List Mark → NoteType → Bool
-is_type marks t = matches marks t.name
+abbrev pub is_type : List PatternItem → NoteType → Bool
+is_type pattern t = matches pattern t.name
 
--- whether the marks are a place in decimal, counted from 1
-abbrev pub is_place : List Mark → ℤ → Bool
-is_place marks place = are_letters marks (signed_decimal (place +ℤ pos 1))
+-- whether the pattern is a place in decimal, counted from 1
+abbrev pub is_place : List PatternItem → ℤ → Bool
+is_place pattern place = are_letters pattern (signed_decimal (place +ℤ pos 1))
 
--- whether the type has the card's template, and the marks are its place or match its name
-abbrev pub is_template : List Mark → Card → NoteType → Bool
-is_template marks c t = held_and (λ (template : CardTemplate). is_place marks (template_place t c) || matches marks template.name) (template_of t c)
+-- whether the type has the card's template, and the pattern is its place or matches its name
+abbrev pub is_template : List PatternItem → Card → NoteType → Bool
+is_template pattern c t = held_and (λ (template : CardTemplate). is_place pattern (template_place t c) || matches pattern template.name) (template_of t c)
 
 -- whether the note was changed in the last so many days
 abbrev pub is_edited : Day → ℤ → Note → Bool
@@ -142,14 +144,14 @@ is_edited day days n = is_since n.stamp (second_back day days)
 
 -- whether a term holds of what is seen of a card, on that day
 abbrev pub holds : Day → Seen → Term → Bool
-holds day s (terms.Contains marks) = held_and (some_field (passes ways.Whole marks) s.note_type) s.note
-holds day s (terms.Word marks) = held_and (some_field (passes ways.Spaced marks) s.note_type) s.note
-holds day s (terms.Field name marks) = field_matches name marks s.note s.note_type
-holds day s (terms.Deck marks) = held_and (λ (d : Deck). way_matches marks d.name) s.deck
-holds day s (terms.Tag marks) = held_and (has_tag marks) s.note
+holds day s (terms.Contains pattern) = held_and (some_field (passes modes.Whole pattern) s.note_type) s.note
+holds day s (terms.Word pattern) = held_and (some_field (passes modes.Spaced pattern) s.note_type) s.note
+holds day s (terms.Field name pattern) = field_matches name pattern s.note s.note_type
+holds day s (terms.Deck pattern) = held_and (λ (d : Deck). path_matches pattern d.name) s.deck
+holds day s (terms.Tag pattern) = held_and (has_tag pattern) s.note
 holds day s terms.Untagged = held_and is_untagged s.note
-holds day s (terms.NoteType marks) = held_and (is_type marks) s.note_type
-holds day s (terms.Template marks) = held_and (is_template marks s.card) s.note_type
+holds day s (terms.NoteType pattern) = held_and (is_type pattern) s.note_type
+holds day s (terms.Template pattern) = held_and (is_template pattern s.card) s.note_type
 holds day s (terms.InState state) = in_state day state s.card
 holds day s (terms.Prop what comparison bound) = held_and (compares comparison bound) (property day what s.card)
 holds day s (terms.Flag number) = int_eq (int_rem_euclid s.card.flags (pos 8)) number

@@ -1,12 +1,12 @@
 pub mod AllFaults
+pub mod CardFacts
 pub mod Grammar
 pub mod Holds
-pub mod Looks
 pub mod Matching
 pub mod Meanings
 pub mod Passes
 pub mod Patterns
-pub mod Signs
+pub mod SourceChars
 pub mod Terms
 pub mod Tokens
 pub mod Trees

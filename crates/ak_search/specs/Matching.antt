@@ -1,27 +1,29 @@
--- How a pattern is matched in one pass over the characters: a row of truth values, one before each mark and one
--- behind the last, says which marks may come next.
+-- How a pattern is matched in one pass over the characters: a row of truth values, one before each item and one
+-- behind the last, says which item may come next.
 use Rattle.std.specs.Prelude.{ℕ, zero, suc, Bool, false, ◌&&◌, ◌||◌, List, [], ◌∷◌}
-use Rattle.ak_search.specs.declared.marks.Mark.{Mark}
+use Rattle.ak_search.specs.declared.patterns.PatternItem.{PatternItem}
 use Rattle.ak_search.specs.Patterns.{is_any, takes}
 
+-- a row of so many truth values that are all false
 abbrev pub falses : ℕ → List Bool
 falses zero = []
 falses (suc count) = false ∷ falses count
 
--- the row behind one more character. The two truth values say of the mark before whether it took the character, and
+-- the row behind one more character. The two truth values say of the item before whether it took the character, and
 -- whether it may stand for nothing more here
-abbrev pub advanced : ℕ → Bool → Bool → List Bool → List Mark → List Bool
-advanced letter taken skipped [] marks = []
+abbrev pub advanced : ℕ → Bool → Bool → List Bool → List PatternItem → List Bool
+advanced letter taken skipped [] pattern = []
 advanced letter taken skipped (live ∷ row) [] = taken ∷ row
-advanced letter taken skipped (live ∷ row) (mark ∷ marks) =
-    (taken || (is_any mark && (live || skipped))) ∷ advanced letter (takes mark letter && (live || skipped)) (is_any mark && (live || skipped)) row marks
+advanced letter taken skipped (live ∷ row) (item ∷ pattern) =
+    (taken || (is_any item && (live || skipped))) ∷ advanced letter (takes item letter && (live || skipped)) (is_any item && (live || skipped)) row pattern
 
-abbrev pub advanced_by : List ℕ → List Bool → List Mark → List Bool
-advanced_by [] row marks = row
-advanced_by (letter ∷ letters) row marks = advanced_by letters (advanced letter false false row marks) marks
+-- the row after all the characters
+abbrev pub advanced_by : List ℕ → List Bool → List PatternItem → List Bool
+advanced_by [] row pattern = row
+advanced_by (letter ∷ letters) row pattern = advanced_by letters (advanced letter false false row pattern) pattern
 
 -- whether the text may end here
-abbrev pub ended : Bool → List Bool → List Mark → Bool
-ended skipped [] marks = false
+abbrev pub ended : Bool → List Bool → List PatternItem → Bool
+ended skipped [] pattern = false
 ended skipped (live ∷ row) [] = live || skipped
-ended skipped (live ∷ row) (mark ∷ marks) = ended (is_any mark && (live || skipped)) row marks
+ended skipped (live ∷ row) (item ∷ pattern) = ended (is_any item && (live || skipped)) row pattern

@@ -3,7 +3,7 @@ use Rattle.std.specs.Prelude.{Bool, true, false, not, ◌&&◌, ◌||◌, if◌t
 use Rattle.ak_search.specs.declared.terms.Term.{Term}
 use Rattle.ak_search.specs.declared.tokens.Piece.{Piece}
 use Rattle.ak_search.specs.declared.tokens.Piece.TheVariants.{Test, BadValue, Open, Close, Or, And, OpenQuote}
-use Rattle.ak_search.specs.declared.courses.Group.{Group as Outer}
+use Rattle.ak_search.specs.declared.evaluator.Group.{Group as Outer}
 use Rattle.ak_search.specs.Trees.{Tree, End, Asks, Group, Either, Also}
 
 -- whether a term or group is met, which may be negated

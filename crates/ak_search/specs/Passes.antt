@@ -6,15 +6,16 @@ use Rattle.std.specs.declared.cmp.Ordering.{Ordering}
 use Rattle.ak_base.specs.declared.cards.Card.{Card}
 use Rattle.ak_keep.specs.Collections.{Rows}
 use Rattle.ak_search.specs.declared.answers.Answers.{Answers}
-use Rattle.ak_search.specs.declared.holds.Asking.{Asking}
-use Rattle.ak_search.specs.declared.looks.Around.{Around}
+use Rattle.ak_search.specs.declared.holds.SearchContext.{SearchContext}
+use Rattle.ak_search.specs.declared.related.Related.{Related}
 use Rattle.ak_search.specs.declared.terms.Term.{Term}
 use Rattle.ak_search.specs.declared.terms.Term.TheVariants as terms
 use Rattle.ak_search.specs.declared.tokens.Piece.{Piece}
 use Rattle.ak_search.specs.declared.tokens.Piece.TheVariants.{Test, BadValue, Open, Close, Or, And, OpenQuote}
-use Rattle.ak_search.specs.declared.courses.Course.{Course}
+use Rattle.ak_search.specs.declared.evaluator.Evaluator.{Evaluator}
 use Rattle.ak_search.specs.Holds.{held_and}
-use Rattle.ak_search.specs.Looks.{Seen, note_at, type_of, deck_of, is_answered, is_since}
+use Rattle.ak_keep.specs.Lookups.{note_at, deck_of_card}
+use Rattle.ak_search.specs.CardFacts.{Seen, type_of, is_answered, is_since}
 use Rattle.ak_search.specs.Meanings.{walk}
 
 -- the order of cards with an ease
@@ -26,16 +27,16 @@ abbrev pub is_shown : Answers → ℤ → ℤ → ℤ → Bool
 is_shown answers card ease least = held_and (λ (last : ℤ). is_since last least) (get pair_cmp answers.last (card, ease))
 
 -- what a card belongs to
-abbrev pub around_in : Rows → Card → Around
-around_in held c = record { note = note_at held c.nid; note_type = type_of held (note_at held c.nid); deck = deck_of held c.did }
+abbrev pub related_in : Rows → Card → Related
+related_in held c = record { note = note_at held c.nid; note_type = type_of held (note_at held c.nid); deck = deck_of_card held c }
 
 -- what is seen of a card by what was read
-abbrev pub seen_by : Answers → Card → Around → Seen
-seen_by answers c around = record { card = c; note = around.note; note_type = around.note_type; deck = around.deck; answered = is_shown answers c.id }
+abbrev pub seen_by : Answers → Card → Related → Seen
+seen_by answers c related = record { card = c; note = related.note; note_type = related.note_type; deck = related.deck; answered = is_shown answers c.id }
 
--- what the pieces that are left ask, on a course that came so far
-abbrev pub course_at : Course → (Term → Bool) → List Piece → Bool
-course_at course holds ps = walk holds course.outer.items course.either course.all ps
+-- what the pieces that are left ask, for an evaluator that came so far
+abbrev pub evaluated_from : Evaluator → (Term → Bool) → List Piece → Bool
+evaluated_from evaluator holds ps = walk holds evaluator.outer.items evaluator.either evaluator.all ps
 
 -- what the pieces of a search ask
 abbrev pub asked : List Piece → (Term → Bool) → Bool
@@ -53,22 +54,22 @@ some_term test (And ∷ ps) = some_term test ps
 some_term test (OpenQuote ∷ ps) = some_term test ps
 
 -- whether a term asks for reviews
-abbrev pub is_on_answers : Term → Bool
-is_on_answers (terms.Rated days) = true
-is_on_answers (terms.RatedWith days ease) = true
-is_on_answers term = false
+abbrev pub needs_answers : Term → Bool
+needs_answers (terms.Rated days) = true
+needs_answers (terms.RatedWith days ease) = true
+needs_answers term = false
 
 -- whether a term asks for what a card belongs to
-abbrev pub is_on_around : Term → Bool
-is_on_around (terms.InState state) = false
-is_on_around (terms.Prop what comparison bound) = false
-is_on_around (terms.Flag number) = false
-is_on_around (terms.Rated days) = false
-is_on_around (terms.RatedWith days ease) = false
-is_on_around (terms.Added days) = false
-is_on_around (terms.NoteIds ids) = false
-is_on_around (terms.CardIds ids) = false
-is_on_around term = true
+abbrev pub needs_related : Term → Bool
+needs_related (terms.InState state) = false
+needs_related (terms.Prop what comparison bound) = false
+needs_related (terms.Flag number) = false
+needs_related (terms.Rated days) = false
+needs_related (terms.RatedWith days ease) = false
+needs_related (terms.Added days) = false
+needs_related (terms.NoteIds ids) = false
+needs_related (terms.CardIds ids) = false
+needs_related term = true
 
 -- the answers are those of the collection
 abbrev pub AreAnswersOf : Answers → Rows → Type 0
@@ -76,9 +77,9 @@ AreAnswersOf answers held = (card ease least : ℤ) → is_shown answers card ea
 
 -- what is asked with serves the pieces: where a term asks for answers, they are those of the collection, and where one
 -- asks for what a card belongs to, that is looked at
-pub record Serves (asking : Asking) (ps : List Piece) (held : Rows) : Type 0 where
-  pub answers : some_term is_on_answers ps ≡ true → AreAnswersOf asking.answers held
-  pub around : some_term is_on_around ps ≡ true → asking.around ≡ true
+pub record Serves (context : SearchContext) (ps : List Piece) (held : Rows) : Type 0 where
+  pub answers : some_term needs_answers ps ≡ true → AreAnswersOf context.answers held
+  pub related : some_term needs_related ps ≡ true → context.needs_related ≡ true
 
 -- ids ascend from over `past`
 abbrev pub AscendFrom : ℤ → List ℤ → Type 0

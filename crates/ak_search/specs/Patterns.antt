@@ -2,71 +2,75 @@
 use Rattle.std.specs.Prelude.{ℕ, ◌==◌, Bool, true, false, not, ◌&&◌, ◌||◌, if◌then◌else◌, List, [], ◌∷◌, ◌++◌, map}
 use Rattle.std.specs.Char.{eq_ignore_ascii_case, is_ascii_alphanumeric}
 use Rattle.std.specs.Str.{chars}
-use Rattle.ak_search.specs.declared.signs.Sign.{Sign}
-use Rattle.ak_search.specs.declared.marks.Mark.{Mark}
-use Rattle.ak_search.specs.declared.marks.Mark.TheVariants.{Any, One, Apart, Is}
+use Rattle.ak_search.specs.declared.source_chars.SourceChar.{SourceChar}
+use Rattle.ak_search.specs.declared.patterns.PatternItem.{PatternItem}
+use Rattle.ak_search.specs.declared.patterns.PatternItem.TheVariants.{Any, One, Apart, Is}
 
 -- ---- which pattern is written
 
-abbrev pub mark_of : Sign → Mark
-mark_of s =
+-- a bare `*` stands for any characters, a bare `_` for one, and all else for itself
+abbrev pub item_of : SourceChar → PatternItem
+item_of s =
     if s.literal then Is s.letter
     else (if s.letter == 42 then Any
     else (if s.letter == 95 then One
     else Is s.letter))
 
-abbrev pub pattern_of : List Sign → List Mark
-pattern_of signs = map mark_of signs
+-- the pattern that characters write
+abbrev pub pattern_of : List SourceChar → List PatternItem
+pattern_of source_chars = map item_of source_chars
 
 -- ---- what it matches
 
-abbrev pub is_any : Mark → Bool
+-- whether the item may stand for no character, or for many
+abbrev pub is_any : PatternItem → Bool
 is_any Any = true
 is_any One = false
 is_any Apart = false
 is_any (Is own) = false
 
--- whether the mark stands for that one character
-abbrev pub takes : Mark → ℕ → Bool
+-- whether the item stands for that one character
+abbrev pub takes : PatternItem → ℕ → Bool
 takes Any letter = false
 takes One letter = true
 takes Apart letter = not (is_ascii_alphanumeric letter)
 takes (Is own) letter = eq_ignore_ascii_case own letter
 
--- whether the marks stand for all the characters
-unfoldable pub fits : List Mark → List ℕ → Bool
+-- whether the pattern stands for all the characters
+unfoldable pub fits : List PatternItem → List ℕ → Bool
 fits [] [] = true
 fits [] (letter ∷ letters) = false
-fits (mark ∷ marks) [] = is_any mark && fits marks []
-fits (mark ∷ marks) (letter ∷ letters) =
-    if is_any mark then fits marks (letter ∷ letters) || fits (mark ∷ marks) letters
-    else takes mark letter && fits marks letters
+fits (item ∷ pattern) [] = is_any item && fits pattern []
+fits (item ∷ pattern) (letter ∷ letters) =
+    if is_any item then fits pattern (letter ∷ letters) || fits (item ∷ pattern) letters
+    else takes item letter && fits pattern letters
 
 -- whether the pattern matches the whole text, which is given by its bytes
-abbrev pub matches : List Mark → List ℕ → Bool
-matches marks text = fits marks (chars text)
+abbrev pub matches : List PatternItem → List ℕ → Bool
+matches pattern text = fits pattern (chars text)
 
--- whether the mark is that character itself, written in the same case
-abbrev pub is_letter : Mark → ℕ → Bool
+-- whether the item is that character itself, written in the same case
+abbrev pub is_letter : PatternItem → ℕ → Bool
 is_letter Any letter = false
 is_letter One letter = false
 is_letter Apart letter = false
 is_letter (Is own) letter = own == letter
 
--- whether the marks are those characters themselves, and nothing else
-abbrev pub are_letters : List Mark → List ℕ → Bool
+-- whether the pattern is those characters themselves, and nothing else
+abbrev pub are_letters : List PatternItem → List ℕ → Bool
 are_letters [] [] = true
 are_letters [] (letter ∷ letters) = false
-are_letters (mark ∷ marks) [] = false
-are_letters (mark ∷ marks) (letter ∷ letters) = is_letter mark letter && are_letters marks letters
+are_letters (item ∷ pattern) [] = false
+are_letters (item ∷ pattern) (letter ∷ letters) = is_letter item letter && are_letters pattern letters
 
 -- the pattern anywhere in a text
-abbrev pub anywhere : List Mark → List Mark
-anywhere marks = Any ∷ (marks ++ (Any ∷ []))
+abbrev pub anywhere : List PatternItem → List PatternItem
+anywhere pattern = Any ∷ (pattern ++ (Any ∷ []))
 
 -- the pattern as a word: with no ASCII letter or digit right beside it, in a text that is between two spaces
-abbrev pub as_word : List Mark → List Mark
-as_word marks = Any ∷ (Apart ∷ (marks ++ (Apart ∷ (Any ∷ []))))
+abbrev pub as_word : List PatternItem → List PatternItem
+as_word pattern = Any ∷ (Apart ∷ (pattern ++ (Apart ∷ (Any ∷ []))))
 
-abbrev pub matches_spaced : List Mark → List ℕ → Bool
-matches_spaced marks text = fits marks (32 ∷ (chars text ++ (32 ∷ [])))
+-- whether the pattern matches the text between two spaces
+abbrev pub matches_spaced : List PatternItem → List ℕ → Bool
+matches_spaced pattern text = fits pattern (32 ∷ (chars text ++ (32 ∷ [])))

@@ -4,8 +4,8 @@ use Rattle.std.specs.Option.{option_map, option_and_then}
 use Rattle.std.specs.List.{slice_split}
 use Rattle.std.specs.Cmp.Lexicographic.{pointwise}
 use Rattle.ak_base.specs.Decimals.{number_of}
-use Rattle.ak_filters.specs.Cuts.{has, front, behind}
-use Rattle.ak_search.specs.declared.signs.Sign.{Sign}
+use Rattle.ak_base.specs.Cuts.{has, front, behind}
+use Rattle.ak_search.specs.declared.source_chars.SourceChar.{SourceChar}
 use Rattle.ak_search.specs.declared.terms.Term.{Term}
 use Rattle.ak_search.specs.declared.terms.Term.TheVariants as terms
 use Rattle.ak_search.specs.declared.terms.State.{State}
@@ -17,13 +17,14 @@ use Rattle.ak_search.specs.declared.terms.Comparison.TheVariants as comparisons
 use Rattle.ak_search.specs.declared.prefixes.Prefix.{Prefix}
 use Rattle.ak_search.specs.declared.prefixes.Prefix.TheVariants as prefixes
 use Rattle.ak_search.specs.Patterns.{pattern_of, anywhere, as_word}
-use Rattle.ak_search.specs.Signs.{text_of, lowered, until}
+use Rattle.ak_search.specs.SourceChars.{text_of, lowered, until}
 
 -- ---- known words, in lower case
 
 abbrev pub is_word : List ℕ → List ℕ → Bool
 is_word text word = pointwise ◌==◌ text word
 
+-- the prefixes whose values are words or numbers, by their names; any other is a field's name
 abbrev pub value_prefix_of : List ℕ → Prefix
 value_prefix_of name =
     if is_word name (codes "is") then prefixes.InState
@@ -36,6 +37,7 @@ value_prefix_of name =
     else (if is_word name (codes "cid") then prefixes.CardIds
     else prefixes.Field)))))))
 
+-- the prefix of a name: those whose values are patterns first
 abbrev pub prefix_of : List ℕ → Prefix
 prefix_of name =
     if is_word name (codes "w") then prefixes.Word
@@ -45,6 +47,7 @@ prefix_of name =
     else (if is_word name (codes "card") then prefixes.Template
     else value_prefix_of name))))
 
+-- the states of buried cards, by their words
 abbrev pub buried_state_of : List ℕ → Option State
 buried_state_of word =
     if is_word word (codes "buried") then Some states.Buried
@@ -52,6 +55,7 @@ buried_state_of word =
     else (if is_word word (codes "buried-sibling") then Some states.BuriedSibling
     else None))
 
+-- the state that `is:` names
 abbrev pub state_of : List ℕ → Option State
 state_of word =
     if is_word word (codes "new") then Some states.New
@@ -61,6 +65,7 @@ state_of word =
     else (if is_word word (codes "suspended") then Some states.Suspended
     else buried_state_of word))))
 
+-- the number of a card that `prop:` names
 abbrev pub property_of : List ℕ → Option Property
 property_of word =
     if is_word word (codes "ivl") then Some properties.Interval
@@ -73,6 +78,7 @@ property_of word =
 
 -- ---- numbers: decimal, without sign or leading zero
 
+-- a number of at most so much
 abbrev pub up_to : ℕ → List ℕ → Option ℤ
 up_to most text = option_map pos (number_of most text)
 
@@ -80,10 +86,12 @@ up_to most text = option_map pos (number_of most text)
 abbrev pub whole : List ℕ → Option ℤ
 whole text = up_to (2 ^ 63 - 1) text
 
+-- the number, unless it is 0
 abbrev pub not_zero : ℤ → Option ℤ
 not_zero (pos n) = if n == 0 then None else Some (pos n)
 not_zero n = Some n
 
+-- a number from 1 to the most
 abbrev pub from_one : ℕ → List ℕ → Option ℤ
 from_one most text = option_and_then not_zero (up_to most text)
 
@@ -97,6 +105,7 @@ signed_of text =
     if has (codes "-") text && (length (front (codes "-") text) == 0) then option_map (λ n. pos 0 -ℤ n) (whole (behind (codes "-") text))
     else whole text
 
+-- numbers, each by its text; none if one is no number
 abbrev pub wholes : List (List ℕ) → Option (List ℤ)
 wholes [] = Some []
 wholes (text ∷ texts) = option_and_then (λ n. option_map (λ ns. n ∷ ns) (wholes texts)) (whole text)
@@ -116,6 +125,7 @@ bound_of properties.Ease text = whole text
 bound_of properties.Due text = signed_of text
 bound_of properties.Position text = whole text
 
+-- a comparison of the property of this name with a number
 abbrev pub compared : Comparison → List ℕ → List ℕ → Option Term
 compared comparison name text = option_and_then (λ property. option_map (λ bound. terms.Prop property comparison bound) (bound_of property text)) (property_of name)
 
@@ -136,9 +146,10 @@ rated_of text =
     if has (codes ":") text then option_and_then (λ days. option_map (λ ease. terms.RatedWith days ease) (from_one 4 (behind (codes ":") text))) (days_of (front (codes ":") text))
     else option_map terms.Rated (days_of text)
 
--- ---- the term that signs are; none, where its value can't be read
+-- ---- the term that characters are; none, where its value can't be read
 
-abbrev pub tag_of : List Sign → Term
+-- the tag that a pattern names; `none` is a note without tags
+abbrev pub tag_of : List SourceChar → Term
 tag_of value = if is_word (lowered value) (codes "none") then terms.Untagged else terms.Tag (pattern_of value)
 
 -- whether a pattern stands behind the prefix
@@ -158,8 +169,8 @@ takes_pattern prefixes.NoteIds = false
 takes_pattern prefixes.CardIds = false
 takes_pattern prefixes.Field = true
 
--- by the prefix, the signs that spell it, and those of the pattern
-abbrev pub patterned : Prefix → List Sign → List Sign → Term
+-- by the prefix, the characters that spell it, and those of the pattern
+abbrev pub patterned : Prefix → List SourceChar → List SourceChar → Term
 patterned prefixes.Word name value = terms.Word (as_word (pattern_of value))
 patterned prefixes.Deck name value = terms.Deck (pattern_of value)
 patterned prefixes.Tag name value = tag_of value
@@ -177,16 +188,18 @@ plain_valued prefixes.Added text = option_map terms.Added (days_of text)
 plain_valued prefixes.Edited text = option_map terms.Edited (days_of text)
 plain_valued prefix text = None
 
+-- a term with a value that is no pattern
 abbrev pub valued : Prefix → List ℕ → Option Term
 valued prefixes.NoteIds text = option_map terms.NoteIds (ids_of text)
 valued prefixes.CardIds text = option_map terms.CardIds (ids_of text)
 valued prefix text = plain_valued prefix text
 
-abbrev pub prefixed : Prefix → List Sign → List Sign → Option Term
+-- a term with a prefix, by the kind of its value
+abbrev pub prefixed : Prefix → List SourceChar → List SourceChar → Option Term
 prefixed prefix name value = if takes_pattern prefix then Some (patterned prefix name value) else valued prefix (lowered value)
 
 -- a prefix ends at the first bare colon
-abbrev pub term_of : List Sign → Option Term
-term_of signs =
-    if nat_lt (until 58 signs) (length signs) then prefixed (prefix_of (lowered (take (until 58 signs) signs))) (take (until 58 signs) signs) (drop (until 58 signs + 1) signs)
-    else Some (terms.Contains (anywhere (pattern_of signs)))
+abbrev pub term_of : List SourceChar → Option Term
+term_of source_chars =
+    if nat_lt (until 58 source_chars) (length source_chars) then prefixed (prefix_of (lowered (take (until 58 source_chars) source_chars))) (take (until 58 source_chars) source_chars) (drop (until 58 source_chars + 1) source_chars)
+    else Some (terms.Contains (anywhere (pattern_of source_chars)))

@@ -14,12 +14,12 @@ pub data Tree : Type 0 where
   Also : Tree → Tree
 
 -- from front to back: a group is opened, its inside stands, and it is closed
-abbrev pub laid : Tree → List Piece
-laid End = []
-laid (Asks negated term after) = Test negated term ∷ laid after
-laid (Group negated inside after) = Open negated ∷ (laid inside ++ (Close ∷ laid after))
-laid (Either after) = Or ∷ laid after
-laid (Also after) = And ∷ laid after
+abbrev pub pieces_of : Tree → List Piece
+pieces_of End = []
+pieces_of (Asks negated term after) = Test negated term ∷ pieces_of after
+pieces_of (Group negated inside after) = Open negated ∷ (pieces_of inside ++ (Close ∷ pieces_of after))
+pieces_of (Either after) = Or ∷ pieces_of after
+pieces_of (Also after) = And ∷ pieces_of after
 
 -- whether a term or group stands first
 abbrev pub begins : Tree → Bool

@@ -1,13 +1,13 @@
 // The answers that cards got, read from the reviews of a keeper.
-ghost use Rattle.std.specs.Prelude.{◌≡◌, ◌||◌, ℤ, IfOk, OnOk, false};
+ghost use Rattle.std.specs.Prelude.{◌≡◌, ◌||◌, ℤ, OnOk, false};
 ghost use Rattle.ak_base.specs.declared.rows.Row.TheVariants as rows;
-ghost use Rattle.ak_keep.specs.Keepers.{WhereTold, KeepCause};
-ghost use Rattle.ak_search.specs.Looks.{is_answer, is_answer_in, is_since};
+ghost use Rattle.ak_keep.specs.Readings.{ReadsBy};
+ghost use Rattle.ak_search.specs.CardFacts.{is_answer, is_answer_in, is_since};
 ghost use Rattle.ak_search.specs.Passes.{AreAnswersOf, is_shown};
 
 use crate::states::is_since;
-use ak_base::{Memory, Name, Review, Row, Table};
-use ak_keep::{KeepFault, Keeper, Walk};
+use ak_base::{Memory, Review, Row, Table};
+use ak_keep::{KeepFault, Readable, Walk};
 use std::alloc::Global;
 use std::collections::BTreeMap;
 
@@ -18,6 +18,7 @@ pub(crate) struct Answers {
 }
 
 impl Answers {
+    /// No answers.
     pub(crate) fn new(alloc: Global) -> Answers
         ensures { (card ease least : ℤ) → is_shown result card ease least ≡ false }
     {
@@ -26,7 +27,7 @@ impl Answers {
         }
     }
 
-    // The last review of that card and ease, once there is one more.
+    /// The last review of that card and ease, with one more.
     fn last_with(&self, review: &Review) -> i64
         ensures { (least : ℤ) → is_since result least ≡ (is_shown self.now review.now.cid review.now.ease least || is_since review.now.id least) }
     {
@@ -36,6 +37,7 @@ impl Answers {
         }
     }
 
+    /// Counts in one more review.
     fn add(&mut self, review: &Review) -> Result<(), Memory>
         ensures { OnOk result ((card ease least : ℤ) → is_shown self.new card ease least ≡ (is_shown self.old card ease least || is_answer card ease least (rows.Review review.now))) }
     {
@@ -44,6 +46,7 @@ impl Answers {
         Ok(())
     }
 
+    /// Counts in the row, if it is a review.
     fn add_row(&mut self, row: &Row) -> Result<(), Memory>
         ensures { OnOk result ((card ease least : ℤ) → is_shown self.new card ease least ≡ (is_shown self.old card ease least || is_answer card ease least row.now)) }
     {
@@ -53,6 +56,7 @@ impl Answers {
         }
     }
 
+    /// Counts in the reviews among the rows.
     fn add_rows(&mut self, rows: &[Row]) -> Result<(), Memory>
         ensures { OnOk result ((card ease least : ℤ) → is_shown self.new card ease least ≡ (is_shown self.old card ease least || is_answer_in card ease least rows.now)) }
     {
@@ -76,18 +80,13 @@ impl Answers {
 }
 
 /// The answers in all reviews that are kept.
-pub(crate) fn read_answers<K: Keeper>(alloc: Global, keeper: &mut K) -> Result<Answers, KeepFault>
-    ensures answers { IfOk result (λ answers. WhereTold (K.keeping keeper.old) (λ c. AreAnswersOf answers c.rows)) }
-    ensures same { K.keeping keeper.new ≡ K.keeping keeper.old }
-    ensures cause { KeepCause (K.fault_count keeper.old) (K.fault_count keeper.new) result }
+pub(crate) fn read_answers<R: Readable>(alloc: Global, from: &mut R) -> Result<Answers, KeepFault>
+    ensures reads { ReadsBy R.Lookup from.old from.new result (λ h answers. AreAnswersOf answers h.rows) }
 {
     let mut answers = Answers::new(alloc);
-    let mut walk = Walk::past(Name {
-        table: Table::Review,
-        id: 0,
-    });
+    let mut walk = Walk::over(Table::Review);
     'pages: while !walk.is_done() {
-        let page = walk.next(keeper)?;
+        let page = walk.next(from)?;
         answers.add_rows(page.as_slice())?;
     }
     Ok(answers)

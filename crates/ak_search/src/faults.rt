@@ -1,3 +1,6 @@
+ghost use Rattle.std.specs.Prelude.{◌≡◌};
+ghost use Rattle.ak_search.specs.Grammar.{fault_number, place_of};
+
 use ak_base::Memory;
 use std::alloc::{AllocError, AllocFailed};
 
@@ -17,6 +20,38 @@ pub enum SearchFault {
     /// The 33rd group that is opened in one another.
     TooDeep(u64),
     Memory,
+}
+
+impl SearchFault {
+    /// Its number among the refusals, from 1; 0 if memory ran out.
+    pub fn number(self) -> u64
+        ensures { result ≡ fault_number self }
+    {
+        match self {
+            SearchFault::OpenQuote(_) => 1,
+            SearchFault::OpenGroup(_) => 2,
+            SearchFault::EmptyGroup(_) => 3,
+            SearchFault::LoneOr(_) => 4,
+            SearchFault::BadValue(_) => 5,
+            SearchFault::TooDeep(_) => 6,
+            SearchFault::Memory => 0,
+        }
+    }
+
+    /// The byte at which the text goes wrong, from 0; also 0 if memory ran out.
+    pub fn place(self) -> u64
+        ensures { result ≡ place_of self }
+    {
+        match self {
+            SearchFault::OpenQuote(place)
+            | SearchFault::OpenGroup(place)
+            | SearchFault::EmptyGroup(place)
+            | SearchFault::LoneOr(place)
+            | SearchFault::BadValue(place)
+            | SearchFault::TooDeep(place) => place,
+            SearchFault::Memory => 0,
+        }
+    }
 }
 
 impl From<Memory> for SearchFault {

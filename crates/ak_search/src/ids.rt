@@ -7,6 +7,15 @@ use crate::numbers::whole;
 use ak_base::{List, Memory};
 use std::alloc::Global;
 
+/// The ids between commas. None where one of them is no number.
+pub(crate) fn ids_of(alloc: Global, text: &str) -> Result<Option<List<i64>>, Memory>
+    ensures { IfOk result (λ ids. ids ≡ ids_of text.now) }
+{
+    let texts: Vec<&str> = text.split(',').collect(alloc)?;
+    read_ids(alloc, &texts)
+}
+
+/// The ids between commas, None if one of them is none.
 fn read_ids(alloc: Global, texts: &[&str]) -> Result<Option<List<i64>>, Memory>
     ensures { IfOk result (λ ids. ids ≡ wholes (map (λ text. text.now) texts.now)) }
 {
@@ -18,12 +27,4 @@ fn read_ids(alloc: Global, texts: &[&str]) -> Result<Option<List<i64>>, Memory>
         }
     }
     Ok(Some(ids))
-}
-
-/// The ids between commas. None where one of them is no number.
-pub(crate) fn ids_of(alloc: Global, text: &str) -> Result<Option<List<i64>>, Memory>
-    ensures { IfOk result (λ ids. ids ≡ ids_of text.now) }
-{
-    let texts: Vec<&str> = text.split(',').collect(alloc)?;
-    read_ids(alloc, &texts)
 }

@@ -1,5 +1,5 @@
 // What holds of the grammar and of hits, apart from the program.
-ghost use Rattle.std.specs.Prelude.{◌≡◌, ◌&&◌, ◌||◌, ℕ, ℤ, Bool, true, false, not, List, [], map, slice_get, None};
+ghost use Rattle.std.specs.Prelude.{◌≡◌, ◌≢◌, ◌&&◌, ◌||◌, ℕ, ℤ, Bool, true, false, not, List, [], map, slice_get, None, IfSome};
 ghost use Rattle.std.specs.List.Sorted.{IsStrictlySortedBy};
 ghost use Rattle.std.specs.Ordering.{nat_cmp};
 ghost use Rattle.ak_base.specs.declared.days.Day.{Day};
@@ -8,7 +8,8 @@ ghost use Rattle.ak_search.specs.AllFaults.{all_faults};
 ghost use Rattle.ak_search.specs.Grammar.{ReadsSearch, first_fault, place_of};
 ghost use Rattle.ak_search.specs.Holds.{is_listed, cards, hits};
 ghost use Rattle.ak_search.specs.Meanings.{meets, followed, has_no_or, walk};
-ghost use Rattle.ak_search.specs.Trees.{Tree, End, Asks, Group, Either, laid};
+ghost use Rattle.ak_search.specs.Trees.{Tree, End, Asks, Group, Either, pieces_of};
+ghost use Rattle.ak_search.specs.declared.faults.SearchFault.TheVariants as faults;
 ghost use Rattle.ak_search.specs.declared.terms.Term.{Term};
 
 /// No text has two trees.
@@ -36,10 +37,16 @@ pub fn least_fault()
     ensures first { (text : List ℕ) → first_fault text ≡ slice_get (all_faults text) 0 }
 {}
 
+/// The first fault of a text is never that memory ran out.
+#[tactic(auto, using(crate::proofs::Faulting::of_text))]
+pub fn faults_are_of_the_text()
+    ensures { (text : List ℕ) → IfSome (first_fault text) (λ fault. fault ≢ faults.Memory) }
+{}
+
 /// Walked through from front to back, a tree asks the same.
 #[tactic(auto, using(crate::proofs::Walking::walked))]
 pub fn walked()
-    ensures { (holds : Term → Bool) (tree : Tree) → walk holds [] false true (laid tree) ≡ meets holds tree }
+    ensures { (holds : Term → Bool) (tree : Tree) → walk holds [] false true (pieces_of tree) ≡ meets holds tree }
 {}
 
 /// `a or b` is met where `a` or `b` is.

@@ -3,12 +3,28 @@ ghost use Rattle.std.specs.Prelude.{◌≡◌, ◌+◌, ◌∷◌, ◌++◌, [],
 ghost use Rattle.ak_search.specs.Matching.{falses, advanced, advanced_by, ended};
 ghost use Rattle.ak_search.specs.Patterns.{fits, matches, matches_spaced};
 
-use crate::Mark;
-use crate::signs::letters_of;
+use crate::PatternItem;
+use crate::source_chars::letters_of;
 use ak_base::Memory;
 use std::alloc::Global;
 
-// Which marks may come next before any character: the first alone.
+/// Whether the pattern matches the whole text. It takes time for each item at each character, at the worst.
+pub fn matches(alloc: Global, pattern: &[PatternItem], text: &str) -> Result<bool, Memory>
+    ensures { IfOk result (λ does. does ≡ matches pattern.now text.now) }
+{
+    let letters = letters_of(alloc, text)?;
+    fits(alloc, pattern, &letters)
+}
+
+/// Whether the pattern matches these characters, all of them.
+fn fits(alloc: Global, pattern: &[PatternItem], letters: &[char]) -> Result<bool, Memory>
+    ensures { IfOk result (λ does. does ≡ fits pattern.now letters.now) }
+{
+    let mut row = first_row(alloc, pattern.len())?;
+    Ok(fits_by(&mut row, pattern, letters))
+}
+
+/// Which items may come next before any character: the first alone.
 fn first_row(alloc: Global, count: usize) -> Result<Vec<bool>, Memory>
     ensures { IfOk result (λ row. row.items ≡ true ∷ falses count) }
 {
@@ -19,79 +35,68 @@ fn first_row(alloc: Global, count: usize) -> Result<Vec<bool>, Memory>
     Ok(row)
 }
 
-fn advance(row: &mut [bool], marks: &[Mark], letter: char)
-    requires { length row.old ≡ length marks.now + 1 }
-    ensures row { row.new ≡ advanced letter false false row.old marks.now }
+/// The same, in a row of places that it may change.
+fn fits_by(row: &mut [bool], pattern: &[PatternItem], letters: &[char]) -> bool
+    requires { row.old ≡ true ∷ falses (length pattern.now) }
+    ensures { result ≡ fits pattern.now letters.now }
+{
+    advance_by(row, pattern, letters);
+    may_end(row, pattern)
+}
+
+/// Moves the row past all the characters.
+fn advance_by(row: &mut [bool], pattern: &[PatternItem], letters: &[char])
+    requires { length row.old ≡ length pattern.now + 1 }
+    ensures row { row.new ≡ advanced_by letters.now row.old pattern.now }
+    ensures size { length row.new ≡ length row.old }
+{
+    for letter in letters {
+        advance(row, pattern, *letter);
+    }
+}
+
+/// Moves the row past one character.
+fn advance(row: &mut [bool], pattern: &[PatternItem], letter: char)
+    requires { length row.old ≡ length pattern.now + 1 }
+    ensures row { row.new ≡ advanced letter false false row.old pattern.now }
     ensures size { length row.new ≡ length row.old }
 {
     let mut taken = false;
     let mut skipped = false;
     let mut place = 0;
-    while place < marks.len() {
-        let mark = marks[place];
+    while place < pattern.len() {
+        let item = pattern[place];
         let live = row[place] || skipped;
-        row[place] = taken || (mark.is_any() && live);
-        taken = mark.takes(letter) && live;
-        skipped = mark.is_any() && live;
+        row[place] = taken || (item.is_any() && live);
+        taken = item.takes(letter) && live;
+        skipped = item.is_any() && live;
         place += 1;
     }
     row[place] = taken;
 }
 
-fn advance_by(row: &mut [bool], marks: &[Mark], letters: &[char])
-    requires { length row.old ≡ length marks.now + 1 }
-    ensures row { row.new ≡ advanced_by letters.now row.old marks.now }
-    ensures size { length row.new ≡ length row.old }
-{
-    for letter in letters {
-        advance(row, marks, *letter);
-    }
-}
-
-fn may_end(row: &[bool], marks: &[Mark]) -> bool
-    requires { length row.now ≡ length marks.now + 1 }
-    ensures { result ≡ ended false row.now marks.now }
+/// Whether the pattern may end at the row.
+fn may_end(row: &[bool], pattern: &[PatternItem]) -> bool
+    requires { length row.now ≡ length pattern.now + 1 }
+    ensures { result ≡ ended false row.now pattern.now }
 {
     let mut skipped = false;
     let mut place = 0;
-    while place < marks.len() {
+    while place < pattern.len() {
         let live = row[place] || skipped;
-        skipped = marks[place].is_any() && live;
+        skipped = pattern[place].is_any() && live;
         place += 1;
     }
     row[place] || skipped
 }
 
-fn fits_by(row: &mut [bool], marks: &[Mark], letters: &[char]) -> bool
-    requires { row.old ≡ true ∷ falses (length marks.now) }
-    ensures { result ≡ fits marks.now letters.now }
-{
-    advance_by(row, marks, letters);
-    may_end(row, marks)
-}
-
-fn fits(alloc: Global, marks: &[Mark], letters: &[char]) -> Result<bool, Memory>
-    ensures { IfOk result (λ does. does ≡ fits marks.now letters.now) }
-{
-    let mut row = first_row(alloc, marks.len())?;
-    Ok(fits_by(&mut row, marks, letters))
-}
-
-/// Whether the pattern matches the whole text. It takes time for each mark at each character, at the worst.
-pub fn matches(alloc: Global, marks: &[Mark], text: &str) -> Result<bool, Memory>
-    ensures { IfOk result (λ does. does ≡ matches marks.now text.now) }
-{
-    let letters = letters_of(alloc, text)?;
-    fits(alloc, marks, &letters)
-}
-
-/// Whether the marks stand for the whole text between two spaces, as those of a word do where it is found.
-pub fn matches_spaced(alloc: Global, marks: &[Mark], text: &str) -> Result<bool, Memory>
-    ensures { IfOk result (λ does. does ≡ matches_spaced marks.now text.now) }
+/// Whether the pattern stands for the whole text between two spaces, as those of a word do where it is found.
+pub fn matches_spaced(alloc: Global, pattern: &[PatternItem], text: &str) -> Result<bool, Memory>
+    ensures { IfOk result (λ does. does ≡ matches_spaced pattern.now text.now) }
 {
     let letters = letters_of(alloc, text)?;
     let mut spaced = vec![in alloc; ' ']?;
     spaced.extend_from_slice(&letters)?;
     spaced.push(' ')?;
-    fits(alloc, marks, &spaced)
+    fits(alloc, pattern, &spaced)
 }

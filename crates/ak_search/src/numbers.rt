@@ -2,9 +2,16 @@
 ghost use Rattle.std.specs.Prelude.{◌≡◌, ◌≤◌, ◌-◌, ◌^◌};
 ghost use Rattle.ak_search.specs.Terms.{up_to, whole, not_zero, from_one, days_of, signed_of};
 
-use ak_base::read_number;
-use ak_filters::cut;
+use ak_base::{cut, read_number};
 
+/// The number of a flag: 0 to 7.
+pub(crate) fn flag_of(text: &str) -> Option<i64>
+    ensures { result ≡ up_to 7 text.now }
+{
+    up_to(7, text)
+}
+
+/// The number, if it is at most so much.
 fn up_to(most: u64, text: &str) -> Option<i64>
     requires { most ≤ 2 ^ 63 - 1 }
     ensures { result ≡ up_to most text.now }
@@ -15,18 +22,14 @@ fn up_to(most: u64, text: &str) -> Option<i64>
     }
 }
 
-pub(crate) fn whole(text: &str) -> Option<i64>
-    ensures { result ≡ whole text.now }
+/// An ease, 1 to 4.
+pub(crate) fn ease_of(text: &str) -> Option<i64>
+    ensures { result ≡ from_one 4 text.now }
 {
-    up_to(9_223_372_036_854_775_807, text)
+    from_one(4, text)
 }
 
-fn not_zero(number: i64) -> Option<i64>
-    ensures { result ≡ not_zero number }
-{
-    if number == 0 { None } else { Some(number) }
-}
-
+/// The number, if it is at least 1.
 fn from_one(most: u64, text: &str) -> Option<i64>
     requires { most ≤ 2 ^ 63 - 1 }
     ensures { result ≡ from_one most text.now }
@@ -35,19 +38,14 @@ fn from_one(most: u64, text: &str) -> Option<i64>
     not_zero(number)
 }
 
-/// The number of a flag: 0 to 7.
-pub(crate) fn flag_of(text: &str) -> Option<i64>
-    ensures { result ≡ up_to 7 text.now }
+/// The number, if it is not 0.
+fn not_zero(number: i64) -> Option<i64>
+    ensures { result ≡ not_zero number }
 {
-    up_to(7, text)
+    if number == 0 { None } else { Some(number) }
 }
 
-pub(crate) fn ease_of(text: &str) -> Option<i64>
-    ensures { result ≡ from_one 4 text.now }
-{
-    from_one(4, text)
-}
-
+/// A number of days.
 pub(crate) fn days_of(text: &str) -> Option<i64>
     ensures { result ≡ days_of text.now }
 {
@@ -67,4 +65,11 @@ pub(crate) fn signed_of(text: &str) -> Option<i64>
         }
     }
     whole(text)
+}
+
+/// A whole number without sign or leading zero.
+pub(crate) fn whole(text: &str) -> Option<i64>
+    ensures { result ≡ whole text.now }
+{
+    up_to(9_223_372_036_854_775_807, text)
 }

@@ -24,6 +24,21 @@ pub(crate) enum Prefix {
     Field,
 }
 
+/// The prefix of that name.
+pub(crate) fn prefix_of(name: &str) -> Prefix
+    ensures { result ≡ prefix_of name.now }
+{
+    match name {
+        "w" => Prefix::Word,
+        "deck" => Prefix::Deck,
+        "tag" => Prefix::Tag,
+        "note" => Prefix::NoteType,
+        "card" => Prefix::Template,
+        _ => value_prefix_of(name),
+    }
+}
+
+/// The same of those whose value is no pattern.
 fn value_prefix_of(name: &str) -> Prefix
     ensures { result ≡ value_prefix_of name.now }
 {
@@ -40,30 +55,7 @@ fn value_prefix_of(name: &str) -> Prefix
     }
 }
 
-pub(crate) fn prefix_of(name: &str) -> Prefix
-    ensures { result ≡ prefix_of name.now }
-{
-    match name {
-        "w" => Prefix::Word,
-        "deck" => Prefix::Deck,
-        "tag" => Prefix::Tag,
-        "note" => Prefix::NoteType,
-        "card" => Prefix::Template,
-        _ => value_prefix_of(name),
-    }
-}
-
-fn buried_state_of(word: &str) -> Option<State>
-    ensures { result ≡ buried_state_of word.now }
-{
-    match word {
-        "buried" => Some(State::Buried),
-        "buried-manually" => Some(State::BuriedManually),
-        "buried-sibling" => Some(State::BuriedSibling),
-        _ => None,
-    }
-}
-
+/// The state of that name.
 pub(crate) fn state_of(word: &str) -> Option<State>
     ensures { result ≡ state_of word.now }
 {
@@ -77,6 +69,19 @@ pub(crate) fn state_of(word: &str) -> Option<State>
     }
 }
 
+/// The same of the three that say how a card is hidden.
+fn buried_state_of(word: &str) -> Option<State>
+    ensures { result ≡ buried_state_of word.now }
+{
+    match word {
+        "buried" => Some(State::Buried),
+        "buried-manually" => Some(State::BuriedManually),
+        "buried-sibling" => Some(State::BuriedSibling),
+        _ => None,
+    }
+}
+
+/// The number of a card of that name.
 pub(crate) fn property_of(word: &str) -> Option<Property>
     ensures { result ≡ property_of word.now }
 {

@@ -3,11 +3,28 @@ ghost use Rattle.std.specs.Prelude.{◌≡◌, ◌-ℤ◌, pos};
 ghost use Rattle.std.specs.Int.{int_rem_euclid};
 ghost use Rattle.std.specs.Ordering.{int_eq};
 ghost use Rattle.ak_search.specs.Holds.{held_and, is_either, is_due, in_state, property, compares, second_back, id_back, is_listed};
-ghost use Rattle.ak_search.specs.Looks.{is_since};
+ghost use Rattle.ak_search.specs.CardFacts.{is_since};
 
 use crate::{Comparison, Property, State};
 use ak_base::{Card, Day};
 
+/// Whether the card is in the state, on that day.
+pub(crate) fn is_in_state(day: Day, state: State, card: &Card) -> bool
+    ensures { result ≡ in_state day state card.now }
+{
+    match state {
+        State::New => card.kind == 0,
+        State::Learn => is_either(&card.queue, 1, 3),
+        State::Review => is_either(&card.kind, 2, 3),
+        State::Due => is_due(day, card),
+        State::Suspended => card.queue == -1,
+        State::Buried => is_either(&card.queue, -2, -3),
+        State::BuriedManually => card.queue == -3,
+        State::BuriedSibling => card.queue == -2,
+    }
+}
+
+/// Whether the number is one of the two.
 fn is_either(number: &i64, one: i64, other: i64) -> bool
     ensures { result ≡ is_either one other number.now }
 {
@@ -24,19 +41,19 @@ fn is_due(day: Day, card: &Card) -> bool
     card.queue == 1 && card.due <= day.cutoff
 }
 
-/// Whether the card is in the state, on that day.
-pub(crate) fn is_in_state(day: Day, state: State, card: &Card) -> bool
-    ensures { result ≡ in_state day state card.now }
+/// Whether the comparison holds of the card's number and the bound.
+pub(crate) fn meets_bound(
+    day: Day,
+    what: Property,
+    comparison: Comparison,
+    bound: &i64,
+    card: &Card,
+) -> bool
+    ensures { result ≡ held_and (compares comparison bound.now) (property day what card.now) }
 {
-    match state {
-        State::New => card.kind == 0,
-        State::Learn => is_either(&card.queue, 1, 3),
-        State::Review => is_either(&card.kind, 2, 3),
-        State::Due => is_due(day, card),
-        State::Suspended => card.queue == -1,
-        State::Buried => is_either(&card.queue, -2, -3),
-        State::BuriedManually => card.queue == -3,
-        State::BuriedSibling => card.queue == -2,
+    match property(day, what, card) {
+        Some(number) => compares(comparison, &number, &(*bound as i128)),
+        None => false,
     }
 }
 
@@ -66,12 +83,14 @@ pub(crate) fn property(day: Day, what: Property, card: &Card) -> Option<i128>
     }
 }
 
+/// The days from today until a card is due that is due by the day.
 fn days_ahead(day: Day, card: &Card) -> i128
     ensures { result ≡ card.now.due -ℤ day.number }
 {
     card.due as i128 - day.number as i128
 }
 
+/// Whether the number compares with the bound as asked.
 pub(crate) fn compares(comparison: Comparison, number: &i128, bound: &i128) -> bool
     ensures { result ≡ compares comparison bound.now number.now }
 {
@@ -82,22 +101,6 @@ pub(crate) fn compares(comparison: Comparison, number: &i128, bound: &i128) -> b
         Comparison::Above => *number > *bound,
         Comparison::AtMost => *number <= *bound,
         Comparison::AtLeast => *number >= *bound,
-    }
-}
-
-/// Whether the comparison holds of the card's number and the bound.
-pub(crate) fn meets_bound(
-    day: Day,
-    what: Property,
-    comparison: Comparison,
-    bound: &i64,
-    card: &Card,
-) -> bool
-    ensures { result ≡ held_and (compares comparison bound.now) (property day what card.now) }
-{
-    match property(day, what, card) {
-        Some(number) => compares(comparison, &number, &(*bound as i128)),
-        None => false,
     }
 }
 
@@ -129,6 +132,7 @@ pub(crate) fn is_since(number: &i64, least: &i128) -> bool
     *number as i128 >= *least
 }
 
+/// Whether the id is one of these.
 pub(crate) fn is_listed(id: &i64, ids: &[i64]) -> bool
     ensures { result ≡ is_listed id.now ids.now }
 {

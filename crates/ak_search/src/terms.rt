@@ -1,5 +1,5 @@
 // What a search can ask of a card.
-use crate::Mark;
+use crate::PatternItem;
 use ak_base::{List, Text};
 
 /// A state that a card may be in.
@@ -43,17 +43,17 @@ pub enum Comparison {
 #[derive(Debug, Drop)]
 pub enum Term {
     /// Marks that the stripped text of some field matches, `Any` at both ends.
-    Contains(List<Mark>),
+    Contains(List<PatternItem>),
     /// Marks that the stripped text of some field matches between two spaces.
-    Word(List<Mark>),
+    Word(List<PatternItem>),
     /// A field's name, and a pattern that its stripped text matches.
-    Field(Text, List<Mark>),
-    Deck(List<Mark>),
-    Tag(List<Mark>),
+    Field(Text, List<PatternItem>),
+    Deck(List<PatternItem>),
+    Tag(List<PatternItem>),
     Untagged,
-    NoteType(List<Mark>),
+    NoteType(List<PatternItem>),
     /// A pattern that the template's name matches, or its place from 1.
-    Template(List<Mark>),
+    Template(List<PatternItem>),
     InState(State),
     Prop(Property, Comparison, i64),
     Flag(i64),

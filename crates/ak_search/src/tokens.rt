@@ -3,8 +3,8 @@ ghost use Rattle.std.specs.Prelude.{◌≡◌, ◌++◌, ◌∷◌, false, IfOk}
 ghost use Rattle.ak_search.specs.Tokens.{placed, tokens_from};
 
 use crate::Term;
-use crate::cuts::{Cut, first_cut, is_negated_by};
-use crate::signs::Sign;
+use crate::lexemes::{Lexeme, is_negated_by, next_lexeme};
+use crate::source_chars::SourceChar;
 use ak_base::Memory;
 use std::alloc::Global;
 
@@ -31,23 +31,14 @@ pub(crate) struct Token {
     pub(crate) piece: Piece,
 }
 
-fn placed(cut: Cut) -> Token
-    ensures { result ≡ placed cut }
-{
-    Token {
-        place: cut.place,
-        piece: cut.piece,
-    }
-}
-
 /// The tokens of a search text.
-pub(crate) fn tokens_of(alloc: Global, signs: &[Sign]) -> Result<Vec<Token>, Memory>
-    ensures { IfOk result (λ tokens. tokens.items ≡ tokens_from 0 false false signs.now) }
+pub(crate) fn tokens_of(alloc: Global, source_chars: &[SourceChar]) -> Result<Vec<Token>, Memory>
+    ensures { IfOk result (λ tokens. tokens.items ≡ tokens_from 0 false false source_chars.now) }
 {
     let mut tokens = Vec::new(alloc);
     let mut minus = false;
     let mut negated = false;
-    let mut rest = signs;
+    let mut rest = source_chars;
     while let Some((first, others)) = rest.split_first() {
         if first.letter == ' ' {
             rest = others;
@@ -56,13 +47,23 @@ pub(crate) fn tokens_of(alloc: Global, signs: &[Sign]) -> Result<Vec<Token>, Mem
             negated = !negated;
             rest = others;
         } else {
-            let cut = first_cut(alloc, minus, negated, rest, first, others)?;
-            let taken = cut.size.saturating_sub(1);
-            tokens.push(placed(cut))?;
+            let lexeme = next_lexeme(alloc, minus, negated, rest, first, others)?;
+            let taken = lexeme.size.saturating_sub(1);
+            tokens.push(placed(lexeme))?;
             minus = false;
             negated = false;
             rest = &others[taken..];
         }
     }
     Ok(tokens)
+}
+
+/// The token that a lexeme is.
+fn placed(lexeme: Lexeme) -> Token
+    ensures { result ≡ placed lexeme }
+{
+    Token {
+        place: lexeme.place,
+        piece: lexeme.piece,
+    }
 }

@@ -6,8 +6,8 @@ use Rattle.std.specs.Str.Pattern.{FindsTextPrefix}
 use denote.Ref.{Bor}
 use Rattle.std.proofs.lemmas.Option.{IfSome_then}
 use Rattle.ak_template.proofs.Parsing.{behind_le}
-use Rattle.ak_filters.proofs.Cutting.{begins_itself, begins_with}
-use Rattle.ak_filters.specs.Cuts.{begins, has, front, behind}
+use Rattle.ak_base.proofs.Cutting.{begins_itself, begins_with}
+use Rattle.ak_base.specs.Cuts.{begins, has, front, behind}
 use Rattle.ak_template.specs.declared.clozes.Part.{Part}
 use Rattle.ak_template.specs.declared.clozes.Part.TheVariants.{Bare, Gap}
 use Rattle.ak_template.specs.Clozes.{digit_front, is_number, number_at, marked, mark_parts, left_in, parts_in, parts, borne, among}
@@ -89,14 +89,14 @@ all_left : (m : ℕ) (left : Option (List ℕ)) → IfSome left (λ rest. length
 all_left m None h = refl
 all_left m (Some rest) h = enough m (length rest) rest h (omega arith)
 
-parts_step : (text : List ℕ) → has (codes "{{c") text ≡ true → parts text ≡ Bare (front (codes "{{c") text) ∷ ((mark_parts (behind (codes "{{c") text)).0 ++ left_in parts (mark_parts (behind (codes "{{c") text)).1)
+pub parts_step : (text : List ℕ) → has (codes "{{c") text ≡ true → parts text ≡ Bare (front (codes "{{c") text) ∷ ((mark_parts (behind (codes "{{c") text)).0 ++ left_in parts (mark_parts (behind (codes "{{c") text)).1)
 parts_step [] h = grind (arith, h)
 parts_step (b ∷ bs) h =
     let after = behind (codes "{{c") (b ∷ bs) in
     ap (λ v. cond v (Bare (front (codes "{{c") (b ∷ bs)) ∷ ((mark_parts after).0 ++ left_in (parts_in (length bs)) (mark_parts after).1)) (Bare (b ∷ bs) ∷ [])) h
     ∙ ap (λ others. Bare (front (codes "{{c") (b ∷ bs)) ∷ ((mark_parts after).0 ++ others)) (all_left (length bs) (mark_parts after).1 (IfSome_then (mark_parts after).1 (left_le after) (λ rest r. omega (arith, r, mark_shorter b bs))))
 
-parts_plain : (text : List ℕ) → has (codes "{{c") text ≡ false → parts text ≡ Bare text ∷ []
+pub parts_plain : (text : List ℕ) → has (codes "{{c") text ≡ false → parts text ≡ Bare text ∷ []
 parts_plain [] h = refl
 parts_plain (b ∷ bs) h = let after = behind (codes "{{c") (b ∷ bs) in ap (λ v. cond v (Bare (front (codes "{{c") (b ∷ bs)) ∷ ((mark_parts after).0 ++ left_in (parts_in (length bs)) (mark_parts after).1)) (Bare (b ∷ bs) ∷ [])) h
 

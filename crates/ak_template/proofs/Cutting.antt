@@ -6,7 +6,7 @@ use Rattle.std.proofs.lemmas.Str.Pattern.{strip_prefix_char, strip_suffix_char}
 use Rattle.std.specs.Option.{MatchOption}
 use Rattle.std.specs.Str.Pattern.{FindsCharPrefix, FindsCharSuffix}
 use denote.Ref.{Bor}
-use Rattle.ak_filters.specs.Cuts.{begins, has, behind}
+use Rattle.ak_base.specs.Cuts.{begins, has, behind}
 use Rattle.ak_template.specs.Pieces.{has_tag, without_front, without_back, joined}
 
 pub not_sign : (c : ℕ) (xs : List ℕ) → ((rest : List ℕ) → xs ≢ c ∷ rest) → begins (c ∷ []) xs ≡ false

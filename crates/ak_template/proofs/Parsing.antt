@@ -1,7 +1,7 @@
 -- The pieces of a text, tag by tag.
 use Rattle.std.proofs.Common.{◌≡◌, ℕ, zero, suc, ◌+◌, ◌-◌, ◌≤◌, true, false, cond, Some, None, List, [], ◌∷◌, ◌++◌, length, drop, length-drop, refl, ap, sym, ◌∙◌, arith}
 use Rattle.std.specs.Prelude.{codes}
-use Rattle.ak_filters.specs.Cuts.{begins, behind}
+use Rattle.ak_base.specs.Cuts.{begins, behind}
 use Rattle.ak_template.specs.declared.faults.TemplateFault.{TemplateFault}
 use Rattle.ak_template.specs.declared.steps.Step.{Step}
 use Rattle.ak_template.specs.Pieces.{Piece, has_tag, before_tag, inside_tag, behind_tag, pieces_in, pieces, words_at, steps_in, tag_of, trimmed}

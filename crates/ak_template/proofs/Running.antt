@@ -1,6 +1,6 @@
 -- The filters run on along a page: each of its parts applies some of them.
 use Rattle.std.proofs.Common.{◌≡◌, ℕ, zero, suc, ◌+◌, ◌-◌, ◌<◌, ◌≤◌, ◌==◌, true, false, cond, Option, Some, None, Result, Ok, Err, IfOk, IfErr, IsErrAnd, ◌⊎◌, inl, inr, List, [], ◌∷◌, length, take, take_all, drop, get_or, refl, ap, sym, ◌∙◌, arith}
-use Rattle.std.specs.Prelude.{codes, is_some}
+use Rattle.std.specs.Prelude.{⊤, codes, is_some}
 use Rattle.std.specs.Cmp.Lexicographic.{pointwise}
 use Rattle.std.proofs.lemmas.List.{drop_more}
 use Rattle.ak_filters.specs.Meanings.{Meaning, Form, filtered, turned}
@@ -11,8 +11,16 @@ use Rattle.ak_template.specs.declared.steps.Step.{Step}
 use Rattle.ak_template.specs.declared.steps.Step.TheVariants.{Words, Field, Open, Close}
 use Rattle.ak_template.specs.Clozes.{clozed}
 use Rattle.ak_template.specs.Trees.{Tree, laid}
-use Rattle.ak_template.specs.Pages.{Page, prefixed, followed, passed, behind_filter, filter_text, one_text, tag_text, value_text, field_text, field_value, open_page, step_page, hidden_after, walk, page, kinds, turned_by, RunOn}
+use Rattle.ak_template.specs.Pages.{Page, prefixed, followed, passed, behind_filter, filter_text, one_text, tag_text, value_text, field_text, field_value, open_page, step_page, hidden_after, walk, page, kinds, turned_by, TurnedSome, walk_filters}
+use Rattle.ak_template.proofs.Turning.{kinds_in_order}
 use Rattle.ak_template.proofs.Walking.{prefixed_nil, prefixed_followed, walked}
+
+-- the filters run on from the first to the second list: each was applied some number of times
+abbrev pub RunOn : List Meaning → List Meaning → Type 0
+RunOn [] [] = ⊤
+RunOn [] (later ∷ laters) = ⊥
+RunOn (filter ∷ filters) [] = ⊥
+RunOn (filter ∷ filters) (later ∷ laters) = ((times : ℕ) × (later ≡ turned_by times filter)) × RunOn filters laters
 
 pub run_nowhere : (filters : List Meaning) → RunOn filters filters
 run_nowhere [] = tt
@@ -136,14 +144,6 @@ tag_stops face names left name given text passed_on fault was filters later whol
 tag_stops face names left name given text passed_on fault was filters later whole l k i g t w f (inr o) =
     inr (sym w ∙ next_filter face names left name given text passed_on filters l k i g t ∙ ap (λ p. passed p (tag_text face (take (left - 1) names))) o ∙ ap {B = Page} (λ e. (Err e, later)) (sym f))
 
-pub tag_between : (face : Face) (names : List (List ℕ)) (text : List ℕ) (fault was : PageFault) (first filters later : List Meaning) (whole : Page) → tag_text face names text filters ≡ whole → RunOn first filters → fault ≡ was → (was ≡ faults.Memory → later ≡ filters) → fault ≡ faults.Memory → RunOn first later × RunOn later whole.1
-tag_between face names text fault was first filters later whole w r f kept m =
-    let same = kept (sym f ∙ m) in
-    rw (same, ← ap {A = Page} (λ p. p.1) w) (r, tag_runs face names text filters)
-
-pub one_goes : (face : Face) (name text made : List ℕ) (filters later : List Meaning) → one_text face name text filters ≡ (Ok made, later) → RunOn filters later
-one_goes face name text made filters later o = rw (← ap {A = Page} (λ p. p.1) o) (one_runs face name text filters)
-
 -- ---- the steps of a page
 
 -- what is left of a list from an element on
@@ -166,34 +166,8 @@ walk_stops face hidden steps place step made fault was filters later whole l i w
     ∙ ap (λ p. prefixed made (followed p (walk face (hidden_after face hidden step) (drop (place + 1) steps)))) o
     ∙ ap {B = Page} (λ e. (Err e, later)) (sym f))
 
--- inside a step the filters are still on the way
-pub walk_between : (face : Face) (hidden : ℕ) (steps : List Step) (place : ℕ) (step : Step) (made : List ℕ) (fault was : PageFault) (first filters later : List Meaning) (whole : Page) → place < length steps → step ≡ get_or steps place step → prefixed made (walk face hidden (drop place steps) filters) ≡ whole → RunOn first filters → fault ≡ was → (was ≡ faults.Memory → RunOn filters later × RunOn later (step_page face hidden step filters).1) → fault ≡ faults.Memory → RunOn first later × RunOn later whole.1
-walk_between face hidden steps place step made fault was first filters later whole l i w r f within m =
-    let h = within (sym f ∙ m) in
-    let next = walk face (hidden_after face hidden step) (drop (place + 1) steps) in
-    let end : whole.1 ≡ (followed (step_page face hidden step filters) next).1 = sym (ap {A = Page} (λ p. p.1) w) ∙ prefixed_filters made (walk face hidden (drop place steps) filters) ∙ ap (λ xs. (walk face hidden xs filters).1) (first_left steps place step l i) in (
-      run_further first filters later r h.0,
-      rw end (run_further later (step_page face hidden step filters).1 (followed (step_page face hidden step filters) next).1 h.1 (next_runs (step_page face hidden step filters) next (walk_runs face (hidden_after face hidden step) (drop (place + 1) steps)))),
-    )
-
 pub nothing_yet : (made : List ℕ) (p : Page) → made ≡ [] → prefixed made p ≡ p
 nothing_yet made p e = ap (λ text. prefixed text p) e ∙ prefixed_nil p
-
--- between two steps too
-pub walk_on : (face : Face) (hidden : ℕ) (steps : List Step) (made : List ℕ) (first filters : List Meaning) (whole : Page) → prefixed made (walk face hidden steps filters) ≡ whole → RunOn first filters → RunOn first filters × RunOn filters whole.1
-walk_on face hidden steps made first filters whole w r = (r, rw (← ap {A = Page} (λ p. p.1) w, prefixed_filters made (walk face hidden steps filters)) (walk_runs face hidden steps filters))
-
-pub field_between : (face : Face) (hidden : ℕ) (step : Step) (names given : List (List ℕ)) (name called text : List ℕ) (filters later : List Meaning) → hidden ≤ 0 → step ≡ Field names name → given ≡ names → called ≡ name → field_text face given called filters ≡ (Ok text, later) → RunOn filters later × RunOn later (step_page face hidden step filters).1
-field_between face hidden step names given name called text filters later l s n c o =
-    let none : hidden ≡ 0 = omega (arith, l) in
-    let end : (step_page face hidden step filters).1 ≡ later =
-    ap (λ h. (step_page face h step filters).1) none ∙ ap (λ t. (step_page face 0 t filters).1) s
-    ∙ ap (λ ns. (field_text face ns name filters).1) (sym n) ∙ ap (λ m. (field_text face given m filters).1) (sym c)
-    ∙ ap {A = Page} (λ p. p.1) o in
-    (rw (← ap {A = Page} (λ p. p.1) o) (field_runs face given called filters), rw end (run_nowhere later))
-
-pub step_goes : (face : Face) (hidden : ℕ) (step : Step) (made more : List ℕ) (filters later : List Meaning) → prefixed made (step_page face hidden step filters) ≡ (Ok more, later) → RunOn filters later
-step_goes face hidden step made more filters later o = rw (← (sym (prefixed_filters made (step_page face hidden step filters)) ∙ ap {A = Page} (λ p. p.1) o)) (step_runs face hidden step filters)
 
 -- ---- refusals
 
@@ -207,9 +181,9 @@ if_err (Err e) h = h e
 
 -- ---- the whole
 
-pub kinds_kept : (face : Face) (steps : List Step) (filters later : List Meaning) (r : Result (List ℕ) PageFault) → IfOk r (λ made. walk face 0 steps filters ≡ (Ok made, later)) → IfErr r (λ fault. (fault ≡ faults.Memory) ⊎ (walk face 0 steps filters ≡ (Err fault, later))) → IfErr r (λ fault. fault ≡ faults.Memory → RunOn filters later × RunOn later (walk face 0 steps filters).1) → kinds later ≡ kinds filters
+pub kinds_kept : (face : Face) (steps : List Step) (filters later : List Meaning) (r : Result (List ℕ) PageFault) → IfOk r (λ made. walk face 0 steps filters ≡ (Ok made, later)) → IfErr r (λ fault. (fault ≡ faults.Memory) ⊎ (walk face 0 steps filters ≡ (Err fault, later))) → IfErr r (λ fault. fault ≡ faults.Memory → TurnedSome (walk_filters face 0 steps) filters later) → kinds later ≡ kinds filters
 kinds_kept face steps filters later (Ok made) o f m = kinds_run filters later (rw (← ap {A = Page} (λ p. p.1) o) (walk_runs face 0 steps filters))
-kinds_kept face steps filters later (Err fault) o (inl e) m = kinds_run filters later (m e).0
+kinds_kept face steps filters later (Err fault) o (inl e) m = let some = m e in ap kinds some.are ∙ kinds_in_order some.applied filters
 kinds_kept face steps filters later (Err fault) o (inr e) m = kinds_run filters later (rw (← ap {A = Page} (λ p. p.1) e) (walk_runs face 0 steps filters))
 
 pub steps_page : (face : Face) (tree : Tree) (steps own : List Step) (filters : List Meaning) → steps ≡ own → own ≡ laid tree → walk face 0 steps filters ≡ page face tree filters

@@ -6,8 +6,8 @@ use Rattle.std.proofs.lemmas.Bool.{or_parts}
 use Rattle.std.proofs.Math.Bool.{and-false}
 use Rattle.std.proofs.lemmas.Option.{same_Some}
 use Rattle.std.proofs.Math.Seq.{drop-append_seam}
-use Rattle.ak_filters.specs.Cuts.{begins, has, front, behind}
-use Rattle.ak_filters.proofs.Cutting.{begins_itself, begins_with}
+use Rattle.ak_base.specs.Cuts.{begins, has, front, behind}
+use Rattle.ak_base.proofs.Cutting.{begins_itself, begins_with}
 use Rattle.ak_template.specs.declared.steps.Step.{Step}
 use Rattle.ak_template.specs.declared.steps.Step.TheVariants.{Words, Field, Open, Close}
 use Rattle.ak_template.specs.Pieces.{Piece, has_tag, before_tag, inside_tag, behind_tag, without_front, without_back, joined, trimmed, named, field_tag, tag_of, words_at, pieces_in, words_step}
@@ -27,7 +27,7 @@ begins_longer (sign ∷ mark) (b ∷ bs) rest h =
     let later = begins_longer mark bs rest both.1 in
     grind (arith, both.0, later)
 
-begins_alike : (mark xs one other : List ℕ) → length mark ≤ length xs → begins mark (xs ++ one) ≡ begins mark (xs ++ other)
+pub begins_alike : (mark xs one other : List ℕ) → length mark ≤ length xs → begins mark (xs ++ one) ≡ begins mark (xs ++ other)
 begins_alike [] xs one other l = refl
 begins_alike (sign ∷ mark) [] one other l = absurd (omega (arith, l))
 begins_alike (sign ∷ mark) (b ∷ bs) one other l = ap (λ v. (sign == b) && v) (begins_alike mark bs one other (omega arith))
@@ -56,7 +56,7 @@ none_in_front mark (b ∷ bs) =
       | false ↦ λ e. ap (λ v. v || has mark (front mark bs)) (not_begun_before mark (b ∷ front mark bs) later.0 (ap (λ ys. begins mark (b ∷ ys)) (sym later.1) ∙ e)) ∙ none_in_front mark bs
     ] refl
 
-cut_whole : (mark xs : List ℕ) → has mark xs ≡ true → xs ≡ front mark xs ++ (mark ++ behind mark xs)
+pub cut_whole : (mark xs : List ℕ) → has mark xs ≡ true → xs ≡ front mark xs ++ (mark ++ behind mark xs)
 cut_whole mark [] h = grind (arith, h)
 cut_whole mark (b ∷ bs) h = elim (begins mark (b ∷ bs)) as (λ v. begins mark (b ∷ bs) ≡ v → (v || has mark bs) ≡ true → b ∷ bs ≡ cond v [] (b ∷ front mark bs) ++ (mark ++ cond v (drop (length mark) (b ∷ bs)) (behind mark bs))) [
   | true ↦ λ e k. (let found = begins_with mark (b ∷ bs) e in found.1 ∙ ap (λ ys. mark ++ ys) (sym (ap (drop (length mark)) found.1 ∙ drop-append_seam mark found.0)))
@@ -64,15 +64,15 @@ cut_whole mark (b ∷ bs) h = elim (begins mark (b ∷ bs)) as (λ v. begins mar
 ] refl h
 
 -- a text is cut at the mark into what stands in front of it and behind it
-abbrev IsCut : List ℕ → List ℕ → List ℕ → List ℕ → Type 0
+abbrev pub IsCut : List ℕ → List ℕ → List ℕ → List ℕ → Type 0
 IsCut mark text before after = (has mark text ≡ true) × (front mark text ≡ before) × (behind mark text ≡ after)
 
-cut_at_front : (sign : ℕ) (mark rest : List ℕ) → IsCut (sign ∷ mark) (sign ∷ (mark ++ rest)) [] rest
+pub cut_at_front : (sign : ℕ) (mark rest : List ℕ) → IsCut (sign ∷ mark) (sign ∷ (mark ++ rest)) [] rest
 cut_at_front sign mark rest =
     let yes = begins_itself (sign ∷ mark) rest in
     (ap (λ v. v || has (sign ∷ mark) (mark ++ rest)) yes, ap (λ v. cond v [] (sign ∷ front (sign ∷ mark) (mark ++ rest))) yes, ap (λ v. cond v (drop (length (sign ∷ mark)) (sign ∷ (mark ++ rest))) (behind (sign ∷ mark) (mark ++ rest))) yes ∙ drop-append_seam (sign ∷ mark) rest)
 
-cut_later : (mark : List ℕ) (b : ℕ) (bs before after : List ℕ) → begins mark (b ∷ bs) ≡ false → IsCut mark bs before after → IsCut mark (b ∷ bs) (b ∷ before) after
+pub cut_later : (mark : List ℕ) (b : ℕ) (bs before after : List ℕ) → begins mark (b ∷ bs) ≡ false → IsCut mark bs before after → IsCut mark (b ∷ bs) (b ∷ before) after
 cut_later mark b bs before after n later = (ap (λ v. v || has mark bs) n ∙ later.0, ap (λ v. cond v [] (b ∷ front mark bs)) n ∙ ap (λ ys. b ∷ ys) later.1, ap (λ v. cond v (drop (length mark) (b ∷ bs)) (behind mark bs)) n ∙ later.2)
 
 alike_up_to : (mark : List ℕ) (b : ℕ) (xs one other : List ℕ) → begins mark (b ∷ (xs ++ (mark ++ one))) ≡ begins mark (b ∷ (xs ++ (mark ++ other)))
@@ -99,7 +99,7 @@ cut_written sign (b ∷ (c ∷ cs)) rest n h =
 
 -- ---- an inside without the spaces at its ends
 
-first_kept : (xs : List ℕ) → begins (codes " ") xs ≡ false → begins (codes " ") (without_back xs) ≡ false
+pub first_kept : (xs : List ℕ) → begins (codes " ") xs ≡ false → begins (codes " ") (without_back xs) ≡ false
 first_kept [] h = refl
 first_kept (b ∷ bs) h = elim (without_back bs) as (λ ys. begins (codes " ") (joined b ys) ≡ false) [
   | [] ↦ elim (b == 32) as (λ v. begins (codes " ") (cond v [] (b ∷ [])) ≡ false) [ true ↦ refl | false ↦ h ]
@@ -114,7 +114,7 @@ joined_twice : (b : ℕ) (ys : List ℕ) → without_back ys ≡ ys → without_
 joined_twice b [] h = elim (b == 32) as (λ v. (b == 32) ≡ v → without_back (cond v [] (b ∷ [])) ≡ cond v [] (b ∷ [])) [ true ↦ λ e. refl | false ↦ λ e. ap (λ v. cond v [] (b ∷ [])) e ] refl
 joined_twice b (y ∷ ys) h = ap (joined b) h
 
-back_twice : (xs : List ℕ) → without_back (without_back xs) ≡ without_back xs
+pub back_twice : (xs : List ℕ) → without_back (without_back xs) ≡ without_back xs
 back_twice [] = refl
 back_twice (b ∷ bs) = joined_twice b (without_back bs) (back_twice bs)
 
@@ -134,10 +134,10 @@ none_behind_spaces : (mark xs : List ℕ) → has mark xs ≡ false → has mark
 none_behind_spaces mark [] h = refl
 none_behind_spaces mark (b ∷ bs) h = elim (begins (codes " ") (b ∷ bs)) as (λ v. has mark (cond v (without_front bs) (b ∷ bs)) ≡ false) [ true ↦ none_behind_spaces mark bs (or_parts (begins mark (b ∷ bs)) (has mark bs) h).1 | false ↦ h ]
 
-none_trimmed : (mark xs : List ℕ) → has mark xs ≡ false → has mark (trimmed xs) ≡ false
+pub none_trimmed : (mark xs : List ℕ) → has mark xs ≡ false → has mark (trimmed xs) ≡ false
 none_trimmed mark xs h = none_in_back mark (without_front xs) (none_behind_spaces mark xs h)
 
-between_spaces : (inside : List ℕ) → begins (codes " ") inside ≡ false → without_back inside ≡ inside → trimmed (32 ∷ (inside ++ (32 ∷ []))) ≡ inside
+pub between_spaces : (inside : List ℕ) → begins (codes " ") inside ≡ false → without_back inside ≡ inside → trimmed (32 ∷ (inside ++ (32 ∷ []))) ≡ inside
 between_spaces [] first back = refl
 between_spaces (b ∷ bs) first back = ap without_back (front_done (b ∷ (bs ++ (32 ∷ []))) first) ∙ back_step (b ∷ bs) ∙ back
 
@@ -203,14 +203,14 @@ tag_written inside step h = elim (begins (codes "#") inside) as (λ v. begins (c
 
 -- ---- a text cut up, without the places
 
-abbrev bare : ℕ → List ℕ → List (Option Step)
+abbrev pub bare : ℕ → List ℕ → List (Option Step)
 bare zero text = map Some (words_step text)
 bare (suc more) text = cond (has_tag text) (map Some (words_step (before_tag text)) ++ (tag_of (trimmed (inside_tag text)) ∷ bare more (behind_tag text))) (map Some (words_step text))
 
-words_bare : (place : ℕ) (text : List ℕ) → map (λ (piece : Piece). piece.1) (words_at place text) ≡ map Some (words_step text)
+pub words_bare : (place : ℕ) (text : List ℕ) → map (λ (piece : Piece). piece.1) (words_at place text) ≡ map Some (words_step text)
 words_bare place text = elim (length text == 0) as (λ v. map (λ (piece : Piece). piece.1) (cond v [] ((place, Some (Words text)) ∷ [])) ≡ map Some (cond v [] (Words text ∷ []))) [ true ↦ refl | false ↦ refl ]
 
-pieces_bare : (n size : ℕ) (text : List ℕ) → map (λ (piece : Piece). piece.1) (pieces_in n size text) ≡ bare n text
+pub pieces_bare : (n size : ℕ) (text : List ℕ) → map (λ (piece : Piece). piece.1) (pieces_in n size text) ≡ bare n text
 pieces_bare zero size text = words_bare (size - length text) text
 pieces_bare (suc n) size text =
     let place = size - length text in
@@ -222,7 +222,7 @@ pieces_bare (suc n) size text =
       | false ↦ words_bare place text
     ]
 
-opens : (text : List ℕ) → has_tag text ≡ true → has (codes "{{") text ≡ true
+pub opens : (text : List ℕ) → has_tag text ≡ true → has (codes "{{") text ≡ true
 opens text h = elim (has (codes "{{") text) as (λ v. has (codes "{{") text ≡ v → v ≡ true) [ true ↦ λ e. refl | false ↦ λ e. sym (no_opening text e) ∙ h ] refl
 
 -- the words and the tag that a text begins with, written out in front of another rest

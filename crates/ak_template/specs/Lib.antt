@@ -3,3 +3,4 @@ pub mod Grammar
 pub mod Pieces
 pub mod Trees
 pub mod Pages
+pub mod Laws

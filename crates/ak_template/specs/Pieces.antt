@@ -1,6 +1,6 @@
 -- The pieces that a text is cut into: plain words and tags, each with its place.
 use Rattle.std.specs.Prelude.{ℕ, zero, suc, ◌+◌, ◌-◌, ◌==◌, Bool, true, false, if◌then◌else◌, List, [], ◌∷◌, ◌++◌, length, drop, Option, Some, None, codes}
-use Rattle.ak_filters.specs.Cuts.{begins, has, front, behind}
+use Rattle.ak_base.specs.Cuts.{begins, has, front, behind}
 use Rattle.ak_template.specs.declared.steps.Step.{Step}
 use Rattle.ak_template.specs.declared.steps.Step.TheVariants.{Words, Field, Open, Close}
 
@@ -8,28 +8,38 @@ use Rattle.ak_template.specs.declared.steps.Step.TheVariants.{Words, Field, Open
 abbrev pub has_tag : List ℕ → Bool
 has_tag text = has (codes "}}") (behind (codes "{{") text)
 
+-- the text before the first tag
 abbrev pub before_tag : List ℕ → List ℕ
 before_tag text = front (codes "{{") text
 
+-- the inside of the first tag
 abbrev pub inside_tag : List ℕ → List ℕ
 inside_tag text = front (codes "}}") (behind (codes "{{") text)
 
+-- the text after the first tag
 abbrev pub behind_tag : List ℕ → List ℕ
 behind_tag text = behind (codes "}}") (behind (codes "{{") text)
 
--- without the spaces at its front, and at its back
+-- the bytes of a text that is cut at a tag: the two braces on each side too
+abbrev pub tag_length : List ℕ → List ℕ → List ℕ → ℕ
+tag_length before inside after = length before + 2 + length inside + 2 + length after
+
+-- without the spaces at its front
 abbrev pub without_front : List ℕ → List ℕ
 without_front [] = []
 without_front (byte ∷ bytes) = if begins (codes " ") (byte ∷ bytes) then without_front bytes else byte ∷ bytes
 
+-- a byte before others; a space before none goes
 abbrev pub joined : ℕ → List ℕ → List ℕ
 joined byte [] = if byte == 32 then [] else byte ∷ []
 joined byte (other ∷ bytes) = byte ∷ (other ∷ bytes)
 
+-- without the spaces at its back
 abbrev pub without_back : List ℕ → List ℕ
 without_back [] = []
 without_back (byte ∷ bytes) = joined byte (without_back bytes)
 
+-- without the spaces at its ends
 abbrev pub trimmed : List ℕ → List ℕ
 trimmed text = without_back (without_front text)
 
@@ -44,7 +54,7 @@ field_tag inside =
     (if length (front (codes ":") inside) == 0 then None else named (Field (front (codes ":") inside ∷ [])) (behind (codes ":") inside))
     else named (Field []) inside
 
--- the tag of an inside; none, where the inside or its name is empty
+-- the tag of an inside; none, if the inside or its name is empty
 abbrev pub tag_of : List ℕ → Option Step
 tag_of inside =
     if begins (codes "#") inside then named (Open false) (drop 1 inside)
@@ -52,12 +62,17 @@ tag_of inside =
     else (if begins (codes "/") inside then named Close (drop 1 inside)
     else field_tag inside))
 
--- a place in the text, and the step that stands there; none for a tag that is empty
+-- a place in the text, and the step there; none for a tag that is empty
 abbrev pub Piece : Type 0
 Piece = ℕ × Option Step
 
+-- plain words at a place, if there are any
 abbrev pub words_at : ℕ → List ℕ → List Piece
 words_at place text = if length text == 0 then [] else (place, Some (Words text)) ∷ []
+
+-- the words before a tag, the tag at this place, and the other pieces
+abbrev pub with_tag : ℕ → List ℕ → ℕ → List ℕ → List Piece → List Piece
+with_tag front words place inside others = words_at front words ++ ((place, tag_of (trimmed inside)) ∷ others)
 
 -- the pieces of what is left of a text of that size. The first number bounds the tags; the size is enough
 abbrev pub pieces_in : ℕ → ℕ → List ℕ → List Piece
@@ -68,6 +83,7 @@ pieces_in (suc more) size text =
     ++ ((size - length text + length (before_tag text), tag_of (trimmed (inside_tag text))) ∷ pieces_in more size (behind_tag text))
     else words_at (size - length text) text
 
+-- the pieces of a text
 abbrev pub pieces : List ℕ → List Piece
 pieces text = pieces_in (length text) (length text) text
 

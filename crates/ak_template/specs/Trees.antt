@@ -3,16 +3,15 @@ use Rattle.std.specs.Prelude.{ℕ, suc, ◌<◌, Bool, if◌then◌else◌, List
 use Rattle.ak_template.specs.declared.steps.Step.{Step}
 use Rattle.ak_template.specs.declared.steps.Step.TheVariants.{Words, Field, Open, Close}
 
--- the parts of a template, or of a section, in order: nothing more, or a part and those behind it. A field has
--- its filters in the order in which they are written. A section is shown where its field is not empty, or, inverted,
--- where it is; it has parts of its own
+-- the parts of a template, or of a section, in order: nothing more, or a part and those after it. A field has its filters in the order
+-- in which they are written. A section has parts of its own; it is shown if its field is not empty, an inverted one if it is
 pub data Tree : Type 0 where
   End : Tree
   Plain : List ℕ → Tree → Tree
   Value : List (List ℕ) → List ℕ → Tree → Tree
   Section : Bool → List ℕ → Tree → Tree → Tree
 
--- from front to back: a section is opened, its inside stands, and it is closed by its name
+-- from front to back: a section is opened, then comes its inside, and it is closed by its name
 abbrev pub laid : Tree → List Step
 laid End = []
 laid (Plain words after) = Words words ∷ laid after
@@ -32,16 +31,20 @@ Nests depth (Section inverted name inside after) = (depth < 32) × Nests (suc de
 abbrev pub tagged : List ℕ → List ℕ
 tagged inside = codes "{{ " ++ (inside ++ codes " }}")
 
+-- the inside of a field's tag: its filters, each with a colon, and its name
 abbrev pub field_inside : List (List ℕ) → List ℕ → List ℕ
 field_inside [] name = name
 field_inside (filter ∷ filters) name = filter ++ (codes ":" ++ field_inside filters name)
 
+-- the inside of the tag that opens a section
 abbrev pub open_inside : Bool → List ℕ → List ℕ
 open_inside inverted name = (if inverted then codes "^" else codes "#") ++ name
 
+-- the inside of the tag that closes a section
 abbrev pub close_inside : List ℕ → List ℕ
 close_inside name = codes "/" ++ name
 
+-- the text of a tree
 abbrev pub written : Tree → List ℕ
 written End = []
 written (Plain words after) = words ++ written after

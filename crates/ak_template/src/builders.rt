@@ -1,5 +1,5 @@
 ghost use Rattle.std.specs.Prelude.{◌≡◌, ◌⊎◌, ◌++◌, ◌∷◌, [], Some, None, true, false, nat_lt, length, option_to_list, IfOk, OnOk, IfErr};
-ghost use Rattle.ak_template.specs.Grammar.{fault_at, opened, outside, unclosed, closes};
+ghost use Rattle.ak_template.specs.Grammar.{fault_at, opened, outside, unclosed, closes, IsTooDeep, IsWrongClose, RefusesAs};
 ghost use Rattle.ak_template.specs.Pieces.{words_step};
 ghost use Rattle.ak_template.specs.declared.faults.TemplateFault.TheVariants as faults;
 
@@ -22,19 +22,11 @@ pub struct Builder {
     pub sections: VecDeque<Opened>,
 }
 
-/// The most sections that are open in one another.
+/// The most sections that are open inside one another.
 const DEEPEST: usize = 32;
 
-fn is_closed_by(sections: &VecDeque<Opened>, name: &str) -> bool
-    ensures { result ≡ closes sections.now.items name.now }
-{
-    match sections.front() {
-        Some(section) => section.name.as_str() == name,
-        None => false,
-    }
-}
-
 impl Builder {
+    /// Nothing was read.
     pub fn new(alloc: Global) -> Builder
         ensures steps { result.steps.items ≡ [] }
         ensures sections { result.sections.items ≡ [] }
@@ -45,6 +37,7 @@ impl Builder {
         }
     }
 
+    /// Adds plain words; none if they are empty.
     pub fn add_words(&mut self, alloc: Global, words: &str) -> Result<(), Memory>
         ensures steps { OnOk result (self.new.steps.items ≡ self.old.steps.items ++ words_step words.now) }
         ensures sections { OnOk result (self.new.sections.items ≡ self.old.sections.items) }
@@ -57,12 +50,12 @@ impl Builder {
         Ok(())
     }
 
-    /// A tag at that place; `None` is a tag that is empty.
+    /// Adds a tag at that place; `None` is a tag that is empty.
     pub fn add_tag(&mut self, place: u64, tag: Option<Step>) -> Result<(), TemplateFault>
         ensures none { OnOk result (fault_at self.old.sections.items (place, tag) ≡ None) }
         ensures steps { OnOk result (self.new.steps.items ≡ self.old.steps.items ++ option_to_list tag) }
         ensures sections { OnOk result (self.new.sections.items ≡ opened self.old.sections.items (place, tag)) }
-        ensures fault { IfErr result (λ fault. (fault ≡ faults.Memory) ⊎ (fault_at self.old.sections.items (place, tag) ≡ Some fault)) }
+        ensures fault { RefusesAs (fault_at self.old.sections.items (place, tag)) result }
     {
         match tag {
             None => return Err(TemplateFault::EmptyTag(place)),
@@ -87,7 +80,7 @@ impl Builder {
         }
     }
 
-    /// The template, where no section is open.
+    /// The template, if no section is open; else the outermost one is unclosed.
     pub fn finish(self) -> Result<Template, TemplateFault>
         ensures steps { IfOk result (λ template. template.steps ≡ self.steps.items) }
         ensures none { OnOk result (unclosed self.sections.items ≡ None) }
@@ -104,6 +97,7 @@ impl Builder {
     }
 }
 
+/// Opens a section at that place, inside at most 31 others.
 fn open_section(
     sections: &mut VecDeque<Opened>,
     place: u64,
@@ -111,7 +105,7 @@ fn open_section(
 ) -> Result<(), TemplateFault>
     ensures few { OnOk result (nat_lt (length sections.old.items) 32 ≡ true) }
     ensures ok { OnOk result (sections.new.items ≡ record { place = place; name = name.now } ∷ sections.old.items) }
-    ensures fault { IfErr result (λ fault. (fault ≡ faults.Memory) ⊎ ((nat_lt (length sections.old.items) 32 ≡ false) × (fault ≡ faults.TooDeep place))) }
+    ensures fault { IfErr result (λ fault. (fault ≡ faults.Memory) ⊎ IsTooDeep sections.old.items place fault) }
 {
     if sections.len() >= DEEPEST {
         return Err(TemplateFault::TooDeep(place));
@@ -121,6 +115,7 @@ fn open_section(
     Ok(())
 }
 
+/// Closes the innermost section, which must have that name.
 fn close_section(
     sections: &mut VecDeque<Opened>,
     place: u64,
@@ -128,11 +123,21 @@ fn close_section(
 ) -> Result<(), TemplateFault>
     ensures closes { OnOk result (closes sections.old.items name.now ≡ true) }
     ensures ok { OnOk result (sections.new.items ≡ outside sections.old.items) }
-    ensures fault { IfErr result (λ fault. (closes sections.old.items name.now ≡ false) × (fault ≡ faults.WrongClose place)) }
+    ensures fault { IfErr result (IsWrongClose sections.old.items name.now place) }
 {
     if !is_closed_by(sections, name) {
         return Err(TemplateFault::WrongClose(place));
     }
     sections.pop_front();
     Ok(())
+}
+
+/// Whether a close tag of that name closes the innermost open section.
+fn is_closed_by(sections: &VecDeque<Opened>, name: &str) -> bool
+    ensures { result ≡ closes sections.now.items name.now }
+{
+    match sections.front() {
+        Some(section) => section.name.as_str() == name,
+        None => false,
+    }
 }

@@ -4,7 +4,7 @@ ghost use Rattle.ak_template.specs.Pages.{pair_value, field_value};
 use ak_base::{List, Memory, Text};
 use std::alloc::AllocError;
 
-/// A field of the note, or another name that a template may show.
+/// A field of the note, or another name that a template may show, and its text.
 #[derive(Debug, Drop)]
 pub struct Pair {
     pub name: Text,
@@ -53,19 +53,7 @@ impl From<AllocError> for PageFault {
     }
 }
 
-fn value_among<'a>(pairs: &'a [Pair], name: &str) -> Option<&'a Text>
-    ensures some { IfSome result (λ value. pair_value pairs.now name.now ≡ Some value.now) }
-    ensures none { IfNone result (pair_value pairs.now name.now ≡ None) }
-{
-    for pair in pairs {
-        if pair.name.as_str() == name {
-            return Some(&pair.value);
-        }
-    }
-    None
-}
-
-/// The value of a field, `FrontSide` among them.
+/// The value of a field. `FrontSide` is the page of the front, and empty on a front, whatever the pairs are.
 pub fn value_of<'a>(face: &'a Face, name: &str) -> Option<&'a str>
     ensures some { IfSome result (λ value. field_value face.now name.now ≡ Some value.now) }
     ensures none { IfNone result (field_value face.now name.now ≡ None) }
@@ -77,7 +65,20 @@ pub fn value_of<'a>(face: &'a Face, name: &str) -> Option<&'a str>
         };
     }
     match value_among(face.fields.as_slice(), name) {
-        Some(value) => return Some(value.as_str()),
-        None => return None,
+        Some(value) => Some(value.as_str()),
+        None => None,
     }
+}
+
+/// The value of the first pair of that name.
+fn value_among<'a>(pairs: &'a [Pair], name: &str) -> Option<&'a Text>
+    ensures some { IfSome result (λ value. pair_value pairs.now name.now ≡ Some value.now) }
+    ensures none { IfNone result (pair_value pairs.now name.now ≡ None) }
+{
+    for pair in pairs {
+        if pair.name.as_str() == name {
+            return Some(&pair.value);
+        }
+    }
+    None
 }

@@ -1,3 +1,6 @@
+ghost use Rattle.std.specs.Prelude.{◌≡◌};
+ghost use Rattle.ak_template.specs.Grammar.{fault_number, fault_place};
+
 use ak_base::Memory;
 use std::alloc::{AllocError, AllocFailed};
 
@@ -10,9 +13,37 @@ pub enum TemplateFault {
     WrongClose(u64),
     /// A tag with nothing inside, or with no name.
     EmptyTag(u64),
-    /// The 33rd section that is opened in one another.
+    /// The 33rd section that is open inside one another.
     TooDeep(u64),
     Memory,
+}
+
+impl TemplateFault {
+    /// Its number among the refusals, from 1; 0 if memory ran out.
+    pub fn number(self) -> u64
+        ensures { result ≡ fault_number self }
+    {
+        match self {
+            TemplateFault::Unclosed(_) => 1,
+            TemplateFault::WrongClose(_) => 2,
+            TemplateFault::EmptyTag(_) => 3,
+            TemplateFault::TooDeep(_) => 4,
+            TemplateFault::Memory => 0,
+        }
+    }
+
+    /// The byte at which its tag opens, from 0; also 0 if memory ran out.
+    pub fn place(self) -> u64
+        ensures { result ≡ fault_place self }
+    {
+        match self {
+            TemplateFault::Unclosed(place)
+            | TemplateFault::WrongClose(place)
+            | TemplateFault::EmptyTag(place)
+            | TemplateFault::TooDeep(place) => place,
+            TemplateFault::Memory => 0,
+        }
+    }
 }
 
 impl From<Memory> for TemplateFault {

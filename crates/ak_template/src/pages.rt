@@ -1,7 +1,6 @@
 // The page of a template, which is made step by step.
-ghost use Rattle.std.specs.Prelude.{◌≡◌, ◌⊎◌, ◌+◌, ◌<◌, ◌≤◌, ◌^◌, None, Ok, Err, map, string_bytes, IfOk, IfErr};
-ghost use Rattle.ak_template.specs.Pages.{RunOn, field_value, one_text, tag_text, field_text, hidden_section, step_page, hidden_after, walk, page, kinds, prefixed};
-ghost use Rattle.ak_template.specs.Trees.{Tree, laid};
+ghost use Rattle.std.specs.Prelude.{◌≡◌, ◌⊎◌, ◌+◌, ◌<◌, ◌≤◌, ◌^◌, None, string_bytes, IfOk, IfErr};
+ghost use Rattle.ak_template.specs.Pages.{Makes, Refuses, Halts, HaltsAsBefore, HaltsOnWay, MakesPage, RefusesPage, HaltsOnPage, HaltsBeforeEnd, SameKinds, Adds, IsMissing, field_value, one_text, tag_text, field_text, hidden_section, step_page, hidden_after, walk, tag_filters, step_filters, walk_filters};
 ghost use Rattle.ak_template.specs.declared.faces.PageFault.TheVariants as faults;
 
 use crate::clozes::show_clozes;
@@ -20,30 +19,35 @@ pub fn render(
     face: &Face,
     filters: &mut Vec<Box<dyn FieldFilter>>,
 ) -> Result<Text, PageFault>
-    // The page of the template's tree, and the filters behind it.
-    ensures ok { (tree : Tree) → template.now.steps ≡ laid tree → IfOk result (λ made. page face.now tree (map (λ b. meaning b) filters.old.items) ≡ (Ok made, map (λ b. meaning b) filters.new.items)) }
+    // The page of the template's tree, and the filters after it.
+    ensures ok { MakesPage (λ b. meaning b) filters.old.items filters.new.items face.now template.now result }
 
     // Any refusal but want of memory is the first fault along the page, and the filters are those at that place.
-    ensures fault { (tree : Tree) → template.now.steps ≡ laid tree → IfErr result (λ fault. (fault ≡ faults.Memory) ⊎ (page face.now tree (map (λ b. meaning b) filters.old.items) ≡ (Err fault, map (λ b. meaning b) filters.new.items))) }
+    ensures fault { RefusesPage (λ b. meaning b) filters.old.items filters.new.items face.now template.now result }
 
-    // Where memory ran out, the filters have run on no further than along the page.
-    ensures memory { (tree : Tree) → template.now.steps ≡ laid tree → IfErr result (λ fault. fault ≡ faults.Memory → RunOn (map (λ b. meaning b) filters.old.items) (map (λ b. meaning b) filters.new.items) × RunOn (map (λ b. meaning b) filters.new.items) (page face.now tree (map (λ b. meaning b) filters.old.items)).1) }
+    // If memory ran out, some first ones of the filters that the page shows were applied, and no other.
+    ensures memory { HaltsOnPage (λ b. meaning b) filters.old.items filters.new.items face.now template.now result }
+
+    // None was applied then that the page doesn't apply before its first fault.
+    ensures onward { HaltsBeforeEnd (λ b. meaning b) filters.old.items filters.new.items face.now template.now result }
 
     // The filters are the same, in the same order, whatever the answer is.
-    ensures kinds { kinds (map (λ b. meaning b) filters.new.items) ≡ kinds (map (λ b. meaning b) filters.old.items) }
+    ensures kinds { SameKinds (λ b. meaning b) filters.old.items filters.new.items }
 {
     render_steps(alloc, face, filters, template.steps.as_slice())
 }
 
+/// The page of the steps, from front to back.
 fn render_steps(
     alloc: Global,
     face: &Face,
     filters: &mut Vec<Box<dyn FieldFilter>>,
     steps: &[Step],
 ) -> Result<Text, PageFault>
-    ensures ok { IfOk result (λ made. walk face.now 0 steps.now (map (λ b. meaning b) filters.old.items) ≡ (Ok made, map (λ b. meaning b) filters.new.items)) }
-    ensures fault { IfErr result (λ fault. (fault ≡ faults.Memory) ⊎ (walk face.now 0 steps.now (map (λ b. meaning b) filters.old.items) ≡ (Err fault, map (λ b. meaning b) filters.new.items))) }
-    ensures memory { IfErr result (λ fault. fault ≡ faults.Memory → RunOn (map (λ b. meaning b) filters.old.items) (map (λ b. meaning b) filters.new.items) × RunOn (map (λ b. meaning b) filters.new.items) (walk face.now 0 steps.now (map (λ b. meaning b) filters.old.items)).1) }
+    ensures ok { Makes (λ b. meaning b) filters.old.items filters.new.items (walk face.now 0 steps.now) result }
+    ensures fault { Refuses (λ b. meaning b) filters.old.items filters.new.items (walk face.now 0 steps.now) result }
+    ensures memory { Halts (λ b. meaning b) filters.old.items filters.new.items (walk_filters face.now 0 steps.now) result }
+    ensures onward { HaltsOnWay (λ b. meaning b) filters.old.items filters.new.items (walk face.now 0 steps.now) result }
 {
     let mut made = String::new(alloc);
     let mut hidden = 0;
@@ -54,7 +58,7 @@ fn render_steps(
     Ok(made)
 }
 
-// Adds what the step shows below that many hidden sections, and tells how many there are behind it.
+/// Adds what the step shows below that many hidden sections; the answer is how many there are after it.
 fn add_step(
     made: &mut String,
     alloc: Global,
@@ -64,11 +68,12 @@ fn add_step(
     step: &Step,
 ) -> Result<usize, PageFault>
     requires { hidden + 1 < 2 ^ 64 }
-    ensures ok { IfOk result (λ after. prefixed (string_bytes made.old) (step_page face.now hidden step.now (map (λ b. meaning b) filters.old.items)) ≡ (Ok (string_bytes made.new), map (λ b. meaning b) filters.new.items)) }
+    ensures ok { Adds (λ b. meaning b) filters.old.items filters.new.items (step_page face.now hidden step.now) (string_bytes made.old) (string_bytes made.new) result }
     ensures hidden { IfOk result (λ after. after ≡ hidden_after face.now hidden step.now) }
     ensures bound { IfOk result (λ after. after ≤ hidden + 1) }
-    ensures fault { IfErr result (λ fault. (fault ≡ faults.Memory) ⊎ (step_page face.now hidden step.now (map (λ b. meaning b) filters.old.items) ≡ (Err fault, map (λ b. meaning b) filters.new.items))) }
-    ensures memory { IfErr result (λ fault. fault ≡ faults.Memory → RunOn (map (λ b. meaning b) filters.old.items) (map (λ b. meaning b) filters.new.items) × RunOn (map (λ b. meaning b) filters.new.items) (step_page face.now hidden step.now (map (λ b. meaning b) filters.old.items)).1) }
+    ensures fault { Refuses (λ b. meaning b) filters.old.items filters.new.items (step_page face.now hidden step.now) result }
+    ensures memory { Halts (λ b. meaning b) filters.old.items filters.new.items (step_filters hidden step.now) result }
+    ensures onward { HaltsOnWay (λ b. meaning b) filters.old.items filters.new.items (step_page face.now hidden step.now) result }
 {
     if hidden > 0 {
         match step {
@@ -81,27 +86,24 @@ fn add_step(
     match step {
         Step::Words(words) => {
             made.push_str(words.as_str())?;
-            return Ok(0);
+            Ok(0)
         }
         Step::Field(names, name) => {
             let text = field_text(alloc, face, filters, names.as_slice(), name.as_str())?;
             made.push_str(text.as_str())?;
-            return Ok(0);
+            Ok(0)
         }
-        Step::Open(inverted, name) => {
-            let after = open_section(alloc, face, *inverted, name.as_str())?;
-            return Ok(after);
-        }
-        Step::Close(_) => return Ok(0),
+        Step::Open(inverted, name) => { open_section(alloc, face, *inverted, name.as_str()) }
+        Step::Close(_) => Ok(0),
     }
 }
 
-// How many sections are hidden behind the opening of one below none.
+/// How many sections are hidden after the opening of one, if none was before.
 fn open_section(alloc: Global, face: &Face, inverted: bool, name: &str) -> Result<usize, PageFault>
     ensures none { IfOk result (λ after. field_value face.now name.now ≡ None → ⊥) }
     ensures hidden { IfOk result (λ after. after ≡ hidden_section (field_value face.now name.now) inverted) }
     ensures bound { IfOk result (λ after. after ≤ 1) }
-    ensures fault { IfErr result (λ fault. (fault ≡ faults.Memory) ⊎ ((field_value face.now name.now ≡ None) × (fault ≡ faults.NoField name.now))) }
+    ensures fault { IfErr result (λ fault. (fault ≡ faults.Memory) ⊎ IsMissing (field_value face.now name.now) name.now fault) }
 {
     match value_of(face, name) {
         Some(value) => {
@@ -109,16 +111,16 @@ fn open_section(alloc: Global, face: &Face, inverted: bool, name: &str) -> Resul
             if empty == inverted {
                 return Ok(0);
             }
-            return Ok(1);
+            Ok(1)
         }
         None => {
             let name = Text::of(alloc, name)?;
-            return Err(PageFault::NoField(name));
+            Err(PageFault::NoField(name))
         }
     }
 }
 
-// The text of a field's tag.
+/// The text of a field's tag. A missing field is told before a missing filter.
 fn field_text(
     alloc: Global,
     face: &Face,
@@ -126,23 +128,21 @@ fn field_text(
     names: &[Text],
     name: &str,
 ) -> Result<Text, PageFault>
-    ensures ok { IfOk result (λ made. field_text face.now names.now name.now (map (λ b. meaning b) filters.old.items) ≡ (Ok made, map (λ b. meaning b) filters.new.items)) }
-    ensures fault { IfErr result (λ fault. (fault ≡ faults.Memory) ⊎ (field_text face.now names.now name.now (map (λ b. meaning b) filters.old.items) ≡ (Err fault, map (λ b. meaning b) filters.new.items))) }
-    ensures memory { IfErr result (λ fault. fault ≡ faults.Memory → RunOn (map (λ b. meaning b) filters.old.items) (map (λ b. meaning b) filters.new.items) × RunOn (map (λ b. meaning b) filters.new.items) (field_text face.now names.now name.now (map (λ b. meaning b) filters.old.items)).1) }
+    ensures ok { Makes (λ b. meaning b) filters.old.items filters.new.items (field_text face.now names.now name.now) result }
+    ensures fault { Refuses (λ b. meaning b) filters.old.items filters.new.items (field_text face.now names.now name.now) result }
+    ensures memory { Halts (λ b. meaning b) filters.old.items filters.new.items (tag_filters names.now) result }
+    ensures onward { HaltsOnWay (λ b. meaning b) filters.old.items filters.new.items (field_text face.now names.now name.now) result }
 {
     match value_of(face, name) {
-        Some(value) => {
-            let made = tag_text(alloc, face, filters, names, value)?;
-            return Ok(made);
-        }
+        Some(value) => { tag_text(alloc, face, filters, names, value) }
         None => {
             let name = Text::of(alloc, name)?;
-            return Err(PageFault::NoField(name));
+            Err(PageFault::NoField(name))
         }
     }
 }
 
-// What the filters of a tag make of a text, from the last to the first.
+/// What the filters of a tag make of a text, from the last to the first.
 fn tag_text(
     alloc: Global,
     face: &Face,
@@ -150,9 +150,10 @@ fn tag_text(
     names: &[Text],
     value: &str,
 ) -> Result<Text, PageFault>
-    ensures ok { IfOk result (λ made. tag_text face.now names.now value.now (map (λ b. meaning b) filters.old.items) ≡ (Ok made, map (λ b. meaning b) filters.new.items)) }
-    ensures fault { IfErr result (λ fault. (fault ≡ faults.Memory) ⊎ (tag_text face.now names.now value.now (map (λ b. meaning b) filters.old.items) ≡ (Err fault, map (λ b. meaning b) filters.new.items))) }
-    ensures memory { IfErr result (λ fault. fault ≡ faults.Memory → RunOn (map (λ b. meaning b) filters.old.items) (map (λ b. meaning b) filters.new.items) × RunOn (map (λ b. meaning b) filters.new.items) (tag_text face.now names.now value.now (map (λ b. meaning b) filters.old.items)).1) }
+    ensures ok { Makes (λ b. meaning b) filters.old.items filters.new.items (tag_text face.now names.now value.now) result }
+    ensures fault { Refuses (λ b. meaning b) filters.old.items filters.new.items (tag_text face.now names.now value.now) result }
+    ensures memory { Halts (λ b. meaning b) filters.old.items filters.new.items (tag_filters names.now) result }
+    ensures onward { HaltsOnWay (λ b. meaning b) filters.old.items filters.new.items (tag_text face.now names.now value.now) result }
 {
     let mut text = Text::of(alloc, value)?;
     let mut left = names.len();
@@ -163,7 +164,7 @@ fn tag_text(
     Ok(text)
 }
 
-// What one filter makes of a text.
+/// What one filter makes of a text. `cloze` is no filter of the list: it needs the card's number.
 fn one_text(
     alloc: Global,
     face: &Face,
@@ -171,14 +172,13 @@ fn one_text(
     name: &str,
     text: &str,
 ) -> Result<Text, PageFault>
-    ensures ok { IfOk result (λ made. one_text face.now name.now text.now (map (λ b. meaning b) filters.old.items) ≡ (Ok made, map (λ b. meaning b) filters.new.items)) }
-    ensures memory { IfErr result (λ fault. fault ≡ faults.Memory → map (λ b. meaning b) filters.new.items ≡ map (λ b. meaning b) filters.old.items) }
-    ensures fault { IfErr result (λ fault. (fault ≡ faults.Memory) ⊎ (one_text face.now name.now text.now (map (λ b. meaning b) filters.old.items) ≡ (Err fault, map (λ b. meaning b) filters.new.items))) }
+    ensures ok { Makes (λ b. meaning b) filters.old.items filters.new.items (one_text face.now name.now text.now) result }
+    ensures memory { HaltsAsBefore (λ b. meaning b) filters.old.items filters.new.items result }
+    ensures fault { Refuses (λ b. meaning b) filters.old.items filters.new.items (one_text face.now name.now text.now) result }
 {
     if name == "cloze" {
         let made = show_clozes(alloc, face.front.is_some(), face.number, text)?;
         return Ok(made);
     }
-    let made = apply_named(alloc, filters, name, text)?;
-    Ok(made)
+    apply_named(alloc, filters, name, text)
 }

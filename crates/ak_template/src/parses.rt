@@ -1,6 +1,6 @@
-ghost use Rattle.std.specs.Prelude.{◌≡◌, ◌⊎◌, ◌++◌, ◌∷◌, ℕ, List, Some, None, IfOk, OnOk, IfErr};
-ghost use Rattle.ak_template.specs.Grammar.{IsTemplate, fault_in, first_fault};
-ghost use Rattle.ak_template.specs.Pieces.{Piece, pieces, steps_in, words_step, words_at, tag_of, trimmed};
+ghost use Rattle.std.specs.Prelude.{◌≡◌, ◌⊎◌, ◌<◌, length, Some, None, IfOk, OnOk, IfErr};
+ghost use Rattle.ak_template.specs.Grammar.{IsTemplate, fault_place, first_fault, PassesTag, AddsTag, RefusesTag};
+ghost use Rattle.ak_template.specs.Pieces.{pieces, steps_in};
 ghost use Rattle.ak_template.specs.Trees.{Tree, laid};
 ghost use Rattle.ak_template.specs.declared.faults.TemplateFault.TheVariants as faults;
 
@@ -18,12 +18,16 @@ pub fn parse(alloc: Global, text: &str) -> Result<Template, TemplateFault>
     // A text that has a tree is refused for want of memory alone.
     ensures only { (tree : Tree) → IsTemplate text.now tree → IfErr result (λ fault. fault ≡ faults.Memory) }
 
+    // The place of any other refusal is inside the text.
+    ensures within { IfErr result (λ fault. (fault ≡ faults.Memory) ⊎ (fault_place fault < length text.now)) }
+
     // Any other refusal is the first fault.
     ensures fault { IfErr result (λ fault. (fault ≡ faults.Memory) ⊎ (first_fault text.now ≡ Some fault)) }
 {
     read_template(alloc, text)
 }
 
+/// The steps of the text's pieces, unless one of them has a fault.
 fn read_template(alloc: Global, text: &str) -> Result<Template, TemplateFault>
     ensures none { OnOk result (first_fault text.now ≡ None) }
     ensures steps { IfOk result (λ template. template.steps ≡ steps_in (pieces text.now)) }
@@ -40,19 +44,19 @@ fn read_template(alloc: Global, text: &str) -> Result<Template, TemplateFault>
     builder.finish()
 }
 
-// The words before a tag, and the tag.
+/// Adds the words before a tag, and the tag, which opens at that place.
 fn add_next(
-    builder: &mut Builder,
+    into: &mut Builder,
     alloc: Global,
     before: &str,
     place: u64,
     inside: &str,
 ) -> Result<(), TemplateFault>
-    ensures faults { OnOk result ((front : ℕ) (others : List Piece) → fault_in builder.old.sections.items (words_at front before.now ++ ((place, tag_of (trimmed inside.now)) ∷ others)) ≡ fault_in builder.new.sections.items others) }
-    ensures steps { OnOk result ((front : ℕ) (others : List Piece) → builder.old.steps.items ++ steps_in (words_at front before.now ++ ((place, tag_of (trimmed inside.now)) ∷ others)) ≡ builder.new.steps.items ++ steps_in others) }
-    ensures fault { IfErr result (λ fault. (fault ≡ faults.Memory) ⊎ ((front : ℕ) (others : List Piece) → fault_in builder.old.sections.items (words_at front before.now ++ ((place, tag_of (trimmed inside.now)) ∷ others)) ≡ Some fault)) }
+    ensures faults { OnOk result (PassesTag into.old.sections.items into.new.sections.items before.now place inside.now) }
+    ensures steps { OnOk result (AddsTag into.old.steps.items into.new.steps.items before.now place inside.now) }
+    ensures fault { RefusesTag into.old.sections.items before.now place inside.now result }
 {
-    builder.add_words(alloc, before)?;
+    into.add_words(alloc, before)?;
     let tag = read_tag(alloc, trim(inside))?;
-    builder.add_tag(place, tag)
+    into.add_tag(place, tag)
 }

@@ -8,19 +8,30 @@ use ak_base::Memory;
 use ak_filters::is_empty_value;
 use std::alloc::Global;
 
-fn is_field_filled(alloc: Global, face: &Face, name: &str) -> Result<bool, Memory>
-    ensures { IfOk result (λ filled. filled ≡ is_filled face.now name.now) }
+/// Whether the template shows anything of the note: some field that is not empty, under no inverted section, and
+/// only under sections of fields that are not empty.
+pub fn shows(alloc: Global, template: &Template, face: &Face) -> Result<bool, Memory>
+    ensures { (tree : Tree) → template.now.steps ≡ laid tree → IfOk result (λ shown. shown ≡ shows_in face.now tree) }
 {
-    match value_of(face, name) {
-        Some(value) => {
-            let empty = is_empty_value(alloc, value)?;
-            return Ok(!empty);
-        }
-        None => return Ok(false),
-    }
+    shows_steps(alloc, template.steps.as_slice(), face)
 }
 
-// Whether the step shows something of the note, and how many sections count for nothing behind it.
+/// Whether one of the steps shows something.
+fn shows_steps(alloc: Global, steps: &[Step], face: &Face) -> Result<bool, Memory>
+    ensures { IfOk result (λ shown. shown ≡ walk_shows face.now 0 steps.now) }
+{
+    let mut idle = 0;
+    for step in steps {
+        let (shown, after) = read_step(alloc, face, idle, step)?;
+        if shown {
+            return Ok(true);
+        }
+        idle = after;
+    }
+    Ok(false)
+}
+
+/// Whether the step shows something of the note, and how many sections count for nothing after it.
 fn read_step(alloc: Global, face: &Face, idle: usize, step: &Step) -> Result<(bool, usize), Memory>
     requires { idle + 1 < 2 ^ 64 }
     ensures shows { IfOk result (λ read. read.0 ≡ step_shows face.now idle step.now) }
@@ -52,24 +63,15 @@ fn read_step(alloc: Global, face: &Face, idle: usize, step: &Step) -> Result<(bo
     }
 }
 
-fn shows_steps(alloc: Global, steps: &[Step], face: &Face) -> Result<bool, Memory>
-    ensures { IfOk result (λ shown. shown ≡ walk_shows face.now 0 steps.now) }
+/// Whether the field is there and not empty.
+fn is_field_filled(alloc: Global, face: &Face, name: &str) -> Result<bool, Memory>
+    ensures { IfOk result (λ filled. filled ≡ is_filled face.now name.now) }
 {
-    let mut idle = 0;
-    for step in steps {
-        let (shown, after) = read_step(alloc, face, idle, step)?;
-        if shown {
-            return Ok(true);
+    match value_of(face, name) {
+        Some(value) => {
+            let empty = is_empty_value(alloc, value)?;
+            Ok(!empty)
         }
-        idle = after;
+        None => Ok(false),
     }
-    Ok(false)
-}
-
-/// Whether the template shows anything of the note: some field that is not empty, under no inverted section, and
-/// only under sections of fields that are not empty.
-pub fn shows(alloc: Global, template: &Template, face: &Face) -> Result<bool, Memory>
-    ensures { (tree : Tree) → template.now.steps ≡ laid tree → IfOk result (λ shown. shown ≡ shows_in face.now tree) }
-{
-    shows_steps(alloc, template.steps.as_slice(), face)
 }

@@ -8,12 +8,12 @@ pub enum Step {
     Words(Text),
     /// The filters, in the order in which they are written, and the field's name.
     Field(List<Text>, Text),
-    /// A section begins: it is shown where its field is not empty, or, where it is inverted, where it is.
+    /// A section begins: it is shown if its field is not empty; an inverted one, if it is.
     Open(bool, Text),
     Close(Text),
 }
 
-/// A template that was read. It is kept as its steps, in which each section that is opened is closed.
+/// A template that was read. It is kept as its steps; each section that is opened is closed.
 #[derive(Debug, Drop)]
 pub struct Template {
     pub(crate) steps: List<Step>,

@@ -1,20 +1,19 @@
 ghost use Rattle.std.specs.Prelude.{◌≡◌, ◌∷◌, ◌+◌, ◌<◌, [], true, false, length, drop, IfOk, IfSome, IfNone};
-ghost use Rattle.ak_filters.specs.Cuts.{begins};
-ghost use Rattle.ak_template.specs.Pieces.{has_tag, before_tag, inside_tag, behind_tag, tag_of, field_tag, named};
+ghost use Rattle.ak_base.specs.Cuts.{begins};
+ghost use Rattle.ak_template.specs.Pieces.{has_tag, before_tag, inside_tag, behind_tag, tag_length, tag_of, field_tag, named};
 ghost use Rattle.ak_template.specs.declared.steps.Step.TheVariants as steps;
 
 use crate::Step;
-use ak_base::{List, Memory, Text};
-use ak_filters::cut;
+use ak_base::{List, Memory, Text, cut};
 use std::alloc::Global;
 
-/// What stands before the first tag, in it, and behind it.
+/// The text before the first tag, the inside of the tag, and the text after it.
 pub fn next_tag(text: &str) -> Option<(&str, &str, &str)>
     ensures has { IfSome result (λ parts. has_tag text.now ≡ true) }
     ensures before { IfSome result (λ parts. parts.0.now ≡ before_tag text.now) }
     ensures inside { IfSome result (λ parts. parts.1.now ≡ inside_tag text.now) }
     ensures behind { IfSome result (λ parts. parts.2.now ≡ behind_tag text.now) }
-    ensures length { IfSome result (λ parts. length parts.0.now + 2 + length parts.1.now + 2 + length parts.2.now ≡ length text.now) }
+    ensures length { IfSome result (λ parts. tag_length parts.0.now parts.1.now parts.2.now ≡ length text.now) }
     ensures none { IfNone result (has_tag text.now ≡ false) }
 {
     let (before, rest) = cut(text, "{{")?;
@@ -22,7 +21,7 @@ pub fn next_tag(text: &str) -> Option<(&str, &str, &str)>
     Some((before, inside, behind))
 }
 
-/// What stands behind a sign at the front.
+/// The text after a sign, if it begins with it.
 pub fn behind_sign(text: &str, sign: char) -> Option<&str>
     requires { (0 < sign) × (sign < 128) }
     ensures begins { IfSome result (λ rest. begins (sign ∷ []) text.now ≡ true) }
@@ -33,7 +32,7 @@ pub fn behind_sign(text: &str, sign: char) -> Option<&str>
     text.strip_prefix(sign)
 }
 
-/// The tag with that inside, which has no spaces at its ends.
+/// The tag with that inside, which has no spaces at its ends; none if it is empty or lacks its name.
 pub fn read_tag(alloc: Global, inside: &str) -> Result<Option<Step>, Memory>
     ensures { IfOk result (λ step. step ≡ tag_of inside.now) }
 {
@@ -49,6 +48,7 @@ pub fn read_tag(alloc: Global, inside: &str) -> Result<Option<Step>, Memory>
     read_field(alloc, inside)
 }
 
+/// The tag that opens a section of that name.
 fn open_tag(alloc: Global, inverted: bool, name: &str) -> Result<Option<Step>, Memory>
     ensures { IfOk result (λ step. step ≡ named (steps.Open inverted) name.now) }
 {
@@ -59,6 +59,7 @@ fn open_tag(alloc: Global, inverted: bool, name: &str) -> Result<Option<Step>, M
     Ok(Some(Step::Open(inverted, name)))
 }
 
+/// The tag that closes a section of that name.
 fn close_tag(alloc: Global, name: &str) -> Result<Option<Step>, Memory>
     ensures { IfOk result (λ step. step ≡ named steps.Close name.now) }
 {
@@ -69,6 +70,7 @@ fn close_tag(alloc: Global, name: &str) -> Result<Option<Step>, Memory>
     Ok(Some(Step::Close(name)))
 }
 
+/// The tag of a field. All up to the first colon is its filter.
 fn read_field(alloc: Global, inside: &str) -> Result<Option<Step>, Memory>
     ensures { IfOk result (λ step. step ≡ field_tag inside.now) }
 {

@@ -10,6 +10,7 @@ pub fn trim(text: &str) -> &str
     trim_back(trim_front(text))
 }
 
+/// The text without the spaces at its front.
 fn trim_front(text: &str) -> &str
     ensures { result.now ≡ without_front text.now }
 {
@@ -20,7 +21,7 @@ fn trim_front(text: &str) -> &str
     rest
 }
 
-// The text without a space at its end.
+/// The text without one space at its end.
 fn before_space(text: &str) -> Option<&str>
     ensures step { IfSome result (λ rest. without_back text.now ≡ without_back rest.now) }
     ensures shorter { IfSome result (λ rest. length rest.now + 1 ≡ length text.now) }
@@ -29,6 +30,7 @@ fn before_space(text: &str) -> Option<&str>
     text.strip_suffix(' ')
 }
 
+/// The text without the spaces at its end.
 fn trim_back(text: &str) -> &str
     ensures { result.now ≡ without_back text.now }
 {

@@ -1,8 +1,39 @@
 ghost use Rattle.ak_cli.specs.Steps.{IsRefusal};
 
 use ak_base::{Memory, Text};
-use ak_io::PrintFault;
+use ak_io::Failed;
 use std::alloc::{AllocError, AllocFailed, Global};
+
+/// Why a text was not printed.
+#[derive(Clone, Copy, Debug, PartialEq, Eq)]
+pub(crate) enum PrintFault {
+    /// The output failed.
+    Failed,
+    /// There was no memory for the text. Nothing of it was written.
+    Memory,
+}
+
+impl From<Failed> for PrintFault {
+    ghost use Rattle.std.specs.Prelude.{◌≡◌};
+    ghost use Rattle.ak_cli.specs.declared.lab.faults.PrintFault.TheVariants as faults;
+
+    ghost from_gives = { λ _ fault. fault ≡ faults.Failed };
+
+    fn from(_failed: Failed) -> PrintFault {
+        PrintFault::Failed
+    }
+}
+
+impl From<Memory> for PrintFault {
+    ghost use Rattle.std.specs.Prelude.{◌≡◌};
+    ghost use Rattle.ak_cli.specs.declared.lab.faults.PrintFault.TheVariants as faults;
+
+    ghost from_gives = { λ _ fault. fault ≡ faults.Memory };
+
+    fn from(_memory: Memory) -> PrintFault {
+        PrintFault::Memory
+    }
+}
 
 /// Why a line did not go.
 #[derive(Debug, Drop)]

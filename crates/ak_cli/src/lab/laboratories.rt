@@ -2,23 +2,22 @@ ghost use Rattle.std.specs.Prelude.{◌≡◌, ◌<◌, ◌≤◌, [], ◌∷◌
 ghost use Rattle.std.specs.Fmt.{signed_decimal};
 ghost use Rattle.std.specs.Io.KnownBytes.{Appends};
 ghost use Rattle.std.specs.Str.{is_utf8};
-ghost use Rattle.ak_io.specs.Prints.{PrintCause};
 ghost use Rattle.ak_io.specs.Scripts.{Goes, AppendsPart, written_lines};
 ghost use Rattle.ak_cli.specs.Commands.{IsInRange};
 ghost use Rattle.ak_cli.specs.Labs.{state_of, device_step, review_step, sync_step, sync_line, show_step, obeyed, is_skipped, line_step, lab_step};
 ghost use Rattle.ak_cli.specs.LabRun.{opening_lab};
 ghost use Rattle.ak_cli.specs.NewReviews.{IsId};
-ghost use Rattle.ak_cli.specs.Steps.{IsRefusal, RefusesBy, Went, Stopped, LineCause};
+ghost use Rattle.ak_cli.specs.Steps.{IsRefusal, RefusesBy, Went, Stopped, LineCause, PrintCause};
 
 use crate::lab::commands::{Command, read_command};
 use crate::lab::devices::{Device, is_device_name, place_of};
-use crate::lab::faults::{LineFault, refusal};
+use crate::lab::faults::{LineFault, PrintFault, refusal};
 use crate::lab::sides::Side;
 use crate::lab::stores::Store;
 use crate::lab::syncs::{SyncEnd, sync_sides};
 use crate::lab::tables::print_reviews;
 use ak_base::{Memory, Text};
-use ak_io::{PrintFault, Sink, Taken, print_line};
+use ak_io::{Line, Sink, print_line};
 use std::alloc::Global;
 
 /// How many devices a lab holds.
@@ -53,22 +52,22 @@ impl Lab {
     }
 
     /// Does what a line says, and prints what it prints.
-    pub(crate) fn act<O: Sink>(&mut self, line: Taken, out: &mut O) -> Result<(), LineFault>
+    pub(crate) fn act<O: Sink>(&mut self, line: Line, out: &mut O) -> Result<(), LineFault>
         ensures ok { OnOk result (Went (lab_step (state_of self.old) line) (state_of self.new) (O.written out.old) (O.written out.new)) }
         ensures err { IfErr result (λ fault. Stopped (lab_step (state_of self.old) line) fault (O.written out.old) (O.written out.new)) }
-        ensures cause { LineCause (O.fault_count out.old) (O.fault_count out.new) result }
+        ensures cause { LineCause (O.health out.old) (O.health out.new) result }
     {
         match line {
-            Taken::Past => Err(refusal(self.alloc, "long input")),
-            Taken::Long => Err(refusal(self.alloc, "bad line")),
-            Taken::Line(bytes) => self.act_on(bytes.as_slice(), out),
+            Line::PastInput => Err(refusal(self.alloc, "long input")),
+            Line::TooLong => Err(refusal(self.alloc, "bad line")),
+            Line::Whole(bytes) => self.act_on(bytes.as_slice(), out),
         }
     }
 
     fn act_on<O: Sink>(&mut self, bytes: &[u8], out: &mut O) -> Result<(), LineFault>
         ensures ok { OnOk result (Went (line_step (state_of self.old) bytes.now) (state_of self.new) (O.written out.old) (O.written out.new)) }
         ensures err { IfErr result (λ fault. Stopped (line_step (state_of self.old) bytes.now) fault (O.written out.old) (O.written out.new)) }
-        ensures cause { LineCause (O.fault_count out.old) (O.fault_count out.new) result }
+        ensures cause { LineCause (O.health out.old) (O.health out.new) result }
     {
         let Some(line) = text_of(bytes) else {
             return Err(refusal(self.alloc, "bad line"));
@@ -86,7 +85,7 @@ impl Lab {
         requires { IsInRange command }
         ensures ok { OnOk result (Went (obeyed (state_of self.old) (Some command)) (state_of self.new) (O.written out.old) (O.written out.new)) }
         ensures err { IfErr result (λ fault. Stopped (obeyed (state_of self.old) (Some command)) fault (O.written out.old) (O.written out.new)) }
-        ensures cause { LineCause (O.fault_count out.old) (O.fault_count out.new) result }
+        ensures cause { LineCause (O.health out.old) (O.health out.new) result }
     {
         match command {
             Command::Device(name) => self.add_device(name),
@@ -149,7 +148,7 @@ impl Lab {
     pub(crate) fn sync<O: Sink>(&mut self, name: &Text, out: &mut O) -> Result<(), LineFault>
         ensures ok { OnOk result (Went (sync_step name.now (state_of self.old)) (state_of self.new) (O.written out.old) (O.written out.new)) }
         ensures err { IfErr result (λ fault. Stopped (sync_step name.now (state_of self.old)) fault (O.written out.old) (O.written out.new)) }
-        ensures cause { LineCause (O.fault_count out.old) (O.fault_count out.new) result }
+        ensures cause { LineCause (O.health out.old) (O.health out.new) result }
     {
         let end = self.sync_device(name)?;
         print_sync(self.alloc, name, end, out)?;
@@ -188,7 +187,7 @@ impl Lab {
     pub(crate) fn show<O: Sink>(&self, name: &Text, out: &mut O) -> Result<(), LineFault>
         ensures ok { OnOk result (Went (show_step name.now (state_of self.now)) (state_of self.now) (O.written out.old) (O.written out.new)) }
         ensures err { IfErr result (λ fault. Stopped (show_step name.now (state_of self.now)) fault (O.written out.old) (O.written out.new)) }
-        ensures cause { LineCause (O.fault_count out.old) (O.fault_count out.new) result }
+        ensures cause { LineCause (O.health out.old) (O.health out.new) result }
     {
         if name.as_str() == "server" {
             print_reviews(self.alloc, out, self.server.reviews.rows())?;
@@ -225,10 +224,11 @@ fn is_skipped(bytes: &[u8]) -> bool
 fn print_sync<O: Sink>(alloc: Global, name: &Text, end: &str, out: &mut O) -> Result<(), PrintFault>
     ensures ok { OnOk result (Appends (O.written out.old) (O.written out.new) (written_lines (sync_line name.now end.now ∷ []))) }
     ensures part { OnErr result (AppendsPart (O.written out.old) (O.written out.new) (written_lines (sync_line name.now end.now ∷ []))) }
-    ensures cause { PrintCause (O.fault_count out.old) (O.fault_count out.new) result }
+    ensures cause { PrintCause (O.health out.old) (O.health out.new) result }
 {
     let line = sync_line(alloc, name.as_str(), end)?;
-    print_line(alloc, out, line.as_bytes())
+    print_line(out, line.as_bytes())?;
+    Ok(())
 }
 
 fn sync_line(alloc: Global, name: &str, end: &str) -> Result<String, Memory>

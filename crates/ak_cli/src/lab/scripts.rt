@@ -2,7 +2,6 @@ ghost use Rattle.std.specs.Prelude.{◌≡◌, ◌≤◌, ◌<◌, true, false, 
 ghost use Rattle.std.specs.Io.KnownBytes.{IsAtEnd};
 ghost use Rattle.ak_io.specs.Endings.{RunsTo, EndCause, LineEndCause, AfterLine};
 ghost use Rattle.ak_io.specs.declared.endings.ScriptEnd.TheVariants as ends;
-ghost use Rattle.ak_io.specs.declared.lines.TheConstants.{INPUT_LIMIT};
 ghost use Rattle.ak_cli.specs.LabRun.{lab_run, run_left};
 ghost use Rattle.ak_cli.specs.Labs.{state_of};
 
@@ -16,7 +15,7 @@ use std::alloc::Global;
 pub(crate) fn run_script<I: Source, O: Sink>(alloc: Global, input: &mut I, out: &mut O) -> ScriptEnd
     ensures told { IfSome (I.left input.old) (λ script. RunsTo result (lab_run script) (O.written out.old) (O.written out.new)) }
     ensures ended { result ≡ ends.Done → IsAtEnd (I.left input.new) }
-    ensures cause { EndCause result (I.fault_count input.old) (I.fault_count input.new) (O.fault_count out.old) (O.fault_count out.new) }
+    ensures cause { EndCause result (I.health input.old) (I.health input.new) (O.health out.old) (O.health out.new) }
 {
     let mut reader = match LineReader::new(alloc) {
         Ok(reader) => reader,
@@ -40,12 +39,12 @@ fn run_line<I: Source, O: Sink>(
     input: &mut I,
     out: &mut O,
 ) -> Result<bool, ScriptEnd>
-    requires { reader.old.number ≤ INPUT_LIMIT }
+    requires { reader.old.number ≤ 1_073_741_824 }
     ensures goes { IfOk result (AfterLine (run_left (state_of lab.old) reader.old (I.left input.old)) (run_left (state_of lab.new) reader.new (I.left input.new)) (O.written out.old) (O.written out.new)) }
-    ensures counts { result ≡ Ok true → (reader.new.number ≤ INPUT_LIMIT) × (reader.new.room < reader.old.room) }
+    ensures counts { result ≡ Ok true → (reader.new.number ≤ 1_073_741_824) × (reader.new.room < reader.old.room) }
     ensures ended { result ≡ Ok false → IsAtEnd (I.left input.new) }
     ensures ends { IfErr result (λ end. IfSome (run_left (state_of lab.old) reader.old (I.left input.old)) (λ run. RunsTo end run (O.written out.old) (O.written out.new))) }
-    ensures cause { LineEndCause result (I.fault_count input.old) (I.fault_count input.new) (O.fault_count out.old) (O.fault_count out.new) }
+    ensures cause { LineEndCause result (I.health input.old) (I.health input.new) (O.health out.old) (O.health out.new) }
 {
     let line = match reader.next(input) {
         Ok(Some(line)) => line,

@@ -1,7 +1,7 @@
 ghost use Rattle.std.specs.Prelude.{◌≡◌, ◌-◌, ◌++◌, ◌≤◌, ◌<◌, IfOk, OnOk, IfSome, OnSome, IfNone};
 ghost use Rattle.std.specs.Option.{option_map};
 ghost use Rattle.ak_cli.specs.NewReviews.{is_free, only_free, free_ids, review_name, AreIds, IsId};
-ghost use Rattle.ak_cli.specs.Sides.{raised, reviewed};
+ghost use Rattle.ak_cli.specs.Sides.{advanced, reviewed};
 
 use crate::lab::stores::Store;
 use ak_base::{Memory, Name, Table};
@@ -58,7 +58,7 @@ impl Side {
         let Some(ids) = free_ids(alloc, self.reviews.rows(), at.max(1), count)? else {
             return Ok(None);
         };
-        let Some(moment) = raised(at, self.moment) else {
+        let Some(moment) = advanced(at, self.moment) else {
             return Ok(None);
         };
         self.reviews.add(ids.as_slice(), card, ease)?;
@@ -70,7 +70,7 @@ impl Side {
 /// The first `count` free ids from `from` on, if there are so many.
 fn free_ids(alloc: Global, held: &RowMap, from: u64, count: u64) -> Result<Option<Vec<u64>>, Memory>
     requires { 1 ≤ from }
-    ensures ids { IfOk result (λ ids. option_map (λ ids. ids.items) ids ≡ free_ids (IDS_END - from) from count held.now) }
+    ensures ids { IfOk result (λ ids. option_map (λ ids. ids.items) ids ≡ free_ids (9_007_199_254_740_992 - from) from count held.now) }
     ensures range { IfOk result (λ ids. IfSome ids (λ ids. AreIds ids.items)) }
 {
     let mut ids = Vec::new(alloc);
@@ -87,7 +87,7 @@ fn free_ids(alloc: Global, held: &RowMap, from: u64, count: u64) -> Result<Optio
 }
 
 fn push_free(ids: &mut Vec<u64>, held: &RowMap, id: u64) -> Result<(), Memory>
-    requires { id < IDS_END }
+    requires { id < 9_007_199_254_740_992 }
     ensures { OnOk result (ids.new.items ≡ ids.old.items ++ only_free held.now id) }
 {
     if is_free(held, id)? {
@@ -97,7 +97,7 @@ fn push_free(ids: &mut Vec<u64>, held: &RowMap, id: u64) -> Result<(), Memory>
 }
 
 fn is_free(held: &RowMap, id: u64) -> Result<bool, Memory>
-    requires { id < IDS_END }
+    requires { id < 9_007_199_254_740_992 }
     ensures { IfOk result (λ free. free ≡ is_free held.now id) }
 {
     let row = held.get(review_name(id))?;
@@ -105,7 +105,7 @@ fn is_free(held: &RowMap, id: u64) -> Result<bool, Memory>
 }
 
 fn review_name(id: u64) -> Name
-    requires { id < IDS_END }
+    requires { id < 9_007_199_254_740_992 }
     ensures { result ≡ review_name id }
 {
     Name {
@@ -115,8 +115,8 @@ fn review_name(id: u64) -> Name
 }
 
 /// The moment behind one more change. None where the moment stands at its last value.
-pub(crate) fn raised(at: u64, moment: u64) -> Option<u64>
-    ensures { result ≡ raised at moment }
+pub(crate) fn advanced(at: u64, moment: u64) -> Option<u64>
+    ensures { result ≡ advanced at moment }
 {
     if moment >= LAST_MOMENT {
         return None;

@@ -1,13 +1,15 @@
-ghost use Rattle.std.specs.Prelude.{◌≡◌, ◌≤◌, [], ◌∷◌, OnOk, OnErr, IfOk, true};
+ghost use Rattle.std.specs.Prelude.{◌≡◌, ◌≢◌, ◌≤◌, [], ◌∷◌, Ok, Err, OnOk, OnErr, IfOk, true};
 ghost use Rattle.std.specs.FinMap as finite;
-ghost use Rattle.ak_keep.specs.Collections.{union};
-ghost use Rattle.ak_keep.specs.Keepers.{is_marked};
-ghost use Rattle.ak_keep.specs.MemoryKeepers.{keeping_of, kept_changed};
+ghost use Rattle.ak_keep.specs.Collections.{union, with_rows_of};
+ghost use Rattle.ak_keep.specs.Keepers.{all_known, is_marked};
+ghost use Rattle.ak_keep.specs.Marks as marks;
+ghost use Rattle.ak_keep.specs.MemoryKeepers.{health_of};
+ghost use Rattle.ak_keep.specs.declared.keepers.KeepFault.TheVariants.{Failed, Memory as WantOfMemory};
 ghost use Rattle.ak_cli.specs.NewReviews.{AreIds, IsId, new_review, with_reviews};
 ghost use Rattle.ak_cli.specs.Stores.{IsAtRest, with_reviews_in};
 
 use ak_base::{Memory, Review, Row};
-use ak_keep::{KeepFault, Keeper, MemoryKeeper, RowMap};
+use ak_keep::{KeepFault, Keeper, MemoryKeeper, RowMap, keep_or_back};
 use ak_merge::join_into;
 use std::alloc::Global;
 use std::marker::Model;
@@ -85,6 +87,8 @@ impl Store {
     }
 }
 
+/// Puts the reviews as one change, or leaves the keeper as it was.
+#[tactic(auto, using(crate::proofs::Stores::kept_on, crate::proofs::Stores::went_back))]
 fn add_reviews(keeper: &mut MemoryKeeper, ids: &[u64], card: u64, ease: u64) -> Result<(), Memory>
     requires rest { IsAtRest keeper.old }
     requires ids { AreIds ids.now }
@@ -94,44 +98,46 @@ fn add_reviews(keeper: &mut MemoryKeeper, ids: &[u64], card: u64, ease: u64) -> 
     ensures ok { OnOk result (keeper.new.kept.current.rows ≡ with_reviews ids.now card ease keeper.old.kept.current.rows) }
     ensures err { OnErr result (keeper.new.kept.current ≡ keeper.old.kept.current) }
 {
-    match keeper.mark() {
-        Ok(()) => {}
-        Err(_) => return Err(Memory),
-    }
-    match put_reviews(keeper, ids, card, ease) {
-        Ok(()) => {}
-        Err(_) => {
-            keeper.back();
-            return Err(Memory);
-        }
-    }
-    match keeper.commit() {
-        Ok(()) => return Ok(()),
-        Err(_) => return Err(Memory),
-    }
+    unfailed(keeper.mark())?;
+    let made = put_reviews(keeper, ids, card, ease);
+    unfailed(keep_or_back(keeper, made))
 }
 
+/// Joins the other rows as one change, or leaves the keeper as it was.
+#[tactic(auto, using(crate::proofs::Stores::kept_on, crate::proofs::Stores::went_back))]
 fn add_others(keeper: &mut MemoryKeeper, from: &MemoryKeeper) -> Result<(), Memory>
     requires rest { IsAtRest keeper.old }
     ensures rest { IsAtRest keeper.new }
     ensures ok { OnOk result (keeper.new.kept.current.rows ≡ union keeper.old.kept.current.rows from.now.kept.current.rows) }
     ensures err { OnErr result (keeper.new.kept.current ≡ keeper.old.kept.current) }
 {
-    match keeper.mark() {
-        Ok(()) => {}
-        Err(_) => return Err(Memory),
+    unfailed(keeper.mark())?;
+    let made = join_rows(keeper, from);
+    unfailed(keep_or_back(keeper, made))
+}
+
+/// What a keeper without calls that fail answers: it is refused for want of memory alone.
+fn unfailed(answer: Result<(), KeepFault>) -> Result<(), Memory>
+    requires { answer ≢ Err Failed }
+    ensures ok { OnOk result (answer ≡ Ok tt) }
+    ensures err { OnErr result (answer ≡ Err WantOfMemory) }
+{
+    match answer {
+        Ok(()) => Ok(()),
+        Err(KeepFault::Memory) => Err(Memory),
+        // A calm keeper does not fail.
+        Err(KeepFault::Failed) => unreachable!(),
     }
-    match join_into(keeper, from) {
-        Ok(()) => {}
-        Err(_) => {
-            keeper.back();
-            return Err(Memory);
-        }
-    }
-    match keeper.commit() {
-        Ok(()) => return Ok(()),
-        Err(_) => return Err(Memory),
-    }
+}
+
+/// Puts in the other rows under names that are not held.
+fn join_rows(keeper: &mut MemoryKeeper, from: &MemoryKeeper) -> Result<(), KeepFault>
+    ensures ok { OnOk result (keeper.new ≡ record keeper.old { kept = marks.changed (with_rows_of from.now.kept.current) keeper.old.kept }) }
+    ensures err { OnErr result (keeper.new ≡ keeper.old) }
+    ensures unfailed { result ≢ Err Failed }
+{
+    join_into(keeper, from)?;
+    Ok(())
 }
 
 fn put_reviews(
@@ -140,13 +146,14 @@ fn put_reviews(
     card: u64,
     ease: u64,
 ) -> Result<(), KeepFault>
-    requires marked { is_marked (keeping_of keeper.old.kept) ≡ true }
+    requires marked { is_marked (all_known keeper.old.kept) ≡ true }
     requires ids { AreIds ids.now }
     requires card { IsId card }
     requires ease { ease ≤ 4 }
-    ensures ok { OnOk result (keeper.new.kept ≡ kept_changed (with_reviews_in ids.now card ease) keeper.old.kept) }
+    ensures ok { OnOk result (keeper.new.kept ≡ marks.changed (with_reviews_in ids.now card ease) keeper.old.kept) }
     ensures mark { keeper.new.kept.mark ≡ keeper.old.kept.mark }
     ensures fails { keeper.new.fails ≡ keeper.old.fails }
+    ensures unfailed { (health_of keeper.old).calm ≡ true → result ≢ Err Failed }
 {
     for id in ids {
         put_review(keeper, *id, card, ease)?;
@@ -155,13 +162,14 @@ fn put_reviews(
 }
 
 fn put_review(keeper: &mut MemoryKeeper, id: u64, card: u64, ease: u64) -> Result<(), KeepFault>
-    requires marked { is_marked (keeping_of keeper.old.kept) ≡ true }
+    requires marked { is_marked (all_known keeper.old.kept) ≡ true }
     requires id { IsId id }
     requires card { IsId card }
     requires ease { ease ≤ 4 }
-    ensures ok { OnOk result (keeper.new.kept ≡ kept_changed (with_reviews_in (id ∷ []) card ease) keeper.old.kept) }
+    ensures ok { OnOk result (keeper.new.kept ≡ marks.changed (with_reviews_in (id ∷ []) card ease) keeper.old.kept) }
     ensures mark { keeper.new.kept.mark ≡ keeper.old.kept.mark }
     ensures fails { keeper.new.fails ≡ keeper.old.fails }
+    ensures unfailed { (health_of keeper.old).calm ≡ true → result ≢ Err Failed }
 {
     keeper.put(new_review(id, card, ease))
 }

@@ -1,7 +1,7 @@
 ghost use Rattle.std.specs.Prelude.{◌≡◌, IfOk};
 ghost use Rattle.ak_cli.specs.Syncs.{joined_side, synced};
 
-use crate::lab::sides::{Side, raised};
+use crate::lab::sides::{Side, advanced};
 use ak_base::Memory;
 use ak_merge::tie_between;
 
@@ -28,7 +28,7 @@ pub(crate) fn sync_sides(at: u64, device: &Side, server: &Side) -> Result<SyncEn
     if device.moment == server.moment {
         return Ok(SyncEnd::NoChanges);
     }
-    let Some(moment) = raised(at, device.moment.max(server.moment)) else {
+    let Some(moment) = advanced(at, device.moment.max(server.moment)) else {
         return Ok(SyncEnd::MomentsEnd);
     };
     Ok(SyncEnd::Finished {

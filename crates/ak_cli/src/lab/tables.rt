@@ -2,13 +2,14 @@ ghost use Rattle.std.specs.Prelude.{◌≡◌, [], ◌∷◌, ◌++◌, ◌<◌,
 ghost use Rattle.std.specs.Io.KnownBytes.{Appends};
 ghost use Rattle.ak_base.specs.declared.names.Table.TheVariants as tables;
 ghost use Rattle.ak_cli.specs.declared.lab.tables.TheConstants.{PAGE};
-ghost use Rattle.ak_io.specs.Prints.{PrintCause};
 ghost use Rattle.ak_io.specs.Scripts.{AppendsPart, written_lines};
 ghost use Rattle.ak_keep.specs.Collections.{rows_past, last_id};
+ghost use Rattle.ak_cli.specs.Steps.{PrintCause};
 ghost use Rattle.ak_cli.specs.Tables.{row_text, shown_reviews};
 
+use crate::lab::faults::PrintFault;
 use ak_base::{List, Memory, Name, Row, Table, Text};
-use ak_io::{PrintFault, Sink, print_line};
+use ak_io::{Sink, print_line};
 use ak_json::{whole_numbers_are_written, write_row, write_text};
 use ak_keep::RowMap;
 use std::alloc::Global;
@@ -24,7 +25,7 @@ pub(crate) fn print_reviews<O: Sink>(
 ) -> Result<(), PrintFault>
     ensures ok { OnOk result (Appends (O.written out.old) (O.written out.new) (written_lines (shown_reviews reviews.now))) }
     ensures part { OnErr result (AppendsPart (O.written out.old) (O.written out.new) (written_lines (shown_reviews reviews.now))) }
-    ensures cause { PrintCause (O.fault_count out.old) (O.fault_count out.new) result }
+    ensures cause { PrintCause (O.health out.old) (O.health out.new) result }
 {
     let mut past = Name {
         table: Table::Review,
@@ -63,7 +64,7 @@ fn last_name(past: Name, rows: &[Row]) -> Name
 fn print_rows<O: Sink>(alloc: Global, out: &mut O, rows: &[Row]) -> Result<(), PrintFault>
     ensures ok { OnOk result (Appends (O.written out.old) (O.written out.new) (written_lines (map row_text rows.now))) }
     ensures part { OnErr result (AppendsPart (O.written out.old) (O.written out.new) (written_lines (map row_text rows.now))) }
-    ensures cause { PrintCause (O.fault_count out.old) (O.fault_count out.new) result }
+    ensures cause { PrintCause (O.health out.old) (O.health out.new) result }
 {
     for row in rows {
         print_row(alloc, out, row)?;
@@ -74,10 +75,11 @@ fn print_rows<O: Sink>(alloc: Global, out: &mut O, rows: &[Row]) -> Result<(), P
 fn print_row<O: Sink>(alloc: Global, out: &mut O, row: &Row) -> Result<(), PrintFault>
     ensures ok { OnOk result (Appends (O.written out.old) (O.written out.new) (row_text row.now ++ 10 ∷ [])) }
     ensures part { OnErr result (AppendsPart (O.written out.old) (O.written out.new) (row_text row.now ++ 10 ∷ [])) }
-    ensures cause { PrintCause (O.fault_count out.old) (O.fault_count out.new) result }
+    ensures cause { PrintCause (O.health out.old) (O.health out.new) result }
 {
     let text = row_text(alloc, row)?;
-    print_line(alloc, out, text.as_str().as_bytes())
+    print_line(out, text.as_str().as_bytes())?;
+    Ok(())
 }
 
 /// A row as the lab shows it: its JSON text, with the update sequence number 0.

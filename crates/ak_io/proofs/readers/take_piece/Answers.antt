@@ -1,6 +1,6 @@
 use Rattle.std.proofs.Common.{◌≡◌, ℕ, List, ◌++◌, arith, length, take, drop, ap, ◌∙◌}
 use Rattle.std.proofs.lemmas.List.{length-take}
-use Rattle.ak_io.specs.Lines.{first_line, first_size, taken}
+use Rattle.ak_io.specs.Lines.{first_line, first_size, as_read}
 use Rattle.ak_io.proofs.FirstLines.{take_first, drop_first, size_le, line_le_size, unended, ended_by_size, unended_by_size}
 use Rattle.ak_io.proofs.readers.take_piece.Goals as goal
 
@@ -27,7 +27,7 @@ returns-then-length-size-clause-piece c =
 
 pub returns-then-length-size-clause-line : goal.returns-then-length-size-clause-line
 returns-then-length-size-clause-line c =
-    λ _ done kept. c.in_ok-append.ensures done kept ∙ ap (λ l. taken (done ++ l)) (front _ c.args.window.now _ c.bytes-ahead.ensures c.first_piece-length.ensures.line)
+    λ _ done kept. c.in_ok-append.ensures done kept ∙ ap (λ l. as_read (done ++ l)) (front _ c.args.window.now _ c.bytes-ahead.ensures c.first_piece-length.ensures.line)
 
 pub returns-clause-piece : goal.returns-clause-piece
 returns-clause-piece c =
@@ -40,4 +40,4 @@ returns-clause-piece c =
 
 pub returns-clause-line : goal.returns-clause-line
 returns-clause-line c =
-    λ _ done kept. c.in_ok-append.ensures done kept ∙ ap (λ l. taken (done ++ l)) (front _ c.args.window.now _ c.bytes-ahead.ensures c.first_piece-length.ensures.line)
+    λ _ done kept. c.in_ok-append.ensures done kept ∙ ap (λ l. as_read (done ++ l)) (front _ c.args.window.now _ c.bytes-ahead.ensures c.first_piece-length.ensures.line)

@@ -6,9 +6,9 @@ pub returns : goal.returns
 returns c =
     put_together
     (view c.args.value.now)
-    (view c.inner.result.now)
-    (view c.inner-2.result.now)
-    (view c.inner-3.result.now)
+    (view c.inner_at.result.now)
+    (view c.inner_at-2.result.now)
+    (view c.inner_at-3.result.now)
     (members_view c.in_ok-members.members.entries)
     (members_view c.put_group.new.members.entries)
     (members_view c.put_group-2.new.members.entries)
@@ -17,12 +17,12 @@ returns c =
     (members_view c.in_ok-rev.rev.entries)
     (members_view c.in_ok-lapse.lapse.entries)
     c.in_ok-members.ensures
-    c.inner.ensures
+    c.inner_at.ensures
     c.in_ok-new.ensures
     c.in_ok-put_group.ensures
-    c.inner-2.ensures
+    c.inner_at-2.ensures
     c.in_ok-rev.ensures
     c.in_ok-put_group-2.ensures
-    c.inner-3.ensures
+    c.inner_at-3.ensures
     c.in_ok-lapse.ensures
     c.in_ok-put_group-3.ensures

@@ -1,7 +1,8 @@
 use Rattle.std.proofs.Common.{is_some, ap, sym, ◌∙◌}
 use Rattle.ak_base.specs.Rows.{name_of}
 use Rattle.ak_base.specs.declared.names.Name.{Name}
-use Rattle.ak_keep.specs.Entries.{row_at, held_filled}
+use Rattle.ak_keep.specs.Entries.{row_at}
+use Rattle.ak_keep.proofs.RowsByName.{held_filled}
 use Rattle.ak_keep.proofs.entries.add_one.Goals as goal
 
 pub returns-then-holds : goal.returns-then-holds

@@ -1,6 +1,7 @@
 use Rattle.std.proofs.Common.{[], ◌∷◌, sym, ◌∙◌, subst}
 use Rattle.ak_base.specs.declared.rows.Row.{Row}
-use Rattle.ak_keep.specs.Entries.{IsFilled, put_filled}
+use Rattle.ak_keep.specs.Entries.{IsFilled}
+use Rattle.ak_keep.proofs.RowsByName.{put_filled}
 use Rattle.ak_keep.proofs.entries.fill_one.Goals as goal
 
 pub returns : goal.returns

@@ -1,5 +1,5 @@
 use Rattle.std.proofs.Common.{◌<◌, ◌^◌, is_some, sym, ap, subst, ◌∙◌}
-use Rattle.ak_keep.specs.Counts.{counts-fit, counts-put}
+use Rattle.ak_keep.proofs.Counting.{counts-fit, counts-put}
 use Rattle.ak_keep.proofs.indexed.put_row.Goals as goal
 
 pub count_in-requires : goal.count_in-requires

@@ -1,5 +1,5 @@
 use Rattle.std.proofs.Common.{is_some, sym, ap}
-use Rattle.ak_keep.specs.Counts.{counts-held, counts-take}
+use Rattle.ak_keep.proofs.Counting.{counts-held, counts-take}
 use Rattle.ak_keep.proofs.indexed.take_row.Goals as goal
 
 pub count_out-requires : goal.count_out-requires

@@ -1,7 +1,8 @@
 use Rattle.std.proofs.Common.{◌≡◌, ℤ, true, List, ◌∷◌, ◌++◌, map, sym, subst, ◌∙◌}
 use Rattle.std.specs.Ordering.{int_eq}
 use Rattle.ak_base.specs.declared.names.Name.{Name}
-use Rattle.ak_keep.specs.NoteCards.{keys_from, names_run, run_goes_on}
+use Rattle.ak_keep.specs.NoteCards.{keys_from, names_run}
+use Rattle.ak_keep.proofs.CardRuns.{run_goes_on}
 use Rattle.ak_keep.specs.NoteKeys.{NoteKey}
 use Rattle.ak_keep.proofs.note_cards.ids_of.Goals as goal
 

@@ -5,7 +5,8 @@ use Rattle.std.specs.declared.ops.Bound.TheVariants.{Excluded, Unbounded}
 use Rattle.ak_base.specs.Names.{name_cmp, table_place}
 use Rattle.ak_base.specs.declared.names.Name.{Name}
 use Rattle.ak_base.specs.declared.rows.Row.{Row}
-use Rattle.ak_keep.specs.Pages.{page_goes_on, page_fits, first_run, is_picked}
+use Rattle.ak_keep.specs.Pages.{first_run, is_picked}
+use Rattle.ak_keep.proofs.Paging.{page_goes_on, page_fits}
 use Rattle.ak_keep.proofs.pages.page_of.Goals as goal
 
 pub loop-name-preserved : goal.loop-name-preserved

@@ -1,4 +1,5 @@
-use Rattle.std.proofs.Common.{◌≡◌, ◌≤◌, drop, find}
+use Rattle.std.proofs.Common.{◌≡◌, drop, find}
+use Rattle.ak_faults.specs.Causes.{GoesOn}
 use Rattle.ak_keep.specs.Keepers.{WhereTold}
 use Rattle.ak_merge.specs.Soundness.{is_bad}
 use Rattle.ak_merge.proofs.checks.bad_among.Given as goal
@@ -6,7 +7,8 @@ use Rattle.ak_merge.proofs.checks.bad_among.Given as goal
 -- the rows that were passed are not bad
 abbrev pub invariant-loop-row : goal.invariant-loop-row
 invariant-loop-row g l = record {
-  first : WhereTold (g.K.Keeper.keeping l.fn.keeper) (λ c. find (is_bad l.part c.rows) (drop l.row-index l.among) ≡ find (is_bad l.part c.rows) l.among);
-  same : g.K.Keeper.keeping l.keeper ≡ g.K.Keeper.keeping l.fn.keeper;
-  later : g.K.Keeper.fault_count l.fn.keeper ≤ g.K.Keeper.fault_count l.keeper;
+  first : WhereTold (g.L.Lookup.keeping l.fn.from) (λ h. find (is_bad l.part h.rows) (drop l.row-index l.among) ≡ find (is_bad l.part h.rows) l.among);
+  kept : g.L.Lookup.kept l.from ≡ g.L.Lookup.kept l.fn.from;
+  same : g.L.Lookup.keeping l.from ≡ g.L.Lookup.keeping l.fn.from;
+  goes : GoesOn (g.L.Lookup.health l.fn.from) (g.L.Lookup.health l.from);
 }

@@ -1,4 +1,5 @@
-use Rattle.std.proofs.Common.{◌≡◌, ◌≤◌}
+use Rattle.std.proofs.Common.{◌≡◌}
+use Rattle.ak_faults.specs.Causes.{GoesOn}
 use Rattle.ak_keep.specs.Keepers.{WhereTold}
 use Rattle.ak_keep.specs.Walks.{most_pages}
 use Rattle.ak_merge.proofs.Passing.{HasPassed}
@@ -7,9 +8,10 @@ use Rattle.ak_merge.proofs.checks.first_bad.Given as goal
 -- the rows that were passed are not bad
 abbrev pub invariant-pages : goal.invariant-pages
 invariant-pages g l = record {
-  first : WhereTold (g.K.Keeper.keeping l.fn.keeper) (λ c. HasPassed l.part l.walk c.rows);
-  same : g.K.Keeper.keeping l.keeper ≡ g.K.Keeper.keeping l.fn.keeper;
-  later : g.K.Keeper.fault_count l.fn.keeper ≤ g.K.Keeper.fault_count l.keeper;
+  first : WhereTold (g.R.Lookup.keeping l.fn.from) (λ h. HasPassed l.part l.walk h.rows);
+  kept : g.R.Lookup.kept l.from ≡ g.R.Lookup.kept l.fn.from;
+  same : g.R.Lookup.keeping l.from ≡ g.R.Lookup.keeping l.fn.from;
+  goes : GoesOn (g.R.Lookup.health l.fn.from) (g.R.Lookup.health l.from);
 }
 
 abbrev pub decreases-pages : goal.decreases-pages

@@ -1,4 +1,4 @@
-use Rattle.ak_merge.proofs.SettlingLaws.{edits_keep_links}
+use Rattle.ak_merge.proofs.EditLaws.{edits_keep_links}
 use Rattle.ak_merge.proofs.edit_laws.edits_keep_links.Goals as goal
 
 pub returns : goal.returns

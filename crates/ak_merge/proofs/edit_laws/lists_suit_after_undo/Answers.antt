@@ -1,4 +1,4 @@
-use Rattle.ak_merge.proofs.StepLists.{lists_suit_after_undo}
+use Rattle.ak_merge.proofs.ReversalLists.{lists_suit_after_undo}
 use Rattle.ak_merge.proofs.edit_laws.lists_suit_after_undo.Goals as goal
 
 pub returns : goal.returns

@@ -1,4 +1,4 @@
-use Rattle.ak_merge.proofs.StepLists.{oldest_may_go}
+use Rattle.ak_merge.proofs.ReversalLists.{oldest_may_go}
 use Rattle.ak_merge.proofs.edit_laws.oldest_may_go.Goals as goal
 
 pub returns : goal.returns

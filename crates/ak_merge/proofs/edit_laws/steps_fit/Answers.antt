@@ -1,4 +1,4 @@
-use Rattle.ak_merge.proofs.StepLaws.{steps_fit}
+use Rattle.ak_merge.proofs.ReversalLaws.{steps_fit}
 use Rattle.ak_merge.proofs.edit_laws.steps_fit.Goals as goal
 
 pub returns : goal.returns

@@ -6,5 +6,5 @@ abbrev pub invariant-loop-letter : goal.invariant-loop-letter
 invariant-loop-letter l =
     record {
       size : length l.row ≡ length l.fn.row;
-      whole : advanced_by (drop l.letter-index l.letters) l.row l.marks ≡ advanced_by l.letters l.fn.row l.marks;
+      whole : advanced_by (drop l.letter-index l.letters) l.row l.pattern ≡ advanced_by l.letters l.fn.row l.pattern;
     }

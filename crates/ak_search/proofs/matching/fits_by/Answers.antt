@@ -12,5 +12,5 @@ may_end-requires c = search (rules, size_falses)
 pub returns : goal.returns
 returns c =
     c.may_end.ensures
-    ∙ ap (λ row. ended false row c.args.marks.now) (c.advance_by.ensures.row ∙ ap (λ row. advanced_by c.args.letters.now row c.args.marks.now) c.requires)
-    ∙ one_pass c.args.marks.now c.args.letters.now
+    ∙ ap (λ row. ended false row c.args.pattern.now) (c.advance_by.ensures.row ∙ ap (λ row. advanced_by c.args.letters.now row c.args.pattern.now) c.requires)
+    ∙ one_pass c.args.pattern.now c.args.letters.now

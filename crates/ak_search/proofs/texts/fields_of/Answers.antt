@@ -1,5 +1,6 @@
 use Rattle.std.proofs.Common.{refl, arith}
-use Rattle.ak_search.specs.Looks.{fields_in, filled}
+use Rattle.ak_base.specs.NoteTexts.{fields_in}
+use Rattle.ak_search.specs.CardFacts.{filled}
 use Rattle.ak_search.proofs.Looking.{fills, filled_up}
 use Rattle.ak_search.proofs.texts.fields_of.Goals as goal
 

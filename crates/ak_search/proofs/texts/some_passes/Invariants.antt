@@ -7,4 +7,4 @@ use Rattle.ak_search.proofs.texts.some_passes.Given as goal
 -- the fields that are left decide
 abbrev pub invariant-loop-field : goal.invariant-loop-field
 invariant-loop-field l =
-    list_any (λ (text : List ℕ). passes l.way l.marks (stripped text)) (map (λ text. text.now) (drop l.field-index l.fields)) ≡ list_any (λ (text : List ℕ). passes l.way l.marks (stripped text)) (map (λ text. text.now) l.fields)
+    list_any (λ (text : List ℕ). passes l.mode l.pattern (stripped text)) (map (λ text. text.now) (drop l.field-index l.fields)) ≡ list_any (λ (text : List ℕ). passes l.mode l.pattern (stripped text)) (map (λ text. text.now) l.fields)

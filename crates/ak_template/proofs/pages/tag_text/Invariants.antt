@@ -1,14 +1,15 @@
 use Rattle.std.proofs.Common.{◌≡◌, ◌≤◌, length, take, map}
-use Rattle.ak_template.specs.Pages.{tag_text, RunOn}
+use Rattle.ak_template.specs.Pages.{tag_text, tag_filters}
 use Rattle.ak_template.specs.contracts.pages.tag_text as clauses
+use Rattle.ak_template.proofs.Turning.{Midway}
 use Rattle.ak_template.proofs.pages.tag_text.Given as goal
 
--- the filters that are left make of the text what all make of the value
+-- the filters that are left make of the text what all make of the value; all others were applied
 abbrev pub invariant-loop-left : goal.invariant-loop-left
 invariant-loop-left g l = record {
   within : l.left ≤ length l.names;
   same : tag_text l.face (take l.left l.names) l.text (map (λ b. ((clauses.dyn-1-ghosts g.dyn-1).0.entry b.vtable).1.meaning b.value) l.filters.items) ≡ tag_text l.face l.names l.value (map (λ b. ((clauses.dyn-1-ghosts g.dyn-1).0.entry b.vtable).1.meaning b.value) l.fn.filters.items);
-  run : RunOn (map (λ b. ((clauses.dyn-1-ghosts g.dyn-1).0.entry b.vtable).1.meaning b.value) l.fn.filters.items) (map (λ b. ((clauses.dyn-1-ghosts g.dyn-1).0.entry b.vtable).1.meaning b.value) l.filters.items);
+  midway : Midway (tag_filters (take l.left l.names)) (tag_filters l.names) (map (λ b. ((clauses.dyn-1-ghosts g.dyn-1).0.entry b.vtable).1.meaning b.value) l.fn.filters.items) (map (λ b. ((clauses.dyn-1-ghosts g.dyn-1).0.entry b.vtable).1.meaning b.value) l.filters.items);
 }
 
 abbrev pub decreases-loop-left : goal.decreases-loop-left

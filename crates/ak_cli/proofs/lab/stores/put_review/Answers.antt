@@ -1,5 +1,5 @@
 use Rattle.std.proofs.Common.{sym, subst}
-use Rattle.ak_keep.specs.Collections.{IsChecked}
+use Rattle.ak_base.specs.Rows.{IsChecked}
 use Rattle.ak_cli.proofs.Stores.{new_review_checked}
 use Rattle.ak_cli.proofs.lab.stores.put_review.Goals as goal
 

@@ -1,4 +1,4 @@
-use Rattle.std.proofs.Common.{arith}
+use Rattle.ak_faults.proofs.Healths.{goes_further}
 use Rattle.ak_cli.proofs.Printing.{on_err, page_printed, page_stopped}
 use Rattle.ak_cli.proofs.lab.tables.print_reviews.Goals as goal
 
@@ -10,5 +10,5 @@ pub pages-preserved : goal.pages-preserved
 pages-preserved g c = record {
   so_far = rw (c.last_name-past.ensures, c.as_slice-rows.ensures)
       (page_printed _ _ _ _ _ _ _ c.in_ok-page.ensures.rest c.pages.invariant.so_far (rw c.as_slice-rows.ensures at c.in_ok-print_rows.ensures.ok));
-  later = omega (arith, c.in_ok-print_rows.ensures.cause.later, c.pages.invariant.later);
+  goes = goes_further c.pages.invariant.goes c.in_ok-print_rows.ensures.cause.goes;
 }

@@ -1,4 +1,5 @@
-use Rattle.std.proofs.Common.{◌≤◌, map, length}
+use Rattle.std.proofs.Common.{map, length}
+use Rattle.ak_faults.specs.Causes.{GoesOn}
 use Rattle.ak_base.specs.declared.names.Table.TheVariants as tables
 use Rattle.ak_io.specs.Scripts.{Reached, written_lines}
 use Rattle.ak_keep.specs.Collections.{rows_past}
@@ -9,7 +10,7 @@ use Rattle.ak_cli.proofs.lab.tables.print_reviews.Given as goal
 abbrev pub invariant-pages : goal.invariant-pages
 invariant-pages g l = record {
   so_far : Reached (g.O.Sink.written l.fn.out) (g.O.Sink.written l.out) (written_lines (shown_reviews l.reviews)) (written_lines (map row_text (rows_past tables.Review l.past.id l.reviews)));
-  later : g.O.Sink.fault_count l.fn.out ≤ g.O.Sink.fault_count l.out;
+  goes : GoesOn (g.O.End.health l.fn.out) (g.O.End.health l.out);
 }
 
 abbrev pub decreases-pages : goal.decreases-pages

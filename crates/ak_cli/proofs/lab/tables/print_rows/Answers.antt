@@ -1,4 +1,5 @@
 use Rattle.std.proofs.Common.{arith}
+use Rattle.ak_faults.proofs.Healths.{goes_further}
 use Rattle.ak_cli.proofs.Printing.{on_err, row_printed, row_stopped}
 use Rattle.ak_cli.proofs.lab.tables.print_rows.Goals as goal
 
@@ -9,5 +10,5 @@ returns-in_err-print_row-clause-part g c =
 pub loop-row-preserved : goal.loop-row-preserved
 loop-row-preserved g c = record {
   so_far = row_printed _ _ _ _ c.args.rows.now c.loop-row.row-index _ (omega arith) c.row-item.is c.loop-row.invariant.so_far c.in_ok-print_row.ensures.ok;
-  later = omega (arith, c.in_ok-print_row.ensures.cause.later, c.loop-row.invariant.later);
+  goes = goes_further c.loop-row.invariant.goes c.in_ok-print_row.ensures.cause.goes;
 }

@@ -1,4 +1,5 @@
-use Rattle.std.proofs.Common.{◌≤◌, drop, map}
+use Rattle.std.proofs.Common.{drop, map}
+use Rattle.ak_faults.specs.Causes.{GoesOn}
 use Rattle.ak_io.specs.Scripts.{Reached, written_lines}
 use Rattle.ak_cli.specs.Tables.{row_text}
 use Rattle.ak_cli.proofs.lab.tables.print_rows.Given as goal
@@ -7,5 +8,5 @@ use Rattle.ak_cli.proofs.lab.tables.print_rows.Given as goal
 abbrev pub invariant-loop-row : goal.invariant-loop-row
 invariant-loop-row g l = record {
   so_far : Reached (g.O.Sink.written l.fn.out) (g.O.Sink.written l.out) (written_lines (map row_text l.rows)) (written_lines (map row_text (drop l.row-index l.rows)));
-  later : g.O.Sink.fault_count l.fn.out ≤ g.O.Sink.fault_count l.out;
+  goes : GoesOn (g.O.End.health l.fn.out) (g.O.End.health l.out);
 }

@@ -1,6 +1,6 @@
 use Rattle.std.proofs.Common.{ap, ◌∙◌}
 use Rattle.ak_keep.specs.Collections.{cards_among}
-use Rattle.ak_keep.specs.NoteCards.{run-cards}
+use Rattle.ak_keep.proofs.CardRuns.{run-cards}
 use Rattle.ak_keep.proofs.indexed.IndexedRows.cards_of.Goals as goal
 
 pub returns-clause-ids : goal.returns-clause-ids

@@ -1,5 +1,6 @@
 use Rattle.std.proofs.Common.{ℤ, Option, false, subst}
-use Rattle.ak_keep.specs.NoteKeys.{AreSetWhere, is_key_of, keys-gone}
+use Rattle.ak_keep.specs.NoteKeys.{AreSetWhere, is_key_of}
+use Rattle.ak_keep.proofs.CardKeys.{keys-gone}
 use Rattle.ak_keep.proofs.indexed.IndexedRows.take.Goals as goal
 
 pub invariant_of-self : goal.invariant_of-self

@@ -1,6 +1,6 @@
 use Rattle.std.proofs.Common.{None, sym, subst}
 use Rattle.ak_keep.specs.Collections.{IsWellFormed}
-use Rattle.ak_keep.specs.WellFormed.{formed-empty}
+use Rattle.ak_keep.proofs.Forming.{formed-empty}
 use Rattle.ak_keep.proofs.memory_collections.MemoryCollection.empty.Goals as goal
 
 pub invariant_of-result : goal.invariant_of-result

@@ -1,6 +1,6 @@
 use Rattle.std.proofs.Common.{sym, subst}
 use Rattle.ak_keep.specs.Collections.{IsWellFormed}
-use Rattle.ak_keep.specs.WellFormed.{formed-with_rows_of}
+use Rattle.ak_keep.proofs.Forming.{formed-with_rows_of}
 use Rattle.ak_keep.proofs.memory_collections.MemoryCollection.fill.Goals as goal
 
 pub invariant_of-self-2 : goal.invariant_of-self-2

@@ -1,4 +1,4 @@
-use Rattle.ak_keep.specs.WellFormed.{checked-get}
+use Rattle.ak_keep.proofs.Forming.{checked-get}
 use Rattle.ak_keep.proofs.memory_collections.MemoryCollection.get.Goals as goal
 
 pub returns-clause-checked : goal.returns-clause-checked

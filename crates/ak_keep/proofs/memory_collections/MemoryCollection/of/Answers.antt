@@ -1,6 +1,6 @@
 use Rattle.std.proofs.Common.{Some, sym, subst}
 use Rattle.ak_keep.specs.Collections.{IsWellFormed}
-use Rattle.ak_keep.specs.WellFormed.{formed-made_of}
+use Rattle.ak_keep.proofs.Forming.{formed-made_of}
 use Rattle.ak_keep.proofs.memory_collections.MemoryCollection.of.Goals as goal
 
 pub invariant_of-result : goal.invariant_of-result

@@ -1,5 +1,5 @@
 use Rattle.std.proofs.Common.{w64, of_z, to_z}
-use Rattle.ak_keep.specs.WellFormed.{checked-page}
+use Rattle.ak_keep.proofs.Forming.{checked-page}
 use Rattle.ak_keep.proofs.memory_collections.MemoryCollection.page.Goals as goal
 
 pub returns-clause-checked : goal.returns-clause-checked

@@ -1,5 +1,5 @@
 use Rattle.std.proofs.Common.{w64, of_z, to_z}
-use Rattle.ak_keep.specs.WellFormed.{checked-wanted}
+use Rattle.ak_keep.proofs.Forming.{checked-wanted}
 use Rattle.ak_keep.proofs.memory_collections.MemoryCollection.pending.Goals as goal
 
 pub returns-clause-checked : goal.returns-clause-checked

@@ -1,6 +1,6 @@
 use Rattle.std.proofs.Common.{sym, subst}
 use Rattle.ak_keep.specs.Collections.{IsWellFormed}
-use Rattle.ak_keep.specs.WellFormed.{formed-with_row}
+use Rattle.ak_keep.proofs.Forming.{formed-with_row}
 use Rattle.ak_keep.proofs.memory_collections.MemoryCollection.put.Goals as goal
 
 pub invariant_of-self-2 : goal.invariant_of-self-2

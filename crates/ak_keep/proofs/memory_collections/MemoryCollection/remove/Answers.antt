@@ -1,6 +1,6 @@
 use Rattle.std.proofs.Common.{sym, subst}
 use Rattle.ak_keep.specs.Collections.{IsWellFormed}
-use Rattle.ak_keep.specs.WellFormed.{formed-without}
+use Rattle.ak_keep.proofs.Forming.{formed-without}
 use Rattle.ak_keep.proofs.memory_collections.MemoryCollection.remove.Goals as goal
 
 pub invariant_of-self : goal.invariant_of-self

@@ -2,9 +2,9 @@ use Rattle.std.proofs.Common.{◌≡◌, sym, ap, subst, ◌∙◌, w64}
 use Rattle.std.proofs.lemmas.Int.{to_z-of_z}
 use Rattle.std.specs.List.Sorted.{IsStrictlySortedBy}
 use Rattle.std.specs.Ordering.{int_cmp}
-use Rattle.ak_keep.specs.Cards.{cards_of-sorted}
+use Rattle.ak_keep.proofs.CardIds.{cards_of-sorted}
 use Rattle.ak_keep.specs.Collections.{StandsUnderNames, cards_among, cards_of}
-use Rattle.ak_keep.specs.Entries.{entries-from_entries}
+use Rattle.ak_keep.proofs.RowsByName.{entries-from_entries}
 use Rattle.ak_keep.proofs.row_maps.RowMap.cards_of.Goals as goal
 
 given : (c : goal.In_ok-ids) → c.in_ok-ids.ids ≡ cards_of c.args.note c.args.self.now

@@ -1,5 +1,5 @@
 use Rattle.std.proofs.Common.{◌∙◌}
-use Rattle.ak_keep.specs.Entries.{filled_from_none, named-same}
+use Rattle.ak_keep.proofs.RowsByName.{filled_from_none, named-same}
 use Rattle.ak_keep.proofs.row_maps.RowMap.copy.Goals as goal
 
 pub invariant_of-result : goal.invariant_of-result

@@ -1,7 +1,7 @@
 use Rattle.std.proofs.Common.{ap, ◌∙◌}
 use Rattle.std.specs.FinMap as map
 use Rattle.ak_keep.specs.Collections.{Rows, union}
-use Rattle.ak_keep.specs.Entries.{filled_by, filled_from_none, named-union, named-same}
+use Rattle.ak_keep.proofs.RowsByName.{filled_by, filled_from_none, named-union, named-same}
 use Rattle.ak_keep.proofs.row_maps.RowMap.filled.Goals as goal
 
 pub invariant_of-result : goal.invariant_of-result

@@ -1,7 +1,7 @@
 use Rattle.std.proofs.Common.{◌≡◌, Some, sym, ap, subst, ◌∙◌}
 use Rattle.std.specs.FinMap as map
 use Rattle.ak_keep.specs.Collections.{StandsUnderNames}
-use Rattle.ak_keep.specs.Entries.{get-row_at, named-get}
+use Rattle.ak_keep.proofs.RowsByName.{get-row_at, named-get}
 use Rattle.ak_keep.proofs.row_maps.RowMap.get.Goals as goal
 
 found : (c : goal.In_ok-copy-in-Some) → Some c.in_ok-copy-in-Some.copy ≡ map.get c.args.self.now c.args.name

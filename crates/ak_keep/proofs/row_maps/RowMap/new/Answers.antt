@@ -1,7 +1,7 @@
 use Rattle.std.proofs.Common.{ap}
 use Rattle.std.specs.FinMap as map
 use Rattle.ak_base.specs.Names.{name_cmp}
-use Rattle.ak_keep.specs.Entries.{named-empty, named-same}
+use Rattle.ak_keep.proofs.RowsByName.{named-empty, named-same}
 use Rattle.ak_keep.proofs.row_maps.RowMap.new.Goals as goal
 
 pub invariant_of-result : goal.invariant_of-result

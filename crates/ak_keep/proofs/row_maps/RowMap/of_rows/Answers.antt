@@ -1,4 +1,4 @@
-use Rattle.ak_keep.specs.Entries.{filled_from_none, named-same, named-rows_of}
+use Rattle.ak_keep.proofs.RowsByName.{filled_from_none, named-same, named-rows_of}
 use Rattle.ak_keep.proofs.row_maps.RowMap.of_rows.Goals as goal
 
 pub invariant_of-result : goal.invariant_of-result

@@ -5,7 +5,8 @@ use Rattle.std.specs.declared.ops.Bound.TheVariants.{Excluded, Unbounded}
 use Rattle.std.specs.FinMap.{from_entries}
 use Rattle.ak_base.specs.Names.{name_cmp}
 use Rattle.ak_keep.specs.Collections.{StandsUnderNames, rows_past}
-use Rattle.ak_keep.specs.Pages.{first_run, is_picked, any_picked, page_of_entries, page_ascends, page_whole, page_rest}
+use Rattle.ak_keep.specs.Pages.{first_run, is_picked}
+use Rattle.ak_keep.proofs.Paging.{any_picked, page_of_entries, page_ascends, page_whole, page_rest}
 use Rattle.ak_keep.proofs.row_maps.RowMap.page.Goals as goal
 
 paged : (c : goal.In_ok-page) → c.in_ok-page.page ≡ take c.args.limit (rows_past c.args.table c.args.past c.args.self.now)

@@ -5,7 +5,8 @@ use Rattle.std.specs.declared.ops.Bound.TheVariants.{Excluded, Unbounded}
 use Rattle.std.specs.FinMap.{from_entries}
 use Rattle.ak_base.specs.Names.{name_cmp}
 use Rattle.ak_keep.specs.Collections.{StandsUnderNames, is_wanted, wanted_past, rows_past}
-use Rattle.ak_keep.specs.Pages.{first_run, is_picked, page_of_entries, wanted_page, wanted_page-ascends, page_passes}
+use Rattle.ak_keep.specs.Pages.{first_run, is_picked}
+use Rattle.ak_keep.proofs.Paging.{page_of_entries, wanted_page, wanted_page-ascends, page_passes}
 use Rattle.ak_keep.proofs.row_maps.RowMap.pending.Goals as goal
 
 paged : (c : goal.In_ok-page) → c.in_ok-page.page ≡ take c.args.limit (wanted_past c.args.table c.args.want c.args.past c.args.self.now)

@@ -3,7 +3,8 @@ use Rattle.std.specs.FinMap as map
 use Rattle.ak_base.specs.Names.{name_cmp}
 use Rattle.ak_base.specs.Rows.{name_of}
 use Rattle.ak_base.specs.declared.names.Name.{Name}
-use Rattle.ak_keep.specs.Entries.{IsPut, one_put, named-insert, named-same}
+use Rattle.ak_keep.specs.Entries.{IsPut}
+use Rattle.ak_keep.proofs.RowsByName.{one_put, named-insert, named-same}
 use Rattle.ak_keep.proofs.row_maps.RowMap.put.Goals as goal
 
 is_put : (c : goal.In_ok-put) → map.from_entries {R = name_cmp} c.put.new.self ≡ map.insert (map.from_entries c.self.inside.rows) (name_of c.args.row) c.args.row

@@ -1,7 +1,7 @@
 use Rattle.std.proofs.Common.{ap, ◌∙◌}
 use Rattle.std.specs.FinMap as map
 use Rattle.ak_base.specs.Names.{name_cmp}
-use Rattle.ak_keep.specs.Entries.{IsNamed, one_removed, all-remove, named-same}
+use Rattle.ak_keep.proofs.RowsByName.{IsNamed, one_removed, all-remove, named-same}
 use Rattle.ak_keep.proofs.row_maps.RowMap.remove.Goals as goal
 
 pub invariant_of-self : goal.invariant_of-self

@@ -1,5 +1,5 @@
 use Rattle.std.proofs.Common.{◌≡◌, ◌∷◌, rules}
-use Rattle.ak_search.specs.Looks.{is_answer, is_answer_in}
+use Rattle.ak_search.specs.CardFacts.{is_answer, is_answer_in}
 use Rattle.ak_search.proofs.Answering.{row_added}
 use Rattle.ak_search.proofs.answers.Answers.add_rows.Goals as goal
 

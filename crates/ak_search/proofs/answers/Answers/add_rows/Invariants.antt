@@ -1,5 +1,5 @@
 use Rattle.std.proofs.Common.{◌≡◌, ◌||◌, ℤ, length}
-use Rattle.ak_search.specs.Looks.{is_answer_in}
+use Rattle.ak_search.specs.CardFacts.{is_answer_in}
 use Rattle.ak_search.specs.Passes.{is_shown}
 use Rattle.ak_search.proofs.answers.Answers.add_rows.Given as goal
 

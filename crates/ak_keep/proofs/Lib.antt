@@ -1,0 +1,10 @@
+pub mod CardIds
+pub mod CardKeys
+pub mod CardRuns
+pub mod Causing
+pub mod Counting
+pub mod Forming
+pub mod Paging
+pub mod RowsByName
+pub mod Told
+pub mod Walking

@@ -1,0 +1,5 @@
+use Rattle.ak_merge.proofs.ExchangeLaws.{device_half_joins}
+use Rattle.ak_merge.proofs.exchange_laws.device_half_joins.Goals as goal
+
+pub returns : goal.returns
+returns c = device_half_joins

@@ -1,5 +1,0 @@
-use Rattle.ak_merge.proofs.CommitLaws.{commits_keep_links}
-use Rattle.ak_merge.proofs.join_laws.commits_keep_links.Goals as goal
-
-pub returns : goal.returns
-returns c = commits_keep_links

@@ -1,5 +1,0 @@
-use Rattle.ak_merge.proofs.CommitLaws.{commits_stay_lawful}
-use Rattle.ak_merge.proofs.join_laws.commits_stay_lawful.Goals as goal
-
-pub returns : goal.returns
-returns c = commits_stay_lawful

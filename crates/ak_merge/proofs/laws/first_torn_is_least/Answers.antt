@@ -1,5 +1,0 @@
-use Rattle.ak_merge.proofs.ApartLaws.{first_torn_least}
-use Rattle.ak_merge.proofs.laws.first_torn_is_least.Goals as goal
-
-pub returns : goal.returns
-returns c = first_torn_least

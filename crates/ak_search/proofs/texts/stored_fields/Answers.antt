@@ -1,9 +1,0 @@
-use Rattle.std.proofs.Common.{◌∙◌, lit<}
-use Rattle.std.proofs.lemmas.Iterator.Consumers.{map_from_collect}
-use Rattle.std.proofs.lemmas.Iterator.Splits.{YieldsList-from_str_split}
-use Rattle.std.proofs.lemmas.Result.{IfOk-at_ok}
-use Rattle.ak_search.proofs.texts.stored_fields.Goals as goal
-
-pub returns : goal.returns
-returns c =
-    IfOk-at_ok _ c.in_ok-texts.was (map_from_collect _ c.collect.ensures.ran (YieldsList-from_str_split 31 c.args.note.now.flds (lit< tt) (c.split.ensures.text ∙ c.as_str.ensures) c.split.ensures.has_more c.split.ensures.pattern))

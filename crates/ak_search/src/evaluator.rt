@@ -1,0 +1,98 @@
+// What is known of a card while the pieces of an expression are gone through.
+ghost use Rattle.std.specs.Prelude.{◌≡◌, ◌∷◌, ◌&&◌, ◌||◌, Bool, true, false, [], List, OnOk};
+ghost use Rattle.ak_search.specs.Meanings.{negated_by, walk};
+ghost use Rattle.ak_search.specs.declared.terms.Term.{Term as Asked};
+ghost use Rattle.ak_search.specs.declared.tokens.Piece.{Piece as Part};
+ghost use Rattle.ak_search.specs.declared.tokens.Piece.TheVariants as pieces;
+
+use ak_base::Memory;
+use std::alloc::Global;
+use std::collections::VecDeque;
+
+/// A group that is open: whether it is negated, and what was known of the card before it.
+#[derive(Clone, Copy, Debug, PartialEq, Eq)]
+pub(crate) struct Group {
+    pub(crate) negated: bool,
+    pub(crate) either: bool,
+    pub(crate) all: bool,
+}
+
+/// What is known of a card so far, while the pieces of an expression are gone through: whether it meets some
+/// alternative before the last `or`, whether all parts behind that, and the groups that are open.
+#[derive(Debug, Drop)]
+pub(crate) struct Evaluator {
+    pub(crate) outer: VecDeque<Group>,
+    pub(crate) either: bool,
+    pub(crate) all: bool,
+}
+
+impl Evaluator {
+    /// Before the first piece.
+    pub(crate) fn new(alloc: Global) -> Evaluator
+        ensures outer { result.outer.items ≡ [] }
+        ensures either { result.either ≡ false }
+        ensures all { result.all ≡ true }
+    {
+        Evaluator {
+            outer: VecDeque::new(alloc),
+            either: false,
+            all: true,
+        }
+    }
+
+    /// Whether the card meets what is walked through.
+    pub(crate) fn holds(&self) -> bool
+        ensures { result ≡ (self.now.either || self.now.all) }
+    {
+        self.either || self.all
+    }
+
+    /// A term, and whether the card meets it.
+    pub(crate) fn test(&mut self, negated: bool, holds: bool)
+        ensures { self.new ≡ record self.old { all = self.old.all && negated_by negated holds } }
+    {
+        self.all = self.all && negated_by(negated, holds);
+    }
+
+    /// A group begins.
+    pub(crate) fn open(&mut self, negated: bool) -> Result<(), Memory>
+        ensures outer { OnOk result (self.new.outer.items ≡ record { negated = negated; either = self.old.either; all = self.old.all } ∷ self.old.outer.items) }
+        ensures either { OnOk result (self.new.either ≡ false) }
+        ensures all { OnOk result (self.new.all ≡ true) }
+    {
+        self.outer.push_front(Group {
+            negated,
+            either: self.either,
+            all: self.all,
+        })?;
+        self.either = false;
+        self.all = true;
+        Ok(())
+    }
+
+    /// The innermost open group ends. Without one, nothing happens.
+    pub(crate) fn close(&mut self)
+        ensures { (holds : Asked → Bool) (ps : List Part) → walk holds self.old.outer.items self.old.either self.old.all (pieces.Close ∷ ps) ≡ walk holds self.new.outer.items self.new.either self.new.all ps }
+    {
+        if let Some(group) = self.outer.pop_front() {
+            let inside = self.either || self.all;
+            self.either = group.either;
+            self.all = group.all && negated_by(group.negated, inside);
+        }
+    }
+
+    /// An `or`: what was met before it is enough.
+    pub(crate) fn or(&mut self)
+        ensures { self.new ≡ record self.old { either = self.old.either || self.old.all; all = true } }
+    {
+        self.either = self.either || self.all;
+        self.all = true;
+    }
+}
+
+/// Whether a term or group is met, by its sign.
+fn negated_by(negated: bool, holds: bool) -> bool
+    ensures { result ≡ negated_by negated holds }
+{
+    if negated { !holds } else { holds }
+}
