@@ -1,0 +1,149 @@
+ghost use Rattle.std.specs.Prelude.{◌≡◌, IfOk};
+
+use crate::requests::{Changes, Chunk, GraveIds, SanityCounts, Whole};
+use ak_base::{Memory, Text};
+
+/// What a server answers.
+#[derive(Debug, PartialEq, Drop)]
+pub struct Reply {
+    /// 200 if the server did what was asked, else 400 to 503.
+    pub status: u16,
+    pub word: Word,
+    /// What the server has seen: a moment, a step or a number, by the word; 0 where it has nothing to tell.
+    pub seen: i64,
+    pub give: Give,
+}
+
+/// Why a request was refused, in one word; `Ok` where it was not.
+#[derive(Clone, Copy, Debug, PartialEq, Eq)]
+pub enum Word {
+    Ok,
+    Key,
+    Base,
+    NoSession,
+    Step,
+    Usn,
+    Sequence,
+    Rows,
+    Row,
+    Newer,
+    Keeper,
+    Memory,
+    Head,
+    Route,
+    Method,
+    Length,
+    Large,
+    Compressed,
+    Headers,
+    Cut,
+    Body,
+}
+
+/// What a reply gives, by the method that was asked; nothing where the request was refused.
+#[derive(Debug, PartialEq, Drop)]
+pub enum Give {
+    Nothing,
+    Meta(MetaReply),
+    Graves(GraveIds),
+    Changes(Changes),
+    Chunk(Chunk),
+    Sanity(SanityReply),
+    /// Of a finish: the new moment, in milliseconds.
+    Moment(i64),
+    /// Of an upload: both new moments, in milliseconds.
+    Uploaded { moment: i64, schema: i64 },
+    Whole(Whole),
+}
+
+/// Where the server stands.
+#[derive(Debug, PartialEq, Drop)]
+pub struct MetaReply {
+    /// The schema moment of the committed collection, in milliseconds.
+    pub scm: i64,
+    /// The server's clock, in seconds.
+    pub ts: i64,
+    /// The moment of the committed collection, in milliseconds.
+    pub moment: i64,
+    pub usn: i64,
+    /// 0: there are no media.
+    pub musn: i64,
+    /// A text for the user, empty here.
+    pub msg: Text,
+    /// Whether the sync may go on.
+    pub cont: bool,
+}
+
+/// Whether both sides hold what they should.
+#[derive(Debug, PartialEq, Drop)]
+pub struct SanityReply {
+    pub good: bool,
+    pub client: SanityCounts,
+    pub server: SanityCounts,
+}
+
+impl Reply {
+    /// An equal reply of its own.
+    pub fn copy(&self) -> Result<Reply, Memory>
+        ensures { IfOk result (λ made. made ≡ self.now) }
+    {
+        Ok(Reply {
+            status: self.status,
+            word: self.word,
+            seen: self.seen,
+            give: self.give.copy()?,
+        })
+    }
+}
+
+impl Give {
+    /// An equal one of its own.
+    pub fn copy(&self) -> Result<Give, Memory>
+        ensures { IfOk result (λ made. made ≡ self.now) }
+    {
+        match self {
+            Give::Nothing => Ok(Give::Nothing),
+            Give::Meta(meta) => Ok(Give::Meta(meta.copy()?)),
+            Give::Graves(ids) => Ok(Give::Graves(ids.copy()?)),
+            Give::Changes(changes) => Ok(Give::Changes(changes.copy()?)),
+            Give::Chunk(chunk) => Ok(Give::Chunk(chunk.copy()?)),
+            Give::Sanity(sanity) => Ok(Give::Sanity(sanity.copy())),
+            Give::Moment(moment) => Ok(Give::Moment(*moment)),
+            Give::Uploaded { moment, schema } => Ok(Give::Uploaded {
+                moment: *moment,
+                schema: *schema,
+            }),
+            Give::Whole(whole) => Ok(Give::Whole(whole.copy()?)),
+        }
+    }
+}
+
+impl MetaReply {
+    /// An equal one of its own.
+    pub fn copy(&self) -> Result<MetaReply, Memory>
+        ensures { IfOk result (λ made. made ≡ self.now) }
+    {
+        Ok(MetaReply {
+            scm: self.scm,
+            ts: self.ts,
+            moment: self.moment,
+            usn: self.usn,
+            musn: self.musn,
+            msg: self.msg.copy()?,
+            cont: self.cont,
+        })
+    }
+}
+
+impl SanityReply {
+    /// An equal one of its own. It takes no memory.
+    pub fn copy(&self) -> SanityReply
+        ensures { result ≡ self.now }
+    {
+        SanityReply {
+            good: self.good,
+            client: self.client,
+            server: self.server,
+        }
+    }
+}
