@@ -1,0 +1,12 @@
+pub mod Calls
+pub mod Cases
+pub mod Commits
+pub mod Examples
+pub mod Isolation
+pub mod Kept
+pub mod Lawful
+pub mod Methods
+pub mod Repeats
+pub mod Replies
+pub mod Sessions
+pub mod Syncs

@@ -1,0 +1,5 @@
+use Rattle.ak_protocol.proofs.Calls.{metas_open_syncs}
+use Rattle.ak_protocol.proofs.sync_laws.metas_open_syncs.Goals as goal
+
+pub returns : goal.returns
+returns c = λ request s old growth may u meta reply place ok. metas_open_syncs request s old growth may reply place u.opening u meta ok
