@@ -1,0 +1,28 @@
+// Cases of collections: keepers, two collections together, and searches: one command a line, and one line printed for
+// each. README.md tells the commands.
+#![tactic(auto)]
+
+mod faults;
+mod heads;
+mod keepers;
+mod merges;
+mod related;
+mod searches;
+mod sides;
+
+use crate::sides::Sides;
+use ak_io::{StdSink, StdSource};
+use cases_lines::print_answers;
+use std::io;
+use std::process::ExitCode;
+
+fn main(rt: HostRuntime) -> io::Result<ExitCode> {
+    let mut sides = Sides::new(rt.alloc());
+    let mut input = StdSource::new(rt.stdin());
+    let mut out = StdSink::new(rt.stdout());
+    let code = match print_answers(rt.alloc(), &mut sides, &mut input, &mut out) {
+        Ok(()) => 0,
+        Err(_) => 1,
+    };
+    Ok(ExitCode::from(code))
+}

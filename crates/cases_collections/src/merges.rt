@@ -1,0 +1,72 @@
+use crate::faults::{check_fault, failed, name_text};
+use crate::keepers::{row_of, value_of};
+use ak_base::{Row, cut};
+use ak_keep::{Keeper, MemoryKeeper};
+use ak_merge::{apart, check, join_into, newer, take_row, tie_between};
+use cases_lines::{Unread, row_at, table_of, text_at, truth};
+use serde_json::Value;
+use std::alloc::Global;
+
+/// The first fault of the collection, or `sound`.
+pub fn checked(alloc: Global, keeper: &mut MemoryKeeper) -> Result<String, Unread> {
+    match check(keeper) {
+        Ok(fault) => check_fault(alloc, fault),
+        Err(fault) => failed(alloc, fault),
+    }
+}
+
+/// `take USN TABLE JSON`: takes the row as it came in a sync, and tells whether it is held now.
+pub fn take(alloc: Global, keeper: &mut MemoryKeeper, rest: &str) -> Result<String, Unread> {
+    let (usn, row) = cut(rest, " ").ok_or(Unread::Bad)?;
+    let usn = usn.parse::<i64>().ok().ok_or(Unread::Bad)?;
+    let row = row_of(alloc, row)?;
+    taken(alloc, keeper, usn, row)
+}
+
+fn taken(alloc: Global, keeper: &mut MemoryKeeper, usn: i64, row: Row) -> Result<String, Unread> {
+    if !keeper.marked() || usn < 0 || usn > 2_147_483_647 || row.check().is_err() {
+        return Err(Unread::Bad);
+    }
+    match take_row(keeper, row, usn) {
+        Ok(true) => Ok(String::from_str(alloc, "taken")?),
+        Ok(false) => Ok(String::from_str(alloc, "not taken")?),
+        Err(fault) => failed(alloc, fault),
+    }
+}
+
+/// What the two sides are together: `apart`, `tie`, and `join`, by which A gets what B has.
+pub fn answer_of_both(
+    alloc: Global,
+    first: &mut MemoryKeeper,
+    second: &mut MemoryKeeper,
+    word: &str,
+) -> Result<String, Unread> {
+    match word {
+        "apart" => match apart(first, second) {
+            Ok(name) => name_text(alloc, name),
+            Err(fault) => failed(alloc, fault),
+        },
+        "tie" => name_text(alloc, tie_between(first.rows(), second.rows())?),
+        "join" => {
+            join_into(first, second)?;
+            Ok(String::from_str(alloc, "ok")?)
+        },
+        _ => Err(Unread::Bad),
+    }
+}
+
+/// `newer [TABLE, ROW, TABLE, ROW]`: whether the second is a newer row of the same name.
+pub fn newer_of(alloc: Global, rest: &str) -> Result<String, Unread> {
+    let arguments = value_of(alloc, rest)?;
+    newer_at(alloc, &arguments)
+}
+
+fn newer_at(alloc: Global, arguments: &Value) -> Result<String, Unread> {
+    let held = row_at(alloc, arguments, 1, table_of(text_at(arguments, 0)?)?)?;
+    newer_than(alloc, &held, arguments)
+}
+
+fn newer_than(alloc: Global, held: &Row, arguments: &Value) -> Result<String, Unread> {
+    let came = row_at(alloc, arguments, 3, table_of(text_at(arguments, 2)?)?)?;
+    truth(alloc, newer(held, &came))
+}

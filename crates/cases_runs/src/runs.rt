@@ -1,0 +1,99 @@
+use ak_base::List;
+use ak_cli::run;
+use ak_io::{End, MemorySink, MemorySource, Sink, Source};
+use cases_lines::{Answers, Unread, list_at, natural_at, quoted, text_at};
+use serde_json::Value;
+use std::alloc::Global;
+use std::str;
+
+/// The most bytes that the output of a run may have room for.
+const MOST_ROOM: u64 = 100_000_000;
+
+/// Nothing is kept from one run to the next.
+#[derive(Drop)]
+pub struct Runs;
+
+impl Answers for Runs {
+    fn answer(&mut self, alloc: Global, word: &str, rest: &str) -> Result<String, Unread> {
+        match (word, Value::from_str(alloc, rest)) {
+            ("run", Ok(arguments)) => ran(alloc, &arguments),
+            _ => Err(Unread::Bad),
+        }
+    }
+}
+
+/// `run [WORDS, INPUT, FAILING-READS, ROOM, FAILING-WRITES]`: the status, the faults of the input and of the output, and
+/// what was written.
+fn ran(alloc: Global, arguments: &Value) -> Result<String, Unread> {
+    let words = words_at(alloc, arguments)?;
+    let mut input = input_at(alloc, arguments)?;
+    let mut out = output_at(alloc, arguments)?;
+    let status = run(alloc, words.as_slice(), &mut input, &mut out);
+    told(alloc, status, &input, &out)
+}
+
+fn words_at(alloc: Global, arguments: &Value) -> Result<Vec<String>, Unread> {
+    let mut words = Vec::new(alloc);
+    for value in list_at(arguments, 0)? {
+        let word = value.as_str().ok_or(Unread::Bad)?;
+        words.push(String::from_str(alloc, word)?)?;
+    }
+    Ok(words)
+}
+
+/// The input: a text, or a list of bytes.
+fn input_at(alloc: Global, arguments: &Value) -> Result<MemorySource, Unread> {
+    let fails = numbers_at(alloc, arguments, 2)?;
+    let bytes = bytes_at(alloc, arguments)?;
+    Ok(MemorySource::new(bytes, fails))
+}
+
+fn bytes_at(alloc: Global, arguments: &Value) -> Result<List<u8>, Unread> {
+    match text_at(arguments, 1) {
+        Ok(text) => Ok(List::of(Vec::from_slice(alloc, text.as_bytes())?)),
+        Err(_) => listed_bytes(alloc, arguments),
+    }
+}
+
+fn listed_bytes(alloc: Global, arguments: &Value) -> Result<List<u8>, Unread> {
+    let mut bytes = List::new(alloc);
+    for value in list_at(arguments, 1)? {
+        match value.as_u64() {
+            Some(byte) if byte < 256 => bytes.push(byte as u8)?,
+            _ => return Err(Unread::Bad),
+        }
+    }
+    Ok(bytes)
+}
+
+fn output_at(alloc: Global, arguments: &Value) -> Result<MemorySink, Unread> {
+    let room = natural_at(arguments, 3)?;
+    if room > MOST_ROOM {
+        return Err(Unread::Bad);
+    }
+    let fails = numbers_at(alloc, arguments, 4)?;
+    Ok(MemorySink::new(alloc, room, fails)?)
+}
+
+fn numbers_at(alloc: Global, arguments: &Value, place: usize) -> Result<List<u64>, Unread> {
+    let mut numbers = List::new(alloc);
+    for value in list_at(arguments, place)? {
+        numbers.push(value.as_u64().ok_or(Unread::Bad)?)?;
+    }
+    Ok(numbers)
+}
+
+fn told(
+    alloc: Global,
+    status: u8,
+    input: &MemorySource,
+    out: &MemorySink,
+) -> Result<String, Unread> {
+    let written = match str::from_utf8(out.bytes()) {
+        Ok(text) => quoted(alloc, text)?,
+        Err(_) => return Err(Unread::Bad),
+    };
+    let reads = input.faults();
+    let writes = out.faults();
+    Ok(format!(in alloc; "status {status} faults {reads} {writes} {written}")?)
+}
