@@ -10,4 +10,6 @@ mod requests;
 pub use laws::{methods_are_read, names_are_of_methods};
 pub use methods::{Method, method_of};
 pub use replies::{Give, MetaReply, Reply, SanityReply, Word};
-pub use requests::{Ask, Changes, Chunk, Envelope, GraveIds, Newer, Request, SanityCounts, Whole};
+pub use requests::{
+    Ask, Changes, Chunk, Envelope, GraveIds, MOST_ENTRIES, Newer, Request, SanityCounts, Whole,
+};

@@ -1,7 +1,10 @@
 ghost use Rattle.std.specs.Prelude.{◌≡◌, IfOk};
+ghost use Rattle.ak_messages.specs.MessageForms.{is_given_to};
 
+use crate::methods::Method;
 use crate::requests::{Changes, Chunk, GraveIds, SanityCounts, Whole};
 use ak_base::{Memory, Text};
+use ak_merge::CheckFault;
 
 /// What a server answers.
 #[derive(Debug, PartialEq, Drop)]
@@ -78,6 +81,8 @@ pub struct MetaReply {
 #[derive(Debug, PartialEq, Drop)]
 pub struct SanityReply {
     pub good: bool,
+    /// Why the server's collection would not be sound; none where it would, or where the reply is good.
+    pub fault: Option<CheckFault>,
     pub client: SanityCounts,
     pub server: SanityCounts,
 }
@@ -97,6 +102,23 @@ impl Reply {
 }
 
 impl Give {
+    /// Whether a reply to this method gives it if it has status 200. Its numbers may be in any range.
+    pub fn is_given_to(&self, method: Method) -> bool
+        ensures { result ≡ is_given_to method self.now }
+    {
+        match method {
+            Method::Meta => matches!(self, Give::Meta(_)),
+            Method::Start => matches!(self, Give::Graves(_)),
+            Method::ApplyGraves | Method::ApplyChunk => matches!(self, Give::Nothing),
+            Method::ApplyChanges => matches!(self, Give::Changes(_)),
+            Method::Chunk => matches!(self, Give::Chunk(_)),
+            Method::SanityCheck2 => matches!(self, Give::Sanity(_)),
+            Method::Finish => matches!(self, Give::Moment(_)),
+            Method::Upload => matches!(self, Give::Uploaded { .. }),
+            Method::Download => matches!(self, Give::Whole(_)),
+        }
+    }
+
     /// An equal one of its own.
     pub fn copy(&self) -> Result<Give, Memory>
         ensures { IfOk result (λ made. made ≡ self.now) }
@@ -142,6 +164,7 @@ impl SanityReply {
     {
         SanityReply {
             good: self.good,
+            fault: self.fault,
             client: self.client,
             server: self.server,
         }

@@ -1,10 +1,14 @@
 ghost use Rattle.std.specs.Prelude.{◌≡◌, IfOk};
+ghost use Rattle.ak_messages.specs.MessageForms.{chunk_entries, grave_entries};
 
 use crate::lists::copy_each;
 use ak_base::{
     Card, Conf, Deck, HostKey, List, Memory, Note, NoteType, Options, Review, Row, SessionKey, Tag,
     Text,
 };
+
+/// The most rows of one chunk, and the most ids of graves that one request brings, over their lists together.
+pub const MOST_ENTRIES: u64 = 250;
 
 /// Who asks, and where in which sync.
 #[derive(Clone, Copy, Debug, PartialEq, Eq)]
@@ -144,6 +148,17 @@ impl Ask {
 }
 
 impl GraveIds {
+    /// How many ids they are, over the three lists. More than `MOST_ENTRIES` are refused in a request; the
+    /// graves that answer a start may be more.
+    pub fn entries(&self) -> u64
+        ensures { result ≡ grave_entries self.now }
+    {
+        let cards = self.cards.as_slice().len() as u64;
+        let notes = self.notes.as_slice().len() as u64;
+        let decks = self.decks.as_slice().len() as u64;
+        cards + notes + decks
+    }
+
     /// Equal ids of their own.
     pub fn copy(&self) -> Result<GraveIds, Memory>
         ensures { IfOk result (λ made. made ≡ self.now) }
@@ -189,6 +204,16 @@ impl Newer {
 }
 
 impl Chunk {
+    /// How many rows it has, over its lists. More than `MOST_ENTRIES` are refused.
+    pub fn entries(&self) -> u64
+        ensures { result ≡ chunk_entries self.now }
+    {
+        let reviews = self.reviews.as_slice().len() as u64;
+        let cards = self.cards.as_slice().len() as u64;
+        let notes = self.notes.as_slice().len() as u64;
+        reviews + cards + notes
+    }
+
     /// An equal chunk of its own.
     pub fn copy(&self) -> Result<Chunk, Memory>
         ensures { IfOk result (λ made. made ≡ self.now) }
