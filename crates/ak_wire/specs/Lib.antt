@@ -1,0 +1,13 @@
+pub mod Keys
+pub mod Words
+pub mod Kinds
+pub mod Forms
+pub mod Faults
+pub mod Values
+pub mod Parts
+pub mod Bodies
+pub mod Wholes
+pub mod Requests
+pub mod Replies
+pub mod Written
+pub mod Budgets
