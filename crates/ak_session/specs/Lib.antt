@@ -1,0 +1,14 @@
+pub mod Answers
+pub mod Asks
+pub mod Closings
+pub mod Contents
+pub mod Messages
+pub mod NextMethods
+pub mod Objections
+pub mod Plans
+pub mod Refusals
+pub mod Replies
+pub mod Requests
+pub mod Sessions
+pub mod Slices
+pub mod Uploads
