@@ -8,7 +8,7 @@ use Rattle.ak_messages.specs.declared.requests.Request.{Request}
 use Rattle.ak_protocol.specs.Accounts.{AccountState}
 use Rattle.ak_protocol.specs.Logs.{Event, View, Asked, Commit, World, Log, MayCome, IsReplyIn, with_growth, with_commit, world_served, world_next, world_after, opened, commits_of, events_of, server_after}
 use Rattle.ak_protocol.specs.Replies.{granted, meta_reply}
-use Rattle.ak_protocol.specs.Requests.{is_meta}
+use Rattle.ak_session.specs.Requests.{is_meta}
 use Rattle.ak_protocol.specs.Servers.{by_account}
 use Rattle.ak_protocol.specs.Serving.{Setback, Served, served}
 use Rattle.ak_protocol.specs.Sessions.{IsAsked, IsOfSync, IsMetaOrOther, IsOwnOrOther, Tells}
@@ -134,6 +134,12 @@ module _ (request : Request) (account : AccountState) (old : Log) (growth : List
               (events_of host (Asked request r.now r.setback ∷ r.after)) (from_place (IsMetaOrOther key) metas);
         };
       }
+
+  -- it is under way over what was committed at that place
+  pub metas_are_read : IsUnused request.host.digits request.session.0 account old → is_meta request.ask ≡ true → reply.status ≡ 200
+      → (it : IsOpened request account (with_growth old growth) reply) × (it.base ≡ (world_of request.host.digits account (with_growth old r.before)).state.committed)
+  unfolding metas_open_syncs
+  metas_are_read u meta ok = (metas_open_syncs u meta ok, refl)
 
   module _ (plan : List Request) (base : Collection) (u : IsUnderWay request.host.digits request.session.0 plan base account old) (asked : IsAsked plan base.head.moment request)
       (later : is_meta request.ask ≡ false) (ok : reply.status ≡ 200) where

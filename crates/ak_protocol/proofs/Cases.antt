@@ -8,10 +8,11 @@ use Rattle.std.proofs.lemmas.Option.{same_Some}
 use Rattle.ak_messages.specs.declared.replies.Reply.{Reply}
 use Rattle.ak_messages.specs.declared.requests.Request.{Request}
 use Rattle.ak_protocol.specs.Accounts.{SessionState, KeptReply, AccountState, last_step, is_repeat, repeated, given_again, session_of}
-use Rattle.ak_protocol.specs.Contents.{refusal, ends}
+use Rattle.ak_session.specs.Contents.{refusal, ends}
 use Rattle.ak_protocol.specs.Lawful.{IsNext}
-use Rattle.ak_protocol.specs.Replies.{Objection, Refusal, PastBase, NoSession, WrongStep, Objected, keeper_failed, out_of_memory}
-use Rattle.ak_protocol.specs.Requests.{is_meta, asks_commit}
+use Rattle.ak_protocol.specs.Replies.{Refusal, PastBase, NoSession, WrongStep, Objected, keeper_failed, out_of_memory}
+use Rattle.ak_session.specs.Objections.{Objection}
+use Rattle.ak_session.specs.Requests.{is_meta, asks_commit}
 use Rattle.ak_protocol.specs.Serving.{Setback, Undisturbed, KeeperFault, OutOfMemory, Served, unchanged, refuses, struck, begun, went_on, ended, finished, by_refusal, has_next_step, by_session, by_repeat, served}
 
 -- what is to be shown of each case without a setback

@@ -1,8 +1,6 @@
 -- A committed collection changes at commits alone, and each is later than the one before it.
-use Rattle.std.specs.Int.{int_max}
-use Rattle.std.specs.Prelude.{◌≡◌, ℤ, pos, ◌+ℤ◌, ◌<ℤ◌, Bool, true, false, int_lt, List, [], ◌∷◌, ◌++◌, ◌⊎◌}
-use Rattle.std.proofs.Common.{refl, sym, subst, ◌∙◌, ap, T, arith, inl, inr, append_assoc}
-use Rattle.std.proofs.lemmas.Int.{ints}
+use Rattle.std.specs.Prelude.{◌≡◌, ℤ, Bool, true, false, List, [], ◌∷◌, ◌++◌, ◌⊎◌}
+use Rattle.std.proofs.Common.{refl, sym, subst, ◌∙◌, ap, T, inl, inr, append_assoc}
 use Rattle.ak_keep.specs.Collections.{Collection}
 use Rattle.ak_messages.specs.declared.methods.Method.TheVariants as methods
 use Rattle.ak_messages.specs.declared.requests.Ask.{Ask}
@@ -10,25 +8,12 @@ use Rattle.ak_messages.specs.declared.requests.Ask.TheVariants as asks
 use Rattle.ak_messages.specs.declared.requests.Request.{Request}
 use Rattle.ak_protocol.specs.Accounts.{AccountState}
 use Rattle.ak_protocol.specs.Commits.{OnlyCommits, Leads, CommitsGrow}
-use Rattle.ak_protocol.specs.Contents.{closed}
+use Rattle.ak_session.specs.Contents.{closed}
 use Rattle.ak_protocol.specs.Logs.{Event, View, Asked, Commit, World, opened, with_commit, world_served, world_next, world_after}
-use Rattle.ak_protocol.specs.Requests.{asked_method, asks_commit}
+use Rattle.ak_session.specs.Requests.{asked_method, asks_commit}
 use Rattle.ak_protocol.specs.Serving.{Setback, Served, served}
+use Rattle.ak_session.proofs.CommitLaws.{commits_are_later}
 use Rattle.ak_protocol.proofs.Cases.{by_cases}
-
-later_max : (moment now : ℤ) → moment <ℤ int_max now (moment +ℤ pos 1)
-later_max moment now =
-    let next : ℤ = moment +ℤ pos 1 in
-    elim (int_lt next now) as (λ b. int_lt next now ≡ b → moment <ℤ int_max now next) [
-      | true ↦ λ e. grind (arith, ints, e)
-      | false ↦ λ e. grind (arith, ints, e)
-    ] refl
-
--- what is committed was changed after what was committed before it: all that the laws of logs know of the five functions
-pub closed_is_later : (committed : Collection) (accepted : List Request) (request : Request) (now : ℤ)
-    → committed.head.moment <ℤ (closed committed accepted request now).head.moment
-unfolding closed
-closed_is_later committed accepted request now = later_max committed.head.moment now
 
 pub not_both : {b : Bool} → b ≡ true → b ≡ false → ⊥
 not_both so other = subst T (sym so ∙ other) tt
@@ -70,7 +55,7 @@ only_commits_change s request now = by_cases s request now (OnlyCommits s reques
     stays = λ none. absurd (not_both refl none);
     asked = λ _. asks_one request.ask commits;
     made = λ _. (session, next, refl);
-    later = λ _. closed_is_later s.committed session.accepted request now;
+    later = λ _. commits_are_later s.committed session.accepted request now;
     reply = λ _. refl;
     over = λ _. refl;
   };
@@ -86,7 +71,7 @@ lead_asked first past s request now lead = by_cases s request now (λ it. Leads 
   refuses_it = λ why. lead;
   goes_on = λ session next none goes. lead;
   stops = λ session next none. lead;
-  finishes = λ session next commits. (refl, closed_is_later s.committed session.accepted request now, lead);
+  finishes = λ session next commits. (refl, commits_are_later s.committed session.accepted request now, lead);
 })
 
 lead_next : (first : Collection) (w : World) (event : Event) → Leads first w.commits w.state.committed
@@ -120,7 +105,7 @@ grown_asked w request now = by_cases w.state request now (λ it. CommitsGrow w (
   finishes = λ session next commits. record {
     newer = record { key = request.session.0; before = w.state.committed; after = closed w.state.committed session.accepted request now } ∷ [];
     grown = refl;
-    lead = (refl, closed_is_later w.state.committed session.accepted request now, refl);
+    lead = (refl, commits_are_later w.state.committed session.accepted request now, refl);
   };
 })
 

@@ -8,12 +8,13 @@ use Rattle.ak_messages.specs.declared.methods.Method.TheVariants as methods
 use Rattle.ak_messages.specs.declared.replies.Reply.{Reply}
 use Rattle.ak_messages.specs.declared.requests.Request.{Request}
 use Rattle.ak_protocol.specs.Accounts.{SessionState, KeptReply, AccountState, last_step, is_repeat, repeated, given_again, session_of}
-use Rattle.ak_protocol.specs.Contents.{refusal, ends, closed}
+use Rattle.ak_session.specs.Contents.{refusal, ends, closed}
 use Rattle.ak_protocol.specs.Kept.{IsNewlyKept, KeepsReply, LeavesReply, IsIdle, AreIdle, IsGivenAgain, IsEarned, IsDone, EndsSession, IsLawfulReply, HasLawfulReply}
 use Rattle.ak_protocol.specs.Lawful.{IsNext}
 use Rattle.ak_protocol.specs.Logs.{Event, View, Asked, World, world_next, world_after}
-use Rattle.ak_protocol.specs.Replies.{Objection, PastBase, WrongStep}
-use Rattle.ak_protocol.specs.Requests.{asked_method, method_place, same_method, is_meta, is_download, asks_commit}
+use Rattle.ak_protocol.specs.Replies.{PastBase, WrongStep}
+use Rattle.ak_session.specs.Objections.{Objection}
+use Rattle.ak_session.specs.Requests.{asked_method, method_place, same_method, is_meta, is_download, asks_commit}
 use Rattle.ak_protocol.specs.Serving.{Setback, Undisturbed, KeeperFault, OutOfMemory, Served, unchanged, begun, refuses, kept_of, reply_to, commit_reply, went_on, ended, finished, by_refusal, by_session, by_repeat, served}
 use Rattle.ak_protocol.proofs.Cases.{not_none, by_quiet, by_cases}
 use Rattle.ak_protocol.proofs.Commits.{not_both}
@@ -23,7 +24,7 @@ use Rattle.ak_protocol.proofs.Replies.{not_granted, reply_is_granted, commit_is_
 
 -- ---- what is next is done
 -- a request that is next, and no repeat, goes to its session, which has no reason to refuse it
-reaches : (s : AccountState) (session : SessionState) (request : Request) (now : ℤ) → IsNext s session request → repeated s.kept request ≡ None
+pub reaches : (s : AccountState) (session : SessionState) (request : Request) (now : ℤ) → IsNext s session request → repeated s.kept request ≡ None
     → served s request now Undisturbed ≡ by_refusal None s session request now
 reaches s session request now next first =
     no_meta s request now next.later
@@ -196,7 +197,7 @@ lawful_of request reply ok = record {
   ] refl;
 }
 
-lawful_next : (s : AccountState) (request : Request) (now : ℤ) → HasLawfulReply s → (setback : Setback) → HasLawfulReply (served s request now setback).next
+pub lawful_next : (s : AccountState) (request : Request) (now : ℤ) → HasLawfulReply s → (setback : Setback) → HasLawfulReply (served s request now setback).next
 lawful_next s request now lawful = by_cases s request now (λ it. HasLawfulReply it.next) (record {
   strikes = λ reply failed. elim (is_meta request.ask) as (λ b. IfSome (if b then None else s.kept) (λ kept. IsLawfulReply kept)) [
     | true ↦ tt

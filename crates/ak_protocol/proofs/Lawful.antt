@@ -4,10 +4,10 @@ use Rattle.std.proofs.Common.{refl, sym, ap, subst, ◌∙◌, inl, inr}
 use Rattle.ak_keep.specs.Collections.{Collection}
 use Rattle.ak_messages.specs.declared.requests.Request.{Request}
 use Rattle.ak_protocol.specs.Accounts.{SessionState, AccountState}
-use Rattle.ak_protocol.specs.Contents.{ends}
+use Rattle.ak_session.specs.Contents.{ends}
 use Rattle.ak_protocol.specs.Lawful.{IsNext, IsAccepted, AreAccepted, HasLawfulSession}
 use Rattle.ak_protocol.specs.Logs.{Event, View, Asked, World, world_next, world_after}
-use Rattle.ak_protocol.specs.Requests.{asks_commit}
+use Rattle.ak_session.specs.Requests.{asks_commit}
 use Rattle.ak_protocol.specs.Serving.{Setback, served}
 use Rattle.ak_protocol.proofs.Cases.{by_cases}
 use Rattle.ak_protocol.proofs.Replies.{first_of}

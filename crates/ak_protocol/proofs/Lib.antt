@@ -1,12 +1,16 @@
 pub mod Calls
 pub mod Cases
 pub mod Commits
+pub mod ContentLaws
 pub mod Examples
+pub mod InARow
 pub mod Isolation
 pub mod Kept
 pub mod Lawful
 pub mod Methods
+pub mod PastReplies
 pub mod Repeats
 pub mod Replies
 pub mod Sessions
 pub mod Syncs
+pub mod WholeSyncs

@@ -4,7 +4,7 @@ use Rattle.std.proofs.Common.{refl, sym, ap, ◌∙◌}
 use Rattle.std.proofs.lemmas.Bool.{eqb-true}
 use Rattle.ak_messages.specs.declared.methods.Method.{Method}
 use Rattle.ak_messages.specs.declared.methods.Method.TheVariants as methods
-use Rattle.ak_protocol.specs.Requests.{method_place, same_method}
+use Rattle.ak_session.specs.Requests.{method_place, same_method}
 
 abbrev all_methods : List Method
 all_methods =

@@ -10,9 +10,10 @@ use Rattle.ak_messages.specs.declared.requests.Ask.{Ask}
 use Rattle.ak_messages.specs.declared.requests.Ask.TheVariants as asks
 use Rattle.ak_messages.specs.declared.requests.Request.{Request}
 use Rattle.ak_protocol.specs.Accounts.{SessionState, KeptReply, AccountState, is_repeat, repeated, given_again, session_of}
-use Rattle.ak_protocol.specs.Contents.{refusal, answer, ends}
-use Rattle.ak_protocol.specs.Replies.{Objection, granted, download_reply}
-use Rattle.ak_protocol.specs.Requests.{asked_method, method_place, is_meta, is_download, asks_commit}
+use Rattle.ak_session.specs.Contents.{refusal, answer, ends}
+use Rattle.ak_protocol.specs.Replies.{granted, download_reply}
+use Rattle.ak_session.specs.Objections.{Objection}
+use Rattle.ak_session.specs.Requests.{asked_method, method_place, is_meta, is_download, asks_commit}
 use Rattle.ak_protocol.specs.Serving.{Undisturbed, Served, unchanged, begun, reply_to, kept_of, went_on, ended, finished, by_refusal, has_next_step, by_session, by_repeat, served}
 use Rattle.ak_protocol.proofs.Commits.{not_both}
 

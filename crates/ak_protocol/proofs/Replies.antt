@@ -11,11 +11,12 @@ use Rattle.ak_messages.specs.declared.requests.Ask.{Ask}
 use Rattle.ak_messages.specs.declared.requests.Ask.TheVariants as asks
 use Rattle.ak_messages.specs.declared.requests.Request.{Request}
 use Rattle.ak_protocol.specs.Accounts.{SessionState, KeptReply, AccountState, is_repeat, given_again}
-use Rattle.ak_protocol.specs.Contents.{refusal, answer, closed}
+use Rattle.ak_session.specs.Contents.{refusal, answer, closed}
 use Rattle.ak_protocol.specs.Lawful.{IsNext}
 use Rattle.ak_protocol.specs.Logs.{Commit, with_commit}
-use Rattle.ak_protocol.specs.Replies.{Objection, MayNotCome, WrongUsn, NoNumber, TooManyRows, WrongRow, WrongNewer, Refusal, PastBase, NoSession, WrongStep, Objected, objected, refused, granted, download_reply}
-use Rattle.ak_protocol.specs.Requests.{asked_method, same_method, is_meta, is_download, asks_commit}
+use Rattle.ak_protocol.specs.Replies.{Refusal, PastBase, NoSession, WrongStep, Objected, objected, refused, granted, download_reply}
+use Rattle.ak_session.specs.Objections.{Objection, MayNotCome, WrongUsn, NoNumber, TooManyRows, WrongRow, WrongNewer}
+use Rattle.ak_session.specs.Requests.{asked_method, same_method, is_meta, is_download, asks_commit}
 use Rattle.ak_protocol.specs.Serving.{Setback, Undisturbed, Served, served, unchanged, kept_of, reply_to, commit_reply, finished}
 use Rattle.ak_protocol.specs.Sessions.{IsAsked, Tells}
 use Rattle.ak_protocol.proofs.Cases.{by_cases, by_quiet}

@@ -9,14 +9,15 @@ use Rattle.std.proofs.lemmas.Int.{ints}
 use Rattle.ak_keep.specs.Collections.{Collection}
 use Rattle.ak_messages.specs.declared.requests.Request.{Request}
 use Rattle.ak_protocol.specs.Accounts.{SessionState, KeptReply, AccountState}
-use Rattle.ak_protocol.specs.Contents.{refusal, closed}
+use Rattle.ak_session.specs.Contents.{refusal, closed}
 use Rattle.ak_protocol.specs.Lawful.{IsNext}
 use Rattle.ak_protocol.specs.Logs.{Event, View, Asked, Commit, World, commits_of, with_commit, world_next, world_after}
-use Rattle.ak_protocol.specs.Requests.{is_meta, asks_commit}
+use Rattle.ak_session.specs.Requests.{is_meta, asks_commit}
 use Rattle.ak_protocol.specs.Serving.{Setback, Served, served, kept_of, reply_to, commit_reply}
 use Rattle.ak_protocol.specs.Sessions.{IsAsked, IsMetaOrOther, IsOwnOrOther, IsFresh, IsSync, IsFront, IsOnlyCommit, HoldsSync}
 use Rattle.ak_protocol.proofs.Cases.{by_cases}
-use Rattle.ak_protocol.proofs.Commits.{closed_is_later, not_both}
+use Rattle.ak_protocol.proofs.Commits.{not_both}
+use Rattle.ak_session.proofs.CommitLaws.{commits_are_later}
 
 -- ---- lists
 -- two fronts of one list that are as long are the same, and so is what comes after them
@@ -171,7 +172,7 @@ made_by key plan base past s session request now p same own none = record {
       ∙ ap (λ (k : ℕ). record { key = k; before = s.committed; after = closed s.committed session.accepted request now } ∷ []) own
       ∙ ap (λ (c : Collection). record { key = key; before = c; after = closed c session.accepted request now } ∷ []) same
       ∙ ap (λ (l : List Request). record { key = key; before = base; after = closed base l request now } ∷ []) (sym p.before_is);
-  later = subst (λ (m : ℤ). m <ℤ (closed s.committed session.accepted request now).head.moment) p.moment_is (closed_is_later s.committed session.accepted request now);
+  later = subst (λ (m : ℤ). m <ℤ (closed s.committed session.accepted request now).head.moment) p.moment_is (commits_are_later s.committed session.accepted request now);
 }
 
 made_later : (key : ℕ) (plan : List Request) (base : Collection) (past : List Commit) (commit : Commit) (before after : ℤ) → before <ℤ after → commit.key ≢ key
@@ -200,7 +201,7 @@ module _ (key : ℕ) (plan : List Request) (base : Collection) (s : AccountState
       (Some (kept_of request (commit_reply request.ask (closed s.committed session.accepted request now).head))) (commit_by s session request now ∷ past)
   finish session next commits =
       let after = closed s.committed session.accepted request now in
-      let up : s.committed.head.moment <ℤ after.head.moment = closed_is_later s.committed session.accepted request now in
+      let up : s.committed.head.moment <ℤ after.head.moment = commits_are_later s.committed session.accepted request now in
       let made = λ (own : request.session.0 ≡ key).
       let p = place session next own in
       made_by key plan base past s session request now p (k.same p.moment_is) own (none_before key plan base past s.committed.head.moment p.moment_is k.once) in

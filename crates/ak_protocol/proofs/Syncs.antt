@@ -10,26 +10,26 @@ use Rattle.ak_messages.specs.declared.requests.Request.{Request}
 use Rattle.ak_protocol.specs.Accounts.{AccountState}
 use Rattle.ak_protocol.specs.Logs.{Event, View, Asked, World, Log, HasAsked, MayCome, IsGrowth, IsReplyIn, opened, server_after, world_next, world_after, host_of, events_of, commits_of, with_growth}
 use Rattle.ak_protocol.specs.Replies.{unknown_key}
-use Rattle.ak_protocol.specs.Requests.{is_meta}
+use Rattle.ak_session.specs.Requests.{is_meta}
 use Rattle.ak_protocol.specs.Servers.{same_host, by_account, server_served}
 use Rattle.ak_protocol.specs.Sessions.{IsOtherOr, IsOfSync, IsMetaOrOther, IsOwnOrOther, IsFresh, HoldsSync}
 use Rattle.ak_protocol.specs.Syncs.{IsUnused, IsUnderWay, world_of}
 use Rattle.ak_protocol.proofs.Isolation.{host_is, same_as_itself, none_after}
 use Rattle.ak_protocol.proofs.Sessions.{KeptAt, kept_on, kept_of_fresh, fresh_on, all_weaker, metas_alone, revived}
 
--- ---- lists of events
+-- ---- lists
 abbrev pub All : (Event → Type 0) → List Event → Type 0
 All P events = AllByRecursion P events
 
-pub all_append : (P : Event → Type 0) (xs ys : List Event) → All P xs → All P ys → All P (xs ++ ys)
+pub all_append : {X : Type 0} (P : X → Type 0) (xs ys : List X) → AllByRecursion P xs → AllByRecursion P ys → AllByRecursion P (xs ++ ys)
 all_append P [] ys one other = other
 all_append P (x ∷ xs) ys one other = (one.0, all_append P xs ys one.1 other)
 
-pub all_front : (P : Event → Type 0) (xs ys : List Event) → All P (xs ++ ys) → All P xs
+pub all_front : {X : Type 0} (P : X → Type 0) (xs ys : List X) → AllByRecursion P (xs ++ ys) → AllByRecursion P xs
 all_front P [] ys all = tt
 all_front P (x ∷ xs) ys all = (all.0, all_front P xs ys all.1)
 
-pub all_back : (P : Event → Type 0) (xs ys : List Event) → All P (xs ++ ys) → All P ys
+pub all_back : {X : Type 0} (P : X → Type 0) (xs ys : List X) → AllByRecursion P (xs ++ ys) → AllByRecursion P ys
 all_back P [] ys all = all
 all_back P (x ∷ xs) ys all = all_back P xs ys all.1
 

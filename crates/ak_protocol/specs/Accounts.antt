@@ -6,7 +6,7 @@ use Rattle.ak_messages.specs.declared.methods.Method.{Method}
 use Rattle.ak_messages.specs.declared.replies.Reply.{Reply}
 use Rattle.ak_messages.specs.declared.requests.Request.{Request}
 use Rattle.ak_protocol.specs.Replies.{download_reply}
-use Rattle.ak_protocol.specs.Requests.{asked_method, same_method}
+use Rattle.ak_session.specs.Requests.{asked_method, same_method}
 
 -- a session, whose base is the moment of the committed collection
 pub record SessionState : Type 0 where

@@ -1,12 +1,12 @@
 -- What becomes of the reply that an account keeps, and what a reply that grants comes from.
-use Rattle.std.specs.Prelude.{◌≡◌, ◌++◌, ℤ, true, false, List, [], ◌∷◌, Some, None, IfSome, ⊤, ◌⊎◌}
+use Rattle.std.specs.Prelude.{◌≡◌, ◌≤◌, ◌++◌, ℤ, true, false, List, [], ◌∷◌, Some, None, IfSome, ⊤, ◌⊎◌}
 use Rattle.ak_messages.specs.declared.methods.Method.TheVariants as methods
 use Rattle.ak_messages.specs.declared.requests.Request.{Request}
-use Rattle.ak_protocol.specs.Accounts.{SessionState, KeptReply, AccountState, repeated, given_again}
-use Rattle.ak_protocol.specs.Contents.{ends, closed}
+use Rattle.ak_protocol.specs.Accounts.{SessionState, KeptReply, AccountState, last_step, repeated, given_again}
+use Rattle.ak_session.specs.Contents.{ends, closed}
 use Rattle.ak_protocol.specs.Lawful.{IsNext}
 use Rattle.ak_protocol.specs.Logs.{Event, View, Asked, World, world_next}
-use Rattle.ak_protocol.specs.Requests.{asked_method, is_meta, asks_commit}
+use Rattle.ak_session.specs.Requests.{asked_method, is_meta, asks_commit}
 use Rattle.ak_protocol.specs.Serving.{Setback, Undisturbed, Served, unchanged, kept_of, reply_to, served}
 
 -- a request was accepted: nothing came in between, it was next of the live session, and no repeat, and its reply is kept
@@ -80,3 +80,7 @@ pub record IsLawfulReply (kept : KeptReply) : Type 0 where
 -- the kept reply of an account is lawful
 abbrev pub HasLawfulReply : AccountState → Type 0
 HasLawfulReply s = IfSome s.kept (λ kept. IsLawfulReply kept)
+
+-- the kept reply, if it is of the live session's key, is of a step that the session has had
+abbrev pub HasPastReply : AccountState → Type 0
+HasPastReply s = IfSome s.kept (λ kept. IfSome s.live (λ session. kept.key ≡ session.key → kept.step ≤ last_step session))

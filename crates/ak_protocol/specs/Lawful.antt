@@ -3,8 +3,8 @@ use Rattle.std.specs.Prelude.{◌≡◌, ◌+◌, ◌≤◌, ℕ, false, List, �
 use Rattle.ak_keep.specs.Collections.{Collection}
 use Rattle.ak_messages.specs.declared.requests.Request.{Request}
 use Rattle.ak_protocol.specs.Accounts.{SessionState, AccountState}
-use Rattle.ak_protocol.specs.Contents.{refusal, ends}
-use Rattle.ak_protocol.specs.Requests.{is_meta, asks_commit}
+use Rattle.ak_session.specs.Contents.{refusal, ends}
+use Rattle.ak_session.specs.Requests.{is_meta, asks_commit}
 
 -- a request that is the next of the live session, over the committed moment
 pub record IsNext (s : AccountState) (session : SessionState) (request : Request) : Type 0 where

@@ -1,11 +1,10 @@
 pub mod Accounts
 pub mod Commits
-pub mod Contents
 pub mod Kept
 pub mod Lawful
+pub mod LawfulServers
 pub mod Logs
 pub mod Replies
-pub mod Requests
 pub mod Servers
 pub mod Serving
 pub mod Sessions

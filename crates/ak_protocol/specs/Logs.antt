@@ -1,13 +1,13 @@
 -- What came to a server, one thing after the other, and what it made of it.
 use Rattle.std.specs.List.{AllByRecursion}
-use Rattle.std.specs.Prelude.{◌≡◌, ℕ, ℤ, pos, ◌==◌, if◌then◌else◌, List, [], ◌∷◌, ◌++◌, filter, ⊤, ◌⊎◌, Result, IfOk}
-use Rattle.ak_base.specs.Heads.{IsWithin}
+use Rattle.std.specs.Prelude.{◌≡◌, ℕ, ℤ, ◌==◌, if◌then◌else◌, List, [], ◌∷◌, ◌++◌, filter, ⊤, ◌⊎◌, Result, IfOk}
+use Rattle.ak_io.specs.Arrivals.{IsClockMoment}
 use Rattle.ak_keep.specs.Collections.{Collection}
 use Rattle.ak_messages.specs.declared.replies.Reply.{Reply}
 use Rattle.ak_messages.specs.declared.requests.Request.{Request}
 use Rattle.ak_protocol.specs.Accounts.{AccountState, viewed}
 use Rattle.ak_protocol.specs.Servers.{ServerState, same_host, server_served, by_view}
-use Rattle.ak_protocol.specs.Serving.{Setback, Served, served}
+use Rattle.ak_protocol.specs.Serving.{Setback, Undisturbed, Served, served}
 
 -- what comes to a server
 pub data Event : Type 0 where
@@ -91,10 +91,15 @@ HasAsked [] request = ⊥
 HasAsked (View host ∷ events) request = HasAsked events request
 HasAsked (Asked other now setback ∷ events) request = (other ≡ request) ⊎ HasAsked events request
 
+-- an event is this request, at some moment and without a setback
+abbrev pub IsAgain : Request → Event → Type 0
+IsAgain request (View host) = ⊥
+IsAgain request (Asked other now setback) = (other ≡ request) × (setback ≡ Undisturbed)
+
 -- an event at a moment that a clock may tell, in milliseconds
 abbrev pub IsTimely : Event → Type 0
 IsTimely (View host) = ⊤
-IsTimely (Asked request now setback) = IsWithin (pos 0) (pos 4_294_967_294_999) now
+IsTimely (Asked request now setback) = IsClockMoment now
 
 -- what may come while a request is under way, after these events: any view, and at a moment that a clock may tell any request of another
 -- account or another session, this request, and any that came before

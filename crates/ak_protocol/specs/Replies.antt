@@ -10,6 +10,7 @@ use Rattle.ak_messages.specs.declared.replies.Reply.{Reply}
 use Rattle.ak_messages.specs.declared.replies.Word.{Word}
 use Rattle.ak_messages.specs.declared.replies.Word.TheVariants as words
 use Rattle.ak_messages.specs.declared.requests.Whole.{Whole}
+use Rattle.ak_session.specs.Objections.{Objection, MayNotCome, WrongUsn, NoNumber, TooManyRows, WrongRow, WrongNewer}
 
 -- 200: what was asked is done, and this is given
 abbrev pub granted : Give → Reply
@@ -18,21 +19,6 @@ granted give = record { status = 200; word = words.Ok; seen = pos 0; give = give
 -- what is not done gives nothing
 abbrev pub declined : ℕ → Word → ℤ → Reply
 declined status word seen = record { status = status; word = word; seen = seen; give = gives.Nothing }
-
--- why a session refuses a request that has its next step
-pub data Objection : Type 0 where
-  -- its method may not come next
-  MayNotCome : Objection
-  -- it asks for rows from a number on that is under 0 or over the server's
-  WrongUsn : Objection
-  -- the number after the server's, or a moment after the last one of a side, would be past its range
-  NoNumber : Objection
-  -- it has over 250 entries
-  TooManyRows : Objection
-  -- a row, an id, a name or a setting of it may not be held
-  WrongRow : Objection
-  -- it has the settings though its side is not the newer one, or has none though it is
-  WrongNewer : Objection
 
 -- why an account refuses a request
 pub data Refusal : Type 0 where

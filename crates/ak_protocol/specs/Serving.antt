@@ -9,9 +9,10 @@ use Rattle.ak_messages.specs.declared.requests.Ask.{Ask}
 use Rattle.ak_messages.specs.declared.requests.Ask.TheVariants as asks
 use Rattle.ak_messages.specs.declared.requests.Request.{Request}
 use Rattle.ak_protocol.specs.Accounts.{SessionState, KeptReply, AccountState, last_step, repeated, given_again, session_of}
-use Rattle.ak_protocol.specs.Contents.{refusal, answer, ends, closed}
-use Rattle.ak_protocol.specs.Replies.{Objection, Refusal, PastBase, NoSession, WrongStep, Objected, refused, granted, keeper_failed, out_of_memory, meta_reply, download_reply}
-use Rattle.ak_protocol.specs.Requests.{asked_method, is_meta, is_download, asks_commit}
+use Rattle.ak_session.specs.Contents.{refusal, answer, ends, closed}
+use Rattle.ak_protocol.specs.Replies.{Refusal, PastBase, NoSession, WrongStep, Objected, refused, granted, keeper_failed, out_of_memory, meta_reply, download_reply}
+use Rattle.ak_session.specs.Objections.{Objection}
+use Rattle.ak_session.specs.Requests.{asked_method, is_meta, is_download, asks_commit}
 
 -- what came in between while a request was served: nothing, a fault of the account's keeper, or memory ran out
 pub data Setback : Type 0 where

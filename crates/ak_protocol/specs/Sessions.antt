@@ -1,14 +1,14 @@
 -- A sync's session, whatever else comes to the account.
 use Rattle.std.specs.List.{AllByRecursion}
-use Rattle.std.specs.Prelude.{◌≡◌, ◌≢◌, ℕ, ℤ, ◌+◌, true, false, List, [], ◌∷◌, ◌++◌, length, None, IfSome, ⊤, ◌⊎◌}
+use Rattle.std.specs.Prelude.{◌≡◌, ◌≢◌, ℕ, ℤ, ◌+◌, true, false, List, [], ◌∷◌, ◌++◌, length, Some, None, IfSome, ⊤, ◌⊎◌}
 use Rattle.ak_keep.specs.Collections.{Collection}
 use Rattle.ak_messages.specs.declared.replies.Reply.{Reply}
 use Rattle.ak_messages.specs.declared.requests.Request.{Request}
 use Rattle.ak_protocol.specs.Accounts.{SessionState}
-use Rattle.ak_protocol.specs.Contents.{refusal, answer, closed}
-use Rattle.ak_protocol.specs.Logs.{Event, View, Asked, Commit, World, world_after, commits_of}
+use Rattle.ak_session.specs.Contents.{refusal, answer, closed}
+use Rattle.ak_protocol.specs.Logs.{Event, View, Asked, Commit, World, IsAgain, world_after, commits_of}
 use Rattle.ak_protocol.specs.Replies.{granted, download_reply}
-use Rattle.ak_protocol.specs.Requests.{is_meta, is_download, asks_commit}
+use Rattle.ak_session.specs.Requests.{is_meta, is_download, asks_commit}
 use Rattle.ak_protocol.specs.Serving.{commit_reply}
 
 -- a request is one of those that a sync asks after its meta, in this order: its step is its place, and its base is this moment
@@ -85,3 +85,18 @@ pub record Tells (key : ℕ) (plan : List Request) (base : Collection) (request 
   pub answers : asks_commit request.ask ≡ false → is_download request.ask ≡ false → reply ≡ granted (answer base asked.before request)
   -- of each: that its session, after those asked before it, had no reason to refuse it
   pub allowed : refusal base asked.before request ≡ None
+
+-- these requests came one after the other, and nothing else did: each at some moment without a setback, once or several times in a row
+abbrev pub AreUndisturbed : List Request → List Event → Type 0
+AreUndisturbed [] [] = ⊤
+AreUndisturbed [] (event ∷ events) = ⊥
+AreUndisturbed (request ∷ requests) [] = ⊥
+AreUndisturbed (request ∷ requests) (View host ∷ events) = ⊥
+AreUndisturbed (request ∷ requests) (Asked other now setback ∷ events) =
+    IsAgain request (Asked other now setback) × (AreUndisturbed requests events ⊎ AreUndisturbed (request ∷ requests) events)
+
+-- a session accepted these requests too, and nothing was committed
+pub record HasAcceptedMore (session : SessionState) (requests : List Request) (old new : World) : Type 0 where
+  pub live : new.state.live ≡ Some (record session { accepted = session.accepted ++ requests })
+  pub committed : new.state.committed ≡ old.state.committed
+  pub commits : new.commits ≡ old.commits

@@ -1,7 +1,7 @@
 -- What a client may know of the log of its wire.
 use Rattle.std.specs.List.{AllByRecursion}
-use Rattle.std.specs.Prelude.{◌≡◌, ℕ, ℤ, pos, List, [], ◌++◌, Some}
-use Rattle.ak_base.specs.Heads.{IsWithin}
+use Rattle.std.specs.Prelude.{◌≡◌, ℕ, ℤ, List, [], ◌++◌, Some}
+use Rattle.ak_io.specs.Arrivals.{IsClockMoment}
 use Rattle.ak_keep.specs.Collections.{Collection}
 use Rattle.ak_messages.specs.declared.replies.Give.TheVariants as gives
 use Rattle.ak_messages.specs.declared.replies.Reply.{Reply}
@@ -38,6 +38,6 @@ pub record IsUnderWay (host : List ℕ) (key : ℕ) (plan : List Request) (base 
 pub record IsOpened (request : Request) (account : AccountState) (log : Log) (reply : Reply) : Type 0 where
   pub base : Collection
   pub now : ℤ
-  pub timely : IsWithin (pos 0) (pos 4_294_967_294_999) now
+  pub timely : IsClockMoment now
   pub told : reply ≡ granted (gives.Meta (meta_reply base.head now))
   pub under_way : IsUnderWay request.host.digits request.session.0 [] base account log

@@ -1,8 +1,10 @@
 // What a request that comes again is given.
-ghost use Rattle.std.specs.Prelude.{◌≡◌, ◌≢◌, ℤ, false, Some};
+ghost use Rattle.std.specs.Prelude.{◌≡◌, ◌≢◌, ℤ, false, List, Some};
+ghost use Rattle.std.specs.List.{AllByRecursion};
 ghost use Rattle.ak_messages.specs.declared.requests.Request.{Request};
 ghost use Rattle.ak_protocol.specs.Accounts.{KeptReply, AccountState, given_again};
-ghost use Rattle.ak_protocol.specs.Requests.{asked_method, is_meta};
+ghost use Rattle.ak_session.specs.Requests.{asked_method, is_meta};
+ghost use Rattle.ak_protocol.specs.Logs.{Event, Asked, World, IsAgain, world_next, world_after};
 ghost use Rattle.ak_protocol.specs.Serving.{Undisturbed, unchanged, served};
 
 /// A request with the session key, the step and the method of the kept reply is given that reply, and changes
@@ -26,4 +28,17 @@ pub fn asked_again()
     ensures { (s : AccountState) (request : Request) (now again : ℤ) → is_meta request.ask ≡ false
         → let it = served s request now Undisturbed in
         served it.next request again Undisturbed ≡ unchanged it.next it.reply }
+{}
+
+/// However often in a row a request comes, at any moments and without a setback, it leaves what it left at first. Unless
+/// it is a meta, it is given the same each time.
+pub fn repeats_in_a_row()
+    ensures world { (w : World) (request : Request) (now : ℤ) (more : List Event)
+        → AllByRecursion (IsAgain request) more
+        → let once = world_next w (Asked request now Undisturbed) in world_after once more ≡ once }
+    ensures reply { (w : World) (request : Request) (now again : ℤ) (more : List Event) → is_meta request.ask ≡ false
+        → AllByRecursion (IsAgain request) more
+        → let once = world_next w (Asked request now Undisturbed) in
+        (served (world_after once more).state request again Undisturbed).reply
+        ≡ (served w.state request now Undisturbed).reply }
 {}

@@ -15,7 +15,7 @@ ghost use Rattle.ak_protocol.specs.Logs.{
   commits_of,
 };
 ghost use Rattle.ak_protocol.specs.Replies.{unknown_key};
-ghost use Rattle.ak_protocol.specs.Requests.{is_meta};
+ghost use Rattle.ak_session.specs.Requests.{is_meta};
 ghost use Rattle.ak_protocol.specs.Sessions.{
   IsAsked,
   IsOfSync,
@@ -34,12 +34,19 @@ pub fn metas_leave_unused()
 {}
 
 /// A granted meta tells the committed collection of the place where it was answered. From there on its sync is
-/// under way.
+/// under way, over what was committed at the place of that reply.
 pub fn metas_open_syncs()
-    ensures { (request : Request) (s : AccountState) (old : Log) (growth : List Event) → IsGrowth old request growth
+    ensures opens { (request : Request) (s : AccountState) (old : Log) (growth : List Event)
+        → IsGrowth old request growth
         → IsUnused request.host.digits request.session.0 s old → is_meta request.ask ≡ true
         → (reply : Reply) → IsReplyIn old growth request reply → reply.status ≡ 200
         → IsOpened request s (with_growth old growth) reply }
+    ensures base { (request : Request) (s : AccountState) (old : Log) (growth : List Event)
+        → IsGrowth old request growth
+        → IsUnused request.host.digits request.session.0 s old → is_meta request.ask ≡ true
+        → (reply : Reply) → (place : IsReplyIn old growth request reply) → reply.status ≡ 200
+        → (it : IsOpened request s (with_growth old growth) reply)
+        × (it.base ≡ (world_of request.host.digits s (with_growth old place.before)).state.committed) }
 {}
 
 /// A sync that is under way may go on to ask more.
