@@ -1,0 +1,15 @@
+pub mod Adding
+pub mod Asking
+pub mod Assembled
+pub mod Burying
+pub mod Collecting
+pub mod Gatherings
+pub mod Greedy
+pub mod LawfulSets
+pub mod Limiting
+pub mod Mixed
+pub mod Nearest
+pub mod PartLists
+pub mod Rooming
+pub mod Sorting
+pub mod Turns

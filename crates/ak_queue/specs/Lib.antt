@@ -1,0 +1,14 @@
+pub mod Burials
+pub mod Choices
+pub mod Examples
+pub mod Gathering
+pub mod Homes
+pub mod LawfulSets
+pub mod Limits
+pub mod Lists
+pub mod Nexts
+pub mod Orders
+pub mod Queues
+pub mod Readings
+pub mod Rooms
+pub mod Scopes

@@ -1,0 +1,83 @@
+-- The queue of a deck on a day.
+use Rattle.std.specs.Prelude.{ℤ, pos, ◌+◌, List, map, length, take, Option, Some, None}
+use Rattle.std.specs.Option.{option_map}
+use Rattle.ak_base.specs.Paths.{parts_of}
+use Rattle.ak_base.specs.declared.cards.Card.{Card}
+use Rattle.ak_base.specs.declared.days.Day.{Day}
+use Rattle.ak_base.specs.declared.decks.Deck.{Deck}
+use Rattle.ak_base.specs.declared.heads.Head.{Head}
+use Rattle.ak_keep.specs.Collections.{Holding}
+use Rattle.ak_keep.specs.Lookups.{deck_at}
+use Rattle.ak_queue.specs.Choices.{first_choice}
+use Rattle.ak_queue.specs.Homes.{Parts, cards_in, decks_in, parts_at}
+use Rattle.ak_queue.specs.Limits.{all_limits, limits_of, most_reviews}
+use Rattle.ak_queue.specs.Lists.{QueueView, by_due, new_cards, is_learning, is_soon, is_day_learning, is_due_review}
+use Rattle.ak_queue.specs.Orders.{DueKey, NewKey}
+use Rattle.ak_queue.specs.declared.gathered.Gathered.{Gathered}
+use Rattle.ak_queue.specs.declared.limits.DeckLimits.{DeckLimits}
+use Rattle.ak_queue.specs.declared.day_queues.Counts.{Counts}
+use Rattle.ak_queue.specs.declared.day_queues.DayQueue.{DayQueue}
+use Rattle.ak_queue.specs.declared.queues.LookAhead.{LookAhead}
+
+-- how many seconds ahead a learning card may come; without a head none may
+abbrev pub collapse_in : Option Head → ℤ
+collapse_in None = pos 0
+collapse_in (Some head) = head.conf.collapse
+
+-- what the lists of a deck look at on a day
+abbrev pub scope_of : Holding → Day → Deck → QueueView
+scope_of h day deck = record { day = day; collapse = collapse_in h.head; root = parts_of deck.name; path_of_deck = parts_at (decks_in h.rows) }
+
+-- the queue that these cards make under these limits: `own` are those of the chosen deck
+abbrev pub queue_under : QueueView → DeckLimits → List DeckLimits → List Card → DayQueue
+queue_under s own limits cards = record {
+  learning = by_due is_learning s cards;
+  soon = by_due is_soon s cards;
+  new_cards = map (λ (key : NewKey). key.2) (first_choice limits (new_cards s cards));
+  day_learning = by_due is_day_learning s cards;
+  reviews = take (most_reviews s.root own limits) (by_due is_due_review s cards);
+}
+
+-- the queue of a deck that is held
+abbrev pub queue_of_deck : Holding → Day → Deck → DayQueue
+queue_of_deck h day deck =
+    queue_under (scope_of h day deck) (limits_of h.rows day deck) (all_limits h.rows day (parts_of deck.name) (decks_in h.rows)) (cards_in h.rows)
+
+-- the queue of the deck of an id, None if it is not held
+abbrev pub queue_of : Holding → Day → ℤ → Option DayQueue
+queue_of h day id = option_map (queue_of_deck h day) (deck_at h.rows id)
+
+-- how many cards a queue has: those in learning are those that are due, soon due, and learned over days
+abbrev pub counts_of : DayQueue → Counts
+counts_of q = record {
+  new_cards = length q.new_cards;
+  learning = (length q.learning + length q.soon) + length q.day_learning;
+  reviews = length q.reviews;
+}
+
+-- how many cards the queue of the deck of an id has, None if it is not held
+abbrev pub counts_in : Holding → Day → ℤ → Option Counts
+counts_in h day id = option_map counts_of (queue_of h day id)
+
+-- ---- what was read
+-- the moment, and how many seconds ahead a learning card may come
+abbrev pub ahead_in : Day → Option Head → LookAhead
+ahead_in day head = record { day = day; collapse = collapse_in head }
+
+-- what the lists look at, by the decks that were read
+abbrev pub scope_at : LookAhead → Deck → List Deck → QueueView
+scope_at m deck decks = record { day = m.day; collapse = m.collapse; root = parts_of deck.name; path_of_deck = parts_at decks }
+
+-- the queue of a deck, by what it looks at and by the decks that are held
+abbrev pub queue_within : Holding → QueueView → Deck → List Deck → DayQueue
+queue_within h s deck decks = queue_under s (limits_of h.rows s.day deck) (all_limits h.rows s.day s.root decks) (cards_in h.rows)
+
+-- the queue of what was gathered, under these limits
+abbrev pub queue_by : Parts → Gathered → DeckLimits → List DeckLimits → DayQueue
+queue_by root g own limits = record {
+  learning = map (λ (key : DueKey). key.1) g.learning.keys;
+  soon = map (λ (key : DueKey). key.1) g.soon.keys;
+  new_cards = map (λ (key : NewKey). key.2) (first_choice limits g.new_cards.keys);
+  day_learning = map (λ (key : DueKey). key.1) g.day_learning.keys;
+  reviews = take (most_reviews root own limits) (map (λ (key : DueKey). key.1) g.reviews.keys);
+}

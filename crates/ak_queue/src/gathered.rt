@@ -1,0 +1,160 @@
+// The cards that a day asks for, gathered in one pass over the cards.
+ghost use Rattle.std.specs.Prelude.{◌≡◌, ◌∷◌, [], map, take, IfOk, OnOk};
+ghost use Rattle.std.specs.List.{filter_map};
+ghost use Rattle.ak_base.specs.declared.rows.Row.TheVariants as rows;
+ghost use Rattle.ak_keep.specs.Lookups.{as_card};
+ghost use Rattle.ak_keep.specs.Readings.{ReadsBy};
+ghost use Rattle.ak_queue.specs.Gathering.{Gathers, HasAllOf, HasNone, PutsDue, PutsNew, PutsUnder};
+ghost use Rattle.ak_queue.specs.Homes.{cards_in};
+ghost use Rattle.ak_queue.specs.Scopes.{scope_seen};
+
+use crate::paths::Path;
+use crate::scopes::Scope;
+use ak_base::{Card, List, Memory, Row, Table};
+use ak_keep::{KeepFault, Readable, Walk};
+use std::alloc::Global;
+use std::collections::BTreeSet;
+
+/// What waits, in order: when it is due, and the card's id.
+type DueKeys = BTreeSet<(i64, i64)>;
+
+/// The cards that a day asks for, before limits.
+#[derive(Debug, Drop)]
+pub(crate) struct Gathered {
+    pub(crate) learning: DueKeys,
+    pub(crate) soon: DueKeys,
+    pub(crate) day_learning: DueKeys,
+    pub(crate) reviews: DueKeys,
+    /// New cards, by the path of their deck, their place among new cards, and their id.
+    pub(crate) new_cards: BTreeSet<(Path, i64, i64)>,
+}
+
+/// The cards that the day asks for, a page of cards at a time.
+pub(crate) fn gather<R: Readable>(scope: &Scope, from: &mut R) -> Result<Gathered, KeepFault>
+    ensures reads { ReadsBy R.Lookup from.old from.new result (λ h gathered. HasAllOf (scope_seen scope.now) (cards_in h.rows) gathered) }
+{
+    let mut gathered = Gathered::new(scope.alloc);
+    let mut walk = Walk::over(Table::Card);
+    'pages: while !walk.is_done() {
+        let page = walk.next(from)?;
+        gathered.add_rows(scope, page.as_slice())?;
+    }
+    Ok(gathered)
+}
+
+impl Gathered {
+    /// No cards.
+    fn new(alloc: Global) -> Gathered
+        ensures { HasNone result }
+    {
+        Gathered {
+            learning: BTreeSet::new(alloc),
+            soon: BTreeSet::new(alloc),
+            day_learning: BTreeSet::new(alloc),
+            reviews: BTreeSet::new(alloc),
+            new_cards: BTreeSet::new(alloc),
+        }
+    }
+
+    /// Adds the cards among the rows that the day asks for.
+    fn add_rows(&mut self, scope: &Scope, rows: &[Row]) -> Result<(), Memory>
+        ensures { OnOk result (Gathers (scope_seen scope.now) (filter_map as_card rows.now) self.old self.new) }
+    {
+        let mut rest = rows;
+        while let Some((row, others)) = rest.split_first() {
+            self.add_row(scope, row)?;
+            rest = others;
+        }
+        Ok(())
+    }
+
+    /// Adds the row, if it is a card that the day asks for.
+    fn add_row(&mut self, scope: &Scope, row: &Row) -> Result<(), Memory>
+        ensures { OnOk result (Gathers (scope_seen scope.now) (filter_map as_card (row.now ∷ [])) self.old self.new) }
+    {
+        match row {
+            Row::Card(card) => self.add_card(scope, card),
+            _ => Ok(()),
+        }
+    }
+
+    /// Adds the card, if the day asks for it.
+    fn add_card(&mut self, scope: &Scope, card: &Card) -> Result<(), Memory>
+        ensures { OnOk result (Gathers (scope_seen scope.now) (card.now ∷ []) self.old self.new) }
+    {
+        let inside = scope.is_inside(card);
+        add_due(&mut self.learning, inside && scope.is_learning(card), card)?;
+        add_due(&mut self.soon, inside && scope.is_soon(card), card)?;
+        add_due(
+            &mut self.day_learning,
+            inside && scope.is_day_learning(card),
+            card,
+        )?;
+        add_due(&mut self.reviews, inside && scope.is_due_review(card), card)?;
+        add_new(&mut self.new_cards, scope, card)
+    }
+}
+
+/// Adds the card by when it is due, if it passes.
+fn add_due(keys: &mut DueKeys, passes: bool, card: &Card) -> Result<(), Memory>
+    ensures { OnOk result (PutsDue passes card.now keys.old.keys keys.new.keys) }
+{
+    if passes {
+        keys.insert((card.due, card.id))?;
+    }
+    Ok(())
+}
+
+/// Adds the card by the path of its deck, if it is a new one inside.
+fn add_new(keys: &mut BTreeSet<(Path, i64, i64)>, scope: &Scope, card: &Card) -> Result<(), Memory>
+    ensures { OnOk result (PutsNew (scope_seen scope.now) card.now keys.old.keys keys.new.keys) }
+{
+    if !scope.is_new(card) {
+        return Ok(());
+    }
+    match scope.path_of_card(card) {
+        Some(home) => add_under(keys, &scope.root, home, card),
+        None => Ok(()),
+    }
+}
+
+/// Adds the card by this path, if the path is in the subtree of the other.
+fn add_under(
+    keys: &mut BTreeSet<(Path, i64, i64)>,
+    root: &Path,
+    home: &Path,
+    card: &Card,
+) -> Result<(), Memory>
+    ensures { OnOk result (PutsUnder root.now home.now card.now keys.old.keys keys.new.keys) }
+{
+    if root.leads_to(home) {
+        let path = home.copy()?;
+        keys.insert((path, card.due, card.id))?;
+    }
+    Ok(())
+}
+
+/// The ids of the first of them, at most `most`.
+pub(crate) fn first_ids(alloc: Global, keys: &DueKeys, most: u64) -> Result<List<i64>, Memory>
+    ensures { IfOk result (λ ids. ids ≡ take most (map (λ key. key.1) keys.now.keys)) }
+{
+    let mut ids = List::new(alloc);
+    for (_, id) in keys {
+        if ids.as_slice().len() as u64 == most {
+            return Ok(ids);
+        }
+        ids.push(*id)?;
+    }
+    Ok(ids)
+}
+
+/// The ids of all of them.
+pub(crate) fn ids_of(alloc: Global, keys: &DueKeys) -> Result<List<i64>, Memory>
+    ensures { IfOk result (λ ids. ids ≡ map (λ key. key.1) keys.now.keys) }
+{
+    let mut ids = List::new(alloc);
+    for (_, id) in keys {
+        ids.push(*id)?;
+    }
+    Ok(ids)
+}

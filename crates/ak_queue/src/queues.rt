@@ -1,0 +1,171 @@
+// The queue of a deck on a day, and how many cards it has.
+ghost use Rattle.std.specs.Prelude.{◌≡◌, Some, IfOk};
+ghost use Rattle.ak_keep.specs.Readings.{ReadsBy};
+ghost use Rattle.ak_queue.specs.Queues.{queue_of, queue_of_deck, queue_within, queue_by, scope_at, ahead_in, counts_in};
+ghost use Rattle.ak_queue.specs.Readings.{AsksFor};
+ghost use Rattle.ak_queue.specs.Scopes.{queue_seen, scope_seen};
+
+use crate::choices::first_choice;
+use crate::day_queues::{Counts, DayQueue};
+use crate::faults::QueueFault;
+use crate::gathered::{Gathered, first_ids, gather, ids_of};
+use crate::homes::{homes_of, read_decks};
+use crate::limits::{DeckLimits, most_reviews, read_deck, read_limits};
+use crate::paths::Path;
+use crate::scopes::Scope;
+use ak_base::{Day, Deck, Head, List, Memory};
+use ak_keep::{KeepFault, Readable, deck_at};
+use std::alloc::Global;
+
+/// How many cards of the deck and its subtree the day asks for.
+pub fn counts<R: Readable>(
+    alloc: Global,
+    from: &mut R,
+    deck: i64,
+    day: Day,
+) -> Result<Counts, QueueFault>
+    ensures { AsksFor R.Lookup deck from.old from.new result (λ h counts. counts_in h day deck ≡ Some counts) }
+{
+    let queue = queue_of(alloc, from, deck, day)?;
+    Ok(queue.counts())
+}
+
+/// The cards of the deck and its subtree that the day asks for, in one pass over the decks and one over the cards.
+pub fn queue_of<R: Readable>(
+    alloc: Global,
+    from: &mut R,
+    deck: i64,
+    day: Day,
+) -> Result<DayQueue, QueueFault>
+    ensures { AsksFor R.Lookup deck from.old from.new result (λ h queue. queue_of h day deck ≡ Some queue) }
+{
+    match read_queue(alloc, from, deck, day)? {
+        Some(queue) => Ok(queue),
+        None => Err(QueueFault::NoDeck(deck)),
+    }
+}
+
+/// The queue of the deck of this id, None if it is not held.
+fn read_queue<R: Readable>(
+    alloc: Global,
+    from: &mut R,
+    deck: i64,
+    day: Day,
+) -> Result<Option<DayQueue>, KeepFault>
+    ensures reads { ReadsBy R.Lookup from.old from.new result (λ h queue. queue ≡ queue_of h day deck) }
+{
+    let found = deck_at(from, deck)?;
+    match found {
+        Some(deck) => {
+            let queue = queue_of_deck(alloc, from, &deck, day)?;
+            Ok(Some(queue))
+        }
+        None => Ok(None),
+    }
+}
+
+/// The queue of a deck that is held.
+fn queue_of_deck<R: Readable>(
+    alloc: Global,
+    from: &mut R,
+    deck: &Deck,
+    day: Day,
+) -> Result<DayQueue, KeepFault>
+    ensures reads { ReadsBy R.Lookup from.old from.new result (λ h queue. queue ≡ queue_of_deck h day deck.now) }
+{
+    let head = from.head()?;
+    let decks = read_decks(alloc, from)?;
+    let ahead = ahead_in(day, &head);
+    let scope = scope_of(alloc, deck, &decks, ahead)?;
+    queue_within(&scope, deck, decks.as_slice(), from)
+}
+
+/// The queue of a deck, by what it looks at and by the decks that are held.
+fn queue_within<R: Readable>(
+    scope: &Scope,
+    deck: &Deck,
+    decks: &[Deck],
+    from: &mut R,
+) -> Result<DayQueue, KeepFault>
+    ensures reads { ReadsBy R.Lookup from.old from.new result (λ h queue. queue ≡ queue_within h (scope_seen scope.now) deck.now decks.now) }
+{
+    let own = read_deck(scope.alloc, from, scope.day, deck)?;
+    let limits = read_limits(scope, decks, from)?;
+    queue_under(scope, &own, limits.as_slice(), from)
+}
+
+/// The queue of the cards that are held, under these limits.
+fn queue_under<R: Readable>(
+    scope: &Scope,
+    own: &DeckLimits,
+    limits: &[DeckLimits],
+    from: &mut R,
+) -> Result<DayQueue, KeepFault>
+    ensures reads { ReadsBy R.Lookup from.old from.new result (λ h queue. queue ≡ queue_seen h scope.now own.now limits.now) }
+{
+    let gathered = gather(scope, from)?;
+    let queue = assembled(scope, &gathered, own, limits)?;
+    Ok(queue)
+}
+
+/// What the queue of a deck looks at.
+fn scope_of(
+    alloc: Global,
+    deck: &Deck,
+    decks: &List<Deck>,
+    ahead: LookAhead,
+) -> Result<Scope, Memory>
+    ensures { IfOk result (λ scope. scope_seen scope ≡ scope_at ahead deck.now decks.now) }
+{
+    let root = Path::of(alloc, deck.name.as_str())?;
+    let homes = homes_of(alloc, decks.as_slice())?;
+    Ok(Scope {
+        alloc,
+        day: ahead.day,
+        collapse: ahead.collapse,
+        root,
+        homes,
+    })
+}
+
+/// The lists of what was gathered, within limits.
+fn assembled(
+    scope: &Scope,
+    gathered: &Gathered,
+    own: &DeckLimits,
+    limits: &[DeckLimits],
+) -> Result<DayQueue, Memory>
+    ensures { IfOk result (λ queue. queue ≡ queue_by scope.now.root gathered.now own.now limits.now) }
+{
+    Ok(DayQueue {
+        learning: ids_of(scope.alloc, &gathered.learning)?,
+        soon: ids_of(scope.alloc, &gathered.soon)?,
+        new_cards: first_choice(scope.alloc, limits, &gathered.new_cards)?,
+        day_learning: ids_of(scope.alloc, &gathered.day_learning)?,
+        reviews: first_ids(
+            scope.alloc,
+            &gathered.reviews,
+            most_reviews(&scope.root, own, limits),
+        )?,
+    })
+}
+
+/// The moment, and how many seconds ahead a learning card may come. Without a head none may.
+fn ahead_in(day: Day, head: &Option<Head>) -> LookAhead
+    ensures { result ≡ ahead_in day head.now }
+{
+    match head {
+        Some(head) => LookAhead {
+            day,
+            collapse: head.conf.collapse,
+        },
+        None => LookAhead { day, collapse: 0 },
+    }
+}
+
+/// The moment that a queue is of, and how many seconds ahead a learning card may come.
+#[derive(Clone, Copy, Debug)]
+pub(crate) struct LookAhead {
+    day: Day,
+    collapse: i64,
+}
