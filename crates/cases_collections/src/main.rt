@@ -3,10 +3,7 @@
 #![tactic(auto)]
 
 mod faults;
-mod heads;
-mod keepers;
 mod merges;
-mod related;
 mod searches;
 mod sides;
 

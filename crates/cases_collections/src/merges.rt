@@ -1,8 +1,8 @@
-use crate::faults::{check_fault, failed, name_text};
-use crate::keepers::{row_of, value_of};
+use crate::faults::check_fault;
 use ak_base::{Row, cut};
 use ak_keep::{Keeper, MemoryKeeper};
 use ak_merge::{apart, check, join_into, newer, take_row, tie_between};
+use cases_keepers::{failed, name_text, row_of, value_of};
 use cases_lines::{Unread, row_at, table_of, text_at, truth};
 use serde_json::Value;
 use std::alloc::Global;

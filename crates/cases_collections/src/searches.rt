@@ -1,8 +1,8 @@
-use crate::faults::{failed, search_fault};
-use crate::keepers::value_of;
+use crate::faults::search_fault;
 use ak_base::Day;
 use ak_keep::MemoryKeeper;
 use ak_search::{Expr, find, parse};
+use cases_keepers::{failed, value_of};
 use cases_lines::{Unread, listed, number_at, text_at};
 use serde_json::Value;
 use std::alloc::Global;

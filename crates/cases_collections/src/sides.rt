@@ -1,8 +1,8 @@
-use crate::keepers::answer_of;
-use crate::merges::{answer_of_both, newer_of};
-use crate::searches::faults_of;
+use crate::merges::{answer_of_both, checked, newer_of, take};
+use crate::searches::{faults_of, found};
 use ak_base::cut;
 use ak_keep::MemoryKeeper;
+use cases_keepers::answer_of;
 use cases_lines::{Answers, Unread};
 use std::alloc::Global;
 
@@ -38,7 +38,21 @@ impl Answers for Sides {
 
 fn answer_at(alloc: Global, keeper: &mut MemoryKeeper, rest: &str) -> Result<String, Unread> {
     match cut(rest, " ") {
-        Some((word, rest)) => answer_of(alloc, keeper, word, rest),
-        None => answer_of(alloc, keeper, rest, ""),
+        Some((word, rest)) => answer_of_side(alloc, keeper, word, rest),
+        None => answer_of_side(alloc, keeper, rest, ""),
+    }
+}
+
+fn answer_of_side(
+    alloc: Global,
+    keeper: &mut MemoryKeeper,
+    word: &str,
+    rest: &str,
+) -> Result<String, Unread> {
+    match word {
+        "check" => checked(alloc, keeper),
+        "find" => found(alloc, keeper, rest),
+        "take" => take(alloc, keeper, rest),
+        _ => answer_of(alloc, keeper, word, rest),
     }
 }

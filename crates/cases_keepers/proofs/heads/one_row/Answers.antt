@@ -1,5 +1,5 @@
-use Rattle.cases_collections.proofs.Distinct.{one_is_distinct}
-use Rattle.cases_collections.proofs.heads.one_row.Goals as goal
+use Rattle.cases_keepers.proofs.Distinct.{one_is_distinct}
+use Rattle.cases_keepers.proofs.heads.one_row.Goals as goal
 
 -- src/heads.rt:208:1
 pub returns-clause-distinct : goal.returns-clause-distinct

@@ -3,9 +3,7 @@ ghost use Rattle.ak_keep.specs.Keepers.{is_marked};
 
 use crate::faults::{done, failed};
 use crate::heads::{head_text, replace, set_head, set_moments};
-use crate::merges::{checked, take};
 use crate::related::related;
-use crate::searches::found;
 use ak_base::{List, Name, Row, Table, cut};
 use ak_json::{read_row, read_text};
 use ak_keep::{KeepFault, Keeper, Lookup, MemoryKeeper, Readable, Wanted};
@@ -13,7 +11,7 @@ use cases_lines::{Unread, listed, number_at, row_text, table_of};
 use serde_json::Value;
 use std::alloc::Global;
 
-/// The answer of one side to a command.
+/// The answer to a command that one keeper can follow alone.
 pub fn answer_of(
     alloc: Global,
     keeper: &mut MemoryKeeper,
@@ -27,9 +25,6 @@ pub fn answer_of(
         "commit" => commit(alloc, keeper),
         "state" => state(alloc, keeper),
         "head" => head_text(alloc, keeper),
-        "check" => checked(alloc, keeper),
-        "find" => found(alloc, keeper, rest),
-        "take" => take(alloc, keeper, rest),
         "set-head" => set_head(alloc, keeper, rest),
         "set-moments" => set_moments(alloc, keeper, rest),
         "replace" => replace(alloc, keeper, rest),
