@@ -1,0 +1,12 @@
+pub mod Carrying
+pub mod DeskFaults
+pub mod Ends
+pub mod FreeNames
+pub mod MadeRows
+pub mod Overlays
+pub mod Plans
+pub mod Refusals
+pub mod Steps
+pub mod Stores
+pub mod UndoPlans
+pub mod Undos
