@@ -1,0 +1,10 @@
+pub mod Answering
+pub mod Telling
+pub mod Overlaying
+pub mod CheckedRows
+pub mod CardRules
+pub mod Missing
+pub mod AdmittedEdits
+pub mod CheckedEdits
+pub mod RowRules
+pub mod Ids

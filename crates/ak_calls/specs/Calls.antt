@@ -1,0 +1,46 @@
+-- What the editing calls share: how they are refused for rows that are not held, and what they leave.
+use Rattle.std.specs.Prelude.{◌≡◌, ◌⊎◌, ℤ, Bool, not, is_some, List, Option, Some, None}
+use Rattle.std.specs.List.{find, list_any}
+use Rattle.std.specs.Ordering.{int_eq}
+use Rattle.ak_base.specs.declared.names.Name.{Name}
+use Rattle.ak_base.specs.declared.names.Table.{Table}
+use Rattle.ak_edit.specs.Ends.{IsFinished}
+use Rattle.ak_edit.specs.Refusals.{IsEndFault, Refusal}
+use Rattle.ak_edit.specs.declared.desk_faults.DeskFault.{DeskFault}
+use Rattle.ak_edit.specs.declared.desk_faults.DeskFault.TheVariants as faults
+use Rattle.ak_keep.specs.Collections.{Collection}
+use Rattle.ak_keep.specs.Keepers.{Keeping, WhereHeld}
+use Rattle.ak_merge.specs.Edits.{Edit}
+use Rattle.ak_merge.specs.Holdings.{RowsByName, name_in}
+use Rattle.ak_undo.specs.declared.steps.Step.{Step}
+
+-- whether the id is one of these
+abbrev pub has_id : List ℤ → ℤ → Bool
+has_id ids id = list_any (λ (other : ℤ). int_eq other id) ids
+
+-- ---- refusals
+-- the row of this name, which the call needs, is not held
+abbrev pub RefusesAbsent : RowsByName → Name → Refusal
+RefusesAbsent at name fault = (at name ≡ None) × (fault ≡ faults.NoSuch name)
+
+-- the first of these ids under which the table holds no row
+abbrev pub first_missing : RowsByName → Table → List ℤ → Option ℤ
+first_missing at table ids = find (λ (id : ℤ). not (is_some (at (name_in table id)))) ids
+
+-- a row of the table that the call names is not held: the first one in the order of the list
+abbrev pub RefusesMissing : RowsByName → Table → List ℤ → Refusal
+RefusesMissing at table ids fault = (id : ℤ) × (first_missing at table ids ≡ Some id) × (fault ≡ faults.NoSuch (name_in table id))
+
+-- a row of the table is not held
+abbrev pub IsMissingFault : Table → DeskFault → Type 0
+IsMissingFault table fault = (id : ℤ) × (fault ≡ faults.NoSuch (name_in table id))
+
+-- what a call that names rows of the table may answer: one is not held, or a fault of the end of an edit
+abbrev pub IsMissingOrEnd : Table → DeskFault → Type 0
+IsMissingOrEnd table fault = IsMissingFault table fault ⊎ IsEndFault fault
+
+-- ---- what a call leaves
+-- at this moment the edit of the collection that was held was done: the keeper holds what the edit leaves, and the undo list
+-- has its step
+abbrev pub DoesEdit : ℤ → (Collection → Edit) → Keeping → Keeping → List Step → List Step → Type 0
+DoesEdit at rule before now steps left = WhereHeld before (λ c. IsFinished at c (rule c) before now steps left)

@@ -1,0 +1,12 @@
+// What the editing calls of a collection share: how they are refused, what they leave, and an edit of cards one by one.
+#![tactic(auto)]
+
+mod call_laws;
+mod card_edits;
+mod held_rows;
+mod row_edits;
+
+pub use call_laws::card_edits_are_admitted;
+pub use card_edits::{CardChange, CardEdit, edit_cards};
+pub use held_rows::held_row;
+pub use row_edits::edit_row;

@@ -1,0 +1,3 @@
+pub mod FlaggedCards
+pub mod MovedCards
+pub mod UsedOptions

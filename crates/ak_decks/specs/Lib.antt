@@ -1,0 +1,3 @@
+pub mod DeckOptions
+pub mod Flags
+pub mod Moves

@@ -1,0 +1,3 @@
+pub mod NoteCards
+pub mod DeletionRules
+pub mod AdmittedDeletions
