@@ -1,0 +1,136 @@
+ghost use Rattle.std.specs.Prelude.{◌≤ℤ◌, pos, IfOk};
+
+use crate::faults::fault_text;
+use crate::sessions::Session;
+use ak_decks::{FlagCards, MoveCards, UseOptions, flag, move_cards, use_options};
+use ak_edit::{DeskFault, undo};
+use ak_keep::{Keeper, Lookup};
+use ak_notes::delete_notes;
+use cases_keepers::value_of;
+use cases_lines::{Unread, list_at, number_at};
+use serde_json::Value;
+use std::alloc::Global;
+
+/// The answer to an editing call, over a keeper that holds a head and is not marked.
+pub fn call(
+    alloc: Global,
+    session: &mut Session,
+    word: &str,
+    rest: &str,
+) -> Result<String, Unread> {
+    if session.keeper.marked() || !session.keeper.held() {
+        return Err(Unread::Bad);
+    }
+    let arguments = value_of(alloc, rest)?;
+    match word {
+        "flag" => flag_by(alloc, session, &arguments),
+        "move-cards" => move_by(alloc, session, &arguments),
+        "use-options" => use_by(alloc, session, &arguments),
+        "delete-notes" => delete_by(alloc, session, &arguments),
+        _ => undo_by(alloc, session, &arguments),
+    }
+}
+
+/// `flag [AT, IDS, VALUE]`.
+fn flag_by(alloc: Global, session: &mut Session, arguments: &Value) -> Result<String, Unread> {
+    let at = moment_at(arguments)?;
+    let cards = ids_at(alloc, arguments, 1)?;
+    let value = number_at(arguments, 2)?;
+    if value < 0 || value > 7 || session.keeper.marked() || !session.keeper.held() {
+        return Err(Unread::Bad);
+    }
+    let wanted = FlagCards {
+        cards: cards.as_slice(),
+        value,
+    };
+    done(
+        alloc,
+        flag(&mut session.keeper, &mut session.steps, &wanted, at),
+    )
+}
+
+/// `move-cards [AT, IDS, DECK]`.
+fn move_by(alloc: Global, session: &mut Session, arguments: &Value) -> Result<String, Unread> {
+    let at = moment_at(arguments)?;
+    let cards = ids_at(alloc, arguments, 1)?;
+    let deck = number_at(arguments, 2)?;
+    if session.keeper.marked() || !session.keeper.held() {
+        return Err(Unread::Bad);
+    }
+    let wanted = MoveCards {
+        cards: cards.as_slice(),
+        deck,
+    };
+    done(
+        alloc,
+        move_cards(&mut session.keeper, &mut session.steps, &wanted, at),
+    )
+}
+
+/// `use-options [AT, DECK, OPTIONS]`.
+fn use_by(alloc: Global, session: &mut Session, arguments: &Value) -> Result<String, Unread> {
+    let at = moment_at(arguments)?;
+    let deck = number_at(arguments, 1)?;
+    let options = number_at(arguments, 2)?;
+    if session.keeper.marked() || !session.keeper.held() {
+        return Err(Unread::Bad);
+    }
+    let wanted = UseOptions { deck, options };
+    done(
+        alloc,
+        use_options(&mut session.keeper, &mut session.steps, &wanted, at),
+    )
+}
+
+/// `delete-notes [AT, IDS]`.
+fn delete_by(alloc: Global, session: &mut Session, arguments: &Value) -> Result<String, Unread> {
+    let at = moment_at(arguments)?;
+    let notes = ids_at(alloc, arguments, 1)?;
+    if session.keeper.marked() || !session.keeper.held() {
+        return Err(Unread::Bad);
+    }
+    let made = delete_notes(
+        &mut session.keeper,
+        &mut session.steps,
+        notes.as_slice(),
+        at,
+    );
+    done(alloc, made)
+}
+
+/// `undo [AT]`.
+fn undo_by(alloc: Global, session: &mut Session, arguments: &Value) -> Result<String, Unread> {
+    let at = moment_at(arguments)?;
+    if session.keeper.marked() || !session.keeper.held() {
+        return Err(Unread::Bad);
+    }
+    done(alloc, undo(&mut session.keeper, &mut session.steps, at))
+}
+
+/// The moment at the first place of the arguments, in milliseconds, that a clock may tell.
+fn moment_at(arguments: &Value) -> Result<i64, Unread>
+    ensures { IfOk result (λ at. (pos 0 ≤ℤ at) × (at ≤ℤ pos 4_294_967_294_999)) }
+{
+    let at = number_at(arguments, 0)?;
+    if at < 0 || at > 4_294_967_294_999 {
+        return Err(Unread::Bad);
+    }
+    Ok(at)
+}
+
+/// The ids at a place of the arguments.
+fn ids_at(alloc: Global, arguments: &Value, place: usize) -> Result<Vec<i64>, Unread> {
+    let mut ids = Vec::new(alloc);
+    for value in list_at(arguments, place)? {
+        ids.push(value.as_i64().ok_or(Unread::Bad)?)?;
+    }
+    Ok(ids)
+}
+
+/// `ok`, or why the call was refused.
+fn done(alloc: Global, answer: Result<(), DeskFault>) -> Result<String, Unread> {
+    match answer {
+        Ok(()) => Ok(String::from_str(alloc, "ok")?),
+        Err(fault) => fault_text(alloc, fault),
+    }
+}

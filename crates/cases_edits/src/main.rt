@@ -1,0 +1,28 @@
+// Cases of edits: a collection and its undo list, one command a line, and one line printed for each. README.md tells the
+// commands.
+#![tactic(auto)]
+
+mod calls;
+mod faults;
+mod sessions;
+
+use crate::sessions::Session;
+use ak_io::{Sink, Source, StdSink, StdSource};
+use cases_lines::{Unread, print_answers};
+use std::alloc::Global;
+use std::io;
+use std::process::ExitCode;
+
+fn main(rt: HostRuntime) -> io::Result<ExitCode> {
+    let mut input = StdSource::new(rt.stdin());
+    let mut out = StdSink::new(rt.stdout());
+    match print_all(rt.alloc(), &mut input, &mut out) {
+        Ok(()) => Ok(ExitCode::from(0)),
+        Err(_) => Ok(ExitCode::from(1)),
+    }
+}
+
+fn print_all<I: Source, O: Sink>(alloc: Global, input: &mut I, out: &mut O) -> Result<(), Unread> {
+    let mut session = Session::new(alloc)?;
+    print_answers(alloc, &mut session, input, out)
+}

@@ -1,0 +1,60 @@
+use crate::calls::call;
+use ak_base::cut;
+use ak_keep::MemoryKeeper;
+use ak_undo::UndoList;
+use cases_keepers::answer_of;
+use cases_lines::{Answers, Unread};
+use std::alloc::Global;
+
+/// A collection in memory, and the steps that can be undone.
+#[derive(Drop)]
+pub struct Session {
+    pub keeper: MemoryKeeper,
+    pub steps: UndoList,
+}
+
+impl Session {
+    /// An empty keeper, and no step.
+    pub fn new(alloc: Global) -> Result<Session, Unread> {
+        let steps = UndoList::new(alloc)?;
+        Ok(Session {
+            keeper: MemoryKeeper::new(alloc),
+            steps,
+        })
+    }
+
+    fn command(&mut self, alloc: Global, word: &str, rest: &str) -> Result<String, Unread> {
+        match word {
+            "steps" => self.steps_text(alloc),
+            "forget" => self.forget(alloc),
+            "flag" | "move-cards" | "use-options" | "delete-notes" | "undo" => {
+                call(alloc, self, word, rest)
+            },
+            _ => answer_of(alloc, &mut self.keeper, word, rest),
+        }
+    }
+
+    /// How many steps can be undone.
+    fn steps_text(&self, alloc: Global) -> Result<String, Unread> {
+        let steps = self.steps.len();
+        Ok(format!(in alloc; "{steps}")?)
+    }
+
+    /// Takes all steps out of the list.
+    fn forget(&mut self, alloc: Global) -> Result<String, Unread> {
+        self.steps.clear();
+        Ok(String::from_str(alloc, "ok")?)
+    }
+}
+
+impl Answers for Session {
+    fn answer(&mut self, alloc: Global, word: &str, rest: &str) -> Result<String, Unread> {
+        if word != "A" {
+            return Err(Unread::Bad);
+        }
+        match cut(rest, " ") {
+            Some((word, rest)) => self.command(alloc, word, rest),
+            None => self.command(alloc, rest, ""),
+        }
+    }
+}
