@@ -4,3 +4,13 @@ pub mod EachPart
 pub mod Tables
 pub mod Lengths
 pub mod BodyFaults
+pub mod Founds
+pub mod FoundMessages
+pub mod ReadForms
+pub mod Depths
+pub mod ReadAgain
+pub mod Exact
+pub mod OneFault
+pub mod ReadOnly
+pub mod WholesAgain
+pub mod MessagesAgain

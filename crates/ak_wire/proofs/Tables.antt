@@ -10,7 +10,7 @@ use Rattle.ak_wire.specs.Values.{value_under, items_under}
 use Rattle.ak_base.specs.declared.names.Table.{Table}
 use Rattle.ak_base.specs.declared.rows.Row.{Row}
 use Rattle.ak_wire.specs.Faults.{OrMemory}
-use Rattle.ak_wire.specs.Wholes.{items_for, table_items, PartsFault, AddsTable, ReadsTable, ReadsTables, AddsTables, TableFault, TablesFault}
+use Rattle.ak_wire.specs.Wholes.{items_for, table_items, PartsFault, AddsTable, ReadsTable, TakesTables, AddsTables, TableFault, TablesFault}
 use Rattle.ak_wire.specs.declared.keys.Key.{Key}
 use Rattle.ak_wire.specs.declared.wire_faults.WireFault.{WireFault}
 use Rattle.ak_wire.proofs.Refusals.{then_first, then_later}
@@ -35,8 +35,8 @@ others_fail columns column others d old mid fault first h is =
     subst (λ (cs : List (Table × Key)). OrMemory (TablesFault cs d) fault) (sym is)
     (then_later (TableFault column.0 (table_items column d)) (ReadsTable column.0 (table_items column d)) (TablesFault others d) fault first.0 first.1 h)
 
-pub all_rows : (columns : List (Table × Key)) (d : Data) (rows : List Row) → AddsTables columns d [] rows → ReadsTables columns d rows
-all_rows columns d rows added = subst (λ (made : List Row). ReadsTables columns d made) (sym added.2) added.1
+pub all_rows : (columns : List (Table × Key)) (d : Data) (rows : List Row) → AddsTables columns d [] rows → TakesTables columns d rows
+all_rows columns d rows added = subst (λ (made : List Row). TakesTables columns d made) (sym added.2) added.1
 
 pub on_ok : {T E A B : Type 0} (r : Result T E) → (A → B) → OnOk r A → OnOk r B
 on_ok (Ok x) goes h = goes h

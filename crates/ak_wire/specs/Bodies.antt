@@ -14,7 +14,8 @@ use Rattle.ak_messages.specs.declared.requests.Newer.{Newer}
 use Rattle.ak_wire.specs.Faults.{First, Then, ReadsEach, RefusesEach}
 use Rattle.ak_wire.specs.Forms.{graves_form, chunk_form, changes_form, newer_form}
 use Rattle.ak_wire.specs.Parts.{OfJson, RefusesRowOf, ThenAfter, ReadsNote, ReadsCard, ReadsReview, ReadsNoteType, ReadsDeck, ReadsOptions}
-use Rattle.ak_wire.specs.Values.{first_fault, object_fault, integer_under, bool_under, value_under, items_of, items_under, ids_under, texts}
+use Rattle.ak_wire.specs.Found.{HasInteger, HasBool, Under, AtPlace, ReadsList, IsInteger, IsText}
+use Rattle.ak_wire.specs.Values.{first_fault, object_fault, integer_under, value_under, items_of, items_under, ids_under}
 use Rattle.ak_wire.specs.declared.wire_faults.WireFault.{WireFault}
 use Rattle.ak_wire.specs.declared.wire_faults.WireFault.TheVariants.{TooManyRows}
 
@@ -34,6 +35,13 @@ graves_of d = record {
   decks = ids_under (codes "decks") d;
 }
 
+-- the ids are those of an object of their form
+pub record ReadsGraves (d : Data) (ids : GraveIds) : Type 0 where
+  pub form : graves_fault d ≡ None
+  pub cards : Under (codes "cards") (ReadsList IsInteger) d ids.cards
+  pub notes : Under (codes "notes") (ReadsList IsInteger) d ids.notes
+  pub decks : Under (codes "decks") (ReadsList IsInteger) d ids.decks
+
 -- how many entries the lists under `cards`, `decks` and `notes` have together
 abbrev pub grave_values : Data → ℕ
 grave_values d = items_len (items_under (codes "cards") d) + items_len (items_under (codes "decks") d) + items_len (items_under (codes "notes") d)
@@ -49,10 +57,10 @@ chunk_fault d = option_or (object_fault chunk_form d) (too_many (chunk_values d)
 -- the chunk is that of an object of its form
 pub record ReadsChunk (d : Data) (c : Chunk) : Type 0 where
   pub form : chunk_fault d ≡ None
-  pub done : c.done ≡ bool_under (codes "done") d
-  pub cards : ReadsEach ReadsCard (items_under (codes "cards") d) c.cards
-  pub notes : ReadsEach ReadsNote (items_under (codes "notes") d) c.notes
-  pub reviews : ReadsEach ReadsReview (items_under (codes "revlog") d) c.reviews
+  pub done : HasBool (codes "done") d c.done
+  pub cards : Under (codes "cards") (ReadsList ReadsCard) d c.cards
+  pub notes : Under (codes "notes") (ReadsList ReadsNote) d c.notes
+  pub reviews : Under (codes "revlog") (ReadsList ReadsReview) d c.reviews
 
 -- the first fault of a row of a chunk: of cards, then of notes, then of reviews
 abbrev pub ChunkRowFault : Data → WireFault → Type 0
@@ -75,7 +83,12 @@ newer_fault d = if is_newer d then first_fault newer_form d else None
 -- the settings are there if the sender gives them
 abbrev pub ReadsNewer : Data → Option Newer → Type 0
 ReadsNewer d None = is_newer d ≡ false
-ReadsNewer d (Some newer) =
+ReadsNewer d (Some newer) = Under (codes "conf") ReadsConf d newer.conf × HasInteger (codes "crt") d newer.crt
+
+-- the settings are those of an object that has both of their keys or none
+abbrev pub TakesNewer : Data → Option Newer → Type 0
+TakesNewer d None = is_newer d ≡ false
+TakesNewer d (Some newer) =
     (is_newer d ≡ true) × ReadsConf (value_under (codes "conf") d) newer.conf × (newer.crt ≡ integer_under (codes "crt") d)
 
 -- the fault of the settings, where they are given
@@ -98,15 +111,15 @@ changes_fault d = option_or (newer_fault d) (object_fault changes_form d)
 pub record ReadsChanges (d : Data) (c : Changes) : Type 0 where
   pub form : changes_fault d ≡ None
   pub newer : ReadsNewer d c.newer
-  pub decks : ReadsEach ReadsDeck (deck_items d) c.decks
-  pub options : ReadsEach ReadsOptions (options_items d) c.options
-  pub models : ReadsEach ReadsNoteType (items_under (codes "models") d) c.models
-  pub tags : c.tags ≡ texts (items_under (codes "tags") d)
+  pub decks : Under (codes "decks") (AtPlace 0 (ReadsList ReadsDeck)) d c.decks
+  pub options : Under (codes "decks") (AtPlace 1 (ReadsList ReadsOptions)) d c.options
+  pub models : Under (codes "models") (ReadsList ReadsNoteType) d c.models
+  pub tags : Under (codes "tags") (ReadsList IsText) d c.tags
 
 -- the first fault of the settings and rows of changes: settings, decks, option groups, note types
 abbrev pub ChangesRowFault : Data → WireFault → Type 0
 ChangesRowFault d =
-    Then {A = Option Newer} (NewerFault d) (ReadsNewer d) (ThenAfter ReadsDeck tables.Deck (deck_items d)
+    Then {A = Option Newer} (NewerFault d) (TakesNewer d) (ThenAfter ReadsDeck tables.Deck (deck_items d)
     (ThenAfter ReadsOptions tables.Options (options_items d)
     (RefusesEach ReadsNoteType (RefusesRowOf tables.NoteType) (items_under (codes "models") d))))
 

@@ -64,3 +64,19 @@ AddsPart {A = A} reads d old new = (part : A) × reads d part × (new ≡ old ++
 abbrev pub AddsIf : {A : Type 0} → Bool → (Data → A → Type 0) → Data → List A → List A → Type 0
 AddsIf true reads d old new = AddsPart reads d old new
 AddsIf false reads d old new = new ≡ old
+
+-- two things that a value or a body is read as are equal
+abbrev pub AtMostOne : {A : Type 0} → (A → Type 0) → Type 0
+AtMostOne {A = A} reads = (a b : A) → reads a → reads b → a ≡ b
+
+-- what refuses it does so only if memory is out
+abbrev pub OnlyMemory : (WireFault → Type 0) → Type 0
+OnlyMemory refuses = (fault : WireFault) → refuses fault → fault ≡ Memory
+
+-- if it is read, it is refused only if memory is out
+abbrev pub IsNotRefused : {A : Type 0} → (A → Type 0) → (WireFault → Type 0) → Type 0
+IsNotRefused {A = A} reads refuses = (made : A) → reads made → OnlyMemory refuses
+
+-- two faults that refuse it are equal, unless memory was out at one of them
+abbrev pub AtMostOneFault : (WireFault → Type 0) → Type 0
+AtMostOneFault refuses = (a b : WireFault) → refuses a → refuses b → (a ≡ b) ⊎ ((a ≡ Memory) ⊎ (b ≡ Memory))

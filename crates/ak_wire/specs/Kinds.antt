@@ -3,7 +3,7 @@ use Rattle.std.specs.Prelude.{◌==◌, ℕ, ℤ, pos, negsuc, int_le, int_lt, n
 use Rattle.std.specs.Option.{is_some, option_map_or}
 use Rattle.std.specs.Cmp.Lexicographic.{pointwise}
 use Rattle.serde_json.specs.Data.{Data, Items, no_items, item, Members, no_members, member}
-use Rattle.serde_json.specs.Find.{at, as_null, as_str, as_bool, as_array, as_object}
+use Rattle.serde_json.specs.Find.{at, as_null, as_number, as_u64, as_str, as_bool, as_array, as_object}
 use Rattle.ak_json.specs.Kinds.{integer_of, is_within}
 use Rattle.ak_wire.specs.Words.{word_of}
 use Rattle.ak_wire.specs.declared.kinds.Kind.{Kind}
@@ -27,9 +27,13 @@ are_ids ds = ids_after None ds
 abbrev pub number_at : ℕ → Data → Option ℤ
 number_at place d = option_and_then integer_of (at place d)
 
+-- the number without a sign at a place of a list
+abbrev pub unsigned_at : ℕ → Data → Option ℕ
+unsigned_at place d = option_and_then as_u64 (option_and_then as_number (at place d))
+
 -- a count stands at a place: a whole number from 0 to the last that fits 64 bits with its sign
 abbrev pub is_count : ℕ → Data → Bool
-is_count place d = is_within (pos 0) (pos 9_223_372_036_854_775_807) (number_at place d)
+is_count place d = option_map_or (λ n. nat_le n 9_223_372_036_854_775_807) (unsigned_at place d) false
 
 -- the number 0 stands at a place
 abbrev pub is_zero : ℕ → Data → Bool

@@ -4,10 +4,12 @@ pub mod Kinds
 pub mod Forms
 pub mod Faults
 pub mod Values
+pub mod Found
 pub mod Parts
 pub mod Bodies
 pub mod Wholes
 pub mod Requests
 pub mod Replies
 pub mod Written
+pub mod Sent
 pub mod Budgets

@@ -3,7 +3,7 @@ use Rattle.std.specs.Prelude.{◌≡◌, ◌==◌, ℕ, ℤ, pos, List, [], code
 use Rattle.std.specs.Option.{option_or, is_some}
 use Rattle.std.specs.Cmp.Lexicographic.{pointwise}
 use Rattle.std.specs.Ordering.{int_eq}
-use Rattle.serde_json.specs.Data.{Data}
+use Rattle.serde_json.specs.Data.{Data, null}
 use Rattle.serde_json.specs.Find.{as_array}
 use Rattle.ak_merge.specs.declared.checks.CheckFault.{CheckFault}
 use Rattle.ak_merge.specs.declared.checks.CheckFault.TheVariants as checks
@@ -17,27 +17,27 @@ use Rattle.ak_messages.specs.declared.replies.SanityReply.{SanityReply}
 use Rattle.ak_messages.specs.declared.replies.Word.{Word}
 use Rattle.ak_messages.specs.declared.replies.Word.TheVariants as words
 use Rattle.ak_messages.specs.declared.requests.SanityCounts.{SanityCounts}
-use Rattle.ak_wire.specs.Bodies.{graves_fault, graves_of, ReadsChunk, ChunkFault, ReadsChanges, ChangesFault}
+use Rattle.ak_wire.specs.Bodies.{graves_fault, ReadsGraves, ReadsChunk, ChunkFault, ReadsChanges, ChangesFault}
 use Rattle.ak_wire.specs.Faults.{Is}
 use Rattle.ak_wire.specs.Kinds.{number_at}
 use Rattle.ak_wire.specs.Forms.{meta_form, status_form, bad_form, moment_form, uploaded_form, refused_form, download_form}
 use Rattle.ak_wire.specs.Requests.{IsJsonOf, RefusesBody}
+use Rattle.ak_wire.specs.Found.{HasInteger, HasBool, HasText, HasWord, Under, ReadsCounts}
 use Rattle.ak_wire.specs.Values.{object_fault, integer_under, bool_under, text_under, value_under, counts_under}
 use Rattle.ak_wire.specs.Wholes.{download_tables, ReadsDownload, WholeFault}
 use Rattle.ak_wire.specs.Words.{word_of}
 use Rattle.ak_wire.specs.declared.wire_faults.WireFault.{WireFault}
 
--- where the server stands, by an object of that form
-abbrev pub meta_of : Data → MetaReply
-meta_of d = record {
-  scm = integer_under (codes "scm") d;
-  ts = integer_under (codes "ts") d;
-  moment = integer_under (codes "mod") d;
-  usn = integer_under (codes "usn") d;
-  musn = integer_under (codes "musn") d;
-  msg = text_under (codes "msg") d;
-  cont = bool_under (codes "cont") d;
-}
+-- where the server stands is what an object of its form tells
+pub record ReadsMeta (d : Data) (m : MetaReply) : Type 0 where
+  pub form : object_fault meta_form d ≡ None
+  pub scm : HasInteger (codes "scm") d m.scm
+  pub ts : HasInteger (codes "ts") d m.ts
+  pub moment : HasInteger (codes "mod") d m.moment
+  pub usn : HasInteger (codes "usn") d m.usn
+  pub musn : HasInteger (codes "musn") d m.musn
+  pub msg : HasText (codes "msg") d m.msg
+  pub cont : HasBool (codes "cont") d m.cont
 
 -- the counts agree
 abbrev pub is_good : Data → Bool
@@ -60,6 +60,18 @@ abbrev pub check_in : Data → Option CheckFault
 check_in d =
     if is_some (as_array d) then Some (check_of (unwrap_or (number_at 0 d) (pos 0)) (unwrap_or (number_at 1 d) (pos 0))) else None
 
+-- a list begins with these two whole numbers
+abbrev pub BeginsWith : ℤ → ℤ → Data → Type 0
+BeginsWith code id d = (number_at 0 d ≡ Some code) × (number_at 1 d ≡ Some id)
+
+-- a fault of a collection is its number and the id of its row; none is null
+abbrev pub ReadsFault : Data → Option CheckFault → Type 0
+ReadsFault d None = d ≡ null
+ReadsFault d (Some (checks.CardNoNote id)) = BeginsWith (pos 1) id d
+ReadsFault d (Some (checks.NoteNoCard id)) = BeginsWith (pos 2) id d
+ReadsFault d (Some (checks.NoteNoType id)) = BeginsWith (pos 3) id d
+ReadsFault d (Some (checks.CardNoTemplate id)) = BeginsWith (pos 4) id d
+
 -- no rows at all
 abbrev pub no_counts : SanityCounts
 no_counts = record { cards = 0; notes = 0; reviews = 0; graves = 0; models = 0; decks = 0; options = 0 }
@@ -77,22 +89,34 @@ bad_check d = record {
   server = counts_under (codes "s") d;
 }
 
--- whether both sides hold what they should, by an object of that form
-abbrev pub sanity_of : Data → SanityReply
-sanity_of d = if is_good d then good_check else bad_check d
+-- what an object tells of a bad check: the fault and the counts of both sides
+pub record ReadsBad (d : Data) (s : SanityReply) : Type 0 where
+  pub status : HasText (codes "status") d (codes "bad")
+  pub fault : Under (codes "row") ReadsFault d s.fault
+  pub client : Under (codes "c") ReadsCounts d s.client
+  pub server : Under (codes "s") ReadsCounts d s.server
+
+-- what an object tells of a check that is good, or of one that is bad
+abbrev pub ReadsCheck : Bool → Data → SanityReply → Type 0
+ReadsCheck true d s = HasText (codes "status") d (codes "ok") × (s ≡ good_check)
+ReadsCheck false d s = ReadsBad d s
+
+-- whether both sides hold what they should is what an object tells
+abbrev pub ReadsSanity : Data → SanityReply → Type 0
+ReadsSanity d s = (sanity_fault d ≡ None) × ReadsCheck s.good d s
 
 -- a reply to a method gives this, by its body
 abbrev pub ReadsGive : Method → Data → Give → Type 0
-ReadsGive methods.Meta d give = (object_fault meta_form d ≡ None) × (give ≡ gives.Meta (meta_of d))
-ReadsGive methods.Start d give = (graves_fault d ≡ None) × (give ≡ gives.Graves (graves_of d))
+ReadsGive methods.Meta d (gives.Meta m) = ReadsMeta d m
+ReadsGive methods.Start d (gives.Graves ids) = ReadsGraves d ids
 ReadsGive methods.ApplyGraves d give = (object_fault [] d ≡ None) × (give ≡ gives.Nothing)
 ReadsGive methods.ApplyChanges d (gives.Changes changes) = ReadsChanges d changes
 ReadsGive methods.Chunk d (gives.Chunk chunk) = ReadsChunk d chunk
 ReadsGive methods.ApplyChunk d give = (object_fault [] d ≡ None) × (give ≡ gives.Nothing)
-ReadsGive methods.SanityCheck2 d give = (sanity_fault d ≡ None) × (give ≡ gives.Sanity (sanity_of d))
-ReadsGive methods.Finish d give = (object_fault moment_form d ≡ None) × (give ≡ gives.Moment (integer_under (codes "mod") d))
-ReadsGive methods.Upload d give =
-    (object_fault uploaded_form d ≡ None) × (give ≡ gives.Uploaded (integer_under (codes "mod") d) (integer_under (codes "scm") d))
+ReadsGive methods.SanityCheck2 d (gives.Sanity s) = ReadsSanity d s
+ReadsGive methods.Finish d (gives.Moment moment) = (object_fault moment_form d ≡ None) × HasInteger (codes "mod") d moment
+ReadsGive methods.Upload d (gives.Uploaded moment schema) =
+    (object_fault uploaded_form d ≡ None) × HasInteger (codes "mod") d moment × HasInteger (codes "scm") d schema
 ReadsGive methods.Download d (gives.Whole whole) = ReadsDownload d whole
 ReadsGive method d give = ⊥
 
@@ -109,10 +133,6 @@ GiveFault methods.Finish d = Is (object_fault moment_form d)
 GiveFault methods.Upload d = Is (object_fault uploaded_form d)
 GiveFault methods.Download d = WholeFault download_form download_tables d
 
--- the word of a refusal
-abbrev pub word_in : Data → Word
-word_in d = unwrap_or (word_of (text_under (codes "word") d)) words.Ok
-
 -- a reply with status 200 gives what its method does
 pub record ReadsGranted (method : Method) (d : Data) (r : Reply) : Type 0 where
   pub word : r.word ≡ words.Ok
@@ -122,8 +142,8 @@ pub record ReadsGranted (method : Method) (d : Data) (r : Reply) : Type 0 where
 -- a reply with another status tells why the request was refused
 pub record ReadsRefused (d : Data) (r : Reply) : Type 0 where
   pub form : object_fault refused_form d ≡ None
-  pub word : r.word ≡ word_in d
-  pub seen : r.seen ≡ integer_under (codes "seen") d
+  pub word : HasWord (codes "word") d r.word
+  pub seen : HasInteger (codes "seen") d r.seen
   pub give : r.give ≡ gives.Nothing
 
 -- a reply that grants what was asked, or one that refuses it

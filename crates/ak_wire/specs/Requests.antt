@@ -11,10 +11,11 @@ use Rattle.ak_messages.specs.declared.requests.Ask.{Ask}
 use Rattle.ak_messages.specs.declared.requests.Ask.TheVariants as asks
 use Rattle.ak_messages.specs.declared.requests.Envelope.{Envelope}
 use Rattle.ak_messages.specs.declared.requests.Request.{Request}
-use Rattle.ak_wire.specs.Bodies.{too_many, graves_fault, graves_of, grave_values, ReadsChunk, ChunkFault, ReadsChanges, ChangesFault}
+use Rattle.ak_wire.specs.Bodies.{too_many, graves_fault, grave_values, ReadsGraves, ReadsChunk, ChunkFault, ReadsChanges, ChangesFault}
 use Rattle.ak_wire.specs.Faults.{OrMemory, Is, First}
 use Rattle.ak_wire.specs.Forms.{start_form, holds_chunk_form, holds_changes_form, holds_counts_form, upload_form}
-use Rattle.ak_wire.specs.Values.{object_fault, integer_under, value_under, counts_under}
+use Rattle.ak_wire.specs.Found.{HasInteger, Under, ReadsCounts}
+use Rattle.ak_wire.specs.Values.{object_fault, value_under}
 use Rattle.ak_wire.specs.Wholes.{upload_tables, ReadsUpload, WholeFault}
 use Rattle.ak_wire.specs.declared.wire_faults.WireFault.{WireFault}
 use Rattle.ak_wire.specs.declared.wire_faults.WireFault.TheVariants as wires
@@ -30,15 +31,15 @@ apply_graves_fault d = option_or (object_fault holds_chunk_form d) (option_or (g
 -- a request of a method asks this, by its body
 abbrev pub ReadsAsk : Method → Data → Ask → Type 0
 ReadsAsk methods.Meta d ask = (object_fault [] d ≡ None) × (ask ≡ asks.Meta)
-ReadsAsk methods.Start d ask =
-    (object_fault start_form d ≡ None) × (ask ≡ asks.Start (integer_under (codes "minUsn") d) (integer_under (codes "lmod") d))
-ReadsAsk methods.ApplyGraves d ask = (apply_graves_fault d ≡ None) × (ask ≡ asks.ApplyGraves (graves_of (chunk_in d)))
+ReadsAsk methods.Start d (asks.Start min_usn lmod) =
+    (object_fault start_form d ≡ None) × HasInteger (codes "minUsn") d min_usn × HasInteger (codes "lmod") d lmod
+ReadsAsk methods.ApplyGraves d (asks.ApplyGraves ids) = (apply_graves_fault d ≡ None) × Under (codes "chunk") ReadsGraves d ids
 ReadsAsk methods.ApplyChanges d (asks.ApplyChanges changes) =
-    (object_fault holds_changes_form d ≡ None) × ReadsChanges (value_under (codes "changes") d) changes
+    (object_fault holds_changes_form d ≡ None) × Under (codes "changes") ReadsChanges d changes
 ReadsAsk methods.Chunk d ask = (object_fault [] d ≡ None) × (ask ≡ asks.Chunk)
-ReadsAsk methods.ApplyChunk d (asks.ApplyChunk chunk) = (object_fault holds_chunk_form d ≡ None) × ReadsChunk (chunk_in d) chunk
-ReadsAsk methods.SanityCheck2 d ask =
-    (object_fault holds_counts_form d ≡ None) × (ask ≡ asks.SanityCheck2 (counts_under (codes "client") d))
+ReadsAsk methods.ApplyChunk d (asks.ApplyChunk chunk) = (object_fault holds_chunk_form d ≡ None) × Under (codes "chunk") ReadsChunk d chunk
+ReadsAsk methods.SanityCheck2 d (asks.SanityCheck2 counts) =
+    (object_fault holds_counts_form d ≡ None) × Under (codes "client") ReadsCounts d counts
 ReadsAsk methods.Finish d ask = (object_fault [] d ≡ None) × (ask ≡ asks.Finish)
 ReadsAsk methods.Upload d (asks.Upload whole) = ReadsUpload d whole
 ReadsAsk methods.Download d ask = (object_fault [] d ≡ None) × (ask ≡ asks.Download)

@@ -9,7 +9,7 @@ use Rattle.ak_messages.specs.declared.requests.SanityCounts.{SanityCounts}
 use Rattle.ak_wire.specs.Faults.{missing, wrong_kind}
 use Rattle.ak_wire.specs.Forms.{Form}
 use Rattle.ak_wire.specs.Keys.{key_text}
-use Rattle.ak_wire.specs.Kinds.{holds}
+use Rattle.ak_wire.specs.Kinds.{holds, unsigned_at}
 use Rattle.ak_wire.specs.declared.keys.Key.{Key}
 use Rattle.ak_wire.specs.declared.objects.KeyFault.{KeyFault}
 use Rattle.ak_wire.specs.declared.objects.KeyFault.TheVariants as key_faults
@@ -88,7 +88,7 @@ texts (item d ds) = unwrap_or (as_str d) [] ∷ texts ds
 
 -- the count at a place of a list
 abbrev pub count_at : ℕ → Data → ℕ
-count_at place d = unwrap_or (option_and_then as_u64 (option_and_then as_number (at place d))) 0
+count_at place d = unwrap_or (unsigned_at place d) 0
 
 -- the counts of a side, after what is due
 abbrev pub counts_of : Data → SanityCounts

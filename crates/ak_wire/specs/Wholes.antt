@@ -2,7 +2,7 @@
 use Rattle.std.specs.Prelude.{◌≡◌, ◌++◌, ◌&&◌, ℤ, pos, codes, List, [], ◌∷◌, Bool, true, false, if◌then◌else◌, Option, Some, None}
 use Rattle.std.specs.Option.{option_map_or}
 use Rattle.std.specs.Ordering.{int_eq}
-use Rattle.serde_json.specs.Data.{Data, Items, no_items, item}
+use Rattle.serde_json.specs.Data.{Data, array, Items, no_items, item}
 use Rattle.ak_base.specs.Rows.{name_of}
 use Rattle.ak_base.specs.Tables.{stored_code}
 use Rattle.ak_base.specs.declared.names.Table.{Table}
@@ -14,6 +14,7 @@ use Rattle.ak_json.specs.Rows.{ReadsRow}
 use Rattle.ak_base.specs.declared.heads.Conf.{Conf}
 use Rattle.ak_messages.specs.declared.requests.Whole.{Whole}
 use Rattle.ak_wire.specs.Faults.{First, Then, ReadsEach, RefusesEach}
+use Rattle.ak_wire.specs.Found.{HasInteger, Under, ReadsTags}
 use Rattle.ak_wire.specs.Forms.{Form, upload_form, download_form}
 use Rattle.ak_wire.specs.Keys.{key_text}
 use Rattle.ak_wire.specs.Kinds.{is_after, number_at}
@@ -78,11 +79,22 @@ TableFault table ds =
 abbrev pub table_items : Table × Key → Data → Items
 table_items column d = items_for column.0 (items_under (key_text column.1) d)
 
+-- the rows of a list that go with a table
+abbrev pub ReadsRowsOf : Table → Data → List Row → Type 0
+ReadsRowsOf table d rows = (ds : Items) × (d ≡ array ds) × ReadsTable table (items_for table ds) rows
+
 -- the rows are those of these tables, one table after the other
 abbrev pub ReadsTables : List (Table × Key) → Data → List Row → Type 0
 ReadsTables [] d rows = rows ≡ []
 ReadsTables (column ∷ columns) d rows =
-    (first : List Row) × (others : List Row) × ReadsTable column.0 (table_items column d) first × ReadsTables columns d others × (rows ≡ first ++ others)
+    (first : List Row) × (others : List Row) × Under (key_text column.1) (ReadsRowsOf column.0) d first × ReadsTables columns d others
+    × (rows ≡ first ++ others)
+
+-- the rows are those of the lists of these tables, one after the other
+abbrev pub TakesTables : List (Table × Key) → Data → List Row → Type 0
+TakesTables [] d rows = rows ≡ []
+TakesTables (column ∷ columns) d rows =
+    (first : List Row) × (others : List Row) × ReadsTable column.0 (table_items column d) first × TakesTables columns d others × (rows ≡ first ++ others)
 
 -- the first fault of these tables
 abbrev pub TablesFault : List (Table × Key) → Data → WireFault → Type 0
@@ -96,12 +108,21 @@ AddsTable table ds old new = (added : List Row) × ReadsTable table ds added × 
 
 -- rows are added: those of these tables
 abbrev pub AddsTables : List (Table × Key) → Data → List Row → List Row → Type 0
-AddsTables columns d old new = (added : List Row) × ReadsTables columns d added × (new ≡ old ++ added)
+AddsTables columns d old new = (added : List Row) × TakesTables columns d added × (new ≡ old ++ added)
 
 -- the parts of a collection are those of an object, with the rows of these tables
 pub record ReadsParts (columns : List (Table × Key)) (d : Data) (w : Whole) : Type 0 where
-  pub conf : ReadsConf (value_under (codes "conf") d) w.conf
+  pub conf : Under (codes "conf") ReadsConf d w.conf
   pub rows : ReadsTables columns d w.rows
+  pub crt : HasInteger (codes "crt") d w.crt
+  pub moment : HasInteger (codes "mod") d w.moment
+  pub schema : HasInteger (codes "scm") d w.schema
+  pub tags : Under (codes "tags") ReadsTags d w.tags
+
+-- the parts of a collection are what an object of its form has
+pub record TakesParts (columns : List (Table × Key)) (d : Data) (w : Whole) : Type 0 where
+  pub conf : ReadsConf (value_under (codes "conf") d) w.conf
+  pub rows : TakesTables columns d w.rows
   pub crt : w.crt ≡ integer_under (codes "crt") d
   pub moment : w.moment ≡ integer_under (codes "mod") d
   pub schema : w.schema ≡ integer_under (codes "scm") d
@@ -122,7 +143,7 @@ pub record ReadsUpload (d : Data) (w : Whole) : Type 0 where
 pub record ReadsDownload (d : Data) (w : Whole) : Type 0 where
   pub form : object_fault download_form d ≡ None
   pub parts : ReadsParts download_tables d w
-  pub usn : w.usn ≡ integer_under (codes "usn") d
+  pub usn : HasInteger (codes "usn") d w.usn
 
 -- the first fault of a whole collection: of its keys, then of its parts
 abbrev pub WholeFault : Form → List (Table × Key) → Data → WireFault → Type 0

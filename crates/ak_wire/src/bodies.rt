@@ -1,7 +1,7 @@
 ghost use Rattle.std.specs.Prelude.{◌≡◌, ◌+◌, None, OnOk, IfOk, IfErr};
 ghost use Rattle.serde_json.specs.Events.{items_len};
 ghost use Rattle.serde_json.specs.View.{view};
-ghost use Rattle.ak_wire.specs.Bodies.{too_many, graves_of, grave_values, chunk_values, chunk_fault, ReadsChunk, ChunkFault, is_newer, newer_fault, ReadsNewer, NewerFault, changes_fault, ReadsChanges, ChangesFault};
+ghost use Rattle.ak_wire.specs.Bodies.{too_many, graves_of, grave_values, chunk_values, chunk_fault, ReadsChunk, ChunkFault, is_newer, newer_fault, TakesNewer, NewerFault, changes_fault, ReadsChanges, ChangesFault};
 ghost use Rattle.ak_wire.specs.Faults.{OrMemory, Is};
 
 use crate::WireFault;
@@ -145,7 +145,7 @@ fn is_newer(value: &Value) -> bool
 
 /// The settings of the newer side, if they are there.
 fn read_newer(alloc: Global, value: &Value) -> Result<Option<Newer>, WireFault>
-    ensures ok { IfOk result (ReadsNewer (view value.now)) }
+    ensures ok { IfOk result (TakesNewer (view value.now)) }
     ensures err { IfErr result (OrMemory (NewerFault (view value.now))) }
 {
     if is_newer(value) {

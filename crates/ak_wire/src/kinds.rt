@@ -7,6 +7,9 @@ use crate::words::word_of;
 use ak_base::{LAST_ID, LAST_USN, NAME_BYTES};
 use serde_json::{Map, Value};
 
+/// The last count: counts are kept with a sign.
+const LAST_COUNT: u64 = 9_223_372_036_854_775_807;
+
 /// What stands under a key of a message.
 #[derive(Clone, Copy)]
 pub(crate) enum Kind {
@@ -174,7 +177,13 @@ fn are_seven_counts(value: &Value) -> bool
 fn is_count(place: usize, value: &Value) -> bool
     ensures { result ≡ is_count place (view value.now) }
 {
-    is_within(0, i64::MAX, number_at(place, value))
+    match value.get(place) {
+        Some(found) => match found.as_u64() {
+            Some(count) => count <= LAST_COUNT,
+            None => false,
+        },
+        None => false,
+    }
 }
 
 /// Whether a value is null, or the number of a fault of a collection and the id of a row.

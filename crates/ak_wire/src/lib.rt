@@ -6,6 +6,7 @@ mod budgets;
 mod forms;
 mod keys;
 mod kinds;
+mod laws;
 mod objects;
 mod parts;
 mod replies;
@@ -19,6 +20,10 @@ mod written;
 pub use ak_messages::{
     Ask, Changes, Chunk, Envelope, Give, GraveIds, MetaReply, Method, Newer, Reply, Request,
     SanityCounts, SanityReply, Whole, Word, method_of,
+};
+pub use laws::{
+    one_fault_is_told, one_message_is_read, replies_are_read_again, requests_are_read_again,
+    what_is_read_is_not_refused,
 };
 pub use replies::{read_reply, write_reply};
 pub use requests::{read_request, write_request};

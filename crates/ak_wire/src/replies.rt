@@ -1,6 +1,5 @@
-ghost use Rattle.std.specs.Prelude.{◌≡◌, ◌≤◌, ◌⊎◌, ◌∷◌, Some, [], IfOk, IfErr};
-ghost use Rattle.serde_json.specs.Data.{depth};
-ghost use Rattle.serde_json.specs.Read.{read, max_depth};
+ghost use Rattle.std.specs.Prelude.{◌≡◌, ◌⊎◌, ◌∷◌, Some, [], IfOk, IfErr};
+ghost use Rattle.serde_json.specs.Read.{read};
 ghost use Rattle.serde_json.specs.View.{view};
 ghost use Rattle.serde_json.specs.Written.{compact_text};
 ghost use Rattle.ak_json.specs.Written.{integer};
@@ -124,6 +123,7 @@ fn read_meta(alloc: Global, value: &Value) -> Result<Give, WireFault>
 }
 
 /// The ids of graves that answer a start.
+#[tactic(auto, using(crate::proofs::ReadForms::graves_are))]
 fn read_graves(alloc: Global, value: &Value) -> Result<Give, WireFault>
     ensures ok { IfOk result (ReadsGive methods.Start (view value.now)) }
     ensures err { IfErr result (OrMemory (GiveFault methods.Start (view value.now))) }
@@ -143,7 +143,7 @@ fn read_nothing(alloc: Global, value: &Value) -> Result<Give, WireFault>
 }
 
 /// Whether both sides hold what they should.
-#[tactic(auto, using(crate::proofs::Refusals::or_first, crate::proofs::Refusals::or_later))]
+#[tactic(auto, using(crate::proofs::ReadForms::good_read, crate::proofs::ReadForms::bad_read, crate::proofs::Refusals::or_first, crate::proofs::Refusals::or_later))]
 fn read_sanity(alloc: Global, value: &Value) -> Result<Give, WireFault>
     ensures ok { IfOk result (ReadsGive methods.SanityCheck2 (view value.now)) }
     ensures err { IfErr result (OrMemory (GiveFault methods.SanityCheck2 (view value.now))) }
@@ -221,6 +221,7 @@ fn check_of(code: i64, id: i64) -> CheckFault
 }
 
 /// The new moment.
+#[tactic(auto, using(crate::proofs::ReadForms::moment_read))]
 fn read_moment(alloc: Global, value: &Value) -> Result<Give, WireFault>
     ensures ok { IfOk result (ReadsGive methods.Finish (view value.now)) }
     ensures err { IfErr result (OrMemory (GiveFault methods.Finish (view value.now))) }
@@ -230,6 +231,7 @@ fn read_moment(alloc: Global, value: &Value) -> Result<Give, WireFault>
 }
 
 /// Both new moments.
+#[tactic(auto, using(crate::proofs::ReadForms::uploaded_read))]
 fn read_uploaded(alloc: Global, value: &Value) -> Result<Give, WireFault>
     ensures ok { IfOk result (ReadsGive methods.Upload (view value.now)) }
     ensures err { IfErr result (OrMemory (GiveFault methods.Upload (view value.now))) }
@@ -242,10 +244,10 @@ fn read_uploaded(alloc: Global, value: &Value) -> Result<Give, WireFault>
 }
 
 /// The body of a reply: the compact text of the one value that is written for it. The status goes beside it.
-#[tactic(auto, using(crate::proofs::WholeTexts::reply_whole))]
+#[tactic(auto, using(crate::proofs::WholeTexts::reply_whole, crate::proofs::Depths::reply_nests))]
 pub fn write_reply(alloc: Global, reply: &Reply) -> Result<Text, Memory>
     ensures text { IfOk result (λ text. text ≡ compact_text (reply_json reply.now)) }
-    ensures reads { IfOk result (λ text. depth (reply_json reply.now) ≤ max_depth → read text ≡ Some (reply_json reply.now)) }
+    ensures reads { IfOk result (λ text. read text ≡ Some (reply_json reply.now)) }
 {
     let value = write_reply_value(alloc, reply)?;
     write_body(alloc, &value)

@@ -1,6 +1,5 @@
-ghost use Rattle.std.specs.Prelude.{◌≡◌, ◌≤◌, ◌⊎◌, Some, None, [], OnOk, IfOk, IfErr};
-ghost use Rattle.serde_json.specs.Data.{depth};
-ghost use Rattle.serde_json.specs.Read.{read, max_depth};
+ghost use Rattle.std.specs.Prelude.{◌≡◌, ◌⊎◌, Some, None, [], OnOk, IfOk, IfErr};
+ghost use Rattle.serde_json.specs.Read.{read};
 ghost use Rattle.serde_json.specs.View.{view};
 ghost use Rattle.serde_json.specs.Written.{compact_text};
 ghost use Rattle.ak_messages.specs.declared.methods.Method.TheVariants as methods;
@@ -84,6 +83,7 @@ fn read_empty(alloc: Global, value: &Value, ask: Ask) -> Result<Ask, WireFault>
 }
 
 /// What a start asks with: the device's update sequence number, and the moment of its last change.
+#[tactic(auto, using(crate::proofs::ReadForms::start_read))]
 fn read_start(alloc: Global, value: &Value) -> Result<Ask, WireFault>
     ensures ok { IfOk result (ReadsAsk methods.Start (view value.now)) }
     ensures err { IfErr result (OrMemory (AskFault methods.Start (view value.now))) }
@@ -96,6 +96,7 @@ fn read_start(alloc: Global, value: &Value) -> Result<Ask, WireFault>
 }
 
 /// The ids of graves that a request brings.
+#[tactic(auto, using(crate::proofs::ReadForms::apply_graves_read))]
 fn read_apply_graves(alloc: Global, value: &Value) -> Result<Ask, WireFault>
     ensures ok { IfOk result (ReadsAsk methods.ApplyGraves (view value.now)) }
     ensures err { IfErr result (OrMemory (AskFault methods.ApplyGraves (view value.now))) }
@@ -118,7 +119,7 @@ fn check_apply_graves(alloc: Global, value: &Value) -> Result<(), WireFault>
 }
 
 /// The changes that a request brings.
-#[tactic(auto, using(crate::proofs::Refusals::form_first, crate::proofs::Refusals::form_later))]
+#[tactic(auto, using(crate::proofs::ReadForms::apply_changes_read, crate::proofs::Refusals::form_first, crate::proofs::Refusals::form_later))]
 fn read_apply_changes(alloc: Global, value: &Value) -> Result<Ask, WireFault>
     ensures ok { IfOk result (ReadsAsk methods.ApplyChanges (view value.now)) }
     ensures err { IfErr result (OrMemory (AskFault methods.ApplyChanges (view value.now))) }
@@ -129,7 +130,7 @@ fn read_apply_changes(alloc: Global, value: &Value) -> Result<Ask, WireFault>
 }
 
 /// The chunk that a request brings.
-#[tactic(auto, using(crate::proofs::Refusals::form_first, crate::proofs::Refusals::form_later))]
+#[tactic(auto, using(crate::proofs::ReadForms::apply_chunk_read, crate::proofs::Refusals::form_first, crate::proofs::Refusals::form_later))]
 fn read_apply_chunk(alloc: Global, value: &Value) -> Result<Ask, WireFault>
     ensures ok { IfOk result (ReadsAsk methods.ApplyChunk (view value.now)) }
     ensures err { IfErr result (OrMemory (AskFault methods.ApplyChunk (view value.now))) }
@@ -140,6 +141,7 @@ fn read_apply_chunk(alloc: Global, value: &Value) -> Result<Ask, WireFault>
 }
 
 /// The counts of a side that a request brings.
+#[tactic(auto, using(crate::proofs::ReadForms::sanity_asked))]
 fn read_sanity_check(alloc: Global, value: &Value) -> Result<Ask, WireFault>
     ensures ok { IfOk result (ReadsAsk methods.SanityCheck2 (view value.now)) }
     ensures err { IfErr result (OrMemory (AskFault methods.SanityCheck2 (view value.now))) }
@@ -150,10 +152,10 @@ fn read_sanity_check(alloc: Global, value: &Value) -> Result<Ask, WireFault>
 
 /// The body of a request: the compact text of the one value that is written for what it asks. The envelope
 /// goes beside it.
-#[tactic(auto, using(crate::proofs::WholeTexts::ask_whole))]
+#[tactic(auto, using(crate::proofs::WholeTexts::ask_whole, crate::proofs::Depths::ask_nests))]
 pub fn write_request(alloc: Global, request: &Request) -> Result<Text, Memory>
     ensures text { IfOk result (λ text. text ≡ compact_text (ask_json request.now.ask)) }
-    ensures reads { IfOk result (λ text. depth (ask_json request.now.ask) ≤ max_depth → read text ≡ Some (ask_json request.now.ask)) }
+    ensures reads { IfOk result (λ text. read text ≡ Some (ask_json request.now.ask)) }
 {
     let value = write_ask(alloc, &request.ask)?;
     write_body(alloc, &value)

@@ -7,7 +7,7 @@ ghost use Rattle.ak_json.specs.Rows.{ReadsRow};
 ghost use Rattle.ak_wire.specs.Faults.{OrMemory, AddsIf, ReadsEach, RefusesEach};
 ghost use Rattle.ak_wire.specs.Parts.{RefusesRowOf};
 ghost use Rattle.ak_wire.specs.Forms.{upload_form, download_form};
-ghost use Rattle.ak_wire.specs.Wholes.{goes_with, listed_code, items_for, rows_after, AddsTable, RefusesIf, TableFault, AddsTables, TablesFault, ReadsParts, PartsFault, upload_tables, download_tables, ReadsUpload, ReadsDownload, WholeFault};
+ghost use Rattle.ak_wire.specs.Wholes.{goes_with, listed_code, items_for, rows_after, AddsTable, RefusesIf, TableFault, AddsTables, TablesFault, TakesParts, PartsFault, upload_tables, download_tables, ReadsUpload, ReadsDownload, WholeFault};
 
 use crate::WireFault;
 use crate::forms::{DOWNLOAD, UPLOAD};
@@ -63,7 +63,7 @@ pub(crate) fn read_download(alloc: Global, value: &Value) -> Result<Whole, WireF
 /// The collection of an object of its form, with the rows of these tables and the update sequence number 0.
 #[tactic(auto, using(crate::proofs::Refusals::then_first, crate::proofs::Refusals::then_later, crate::proofs::Tables::all_rows))]
 fn read_whole(alloc: Global, tables: &[(Table, Key)], value: &Value) -> Result<Whole, WireFault>
-    ensures ok { IfOk result (ReadsParts tables.now (view value.now)) }
+    ensures ok { IfOk result (TakesParts tables.now (view value.now)) }
     ensures usn { IfOk result (λ whole. whole.usn ≡ pos 0) }
     ensures err { IfErr result (OrMemory (PartsFault tables.now (view value.now))) }
 {
