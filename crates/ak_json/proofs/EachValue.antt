@@ -1,4 +1,4 @@
--- Each value that was read from a text is read as a row, or refused by a fault other than out of memory.
+-- Each orderly value, as those are that were read from a text, is read as a row, or refused by a fault other than out of memory.
 use Rattle.std.proofs.Common.{◌≡◌, ℕ, pos, List, [], ◌∷◌, map, Bool, true, false, ◌&&◌, Option, Some, None, IfSome, Result, Ok, Err, ◌⊎◌, inl, inr, Ordering, Less, Equal, Greater, nat_cmp, refl, ap₂, subst}
 use Rattle.ak_base.proofs.Optional.{first_none, second_none, none_mapped}
 use Rattle.std.specs.Prelude.{if◌then◌else◌, unwrap_or, option_map, option_and_then}
@@ -8,7 +8,6 @@ use Rattle.std.specs.Cmp.Lexicographic.{slice_cmp}
 use Rattle.std.specs.Ordering.{match_ordering, int_eq}
 use Rattle.serde_json.specs.Data.{Data, null, boolean, number, string, array, object, Items, no_items, item, Members, no_members, member}
 use Rattle.serde_json.specs.Find.{get, get_member, as_array, as_object}
-use Rattle.serde_json.specs.Read.{read}
 use Rattle.serde_json.specs.Written.{compact_text}
 use Rattle.ak_base.specs.Rests.{is_plain, is_rest, lacks, lacks_options, field_keys, template_keys, note_type_keys, deck_keys, conf_keys}
 use Rattle.ak_base.specs.declared.decks.Deck.{Deck}
@@ -27,7 +26,7 @@ use Rattle.ak_json.specs.Arrays.{note_at, card_at, review_at, grave_at}
 use Rattle.ak_json.specs.Cells.{integer_at, text_at, bool_at, part_at, count_at, steps_at}
 use Rattle.ak_json.specs.Confs.{ReadsConf, conf_fault}
 use Rattle.ak_json.specs.Decks.{IsDeck}
-use Rattle.ak_json.specs.Faults.{told, Tells}
+use Rattle.ak_json.specs.Faults.{told, Tells, SomeFault}
 use Rattle.ak_json.specs.FormFaults.{part_form_fault, parts_form_fault}
 use Rattle.ak_json.specs.Groups.{IsOptions, put_group, new_in, rev_in, lapse_in, options_kept}
 use Rattle.ak_json.specs.Keys.{key_text}
@@ -45,7 +44,7 @@ use Rattle.ak_json.specs.declared.keys.Key.{Key}
 use Rattle.ak_json.specs.declared.keys.Key.TheVariants as keys
 use Rattle.ak_json.proofs.Kept.{lacks_known, plain_kept}
 use Rattle.ak_json.proofs.OptionRests.{options_ignored}
-use Rattle.ak_json.proofs.Orderly.{IsOrderly, AreOrderly, HaveOrderly, AreMembers, unasked, mapped, put_members, read_orderly, text_reads}
+use Rattle.ak_json.proofs.Orderly.{IsOrderly, AreOrderly, HaveOrderly, AreMembers, unasked, mapped, put_members, text_reads}
 use Rattle.ak_json.proofs.Parts.{of_object}
 use Rattle.ak_json.proofs.RowForms.{fields_faultless, templates_faultless}
 use Rattle.ak_json.proofs.Sorted.{unknown_behind}
@@ -61,7 +60,7 @@ member_orderly k (member l d ms) h = one (slice_cmp nat_cmp k l) (member_orderly
     one Equal later = h.0
     one Greater later = later
 
-get_orderly : (k : List ℕ) (d : Data) → IsOrderly d → IfSome (get k d) IsOrderly
+pub get_orderly : (k : List ℕ) (d : Data) → IsOrderly d → IfSome (get k d) IsOrderly
 get_orderly k null h = tt
 get_orderly k (boolean b) h = tt
 get_orderly k (number n) h = tt
@@ -69,7 +68,7 @@ get_orderly k (string s) h = tt
 get_orderly k (array ds) h = tt
 get_orderly k (object ms) h = member_orderly k ms h.1
 
-found_or : (o : Option Data) (d : Data) → IfSome o IsOrderly → IsOrderly d → IsOrderly (unwrap_or o d)
+pub found_or : (o : Option Data) (d : Data) → IfSome o IsOrderly → IsOrderly d → IsOrderly (unwrap_or o d)
 found_or None d h k = k
 found_or (Some e) d h k = h
 
@@ -81,7 +80,7 @@ array_orderly (string s) h = tt
 array_orderly (array ds) h = h
 array_orderly (object ms) h = tt
 
-list_orderly : (o : Option Data) → IfSome o IsOrderly → AreOrderly (unwrap_or (option_and_then as_array o) no_items)
+pub list_orderly : (o : Option Data) → IfSome o IsOrderly → AreOrderly (unwrap_or (option_and_then as_array o) no_items)
 list_orderly None h = tt
 list_orderly (Some d) h = array_orderly d h
 
@@ -300,7 +299,7 @@ fault_of_form table d =
 
 -- a row that the value is read as, or a fault that refuses it
 abbrev IsDecided : Table → Data → Type 0
-IsDecided table d = ((row : Row) × ReadsRow table d row) ⊎ ((fault : JsonFault) × RefusesRow table d fault × (fault ≡ faults.Memory → ⊥))
+IsDecided table d = ((row : Row) × ReadsRow table d row) ⊎ SomeFault (RefusesRow table d)
 
 of_row : (table : Table) (d : Data) (row : Row) → form_refusal table d ≡ None → IsRow table d row → (checked : Result (Unit {0}) RowFault) → row_check table row ≡ checked → IsDecided table d
 of_row table d row form is (Ok good) e = inl (row, record { form = form; is = is; good = e })
@@ -313,16 +312,15 @@ of_fault table d (faults.WrongKind text) h e = inr (faults.WrongKind text, e, λ
 of_fault table d (faults.Row fault) h e = absurd h
 of_fault table d faults.Memory h e = absurd h
 
--- each value that was read from a text is read as a row, or refused
-pub each_value : (table : Table) (text : List ℕ) (d : Data) → read text ≡ Some d
-    → ((row : Row) × ReadsRow table d row) ⊎ ((fault : JsonFault) × RefusesRow table d fault × (fault ≡ faults.Memory → ⊥))
-each_value table text d reads = one (form_refusal table d) refl
+-- each orderly value is read as a row, or refused
+pub each_value : (table : Table) (d : Data) → IsOrderly d → ((row : Row) × ReadsRow table d row) ⊎ SomeFault (RefusesRow table d)
+each_value table d h = one (form_refusal table d) refl
   where
     one : (o : Option JsonFault) → form_refusal table d ≡ o → IsDecided table d
     one None e =
         let faultless : row_form_fault table d ≡ None = none_mapped told (row_form_fault table d) (first_none _ (deep_in table d) e) in
         let shallow : deep_in table d ≡ None = second_none (option_map told (row_form_fault table d)) _ e in
-        let made = row_made table d (read_orderly text d reads) faultless shallow in
+        let made = row_made table d h faultless shallow in
         of_row table d made.0 e made.1 (row_check table made.0) refl
     one (Some fault) e = of_fault table d fault (subst (λ (o : Option JsonFault). IfSome o IsOfForm) e (fault_of_form table d)) e
 
@@ -347,7 +345,7 @@ conf_made d h e = (
 
 -- settings that the value is read as, or a fault that refuses it
 abbrev IsConfDecided : Data → Type 0
-IsConfDecided d = ((c : Conf) × ReadsConf d c) ⊎ ((fault : JsonFault) × Tells (conf_fault d) fault × (fault ≡ faults.Memory → ⊥))
+IsConfDecided d = ((c : Conf) × ReadsConf d c) ⊎ SomeFault (Tells (conf_fault d))
 
 conf_told : (d : Data) (fault : JsonFault) → IsOfForm fault → conf_fault d ≡ Some fault → IsConfDecided d
 conf_told d faults.NotJson h e = absurd h
@@ -360,11 +358,10 @@ fault_of_conf : (d : Data) → IfSome (conf_fault d) IsOfForm
 fault_of_conf d =
     either_of_form _ _ (mapped (λ _. Unit {0}) IsOfForm told (λ fault _. form_fault_of_form fault) (object_form_fault conf_form d) (unasked _)) (deep_of_form (kept conf_form d))
 
--- each value that was read from a text is read as settings, or refused
-pub each_conf : (text : List ℕ) (d : Data) → read text ≡ Some d
-    → ((c : Conf) × ReadsConf d c) ⊎ ((fault : JsonFault) × Tells (conf_fault d) fault × (fault ≡ faults.Memory → ⊥))
-each_conf text d reads = one (conf_fault d) refl
+-- each orderly value is read as settings, or refused
+pub each_conf : (d : Data) → IsOrderly d → ((c : Conf) × ReadsConf d c) ⊎ SomeFault (Tells (conf_fault d))
+each_conf d h = one (conf_fault d) refl
   where
     one : (o : Option JsonFault) → conf_fault d ≡ o → IsConfDecided d
-    one None e = inl (conf_made d (read_orderly text d reads) e)
+    one None e = inl (conf_made d h e)
     one (Some fault) e = conf_told d fault (subst (λ (o : Option JsonFault). IfSome o IsOfForm) e (fault_of_conf d)) e
