@@ -14,3 +14,4 @@ pub mod OneFault
 pub mod ReadOnly
 pub mod WholesAgain
 pub mod MessagesAgain
+pub mod EachBody

@@ -1,5 +1,5 @@
 -- What is written for a message holds whole numbers alone, so it has one compact text.
-use Rattle.std.proofs.Common.{◌≡◌, ℕ, ◌==◌, ℤ, pos, negsuc, List, [], ◌∷◌, ◌++◌, map, filter, Bool, true, false, not, ◌&&◌, if◌then◌else◌, Option, Some, None, Ordering, Less, Equal, Greater, refl, sym, codes}
+use Rattle.std.proofs.Common.{◌≡◌, ℕ, ◌==◌, ℤ, pos, negsuc, List, [], ◌∷◌, ◌++◌, map, filter, Bool, true, false, not, ◌&&◌, if◌then◌else◌, Option, Some, None, Ordering, Less, Equal, Greater, String, string_bytes, IsUtf8, refl, sym, subst, codes}
 use Rattle.std.specs.Cmp.{first_so, second_so}
 use Rattle.std.proofs.lemmas.Bool.{or_from, or_parts}
 use Rattle.std.specs.List.{AllByRecursion}
@@ -7,6 +7,8 @@ use Rattle.std.specs.Option.{option_map_or, unwrap_or}
 use Rattle.std.specs.Cmp.Lexicographic.{slice_cmp}
 use Rattle.std.specs.Ordering.{nat_cmp, match_ordering}
 use Rattle.serde_json.specs.Data.{Data, boolean, number, unsigned, string, array, object, Members, no_members, member, put}
+use Rattle.std.proofs.lemmas.Str.{IsUtf8-string_bytes}
+use Rattle.serde_json.specs.Read.{read}
 use Rattle.serde_json.specs.View.{items_of}
 use Rattle.serde_json.specs.Written.{has_float, items_have_float, members_have_float}
 use Rattle.ak_base.specs.Rests.{is_plain, is_rest, lacks, members_of}
@@ -34,6 +36,7 @@ use Rattle.ak_messages.specs.declared.requests.GraveIds.{GraveIds}
 use Rattle.ak_messages.specs.declared.requests.Newer.{Newer}
 use Rattle.ak_messages.specs.declared.requests.SanityCounts.{SanityCounts}
 use Rattle.ak_messages.specs.declared.requests.Whole.{Whole}
+use Rattle.ak_wire.specs.Requests.{IsJsonOf}
 use Rattle.ak_wire.specs.Written.{with_members, object_of, array_of, ids_json, graves_json, chunk_json, newer_pairs, decks_json, changes_json, count_json, counts_json, is_under, rows_under, tag_pairs, tags_json, whole_pairs, upload_json, download_json, ask_json, meta_json, check_json, sanity_json, give_json, reply_json}
 use Rattle.ak_wire.specs.Words.{word_text}
 use Rattle.ak_wire.specs.declared.keys.Key.TheVariants as keys
@@ -238,3 +241,13 @@ pub reply_whole : (r : Reply) → has_float (reply_json r) ≡ false
 reply_whole r =
     chosen_whole (r.status == 200) _ _ (give_whole r.give)
     (two_whole (codes "seen") (codes "word") (integer r.seen) (string (word_text r.word)) (number_whole r.seen) refl)
+
+-- ---- the bytes of a text
+
+-- a text made of a string is UTF-8
+pub string_utf8 : {Z : Type 0} (s : String Z) (text : List ℕ) → text ≡ string_bytes s → IsUtf8 text
+string_utf8 s text is = subst IsUtf8 (sym is) (IsUtf8-string_bytes s)
+
+-- UTF-8 that reads as a value is the JSON of it
+pub is_json : (text : List ℕ) (d : Data) → IsUtf8 text → read text ≡ Some d → IsJsonOf text d
+is_json text d utf8 reads = record { utf8 = utf8; reads = reads }

@@ -80,3 +80,7 @@ IsNotRefused {A = A} reads refuses = (made : A) → reads made → OnlyMemory re
 -- two faults that refuse it are equal, unless memory was out at one of them
 abbrev pub AtMostOneFault : (WireFault → Type 0) → Type 0
 AtMostOneFault refuses = (a b : WireFault) → refuses a → refuses b → (a ≡ b) ⊎ ((a ≡ Memory) ⊎ (b ≡ Memory))
+
+-- it is read, or some fault refuses it, though memory is not out
+abbrev pub IsReadOrRefused : {A : Type 0} → (A → Type 0) → (WireFault → Type 0) → Type 0
+IsReadOrRefused {A = A} reads refuses = ((made : A) × reads made) ⊎ ((fault : WireFault) × refuses fault × (fault ≡ Memory → ⊥))

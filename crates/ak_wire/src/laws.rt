@@ -4,7 +4,7 @@ ghost use Rattle.ak_messages.specs.declared.methods.Method.{Method};
 ghost use Rattle.ak_messages.specs.declared.replies.Reply.{Reply};
 ghost use Rattle.ak_messages.specs.declared.requests.Ask.{Ask};
 ghost use Rattle.ak_messages.specs.declared.requests.Envelope.{Envelope};
-ghost use Rattle.ak_wire.specs.Faults.{AtMostOne, AtMostOneFault, IsNotRefused};
+ghost use Rattle.ak_wire.specs.Faults.{AtMostOne, AtMostOneFault, IsNotRefused, IsReadOrRefused};
 ghost use Rattle.ak_wire.specs.Replies.{ReadsReply, ReadsReplyIn, RefusesReply};
 ghost use Rattle.ak_wire.specs.Requests.{ReadsAsk, ReadsRequest, RefusesRequest};
 ghost use Rattle.ak_wire.specs.Sent.{IsSent, IsReplySent};
@@ -41,4 +41,12 @@ pub fn what_is_read_is_not_refused()
 pub fn one_fault_is_told()
     ensures request { (m : Method) (body : List ℕ) → AtMostOneFault (RefusesRequest m body) }
     ensures reply { (m : Method) (code : ℕ) (body : List ℕ) → AtMostOneFault (RefusesReply m code body) }
+{}
+
+/// Each body, of any bytes, is read as a message or refused by a fault though memory is not out.
+pub fn each_body_is_read_or_refused()
+    ensures request { (e : Envelope) (m : Method) (body : List ℕ)
+        → IsReadOrRefused (ReadsRequest e m body) (RefusesRequest m body) }
+    ensures reply { (m : Method) (code : ℕ) (body : List ℕ)
+        → IsReadOrRefused (ReadsReply m code body) (RefusesReply m code body) }
 {}

@@ -22,8 +22,8 @@ pub use ak_messages::{
     SanityCounts, SanityReply, Whole, Word, method_of,
 };
 pub use laws::{
-    one_fault_is_told, one_message_is_read, replies_are_read_again, requests_are_read_again,
-    what_is_read_is_not_refused,
+    each_body_is_read_or_refused, one_fault_is_told, one_message_is_read, replies_are_read_again,
+    requests_are_read_again, what_is_read_is_not_refused,
 };
 pub use replies::{read_reply, write_reply};
 pub use requests::{read_request, write_request};

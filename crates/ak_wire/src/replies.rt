@@ -1,5 +1,4 @@
-ghost use Rattle.std.specs.Prelude.{◌≡◌, ◌⊎◌, ◌∷◌, Some, [], IfOk, IfErr};
-ghost use Rattle.serde_json.specs.Read.{read};
+ghost use Rattle.std.specs.Prelude.{◌≡◌, ◌⊎◌, ◌∷◌, [], IfOk, IfErr};
 ghost use Rattle.serde_json.specs.View.{view};
 ghost use Rattle.serde_json.specs.Written.{compact_text};
 ghost use Rattle.ak_json.specs.Written.{integer};
@@ -9,6 +8,7 @@ ghost use Rattle.ak_messages.specs.declared.methods.Method.TheVariants as method
 ghost use Rattle.ak_wire.specs.Budgets.{IsWithinBudget};
 ghost use Rattle.ak_wire.specs.declared.wire_faults.WireFault.TheVariants as wires;
 ghost use Rattle.ak_wire.specs.Faults.{OrMemory, Is};
+ghost use Rattle.ak_wire.specs.Requests.{IsJsonOf};
 ghost use Rattle.ak_wire.specs.Replies.{ReadsReply, RefusesReply, ReadsGranted, ReadsRefused, ReadsGive, GiveFault, good_check, bad_check, check_in, check_of, is_good};
 ghost use Rattle.ak_wire.specs.Forms.{refused_form};
 ghost use Rattle.ak_wire.specs.Values.{object_fault};
@@ -244,10 +244,10 @@ fn read_uploaded(alloc: Global, value: &Value) -> Result<Give, WireFault>
 }
 
 /// The body of a reply: the compact text of the one value that is written for it. The status goes beside it.
-#[tactic(auto, using(crate::proofs::WholeTexts::reply_whole, crate::proofs::Depths::reply_nests))]
+#[tactic(auto, using(crate::proofs::WholeTexts::reply_whole, crate::proofs::Depths::reply_nests, crate::proofs::WholeTexts::is_json))]
 pub fn write_reply(alloc: Global, reply: &Reply) -> Result<Text, Memory>
     ensures text { IfOk result (λ text. text ≡ compact_text (reply_json reply.now)) }
-    ensures reads { IfOk result (λ text. read text ≡ Some (reply_json reply.now)) }
+    ensures json { IfOk result (λ text. IsJsonOf text (reply_json reply.now)) }
 {
     let value = write_reply_value(alloc, reply)?;
     write_body(alloc, &value)

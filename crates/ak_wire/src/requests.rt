@@ -1,5 +1,4 @@
-ghost use Rattle.std.specs.Prelude.{◌≡◌, ◌⊎◌, Some, None, [], OnOk, IfOk, IfErr};
-ghost use Rattle.serde_json.specs.Read.{read};
+ghost use Rattle.std.specs.Prelude.{◌≡◌, ◌⊎◌, None, [], OnOk, IfOk, IfErr};
 ghost use Rattle.serde_json.specs.View.{view};
 ghost use Rattle.serde_json.specs.Written.{compact_text};
 ghost use Rattle.ak_messages.specs.declared.methods.Method.TheVariants as methods;
@@ -8,7 +7,7 @@ ghost use Rattle.ak_wire.specs.Budgets.{IsWithinBudget};
 ghost use Rattle.ak_wire.specs.declared.wire_faults.WireFault.TheVariants as wires;
 ghost use Rattle.ak_wire.specs.Faults.{OrMemory, Is};
 ghost use Rattle.ak_wire.specs.Values.{object_fault};
-ghost use Rattle.ak_wire.specs.Requests.{ReadsRequest, RefusesRequest, ReadsAsk, AskFault, apply_graves_fault};
+ghost use Rattle.ak_wire.specs.Requests.{IsJsonOf, ReadsRequest, RefusesRequest, ReadsAsk, AskFault, apply_graves_fault};
 ghost use Rattle.ak_wire.specs.Written.{ask_json};
 
 use crate::WireFault;
@@ -152,10 +151,10 @@ fn read_sanity_check(alloc: Global, value: &Value) -> Result<Ask, WireFault>
 
 /// The body of a request: the compact text of the one value that is written for what it asks. The envelope
 /// goes beside it.
-#[tactic(auto, using(crate::proofs::WholeTexts::ask_whole, crate::proofs::Depths::ask_nests))]
+#[tactic(auto, using(crate::proofs::WholeTexts::ask_whole, crate::proofs::Depths::ask_nests, crate::proofs::WholeTexts::is_json))]
 pub fn write_request(alloc: Global, request: &Request) -> Result<Text, Memory>
     ensures text { IfOk result (λ text. text ≡ compact_text (ask_json request.now.ask)) }
-    ensures reads { IfOk result (λ text. read text ≡ Some (ask_json request.now.ask)) }
+    ensures json { IfOk result (λ text. IsJsonOf text (ask_json request.now.ask)) }
 {
     let value = write_ask(alloc, &request.ask)?;
     write_body(alloc, &value)

@@ -1,4 +1,5 @@
 ghost use Rattle.std.specs.Prelude.{◌≡◌, ◌≤◌, ◌⊎◌, Some, false, IfOk, IfErr};
+ghost use Rattle.std.specs.Str.{IsUtf8};
 ghost use Rattle.serde_json.specs.Data.{depth};
 ghost use Rattle.serde_json.specs.Read.{read, max_depth};
 ghost use Rattle.serde_json.specs.View.{view};
@@ -35,6 +36,7 @@ pub(crate) fn read_body(alloc: Global, body: &[u8]) -> Result<Value, WireFault>
 pub(crate) fn write_body(alloc: Global, value: &Value) -> Result<Text, Memory>
     ensures text { IfOk result (λ text. has_float (view value.now) ≡ false → text ≡ compact_text (view value.now)) }
     ensures reads { IfOk result (λ text. depth (view value.now) ≤ max_depth → read text ≡ Some (view value.now)) }
+    ensures utf8 { IfOk result (λ text. IsUtf8 text) }
 {
     let text = value.to_string(alloc)?;
     Ok(Text::from(text))
