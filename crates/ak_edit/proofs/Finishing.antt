@@ -291,6 +291,9 @@ module _ (at : ℤ) (now : Moment) (o : Overlay) (h : Holding) (plan : Plan) (na
 pub head_is : (h : Holding) (head before : Head) → h.head ≡ Some head → h.head ≡ Some before → before ≡ head
 head_is h head before is was = same_Some before head (sym was ∙ is)
 
+pub headed_at : (k : Keeping) (w : WithMark Holding) → k.told ≡ Some w → IsRightlyKnown k → k.headed ≡ marks.of_both is_headed w
+headed_at k w told known = subst (λ (t : Option (WithMark Holding)). IfSome t (λ (v : WithMark Holding). k.headed ≡ marks.of_both is_headed v)) told known.headed
+
 -- an edit that changes something was carried out
 pub finished : (at : ℤ) (now : Moment) (o : Overlay) (k l : Keeping) (plan : Plan) (steps left_steps : List Step) → now.at ≡ at → now.second ≡ second_of at → is_marked k ≡ false → k.headed.current ≡ true
     → IsRightlyKnown k → BearNames o.rows → WhereTold k (λ h. IsPlanned now o h plan) → (ChangesNothing plan → ⊥)
@@ -308,9 +311,6 @@ finished at now o k l plan steps left_steps in_ms in_seconds unmarked is_held kn
       held = becomes ∙ carried_out plan.writes.items plan.after k w told unmarked is_held (headed_at k w told known);
       list = list_so at now o w.current plan named bears here in_ms in_seconds something steps left_steps list;
     }))
-  where
-    headed_at : (k : Keeping) (w : WithMark Holding) → k.told ≡ Some w → IsRightlyKnown k → k.headed ≡ marks.of_both is_headed w
-    headed_at k w told known = subst (λ (t : Option (WithMark Holding)). IfSome t (λ (w : WithMark Holding). k.headed ≡ marks.of_both is_headed w)) told known.headed
 
 -- an edit that changes nothing was left
 pub finished_nothing : (at : ℤ) (now : Moment) (o : Overlay) (k : Keeping) (plan : Plan) (steps : List Step) → now.at ≡ at → now.second ≡ second_of at → IsRightlyKnown k → BearNames o.rows

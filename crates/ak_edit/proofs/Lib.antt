@@ -17,5 +17,6 @@ pub mod Stepping
 pub mod Undoing
 pub mod UndoneLists
 pub mod UnsentRows
+pub mod Viewing
 pub mod Writing
 pub mod Written

@@ -21,7 +21,7 @@ use Rattle.ak_merge.proofs.EditFacts.{false_true, true_false}
 use Rattle.ak_merge.specs.Edits.{changes_row, edited, goes}
 use Rattle.ak_merge.specs.Holdings.{AreChecked, AreNamed, RowsByName}
 use Rattle.ak_edit.proofs.Refusing.{all_pass, below_find, fails_first, graves_stamped, made_of_entry, stamps_append, untied_turned}
-use Rattle.ak_edit.proofs.Stepping.{stamp_within}
+use Rattle.ak_edit.proofs.Stepping.{stamp_outside, stamp_within}
 use Rattle.ak_edit.proofs.Writing.{made_over, unchanged_row}
 use Rattle.ak_edit.specs.Ends.{IsFirstFault}
 use Rattle.ak_edit.specs.MadeRows.{check_of_rows, have_stamps_left, is_stamp_left}
@@ -175,14 +175,8 @@ stamp_out second at noted ends =
       λ within. both.1 (subst (λ (m : Option Row). IsWithin (pos 0) last_stamp (stamp_made second (at none.name) m)) same within),
     )
   where
-    out : (stamp : ℤ) → (not (int_lt stamp (pos 0)) && not (int_lt last_stamp stamp)) ≡ false → IsWithin (pos 0) last_stamp stamp → ⊥
-    out stamp is within =
-        let low : not (int_lt stamp (pos 0)) ≡ true = grind (arith, ints, within.low) in
-        let high : not (int_lt last_stamp stamp) ≡ true = grind (arith, ints, within.high) in
-        true_false (sym (ap (λ (b : Bool). b && not (int_lt last_stamp stamp)) low ∙ high) ∙ is)
-
     entry_ends : (second : ℤ) (at : RowsByName) (name : Name) (made : Option Row) → entry_left second at name made ≡ false
         → (is_some (made_of_entry at name made) ≡ true) × (IsWithin (pos 0) last_stamp (stamp_made second (at name) made) → ⊥)
     entry_ends second at name made ends =
         elim (is_some (made_of_entry at name made)) as (λ b. (if b then is_stamp_left (record { name = name; before = at name; row = made; stamp = stamp_made second (at name) made }) else true) ≡ false
-        → (b ≡ true) × (IsWithin (pos 0) last_stamp (stamp_made second (at name) made) → ⊥)) [ false ↦ λ is. true_false is | true ↦ λ is. (refl, out (stamp_made second (at name) made) is) ] ends
+        → (b ≡ true) × (IsWithin (pos 0) last_stamp (stamp_made second (at name) made) → ⊥)) [ false ↦ λ is. true_false is | true ↦ λ is. (refl, stamp_outside (stamp_made second (at name) made) is) ] ends

@@ -1,5 +1,5 @@
 -- The step of a plan may be put on an undo list, and what was tested may be written.
-use Rattle.std.proofs.Common.{◌≡◌, Bool, true, false, ◌&&◌, not, int_lt, ℤ, pos, List, [], ◌∷◌, map, IfSome, Some, None, Result, Ok, Err, refl, sym, ap, subst, arith}
+use Rattle.std.proofs.Common.{◌≡◌, Bool, true, false, ◌&&◌, not, int_lt, ℤ, pos, List, [], ◌∷◌, map, IfSome, Some, None, Result, Ok, Err, refl, sym, ap, subst, ◌∙◌, arith}
 use Rattle.std.proofs.lemmas.Int.{ints}
 use Rattle.std.proofs.lemmas.List.Elements.{All-from_recursion, recursion_from_All}
 use Rattle.std.specs.List.{AllByRecursion, IsDistinct}
@@ -12,6 +12,7 @@ use Rattle.ak_base.specs.Rows.{IsChecked, check_of}
 use Rattle.ak_base.specs.declared.errors.RowFault.{RowFault}
 use Rattle.ak_base.specs.declared.names.Name.{Name}
 use Rattle.ak_base.specs.declared.rows.Row.{Row}
+use Rattle.ak_merge.proofs.EditFacts.{true_false}
 use Rattle.ak_undo.specs.Steps.{IsBeforeInRange, IsStepInRange}
 use Rattle.ak_undo.specs.declared.steps.Before.{Before}
 use Rattle.ak_edit.specs.Carrying.{IsPlanInRange, step_in}
@@ -52,6 +53,12 @@ stamp_within stamp is =
     let low : not (int_lt stamp (pos 0)) ≡ true = and_left (not (int_lt stamp (pos 0))) (not (int_lt last_stamp stamp)) is in
     let high : not (int_lt last_stamp stamp) ≡ true = and_right (not (int_lt stamp (pos 0))) (not (int_lt last_stamp stamp)) is in
     record { low = grind (arith, ints, low); high = grind (arith, ints, high) }
+
+pub stamp_outside : (stamp : ℤ) → (not (int_lt stamp (pos 0)) && not (int_lt last_stamp stamp)) ≡ false → IsWithin (pos 0) last_stamp stamp → ⊥
+stamp_outside stamp is within =
+    let low : not (int_lt stamp (pos 0)) ≡ true = grind (arith, ints, within.low) in
+    let high : not (int_lt last_stamp stamp) ≡ true = grind (arith, ints, within.high) in
+    true_false (sym (ap (λ (b : Bool). b && not (int_lt last_stamp stamp)) low ∙ high) ∙ is)
 
 both_ok : (r s : Result (Unit {0}) RowFault) → first_of r s ≡ Ok tt → (r ≡ Ok tt) × (s ≡ Ok tt)
 both_ok (Ok one) s is = (refl, is)

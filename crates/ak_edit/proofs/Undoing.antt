@@ -31,9 +31,10 @@ use Rattle.ak_merge.specs.Undoing.{IsUndone, undone_row, undone_stamp}
 use Rattle.ak_undo.specs.Steps.{IsBeforeInRange, IsStepInRange}
 use Rattle.ak_undo.specs.declared.steps.Before.{Before}
 use Rattle.ak_undo.specs.declared.steps.Step.{Step}
-use Rattle.ak_edit.proofs.Finishing.{held_rightly, told_at, where_held}
+use Rattle.ak_edit.proofs.Finishing.{head_is, headed_at, held_rightly, told_at, where_held}
 use Rattle.ak_edit.proofs.Planning.{where_both}
-use Rattle.ak_edit.proofs.Writing.{is_written}
+use Rattle.ak_edit.proofs.Stepping.{stamp_outside, stamp_within}
+use Rattle.ak_edit.proofs.Writing.{is_written, stamped}
 use Rattle.ak_edit.proofs.Written.{Leaves, all_leave, carried_out, collection_left, rows_written}
 use Rattle.ak_edit.specs.Carrying.{HasEnded, MadeRefusal}
 use Rattle.ak_edit.specs.Ends.{IsHeldRightly}
@@ -71,18 +72,10 @@ all_there (b ∷ befores) distinct = (
 )
 
 -- ---- one write
-stamped_anew : (stamp : ℤ) (row : Row) → with_stamp (edited (pos 0) row) stamp ≡ edited stamp row
-stamped_anew stamp (rows.Note n) = refl
-stamped_anew stamp (rows.Card c) = refl
-stamped_anew stamp (rows.Review r) = refl
-stamped_anew stamp (rows.NoteType t) = refl
-stamped_anew stamp (rows.Deck d) = refl
-stamped_anew stamp (rows.Options o) = refl
-stamped_anew stamp (rows.Grave g) = refl
 
 row_put_back : (second : ℤ) (before present : Option Row) → option_map (λ (row : Row). with_stamp row (undo_stamp second before present)) (option_map (edited (pos 0)) before) ≡ undone_row second (Some before) present
 row_put_back second None present = refl
-row_put_back second (Some row) present = ap (λ (r : Row). Some r) (stamped_anew (undone_stamp second row present) row)
+row_put_back second (Some row) present = ap (λ (r : Row). Some r) (stamped (undone_stamp second row present) row)
 
 named_back : (name : Name) (before : Option Row) → IfSome before (λ row. (name_of row ≡ name) × IsChecked row) → IfSome (option_map (edited (pos 0)) before) (λ row. name_of row ≡ name)
 named_back name None range = tt
@@ -115,26 +108,6 @@ undone_rows second step rows q range =
     (λ away. sym (ap (λ (o : Option (Option Row)). undone_row second o (get rows q)) (left_alone second (get rows) q step.rows away)))
 
 -- ---- stamps that end
-stamp_in : (stamp : ℤ) → (not (int_lt stamp (pos 0)) && not (int_lt last_stamp stamp)) ≡ true → IsWithin (pos 0) last_stamp stamp
-stamp_in stamp is =
-    let low : not (int_lt stamp (pos 0)) ≡ true = first_true (not (int_lt stamp (pos 0))) (not (int_lt last_stamp stamp)) is in
-    let high : not (int_lt last_stamp stamp) ≡ true = second_true (not (int_lt stamp (pos 0))) (not (int_lt last_stamp stamp)) is in
-    record { low = grind (arith, ints, low); high = grind (arith, ints, high) }
-  where
-    first_true : (a b : Bool) → (a && b) ≡ true → a ≡ true
-    first_true true b is = refl
-    first_true false b is = is
-
-    second_true : (a b : Bool) → (a && b) ≡ true → b ≡ true
-    second_true true b is = is
-    second_true false b is = absurd (grind (arith, is))
-
-stamp_out : (stamp : ℤ) → (not (int_lt stamp (pos 0)) && not (int_lt last_stamp stamp)) ≡ false → IsWithin (pos 0) last_stamp stamp → ⊥
-stamp_out stamp is within =
-    let low : int_lt stamp (pos 0) ≡ false = grind (arith, ints, within.low) in
-    let high : int_lt last_stamp stamp ≡ false = grind (arith, ints, within.high) in
-    true_false (sym (rw (low, high) refl) ∙ is)
-
 -- a row of the step whose stamp is out of its range
 pub record StampEnds (second : ℤ) (at : RowsByName) (f : Name → Option (Option Row)) : Type 0 where
   pub name : Name
@@ -145,7 +118,7 @@ pub record StampEnds (second : ℤ) (at : RowsByName) (f : Name → Option (Opti
 one_ends : (second : ℤ) (at : RowsByName) (f : Name → Option (Option Row)) (name : Name) (before : Option Row) → f name ≡ Some before
     → (not (int_lt (undo_stamp second before (at name)) (pos 0)) && not (int_lt last_stamp (undo_stamp second before (at name)))) ≡ false → StampEnds second at f
 one_ends second at f name None there out = true_false out
-one_ends second at f name (Some row) there out = record { name = name; before = row; there = there; ends = stamp_out (undone_stamp second row (at name)) out }
+one_ends second at f name (Some row) there out = record { name = name; before = row; there = there; ends = stamp_outside (undone_stamp second row (at name)) out }
 
 some_ends : (second : ℤ) (at : RowsByName) (f : Name → Option (Option Row)) (befores : List Before) → AllByRecursion (λ (o : Before). f o.name ≡ Some o.row) befores
     → have_stamps_left (undo_writes second at befores) ≡ false → StampEnds second at f
@@ -161,7 +134,7 @@ one_within : (second : ℤ) (at : RowsByName) (name : Name) (before : Row) (b : 
     → IsWithin (pos 0) last_stamp (undone_stamp second before (at name))
 one_within second at name before b others here later true same is =
     subst (λ (n : Name). IsWithin (pos 0) last_stamp (undone_stamp second before (at n))) (sym (same_of_tied name b.name same))
-    (stamp_in (undone_stamp second before (at b.name))
+    (stamp_within (undone_stamp second before (at b.name))
     (subst (λ (o : Option Row). (not (int_lt (undo_stamp second o (at b.name)) (pos 0)) && not (int_lt last_stamp (undo_stamp second o (at b.name)))) ≡ true) (same_Some b.row (Some before) is) here))
 one_within second at name before b others here later false _ is = later is
 
@@ -231,12 +204,6 @@ rightly_at k w head told held known =
     subst (λ (o : Option Head). IfSome (option_map (λ (h : Head). record { rows = w.current.rows; head = h }) o) IsHeldRightly) held
     (subst (λ (t : Option (WithMark Holding)). IfSome t (λ (v : WithMark Holding). IfSome (option_map (λ (h : Head). record { rows = v.current.rows; head = h }) v.current.head) IsHeldRightly)) told (held_rightly k known))
 
-headed_at : (k : Keeping) (w : WithMark Holding) → k.told ≡ Some w → IsRightlyKnown k → k.headed ≡ marks.of_both is_headed w
-headed_at k w told known = subst (λ (t : Option (WithMark Holding)). IfSome t (λ (v : WithMark Holding). k.headed ≡ marks.of_both is_headed v)) told known.headed
-
-head_is : (h : Holding) (head before : Head) → h.head ≡ Some head → h.head ≡ Some before → head ≡ before
-head_is h head before is was = same_Some head before (sym is ∙ was)
-
 module _ (at : ℤ) (now : Moment) (step : Step) (plan : Plan) (in_ms : now.at ≡ at) (in_seconds : now.second ≡ second_of at) (range : IsStepInRange step) (after : plan.after ≡ undo_head now.at step plan.before) where
   undone_so : (h : Holding) → IsUndoPlan now step h plan → IsUndone at (record { rows = h.rows; head = plan.before }) (reversal_in step) (collection_left plan.writes.items plan.after h.rows)
   undone_so h planned = record {
@@ -264,7 +231,7 @@ module _ (at : ℤ) (now : Moment) (step : Step) (plan : Plan) (in_ms : now.at �
         step = step;
         list = list;
         after = collection_left plan.writes.items plan.after w.current.rows;
-        undone = subst (λ (h : Head). IsUndone at (record { rows = w.current.rows; head = h }) (reversal_in step) (collection_left plan.writes.items plan.after w.current.rows)) (sym one) (undone_so w.current here);
+        undone = subst (λ (h : Head). IsUndone at (record { rows = w.current.rows; head = h }) (reversal_in step) (collection_left plan.writes.items plan.after w.current.rows)) one (undone_so w.current here);
         held = becomes ∙ carried_out plan.writes.items plan.after k w told unmarked is_held (headed_at k w told known);
       })
 
@@ -296,7 +263,7 @@ module _ (at : ℤ) (now : Moment) (step : Step) (plan : Plan) (in_ms : now.at �
       where_held k (λ c. AnswersBy {T = Unit {0}} (RefusesUndo at c steps) (Err faults.StampEnd)) (λ w head told held_there.
       let here = told_at k (λ h. IsUndoPlan now step h plan) w told planned in
       let one = head_is w.current head plan.before held_there here.head in
-      subst (λ (h : Head). AnswersBy {T = Unit {0}} (RefusesUndo at (record { rows = w.current.rows; head = h }) steps) (Err faults.StampEnd)) (sym one)
+      subst (λ (h : Head). AnswersBy {T = Unit {0}} (RefusesUndo at (record { rows = w.current.rows; head = h }) steps) (Err faults.StampEnd)) one
       (subst (λ (ss : List Step). AnswersBy {T = Unit {0}} (RefusesUndo at (record { rows = w.current.rows; head = plan.before }) ss) (Err faults.StampEnd)) (sym list)
       (record { accepted = tt; refused = inr (inr ((λ any none. some_step (step ∷ left) left refl none.1), (refl, ended_at w.current here held ends))) })))
 
@@ -314,7 +281,7 @@ module _ (at : ℤ) (now : Moment) (step : Step) (plan : Plan) (in_ms : now.at �
       where_held k (λ c. AnswersBy {T = Unit {0}} (RefusesUndo at c steps) (Ok answer)) (λ w head told held_there.
       let here = told_at k (λ h. IsUndoPlan now step h plan) w told planned in
       let one = head_is w.current head plan.before held_there here.head in
-      subst (λ (h : Head). AnswersBy {T = Unit {0}} (RefusesUndo at (record { rows = w.current.rows; head = h }) steps) (Ok answer)) (sym one)
+      subst (λ (h : Head). AnswersBy {T = Unit {0}} (RefusesUndo at (record { rows = w.current.rows; head = h }) steps) (Ok answer)) one
       (subst (λ (ss : List Step). AnswersBy {T = Unit {0}} (RefusesUndo at (record { rows = w.current.rows; head = plan.before }) ss) (Ok answer)) (sym list)
       (record { accepted = λ fault tests. no_test w.current here fault tests; refused = tt })))
     where

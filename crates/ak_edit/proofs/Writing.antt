@@ -42,7 +42,8 @@ is_written name [] = false
 is_written name (w ∷ ws) = eq_by_cmp name_cmp name w.name || is_written name ws
 
 -- ---- one write
-stamped : (stamp : ℤ) (row : Row) → with_stamp (edited (pos 0) row) stamp ≡ edited stamp row
+-- a row that was made with stamp 0 and then stamped
+pub stamped : (stamp : ℤ) (row : Row) → with_stamp (edited (pos 0) row) stamp ≡ edited stamp row
 stamped stamp (rows.Note n) = refl
 stamped stamp (rows.Card c) = refl
 stamped stamp (rows.Review r) = refl
@@ -138,7 +139,7 @@ noted_is : (at : RowsByName) (noted : FinMap name_cmp (Option Row)) (es : List (
 noted_is at noted [] all = tt
 noted_is at noted (e ∷ es) all = (ap (λ (o : Option (Option Row)). unwrap_or o (at e.0)) all.0, noted_is at noted es all.1)
 
-named_over : (at : RowsByName) (noted : FinMap name_cmp (Option Row)) → AreNamed at → BearNames noted → AreNamed (made_over at noted)
+pub named_over : (at : RowsByName) (noted : FinMap name_cmp (Option Row)) → AreNamed at → BearNames noted → AreNamed (made_over at noted)
 named_over at noted named bears name row is =
     elim (get noted name) as (λ o. get noted name ≡ o → unwrap_or o (at name) ≡ Some row → name_of row ≡ name) [
       | None ↦ λ _ held. named name row held

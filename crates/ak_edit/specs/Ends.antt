@@ -78,8 +78,8 @@ pub record IsFirstFault (c : Collection) (edit : Edit) (fault : RowFault) : Type
   pub fails : check_of row ≡ Err fault
   pub first : (other : Name) → name_cmp other name ≡ Less → IfSome (row_made c edit other) IsChecked
 
--- the stamp of a row that an edit makes, the moment or the moment of the schema has no value left to rise to, or is past
--- its last value since now is
+-- the stamp of a row that an edit makes, the moment or the moment of the schema has no value left to rise to, or is out of
+-- its range since now is: past its last value, or before 0
 abbrev pub IsAtLastStamp : ℤ → Collection → Edit → Type 0
 IsAtLastStamp at c edit =
     ((name : Name) × IsTrue (is_some (row_made c edit name))

@@ -10,3 +10,4 @@ pub mod Steps
 pub mod Stores
 pub mod UndoPlans
 pub mod Undos
+pub mod Views

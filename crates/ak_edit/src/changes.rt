@@ -5,7 +5,7 @@ ghost use Rattle.std.specs.FinMap as map;
 ghost use Rattle.ak_base.specs.Rows.{IsChecked, name_of};
 ghost use Rattle.ak_keep.specs.Readings.{ReadsBy};
 ghost use Rattle.ak_merge.specs.Tags.{IsTagName};
-ghost use Rattle.ak_edit.specs.Overlays.{IsConfOver, IsRowOver, IsSet, conf_over, entry_at, put_over, removed_over, schema_over, tag_over, unchanged};
+ghost use Rattle.ak_edit.specs.Overlays.{IsConfOver, IsFitting, IsRowOver, IsSet, conf_over, entry_at, put_over, removed_over, schema_over, tag_over, unchanged};
 
 use ak_base::{Conf, Memory, Name, Row, Text};
 use ak_keep::{KeepFault, Lookup};
@@ -82,6 +82,13 @@ impl Change {
         ensures named { IfOk result (λ row. IfSome row (λ made. IfSome made (λ row. name_of row ≡ name.now))) }
     {
         changed_in(&self.rows, name)
+    }
+
+    /// For proofs alone: what the edit asks for is what a collection can take.
+    pub(crate) fn fits(&self)
+        ensures { IsFitting self.now }
+    {
+        let _seen = self.schema;
     }
 
     /// Whether the edit has changed what stands under the name.
@@ -180,7 +187,7 @@ fn changed_in(
 }
 
 /// Whether anything is noted under the name.
-fn has_in(rows: &BTreeMap<Name, Option<Row>>, name: &Name) -> bool
+pub(crate) fn has_in(rows: &BTreeMap<Name, Option<Row>>, name: &Name) -> bool
     ensures { result ≡ is_some (entry_at rows.now.entries name.now) }
 {
     rows.contains_key(name)

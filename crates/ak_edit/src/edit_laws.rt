@@ -30,7 +30,7 @@ pub fn same_edits()
     ensures { (e f : Edit) → ((name : Name) → e.rows name ≡ f.rows name) → e.conf ≡ f.conf → e.tags ≡ f.tags → e.schema ≡ f.schema → e ≡ f }
 {}
 
-/// What a change asks for under each name: what it noted, and else what is held.
+/// For the proofs of callers alone: what a change asks for under each name is what it noted, and else what is held.
 pub fn noted_rows_stand_over_held_ones()
     ensures { (c : Collection) (o : Overlay) (name : Name) → (edit_of o c).rows name ≡ row_over o (row_under c) name }
 {}

@@ -160,7 +160,7 @@ pub(crate) fn head_of<K: Keeper>(keeper: &mut K) -> Result<Head, KeepFault>
 }
 
 /// The settings after the edit: those that it set, or else the old ones.
-fn conf_after(set: &Option<Conf>, old: Conf) -> Result<Conf, Memory>
+pub(crate) fn conf_after(set: &Option<Conf>, old: Conf) -> Result<Conf, Memory>
     ensures { IfOk result (λ made. made ≡ unwrap_or set.now old) }
 {
     match set {

@@ -11,6 +11,8 @@ mod plans;
 mod stores;
 mod undo_laws;
 mod undos;
+mod view_laws;
+mod views;
 
 pub use changes::Change;
 pub use desk_faults::DeskFault;
@@ -20,3 +22,5 @@ pub use edit_laws::{
 };
 pub use undo_laws::undone_steps_keep_all;
 pub use undos::undo;
+pub use view_laws::views_show_what_edits_leave;
+pub use views::ChangedView;

@@ -5,6 +5,7 @@ ghost use Rattle.std.specs.Ordering.{eq_by_cmp};
 ghost use Rattle.ak_merge.specs.Holdings.{RowsByName};
 ghost use Rattle.std.specs.List.Sorted.{IsStrictlySortedBy};
 ghost use Rattle.std.specs.Map.{keys_of};
+ghost use Rattle.ak_base.specs.Limits.{last_moment};
 ghost use Rattle.ak_base.specs.Names.{name_cmp};
 ghost use Rattle.ak_base.specs.Tables.{grave_name};
 ghost use Rattle.std.specs.Option.{option_map};
@@ -174,7 +175,7 @@ pub(crate) fn advanced_stamp(now: Moment, row: &Row) -> i64
 
 /// The greater of now and the old one plus 1: what a stamp or a moment becomes.
 pub(crate) fn advanced(now: i64, old: i64) -> i64
-    requires { old ≤ℤ pos 4_294_967_295_999 }
+    requires { old ≤ℤ last_moment }
     ensures { result ≡ advanced now old }
 {
     now.max(old + 1)
