@@ -15,6 +15,7 @@ use Rattle.ak_merge.specs.Links.{AreLinked}
 use Rattle.ak_merge.specs.Undoing.{StepFits}
 use Rattle.ak_merge.proofs.CommitLaws.{commits_stay_lawful, commits_keep_links, commits_keep_fits}
 use Rattle.ak_merge.proofs.Transfers.{uploads_are_lawful}
+use Rattle.ak_messages.specs.declared.replies.Reply.{Reply}
 use Rattle.ak_messages.specs.declared.requests.Ask.{Ask}
 use Rattle.ak_messages.specs.declared.requests.Ask.TheVariants as asks
 use Rattle.ak_messages.specs.declared.requests.Request.{Request}
@@ -27,10 +28,10 @@ use Rattle.ak_session.specs.Sessions.{AreAllowed}
 use Rattle.ak_session.proofs.CheckLaws.{finishes_are_sound}
 use Rattle.ak_session.proofs.CommitLaws.{finishes_commit, finishes_in_range, uploads_replace, uploads_in_range}
 use Rattle.ak_protocol.specs.Accounts.{SessionState, AccountState}
-use Rattle.ak_protocol.specs.Commits.{EachNewer, IsMade, IsFinishOf, IsReplacedBy, CommitsWhatCame, HasFreshSchema, IsOfOldSchema}
+use Rattle.ak_protocol.specs.Commits.{EachNewer, IsMade, IsFinishOf, IsReplacedBy, CommitsWhatCame, HasFreshSchema}
 use Rattle.ak_protocol.specs.Lawful.{IsNext, AreAccepted, HasLawfulSession}
 use Rattle.ak_protocol.specs.LawfulServers.{IsLawfulAccount, HasOwnRequests, IsLawfulUnder, IsLawful}
-use Rattle.ak_protocol.specs.Logs.{Event, View, Asked, Commit, World, Log, IsTimely, MayCome, IsGrowth, with_growth, opened, world_served, world_next, world_after, server_after, host_of, events_of}
+use Rattle.ak_protocol.specs.Logs.{Event, View, Asked, Commit, World, Log, IsTimely, MayCome, IsGrowth, IsReplyIn, with_growth, opened, commit_by, world_served, world_next, world_after, server_after, host_of, events_of}
 use Rattle.ak_protocol.specs.Servers.{ServerState, same_host}
 use Rattle.ak_protocol.specs.Serving.{Setback, served}
 use Rattle.ak_protocol.specs.Syncs.{world_of}
@@ -60,11 +61,16 @@ commits_ask asks.Download is = absurd (not_both is refl)
 abbrev commit_of : AccountState → SessionState → Request → ℤ → Commit
 commit_of s session request now = record { key = request.session.0; before = s.committed; after = closed s.committed session.accepted request now }
 
+-- a commit took what came, or what came took its place: what it does to links and schema moments
+abbrev IsTakenOrReplaced : Commit → Type 0
+IsTakenOrReplaced commit =
+    ((came : Received) × IsCommitOf came commit.before commit.after) ⊎ ((came : commits.Whole) × IsUploadOf came commit.before commit.after)
+
 module _ (s : AccountState) (session : SessionState) (request : Request) (now : ℤ) where
-  pub is_made : asks_commit request.ask ≡ true → IsMade (commit_of s session request now)
-  is_made is_commit = by_ask (commits_ask request.ask is_commit)
+  takes_or_replaces : asks_commit request.ask ≡ true → IsTakenOrReplaced (commit_of s session request now)
+  takes_or_replaces is_commit = by_ask (commits_ask request.ask is_commit)
     where
-      by_ask : (request.ask ≡ asks.Finish) ⊎ ((whole : Whole) × (request.ask ≡ asks.Upload whole)) → IsMade (commit_of s session request now)
+      by_ask : (request.ask ≡ asks.Finish) ⊎ ((whole : Whole) × (request.ask ≡ asks.Upload whole)) → IsTakenOrReplaced (commit_of s session request now)
       by_ask (inl is) = inl (all_brought (asks_of session.accepted), finishes_commit s.committed session.accepted request now is)
       by_ask (inr upload) = inr (whole_brought upload.0, uploads_replace s.committed session.accepted request upload.0 now upload.1)
 
@@ -72,36 +78,29 @@ module _ (s : AccountState) (session : SessionState) (request : Request) (now : 
 abbrev MakesMore : (Commit → Type 0) → World → World → Type 0
 MakesMore P old new = (newer : List Commit) × (new.commits ≡ newer ++ old.commits) × AllByRecursion P newer
 
-module _ (P : Commit → Type 0) (one : (s : AccountState) (session : SessionState) (request : Request) (now : ℤ) → IsNext s session request → asks_commit request.ask ≡ true → P (commit_of s session request now)) where
-  more_asked : (w : World) (request : Request) (now : ℤ) (setback : Setback) → MakesMore P w (world_next w (Asked request now setback))
-  more_asked w request now = by_cases w.state request now (λ it. MakesMore P w (world_served w request it)) (record {
+module _ (P : Commit → Type 0) where
+  more_asked : (w : World) (request : Request) (now : ℤ)
+      → ((session : SessionState) → IsNext w.state session request → asks_commit request.ask ≡ true → P (commit_of w.state session request now))
+      → (setback : Setback) → MakesMore P w (world_next w (Asked request now setback))
+  more_asked w request now one = by_cases w.state request now (λ it. MakesMore P w (world_served w request it)) (record {
     strikes = λ reply failed. ([], refl, tt);
     begins = λ _. ([], refl, tt);
     repeats = λ kept is repeat later. ([], refl, tt);
     refuses_it = λ why. ([], refl, tt);
     goes_on = λ session next none goes. ([], refl, tt);
     stops = λ session next none. ([], refl, tt);
-    finishes = λ session next is_commit. (commit_of w.state session request now ∷ [], refl, (one w.state session request now next is_commit, tt));
+    finishes = λ session next is_commit. (commit_of w.state session request now ∷ [], refl, (one session next is_commit, tt));
   })
 
-  more_after : (w : World) (events : List Event) → MakesMore P w (world_after w events)
-  more_after w [] = ([], refl, tt)
-  more_after w (View host ∷ events) = let more = more_after (world_next w (View host)) events in (more.0, more.1, more.2)
-  more_after w (Asked request now setback ∷ events) =
-      let first = more_asked w request now setback in
-      let more = more_after (world_next w (Asked request now setback)) events in (
-        more.0 ++ first.0,
-        more.1 ∙ ap (λ (l : List Commit). more.0 ++ l) first.1 ∙ sym (append_assoc more.0 first.0 w.commits),
-        all_append P more.0 first.0 more.2 first.2,
-      )
+  more_later : (old middle new : World) → MakesMore P old middle → MakesMore P middle new → MakesMore P old new
+  more_later old middle new first more = (
+    more.0 ++ first.0,
+    more.1 ∙ ap (λ (l : List Commit). more.0 ++ l) first.1 ∙ sym (append_assoc more.0 first.0 old.commits),
+    all_append P more.0 first.0 more.2 first.2,
+  )
 
-  pub each_newer : (w : World) (events : List Event) → EachNewer P w (world_after w events)
-  each_newer w events newer is =
-      let more = more_after w events in
-      subst (AllByRecursion P) (append_cancel_right more.0 newer w.commits (sym more.1 ∙ is)) more.2
-
-pub commits_are_made : (w : World) (events : List Event) → EachNewer IsMade w (world_after w events)
-commits_are_made = each_newer IsMade (λ s session request now next is_commit. is_made s session request now is_commit)
+  each_newer : (old new : World) → MakesMore P old new → EachNewer P old new
+  each_newer old new more newer is = subst (AllByRecursion P) (append_cancel_right more.0 newer old.commits (sym more.1 ∙ is)) more.2
 
 -- what holds of each newer commit of a log holds of those of its first event, and of those after it
 first_newer : (P : Commit → Type 0) (w middle : World) (events : List Event) → EachNewer P w (world_after middle events) → EachNewer P w middle
@@ -203,6 +202,28 @@ lawful_stays_lawful w (View host ∷ events) timely lawful =
 lawful_stays_lawful w (Asked request now setback ∷ events) timely lawful =
     lawful_stays_lawful (world_next w (Asked request now setback)) events timely.1 (lawful_served w.state request now timely.0 lawful setback)
 
+-- what commits in a lawful account is a finish of what came, or an upload
+made_of : (s : AccountState) (request : Request) (now : ℤ) → IsClockMoment now → IsLawfulAccount s
+    → (session : SessionState) → IsNext s session request → asks_commit request.ask ≡ true → IsMade (commit_of s session request now)
+made_of s request now timely lawful session next is_commit = by_ask (commits_ask request.ask is_commit)
+  where
+    by_ask : (request.ask ≡ asks.Finish) ⊎ ((whole : Whole) × (request.ask ≡ asks.Upload whole)) → IsMade (commit_of s session request now)
+    by_ask (inl is) = inl (all_brought (asks_of session.accepted), finish_of s request now timely lawful session next is)
+    by_ask (inr upload) = inr (whole_brought upload.0, replaced_by s request now timely lawful session next upload.0 upload.1)
+
+made_after : (w : World) (events : List Event) → AllByRecursion IsTimely events → IsLawfulAccount w.state → MakesMore IsMade w (world_after w events)
+made_after w [] timely lawful = ([], refl, tt)
+made_after w (View host ∷ events) timely lawful =
+    let more = made_after (world_next w (View host)) events timely.1 (record { committed = lawful.committed; session = tt; reply = lawful.reply }) in
+    (more.0, more.1, more.2)
+made_after w (Asked request now setback ∷ events) timely lawful =
+    let next = world_next w (Asked request now setback) in
+    more_later IsMade w next (world_after next events) (more_asked IsMade w request now (made_of w.state request now timely.0 lawful) setback)
+    (made_after next events timely.1 (lawful_served w.state request now timely.0 lawful setback))
+
+pub commits_are_made : (w : World) (events : List Event) → AllByRecursion IsTimely events → IsLawfulAccount w.state → EachNewer IsMade w (world_after w events)
+commits_are_made w events timely lawful = each_newer IsMade w (world_after w events) (made_after w events timely lawful)
+
 -- an account without a session is lawful
 pub opened_lawful : (host : List ℕ) (c : Collection) → IsCommitted c → IsLawfulUnder host (record { committed = c; live = None; kept = None })
 opened_lawful host c own = record { account = record { committed = own; session = tt; reply = tt }; own = tt; past = tt }
@@ -275,11 +296,11 @@ uploads_give_fresh_schemas came c commit is (inr low) =
     inr (below_is_other c.head.schema commit.after.head.schema (omega (arith, ints, low, up)))
 
 -- a commit raises the schema moment or leaves it
-schema_rises : (commit : Commit) → IsMade commit → commit.before.head.schema ≤ℤ commit.after.head.schema
+schema_rises : (commit : Commit) → IsTakenOrReplaced commit → commit.before.head.schema ≤ℤ commit.after.head.schema
 schema_rises commit (inl finish) = let same = finish.1.schema in omega (arith, ints, same)
 schema_rises commit (inr upload) = let up = upload.1.schema in omega (arith, ints, up)
 
-fresh_of_old : (c : Collection) (commit : Commit) → IsMade commit → c.head.schema ≤ℤ commit.before.head.schema → HasFreshSchema c commit
+fresh_of_old : (c : Collection) (commit : Commit) → IsTakenOrReplaced commit → c.head.schema ≤ℤ commit.before.head.schema → HasFreshSchema c commit
 fresh_of_old c commit (inl finish) low = finishes_leave_schemas finish.0 c commit finish.1
 fresh_of_old c commit (inr upload) low = uploads_give_fresh_schemas upload.0 c commit upload.1 (inl low)
 
@@ -298,7 +319,7 @@ old_asked c w request now old = by_cases w.state request now (λ it. MakesMore (
   stops = λ session next none. (([], refl, tt), old);
   finishes = λ session next is_commit.
       let commit = commit_of w.state session request now in
-      let made = is_made w.state session request now is_commit in
+      let made = takes_or_replaces w.state session request now is_commit in
       ((commit ∷ [], refl, (fresh_of_old c commit made old, tt)), over old (schema_rises commit made));
 })
   where
@@ -321,27 +342,15 @@ old_schemas_stay_old w events c old newer is =
     let more = old_after c w events old in
     subst (AllByRecursion (HasFreshSchema c)) (append_cancel_right more.0 newer w.commits (sym more.1 ∙ is)) more.2
 
--- the commit of one request, whose schema moment is at most the server's or the upload's
-fresh_by_ask : (c : Collection) (s : AccountState) (session : SessionState) (request : Request) (now : ℤ) → asks_commit request.ask ≡ true
-    → IsOfOldSchema c s.committed request.ask → HasFreshSchema c (commit_of s session request now)
-fresh_by_ask c s session request now is_commit old = by_ask (commits_ask request.ask is_commit)
-  where
-    by_ask : (request.ask ≡ asks.Finish) ⊎ ((whole : Whole) × (request.ask ≡ asks.Upload whole)) → HasFreshSchema c (commit_of s session request now)
-    by_ask (inl is) =
-        finishes_leave_schemas (all_brought (asks_of session.accepted)) c (commit_of s session request now) (finishes_commit s.committed session.accepted request now is)
-    by_ask (inr upload) =
-        uploads_give_fresh_schemas (whole_brought upload.0) c (commit_of s session request now) (uploads_replace s.committed session.accepted request upload.0 now upload.1)
-        (subst (IsOfOldSchema c s.committed) upload.1 old)
-
 -- ---- links and steps over one commit
-linked_by : (c : Collection) (commit : Commit) → IsCommitted commit.before → IsMade commit → HasFreshSchema c commit → AreLinked c commit.before → AreLinked c commit.after
+linked_by : (c : Collection) (commit : Commit) → IsCommitted commit.before → IsTakenOrReplaced commit → HasFreshSchema c commit → AreLinked c commit.before → AreLinked c commit.after
 linked_by c commit own (inl finish) fresh linked =
     commits_keep_links finish.0 c commit.before commit.after finish.1 own.named own.head.usn.low linked
 linked_by c commit own (inr upload) (inl same) linked =
     absurd (below_is_other commit.before.head.schema commit.after.head.schema upload.1.schema (sym same))
 linked_by c commit own (inr upload) (inr differ) linked = inl differ
 
-fits_by : (c : Collection) (step : Reversal) (commit : Commit) → IsMade commit → HasFreshSchema c commit → StepFits c step commit.before → StepFits c step commit.after
+fits_by : (c : Collection) (step : Reversal) (commit : Commit) → IsTakenOrReplaced commit → HasFreshSchema c commit → StepFits c step commit.before → StepFits c step commit.after
 fits_by c step commit (inl finish) fresh fits = commits_keep_fits finish.0 c commit.before commit.after step finish.1 fits
 fits_by c step commit (inr upload) (inl same) fits =
     absurd (below_is_other commit.before.head.schema commit.after.head.schema upload.1.schema (sym same))
@@ -351,20 +360,21 @@ fits_by c step commit (inr upload) (inr differ) fits = inl differ
 -- a property of committed collections that a commit keeps where it is fresh
 module _ (P : Collection → Type 0) (c : Collection) where
   abbrev Keeps : AccountState → Type 0
-  Keeps s = (commit : Commit) → commit.before ≡ s.committed → IsMade commit → HasFreshSchema c commit → P commit.before → P commit.after
+  Keeps s = (commit : Commit) → commit.before ≡ s.committed → IsTakenOrReplaced commit → HasFreshSchema c commit → P commit.before → P commit.after
 
-  pub kept_served : (s : AccountState) (request : Request) (now : ℤ) → Keeps s → IsOfOldSchema c s.committed request.ask → P s.committed
-      → (setback : Setback) → P (served s request now setback).next.committed
-  kept_served s request now keeps old held = by_cases s request now (λ it. P it.next.committed) (record {
-    strikes = λ reply failed. held;
-    begins = λ _. held;
-    repeats = λ kept is repeat later. held;
-    refuses_it = λ why. held;
-    goes_on = λ session next none goes. held;
-    stops = λ session next none. held;
-    finishes = λ session next is_commit.
-        keeps (commit_of s session request now) refl (is_made s session request now is_commit) (fresh_by_ask c s session request now is_commit old) held;
-  })
+  pub kept_served : (s : AccountState) (request : Request) (now : ℤ) → Keeps s → P s.committed
+      → (setback : Setback) → let it = served s request now setback in (it.is_commit ≡ true → HasFreshSchema c (commit_by request s it)) → P it.next.committed
+  kept_served s request now keeps held =
+      by_cases s request now (λ it. (it.is_commit ≡ true → HasFreshSchema c (commit_by request s it)) → P it.next.committed) (record {
+        strikes = λ reply failed _. held;
+        begins = λ _ _. held;
+        repeats = λ kept is repeat later _. held;
+        refuses_it = λ why _. held;
+        goes_on = λ session next none goes _. held;
+        stops = λ session next none _. held;
+        finishes = λ session next is_commit fresh.
+            keeps (commit_of s session request now) refl (takes_or_replaces s session request now is_commit) (fresh refl) held;
+      })
 
   pub kept_next : (w : World) (request : Request) (now : ℤ) → Keeps w.state → P w.state.committed
       → (setback : Setback) → let next = world_next w (Asked request now setback) in EachNewer (HasFreshSchema c) w next → P next.state.committed
@@ -377,16 +387,17 @@ module _ (P : Collection → Type 0) (c : Collection) where
     stops = λ session next none _. held;
     finishes = λ session next is_commit fresh.
         let commit = commit_of w.state session request now in
-        keeps commit refl (is_made w.state session request now is_commit) (fresh (commit ∷ []) refl).0 held;
+        keeps commit refl (takes_or_replaces w.state session request now is_commit) (fresh (commit ∷ []) refl).0 held;
   })
 
 -- ---- links stay
 keeps_links : (c : Collection) (s : AccountState) → IsCommitted s.committed → Keeps (AreLinked c) c s
 keeps_links c s own commit is made fresh linked = linked_by c commit (subst IsCommitted (sym is) own) made fresh linked
 
-pub links_stay_served : (s : AccountState) (request : Request) (now : ℤ) (setback : Setback) (c : Collection) → IsCommitted s.committed
-    → IsOfOldSchema c s.committed request.ask → AreLinked c s.committed → AreLinked c (served s request now setback).next.committed
-links_stay_served s request now setback c own old linked = kept_served (AreLinked c) c s request now (keeps_links c s own) old linked setback
+pub links_stay_served : (s : AccountState) (request : Request) (now : ℤ) (setback : Setback) (c : Collection)
+    → let it = served s request now setback in IsCommitted s.committed → (it.is_commit ≡ true → HasFreshSchema c (commit_by request s it))
+    → AreLinked c s.committed → AreLinked c it.next.committed
+links_stay_served s request now setback c own fresh linked = kept_served (AreLinked c) c s request now (keeps_links c s own) linked setback fresh
 
 pub links_stay : (w : World) (events : List Event) (c : Collection) → AllByRecursion IsTimely events → IsLawfulAccount w.state
     → EachNewer (HasFreshSchema c) w (world_after w events) → AreLinked c w.state.committed → AreLinked c (world_after w events).state.committed
@@ -404,8 +415,9 @@ keeps_fits : (c : Collection) (step : Reversal) (s : AccountState) → Keeps (St
 keeps_fits c step s commit is made fresh fits = fits_by c step commit made fresh fits
 
 pub fits_stay_served : (s : AccountState) (request : Request) (now : ℤ) (setback : Setback) (c : Collection) (step : Reversal)
-    → IsOfOldSchema c s.committed request.ask → StepFits c step s.committed → StepFits c step (served s request now setback).next.committed
-fits_stay_served s request now setback c step old fits = kept_served (StepFits c step) c s request now (keeps_fits c step s) old fits setback
+    → let it = served s request now setback in (it.is_commit ≡ true → HasFreshSchema c (commit_by request s it))
+    → StepFits c step s.committed → StepFits c step it.next.committed
+fits_stay_served s request now setback c step fresh fits = kept_served (StepFits c step) c s request now (keeps_fits c step s) fits setback fresh
 
 pub fits_stay : (w : World) (events : List Event) (c : Collection) (step : Reversal) → EachNewer (HasFreshSchema c) w (world_after w events)
     → StepFits c step w.state.committed → StepFits c step (world_after w events).state.committed
@@ -437,12 +449,34 @@ module _ (host : List ℕ) (request : Request) (s : AccountState) (old : Log) (f
       subst (λ (w : World). IsLawfulAccount w.state) (sym (grown_world host s old front))
       (lawful_stays_lawful (world_of host s old) (events_of host front) timely_front lawful)
 
-  pub growths_keep_links : (c : Collection) → EachNewer (HasFreshSchema c) (world_of host s old) (world_of host s (with_growth old (front ++ rest)))
-      → AreLinked c (world_of host s old).state.committed → AreLinked c (world_of host s (with_growth old front)).state.committed
-  growths_keep_links c fresh linked =
+  -- the commits of the front of a growth are fresh if all are
+  fresh_front : (c : Collection) → let w = world_of host s old in
+      EachNewer (HasFreshSchema c) w (world_of host s (with_growth old (front ++ rest))) → EachNewer (HasFreshSchema c) w (world_after w (events_of host front))
+  fresh_front c fresh =
       let w = world_of host s old in
       let all : world_of host s (with_growth old (front ++ rest)) ≡ world_after (world_after w (events_of host front)) (events_of host rest) =
       grown_world host s old (front ++ rest) ∙ ap (world_after w) (own_append host front rest) ∙ world_append w (events_of host front) (events_of host rest) in
-      let fresh_front = first_newer (HasFreshSchema c) w (world_after w (events_of host front)) (events_of host rest) (subst (EachNewer (HasFreshSchema c) w) all fresh) in
+      first_newer (HasFreshSchema c) w (world_after w (events_of host front)) (events_of host rest) (subst (EachNewer (HasFreshSchema c) w) all fresh)
+
+  pub growths_keep_links : (c : Collection) → EachNewer (HasFreshSchema c) (world_of host s old) (world_of host s (with_growth old (front ++ rest)))
+      → AreLinked c (world_of host s old).state.committed → AreLinked c (world_of host s (with_growth old front)).state.committed
+  growths_keep_links c fresh linked =
       subst (λ (v : World). AreLinked c v.state.committed) (sym (grown_world host s old front))
-      (links_stay w (events_of host front) c timely_front lawful fresh_front linked)
+      (links_stay (world_of host s old) (events_of host front) c timely_front lawful (fresh_front c fresh) linked)
+
+  pub growths_keep_fits : (c : Collection) (step : Reversal) → EachNewer (HasFreshSchema c) (world_of host s old) (world_of host s (with_growth old (front ++ rest)))
+      → StepFits c step (world_of host s old).state.committed → StepFits c step (world_of host s (with_growth old front)).state.committed
+  growths_keep_fits c step fresh fits =
+      subst (λ (v : World). StepFits c step v.state.committed) (sym (grown_world host s old front))
+      (fits_stay (world_of host s old) (events_of host front) c step (fresh_front c fresh) fits)
+
+-- so it is at the place of a reply
+pub places_are_linked : (host : List ℕ) (request : Request) (s : AccountState) (old : Log) (growth : List Event) (reply : Reply)
+    → (c : Collection) → IsGrowth old request growth → IsLawfulAccount (world_of host s old).state
+    → EachNewer (HasFreshSchema c) (world_of host s old) (world_of host s (with_growth old growth))
+    → AreLinked c (world_of host s old).state.committed
+    → (place : IsReplyIn old growth request reply) → AreLinked c (world_of host s (with_growth old place.before)).state.committed
+places_are_linked host request s old growth reply c grows lawful fresh linked place =
+    growths_keep_links host request s old place.before (Asked request place.now place.setback ∷ place.after)
+    (subst (IsGrowth old request) (sym place.place) grows) lawful c
+    (subst (λ (g : List Event). EachNewer (HasFreshSchema c) (world_of host s old) (world_of host s (with_growth old g))) (sym place.place) fresh) linked

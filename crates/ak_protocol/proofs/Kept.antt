@@ -4,15 +4,21 @@ use Rattle.std.specs.Cmp.Derive.{both_true}
 use Rattle.std.specs.Prelude.{◌≡◌, ◌≢◌, ℕ, ℤ, ◌+◌, ◌==◌, ◌&&◌, if◌then◌else◌, Bool, true, false, List, [], ◌∷◌, length, Option, Some, None, IfSome, ◌⊎◌}
 use Rattle.std.proofs.Common.{refl, sym, ap, subst, ◌∙◌, inl, inr, arith}
 use Rattle.std.proofs.lemmas.Bool.{eqb-true, eq-eqb, le-leb}
+use Rattle.ak_base.specs.declared.heads.Head.{Head}
+use Rattle.ak_keep.specs.Collections.{Collection}
+use Rattle.ak_messages.specs.MessageForms.{is_given_to}
 use Rattle.ak_messages.specs.declared.methods.Method.TheVariants as methods
 use Rattle.ak_messages.specs.declared.replies.Reply.{Reply}
+use Rattle.ak_messages.specs.declared.requests.Ask.{Ask}
+use Rattle.ak_messages.specs.declared.requests.Ask.TheVariants as asks
 use Rattle.ak_messages.specs.declared.requests.Request.{Request}
 use Rattle.ak_protocol.specs.Accounts.{SessionState, KeptReply, AccountState, last_step, is_repeat, repeated, given_again, session_of}
-use Rattle.ak_session.specs.Contents.{refusal, ends, closed}
+use Rattle.ak_session.specs.Contents.{refusal, answer, ends, closed}
+use Rattle.ak_session.proofs.AnswerLaws.{form_fits}
 use Rattle.ak_protocol.specs.Kept.{IsNewlyKept, KeepsReply, LeavesReply, IsIdle, AreIdle, IsGivenAgain, IsEarned, IsDone, EndsSession, IsLawfulReply, HasLawfulReply}
 use Rattle.ak_protocol.specs.Lawful.{IsNext}
 use Rattle.ak_protocol.specs.Logs.{Event, View, Asked, World, world_next, world_after}
-use Rattle.ak_protocol.specs.Replies.{PastBase, WrongStep}
+use Rattle.ak_protocol.specs.Replies.{PastBase, WrongStep, download_reply, granted}
 use Rattle.ak_session.specs.Objections.{Objection}
 use Rattle.ak_session.specs.Requests.{asked_method, method_place, same_method, is_meta, is_download, asks_commit}
 use Rattle.ak_protocol.specs.Serving.{Setback, Undisturbed, KeeperFault, OutOfMemory, Served, unchanged, begun, refuses, kept_of, reply_to, commit_reply, went_on, ended, finished, by_refusal, by_session, by_repeat, served}
@@ -184,12 +190,38 @@ setbacks_end_sessions s request now KeeperFault struck = record { over = refl; s
 setbacks_end_sessions s request now OutOfMemory struck = record { over = refl; same = refl }
 
 -- ---- lawful replies
-lawful_of : (request : Request) (reply : Reply) → reply.status ≡ 200 → IsLawfulReply (kept_of request reply)
-lawful_of request reply ok = record {
+-- the reply to an accepted request that does not commit gives what its method is given
+given_form : (committed : Collection) (accepted : List Request) (request : Request) → is_meta request.ask ≡ false → asks_commit request.ask ≡ false
+    → is_download request.ask ≡ false → is_given_to (asked_method request.ask) (reply_to committed accepted request).give ≡ true
+given_form committed accepted request later commit down =
+    ap (λ (b : Bool). is_given_to (asked_method request.ask) (if b then download_reply committed else granted (answer committed accepted request)).give) down
+    ∙ form_fits committed accepted request later down commit
+
+-- and so does that to one that commits
+commit_form : (ask : Ask) (head : Head) → asks_commit ask ≡ true → is_given_to (asked_method ask) (commit_reply ask head).give ≡ true
+commit_form asks.Meta head is = absurd (not_both is refl)
+commit_form (asks.Start min_usn lmod) head is = absurd (not_both is refl)
+commit_form (asks.ApplyGraves ids) head is = absurd (not_both is refl)
+commit_form (asks.ApplyChanges changes) head is = absurd (not_both is refl)
+commit_form asks.Chunk head is = absurd (not_both is refl)
+commit_form (asks.ApplyChunk chunk) head is = absurd (not_both is refl)
+commit_form (asks.SanityCheck2 counts) head is = absurd (not_both is refl)
+commit_form asks.Finish head is = refl
+commit_form (asks.Upload whole) head is = refl
+commit_form asks.Download head is = absurd (not_both is refl)
+
+lawful_of : (request : Request) (reply : Reply) → reply.status ≡ 200
+    → (is_download request.ask ≡ false → is_given_to (asked_method request.ask) reply.give ≡ true) → IsLawfulReply (kept_of request reply)
+lawful_of request reply ok form = record {
   granted = elim (is_download request.ask) as (λ b. IfSome (if b then None else Some reply) (λ (r : Reply). r.status ≡ 200)) [
     | true ↦ tt
     | false ↦ ok
   ];
+  form = elim (is_download request.ask) as (λ b. is_download request.ask ≡ b
+      → IfSome (if b then None else Some reply) (λ (r : Reply). is_given_to (asked_method request.ask) r.give ≡ true)) [
+        | true ↦ λ _. tt
+        | false ↦ form
+      ] refl;
   read = λ is. ap (λ (b : Bool). if b then None else Some reply) (eq-eqb (method_place (asked_method request.ask)) (method_place methods.Download) (ap method_place is));
   told = elim (is_download request.ask) as (λ b. is_download request.ask ≡ b → (if b then None else Some reply) ≡ None → asked_method request.ask ≡ methods.Download) [
     | true ↦ λ e _. same_method_is (asked_method request.ask) methods.Download e
@@ -206,11 +238,13 @@ lawful_next s request now lawful = by_cases s request now (λ it. HasLawfulReply
   begins = λ _. tt;
   repeats = λ kept is repeat later. lawful;
   refuses_it = λ why. lawful;
-  goes_on = λ session next none goes. lawful_of request (reply_to s.committed session.accepted request) (reply_is_granted s.committed session.accepted request);
-  stops = λ session next none. lawful_of request (reply_to s.committed session.accepted request) (reply_is_granted s.committed session.accepted request);
+  goes_on = λ session next none goes. lawful_of request (reply_to s.committed session.accepted request)
+      (reply_is_granted s.committed session.accepted request) (given_form s.committed session.accepted request next.later none);
+  stops = λ session next none. lawful_of request (reply_to s.committed session.accepted request)
+      (reply_is_granted s.committed session.accepted request) (given_form s.committed session.accepted request next.later none);
   finishes = λ session next commits.
       let head = (closed s.committed session.accepted request now).head in
-      lawful_of request (commit_reply request.ask head) (commit_is_granted request.ask head);
+      lawful_of request (commit_reply request.ask head) (commit_is_granted request.ask head) (λ _. commit_form request.ask head commits);
 })
 
 -- whatever comes, the kept reply stays lawful

@@ -1,6 +1,6 @@
 -- What becomes of a committed collection.
 use Rattle.std.specs.List.{AllByRecursion}
-use Rattle.std.specs.Prelude.{◌≡◌, ◌≢◌, ◌<ℤ◌, ◌≤ℤ◌, ℤ, true, false, List, [], ◌∷◌, ◌++◌, None, ⊤, ◌⊎◌}
+use Rattle.std.specs.Prelude.{◌≡◌, ◌≢◌, ◌<ℤ◌, ℤ, true, false, List, [], ◌∷◌, ◌++◌, None, ◌⊎◌}
 use Rattle.ak_keep.specs.Collections.{Collection}
 use Rattle.ak_merge.specs.Commits as commits
 use Rattle.ak_merge.specs.Commits.{Received, IsCommitOf, IsInRange, IsUploadOf, IsWholeInRange}
@@ -8,7 +8,6 @@ use Rattle.ak_merge.specs.Exchanges.{IsServerHalf}
 use Rattle.ak_merge.specs.Holdings.{row_under}
 use Rattle.ak_merge.specs.Soundness.{IsSound}
 use Rattle.ak_messages.specs.declared.methods.Method.TheVariants as methods
-use Rattle.ak_messages.specs.declared.requests.Ask.{Ask}
 use Rattle.ak_messages.specs.declared.requests.Ask.TheVariants as asks
 use Rattle.ak_messages.specs.declared.requests.Request.{Request}
 use Rattle.ak_messages.specs.declared.requests.Whole.{Whole}
@@ -52,11 +51,6 @@ pub record CommitsGrow (old new : World) : Type 0 where
 abbrev pub EachNewer : (Commit → Type 0) → World → World → Type 0
 EachNewer Fits old new = (newer : List Commit) → new.commits ≡ newer ++ old.commits → AllByRecursion Fits newer
 
--- a commit is a finish or an upload: the collection took what came, or what came took its place
-abbrev pub IsMade : Commit → Type 0
-IsMade commit =
-    ((came : Received) × IsCommitOf came commit.before commit.after) ⊎ ((came : commits.Whole) × IsUploadOf came commit.before commit.after)
-
 -- a finish committed what came in its session, all of it in its ranges, and what it left is sound
 pub record IsFinishOf (came : Received) (before after : Collection) : Type 0 where
   pub commits : IsCommitOf came before after
@@ -67,6 +61,12 @@ pub record IsFinishOf (came : Received) (before after : Collection) : Type 0 whe
 pub record IsReplacedBy (came : commits.Whole) (before after : Collection) : Type 0 where
   pub uploads : IsUploadOf came before after
   pub in_range : IsWholeInRange came after.head.schema after.head.moment
+
+-- a commit is a finish of what came in a session, or an upload
+abbrev pub IsMade : Commit → Type 0
+IsMade commit =
+    ((came : Received) × IsFinishOf came commit.before commit.after)
+    ⊎ ((came : commits.Whole) × IsReplacedBy came commit.before commit.after)
 
 -- what a serving that commits makes of the committed collection: a finish, what the requests of its session brought; an upload, what it
 -- brings itself
@@ -88,16 +88,3 @@ pub record CommitsSync (who : Asker) (c : Collection) (old new : World) : Type 0
 abbrev pub HasFreshSchema : Collection → Commit → Type 0
 HasFreshSchema c commit =
     (commit.after.head.schema ≡ commit.before.head.schema) ⊎ (c.head.schema ≢ commit.after.head.schema)
-
--- if this is an upload, the schema moment of a device's collection is at most the committed one's or the upload's
-abbrev pub IsOfOldSchema : Collection → Collection → Ask → Type 0
-IsOfOldSchema c committed (asks.Upload whole) = (c.head.schema ≤ℤ committed.head.schema) ⊎ (c.head.schema ≤ℤ whole.schema)
-IsOfOldSchema c committed asks.Meta = ⊤
-IsOfOldSchema c committed (asks.Start min_usn lmod) = ⊤
-IsOfOldSchema c committed (asks.ApplyGraves ids) = ⊤
-IsOfOldSchema c committed (asks.ApplyChanges changes) = ⊤
-IsOfOldSchema c committed asks.Chunk = ⊤
-IsOfOldSchema c committed (asks.ApplyChunk chunk) = ⊤
-IsOfOldSchema c committed (asks.SanityCheck2 counts) = ⊤
-IsOfOldSchema c committed asks.Finish = ⊤
-IsOfOldSchema c committed asks.Download = ⊤

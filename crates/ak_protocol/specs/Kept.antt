@@ -1,5 +1,6 @@
 -- What becomes of the reply that an account keeps, and what a reply that grants comes from.
 use Rattle.std.specs.Prelude.{◌≡◌, ◌≤◌, ◌++◌, ℤ, true, false, List, [], ◌∷◌, Some, None, IfSome, ⊤, ◌⊎◌}
+use Rattle.ak_messages.specs.MessageForms.{is_given_to}
 use Rattle.ak_messages.specs.declared.methods.Method.TheVariants as methods
 use Rattle.ak_messages.specs.declared.requests.Request.{Request}
 use Rattle.ak_protocol.specs.Accounts.{SessionState, KeptReply, AccountState, last_step, repeated, given_again}
@@ -71,9 +72,10 @@ pub record EndsSession (s next : AccountState) : Type 0 where
   pub over : next.live ≡ None
   pub same : next.committed ≡ s.committed
 
--- a kept reply grants what was asked, and it holds no reply if it is that of a download, and only then
+-- a kept reply grants what was asked, and gives what its method is given; it holds no reply if it is that of a download, and only then
 pub record IsLawfulReply (kept : KeptReply) : Type 0 where
   pub granted : IfSome kept.reply (λ reply. reply.status ≡ 200)
+  pub form : IfSome kept.reply (λ reply. is_given_to kept.method reply.give ≡ true)
   pub read : kept.method ≡ methods.Download → kept.reply ≡ None
   pub told : kept.reply ≡ None → kept.method ≡ methods.Download
 

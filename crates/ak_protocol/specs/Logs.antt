@@ -43,10 +43,13 @@ pub record World : Type 0 where
 abbrev pub opened : AccountState → World
 opened s = record { state = s; commits = [] }
 
+-- the place at which a serving commits
+abbrev pub commit_by : Request → AccountState → Served → Commit
+commit_by request s it = record { key = request.session.0; before = s.committed; after = it.next.committed }
+
 -- the commits, with that of a serving if it committed
 abbrev pub with_commit : Request → AccountState → Served → List Commit → List Commit
-with_commit request s it commits =
-    if it.is_commit then record { key = request.session.0; before = s.committed; after = it.next.committed } ∷ commits else commits
+with_commit request s it commits = if it.is_commit then commit_by request s it ∷ commits else commits
 
 -- the world after a serving
 abbrev pub world_served : World → Request → Served → World

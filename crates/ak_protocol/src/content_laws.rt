@@ -11,6 +11,7 @@ ghost use Rattle.ak_merge.specs.Joins.{joined_under};
 ghost use Rattle.ak_merge.specs.Links.{AreLinked};
 ghost use Rattle.ak_merge.specs.Soundness.{IsSound};
 ghost use Rattle.ak_merge.specs.Undoing.{StepFits};
+ghost use Rattle.ak_messages.specs.declared.replies.Reply.{Reply};
 ghost use Rattle.ak_messages.specs.declared.requests.Request.{Request};
 ghost use Rattle.ak_protocol.specs.Accounts.{AccountState};
 ghost use Rattle.ak_protocol.specs.Commits.{
@@ -18,7 +19,6 @@ ghost use Rattle.ak_protocol.specs.Commits.{
   IsMade,
   CommitsWhatCame,
   HasFreshSchema,
-  IsOfOldSchema,
   CommitsSync,
 };
 ghost use Rattle.ak_protocol.specs.LawfulServers.{IsLawfulAccount, IsLawfulUnder, IsLawful};
@@ -29,6 +29,8 @@ ghost use Rattle.ak_protocol.specs.Logs.{
   Log,
   IsTimely,
   IsGrowth,
+  IsReplyIn,
+  commit_by,
   with_growth,
   world_after,
   server_after,
@@ -55,12 +57,13 @@ pub fn lawful_stays_lawful()
 {}
 
 /// A finish commits what the requests of its session brought, all of it in its ranges, and what it leaves is sound. An
-/// upload replaces what was committed, all of it in its ranges. Each commit of a log is one of the two.
+/// upload replaces what was committed, all of it in its ranges. Each commit of a log over a lawful account is one of the two.
 pub fn commits_are_made()
     ensures served { (s : AccountState) (request : Request) (now : ℤ) (setback : Setback)
         → IsClockMoment now → IsLawfulAccount s → let it = served s request now setback in
         it.is_commit ≡ true → CommitsWhatCame s request it }
-    ensures logs { (w : World) (events : List Event) → EachNewer IsMade w (world_after w events) }
+    ensures logs { (w : World) (events : List Event) → AllByRecursion IsTimely events
+        → IsLawfulAccount w.state → EachNewer IsMade w (world_after w events) }
 {}
 
 /// A finish leaves the schema moment. An upload gives one that is fresh for each device whose own is at most the
@@ -77,8 +80,9 @@ pub fn commits_give_fresh_schemas()
 /// just its own schema moment. A schema moment of at most the server's is never given again.
 pub fn links_stay()
     ensures served { (s : AccountState) (request : Request) (now : ℤ) (setback : Setback) (c : Collection)
-        → IsCommitted s.committed → IsOfOldSchema c s.committed request.ask
-        → AreLinked c s.committed → AreLinked c (served s request now setback).next.committed }
+        → let it = served s request now setback in IsCommitted s.committed
+        → (it.is_commit ≡ true → HasFreshSchema c (commit_by request s it))
+        → AreLinked c s.committed → AreLinked c it.next.committed }
     ensures logs { (w : World) (events : List Event) (c : Collection) → AllByRecursion IsTimely events
         → IsLawfulAccount w.state → EachNewer (HasFreshSchema c) w (world_after w events)
         → AreLinked c w.state.committed → AreLinked c (world_after w events).state.committed }
@@ -90,15 +94,17 @@ pub fn links_stay()
 /// the device's schema moment.
 pub fn fits_stay()
     ensures served { (s : AccountState) (request : Request) (now : ℤ) (setback : Setback) (c : Collection)
-        → (step : Reversal) → IsOfOldSchema c s.committed request.ask
-        → StepFits c step s.committed → StepFits c step (served s request now setback).next.committed }
+        → (step : Reversal) → let it = served s request now setback in
+        (it.is_commit ≡ true → HasFreshSchema c (commit_by request s it))
+        → StepFits c step s.committed → StepFits c step it.next.committed }
     ensures logs { (w : World) (events : List Event) (c : Collection) (step : Reversal)
         → EachNewer (HasFreshSchema c) w (world_after w events)
         → StepFits c step w.state.committed → StepFits c step (world_after w events).state.committed }
 {}
 
 /// At each place of what comes while a call is under way the account is lawful, and a device that was linked with it
-/// before the call is linked with it. So a device is linked with the collection that its meta tells.
+/// before the call is linked with it; a step of its undo list that fitted before fits. So a device is linked with what is
+/// committed at the place of the reply: with the collection that its meta tells.
 pub fn growths_keep_links()
     ensures lawful { (host : List ℕ) (request : Request) (s : AccountState) (old : Log) (front rest : List Event)
         → IsGrowth old request (front ++ rest) → IsLawfulAccount (world_of host s old).state
@@ -108,6 +114,18 @@ pub fn growths_keep_links()
         → EachNewer (HasFreshSchema c) (world_of host s old) (world_of host s (with_growth old (front ++ rest)))
         → AreLinked c (world_of host s old).state.committed
         → AreLinked c (world_of host s (with_growth old front)).state.committed }
+    ensures fits { (host : List ℕ) (request : Request) (s : AccountState) (old : Log) (front rest : List Event)
+        → (c : Collection) (step : Reversal) → IsGrowth old request (front ++ rest)
+        → IsLawfulAccount (world_of host s old).state
+        → EachNewer (HasFreshSchema c) (world_of host s old) (world_of host s (with_growth old (front ++ rest)))
+        → StepFits c step (world_of host s old).state.committed
+        → StepFits c step (world_of host s (with_growth old front)).state.committed }
+    ensures told { (host : List ℕ) (request : Request) (s : AccountState) (old : Log) (growth : List Event)
+        → (reply : Reply) (c : Collection) → IsGrowth old request growth
+        → IsLawfulAccount (world_of host s old).state
+        → EachNewer (HasFreshSchema c) (world_of host s old) (world_of host s (with_growth old growth))
+        → AreLinked c (world_of host s old).state.committed → (place : IsReplyIn old growth request reply)
+        → AreLinked c (world_of host s (with_growth old place.before)).state.committed }
 {}
 
 /// If nothing comes in between of the requests of a sync, each once or several times in a row, and no setback, its finish

@@ -5,6 +5,7 @@
 
 mod commit_laws;
 mod content_laws;
+mod growth_laws;
 mod isolation_laws;
 mod kept_laws;
 mod repeat_laws;
@@ -16,6 +17,7 @@ pub use content_laws::{
     commits_are_made, commits_give_fresh_schemas, fits_stay, growths_keep_links,
     lawful_stays_lawful, links_stay, undisturbed_syncs_commit,
 };
+pub use growth_laws::others_may_come;
 pub use isolation_laws::{accounts_are_served_alone, logs_part, other_accounts_stay};
 pub use kept_laws::{
     grants_are_earned, idle_events_keep_replies, kept_replies_stay_lawful, replies_stay,
