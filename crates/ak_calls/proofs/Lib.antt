@@ -8,3 +8,4 @@ pub mod AdmittedEdits
 pub mod CheckedEdits
 pub mod RowRules
 pub mod Ids
+pub mod NewNames

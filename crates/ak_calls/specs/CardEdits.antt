@@ -16,9 +16,13 @@ use Rattle.ak_merge.specs.EditBuilding.{unedited, with_rows_mapped}
 use Rattle.ak_merge.specs.Edits.{Edit}
 use Rattle.ak_merge.specs.Holdings.{RowsByName, name_in, row_under}
 
--- a change of cards keeps what a card is called, and its columns in their ranges
+-- a change of cards keeps what a card is called
+abbrev pub KeepsIds : (Card → Card) → Type 0
+KeepsIds change = (card : Card) → (change card).id ≡ card.id
+
+-- the same, and its columns in their ranges
 pub record KeepsCards (change : Card → Card) : Type 0 where
-  pub id : (card : Card) → (change card).id ≡ card.id
+  pub id : KeepsIds change
   pub checked : (card : Card) → IsCheckedCard card → IsCheckedCard (change card)
 
 -- ---- the rule

@@ -1,14 +1,14 @@
-ghost use Rattle.std.specs.Prelude.{◌≡◌, ◌⊎◌, true, false, Some, IfErr, OnErr, OnOk};
+ghost use Rattle.std.specs.Prelude.{◌≡◌, ◌⊎◌, true, false, Some, IfErr, OnOk};
 ghost use Rattle.std.specs.FinMap.{get};
 ghost use Rattle.ak_base.specs.Cards.{IsCheckedCard};
 ghost use Rattle.ak_base.specs.Rows.{IsChecked};
 ghost use Rattle.ak_base.specs.declared.cards.Card.{Card as CardRow};
 ghost use Rattle.ak_base.specs.declared.names.Table.TheVariants as tables;
-ghost use Rattle.ak_calls.specs.Calls.{DoesEdit, IsMissingOrEnd, RefusesAbsent, RefusesMissing};
+ghost use Rattle.ak_calls.specs.Calls.{ChangesBy, EditsBy, IsMissingOrEnd, RefusesAbsent, RefusesMissing};
 ghost use Rattle.ak_calls.specs.CardEdits.{KeepsCards, RefusesCardEdit, card_edit, changed_row, put_changed, put_each};
 ghost use Rattle.ak_edit.specs.Refusals.{AnswersBy, DeskCause, IsFromOutside};
 ghost use Rattle.ak_edit.specs.declared.desk_faults.DeskFault.TheVariants as faults;
-ghost use Rattle.ak_keep.specs.Keepers.{WhereHeld, WhereTold, is_marked};
+ghost use Rattle.ak_keep.specs.Keepers.{WhereTold, is_marked};
 
 use crate::held_rows::held_row;
 use ak_base::{Card, Name, Row, Table};
@@ -46,11 +46,9 @@ pub fn edit_cards<K: Keeper, C: CardChange>(
     requires unmarked { is_marked (K.keeping keeper.old) ≡ false }
     requires held { (K.keeping keeper.old).headed.current ≡ true }
     requires keeps { KeepsCards (C.change edit.now.by.now) }
-    ensures ok { OnOk result (DoesEdit at (card_edit (C.change edit.now.by.now) edit.now.cards.now) (K.keeping keeper.old) (K.keeping keeper.new) steps.old steps.new) }
-    ensures err { OnErr result (K.keeping keeper.new ≡ K.keeping keeper.old) }
-    ensures kept { OnErr result (steps.new ≡ steps.old) }
-    ensures stays { (K.keeping keeper.new).headed ≡ (K.keeping keeper.old).headed }
-    ensures refused { WhereHeld (K.keeping keeper.old) (λ c. AnswersBy (RefusesCardEdit at (C.change edit.now.by.now) edit.now.cards.now c) result) }
+    ensures edits { EditsBy K.Lookup keeper.old keeper.new steps.old steps.new result at
+        (card_edit (C.change edit.now.by.now) edit.now.cards.now)
+        (RefusesCardEdit at (C.change edit.now.by.now) edit.now.cards.now) }
     ensures listed { IfErr result (IsMissingOrEnd tables.Card) }
     ensures cause { DeskCause (K.health keeper.old) (K.health keeper.new) result }
 {
@@ -67,8 +65,10 @@ fn change_cards<K: Keeper, C: CardChange>(
     by: &C,
 ) -> Result<(), DeskFault>
     ensures same { K.keeping keeper.new ≡ K.keeping keeper.old }
-    ensures ok { OnOk result (WhereTold (K.keeping keeper.old) (λ h. change.new ≡ put_each (C.change by.now) (get h.rows) cards.now change.old)) }
-    ensures refused { WhereTold (K.keeping keeper.old) (λ h. AnswersBy (RefusesMissing (get h.rows) tables.Card cards.now) result) }
+    ensures ok { OnOk result (ChangesBy K.Lookup keeper.old change.old change.new
+        (λ rows. put_each (C.change by.now) (get rows) cards.now)) }
+    ensures refused { WhereTold (K.keeping keeper.old)
+        (λ h. AnswersBy (RefusesMissing (get h.rows) tables.Card cards.now) result) }
     ensures listed { IfErr result (IsMissingOrEnd tables.Card) }
     ensures cause { DeskCause (K.health keeper.old) (K.health keeper.new) result }
 {
@@ -90,7 +90,8 @@ fn change_card<K: Keeper, C: CardChange>(
     by: &C,
 ) -> Result<(), DeskFault>
     ensures same { K.keeping keeper.new ≡ K.keeping keeper.old }
-    ensures ok { OnOk result (WhereTold (K.keeping keeper.old) (λ h. change.new ≡ put_changed (C.change by.now) (get h.rows) name change.old)) }
+    ensures ok { OnOk result (ChangesBy K.Lookup keeper.old change.old change.new
+        (λ rows. put_changed (C.change by.now) (get rows) name)) }
     ensures refused { WhereTold (K.keeping keeper.old) (λ h. AnswersBy (RefusesAbsent (get h.rows) name) result) }
     ensures listed { IfErr result (λ fault. IsFromOutside fault ⊎ (fault ≡ faults.NoSuch name)) }
     ensures cause { DeskCause (K.health keeper.old) (K.health keeper.new) result }

@@ -4,9 +4,13 @@
 mod call_laws;
 mod card_edits;
 mod held_rows;
+mod new_names;
+mod note_tags;
 mod row_edits;
 
-pub use call_laws::card_edits_are_admitted;
+pub use call_laws::{card_edits_are_admitted, row_changes_are_admitted, row_edits_are_admitted};
 pub use card_edits::{CardChange, CardEdit, edit_cards};
 pub use held_rows::held_row;
+pub use new_names::new_name;
+pub use note_tags::stored_tags;
 pub use row_edits::edit_row;

@@ -1,16 +1,18 @@
-ghost use Rattle.std.specs.Prelude.{◌≡◌, true, false, IfErr, OnErr, OnOk};
-ghost use Rattle.ak_base.specs.Rows.{IsChecked};
-ghost use Rattle.ak_calls.specs.Calls.{DoesEdit};
+ghost use Rattle.std.specs.Prelude.{◌≡◌, pos, true, false, None, IfErr};
+ghost use Rattle.ak_base.specs.Rows.{IsChecked, name_of};
+ghost use Rattle.ak_base.specs.Tables.{buried_in};
+ghost use Rattle.ak_calls.specs.Calls.{EditsBy};
 ghost use Rattle.ak_calls.specs.RowEdits.{RefusesRowEdit, row_edit};
-ghost use Rattle.ak_edit.specs.Refusals.{AnswersBy, DeskCause, IsEndFault};
-ghost use Rattle.ak_keep.specs.Keepers.{WhereHeld, is_marked};
+ghost use Rattle.ak_edit.specs.Refusals.{DeskCause, IsEndFault};
+ghost use Rattle.ak_merge.specs.Edits.{edited};
+ghost use Rattle.ak_keep.specs.Keepers.{is_marked};
 
 use ak_base::Row;
 use ak_edit::{Change, DeskFault};
 use ak_keep::Keeper;
 use ak_undo::UndoList;
 
-/// Puts a row under its name, at a moment in milliseconds. Its stamp and its update sequence number are replaced. A row that
+/// Puts a row, no grave, under its name, at a moment in milliseconds. Its stamp and its update sequence number are replaced. A row that
 /// is held with the same fields is left alone. It is refused for a stamp or a moment that can't rise.
 pub fn edit_row<K: Keeper>(
     keeper: &mut K,
@@ -20,12 +22,10 @@ pub fn edit_row<K: Keeper>(
 ) -> Result<(), DeskFault>
     requires unmarked { is_marked (K.keeping keeper.old) ≡ false }
     requires held { (K.keeping keeper.old).headed.current ≡ true }
-    requires checked { IsChecked row }
-    ensures ok { OnOk result (DoesEdit at (row_edit row) (K.keeping keeper.old) (K.keeping keeper.new) steps.old steps.new) }
-    ensures err { OnErr result (K.keeping keeper.new ≡ K.keeping keeper.old) }
-    ensures kept { OnErr result (steps.new ≡ steps.old) }
-    ensures stays { (K.keeping keeper.new).headed ≡ (K.keeping keeper.old).headed }
-    ensures refused { WhereHeld (K.keeping keeper.old) (λ c. AnswersBy (RefusesRowEdit at row c) result) }
+    requires checked { IsChecked (edited (pos 0) row) }
+    requires plain { buried_in (name_of row).table ≡ None }
+    ensures edits { EditsBy K.Lookup keeper.old keeper.new steps.old steps.new result at
+        (row_edit row) (RefusesRowEdit at row) }
     ensures listed { IfErr result IsEndFault }
     ensures cause { DeskCause (K.health keeper.old) (K.health keeper.new) result }
 {

@@ -1,3 +1,4 @@
 pub mod FlaggedCards
 pub mod MovedCards
 pub mod UsedOptions
+pub mod AdmittedCalls

@@ -10,15 +10,16 @@ use Rattle.ak_calls.proofs.Answering.{passed_first}
 use Rattle.ak_calls.proofs.CheckedRows.{of_faultless}
 use Rattle.ak_calls.proofs.Ids.{id_fits}
 use Rattle.ak_calls.proofs.Telling.{where_held-both, where_rows_held}
-use Rattle.ak_calls.specs.Calls.{IsMissingOrEnd, RefusesAbsent}
-use Rattle.ak_calls.specs.CardEdits.{KeepsCards, RefusesCardEdit}
-use Rattle.ak_decks.specs.Moves.{IsMoveFault, RefusesMove, moved}
+use Rattle.ak_calls.specs.Calls.{EndsEdit, IsMissingOrEnd, RefusesAbsent}
+use Rattle.ak_calls.specs.CardEdits.{KeepsCards, RefusesCardEdit, card_edit}
+use Rattle.ak_decks.specs.Moves.{IsMoveFault, RefusesMove, moved, moving}
 use Rattle.ak_edit.specs.Refusals.{AnswersBy}
 use Rattle.ak_edit.specs.declared.desk_faults.DeskFault.{DeskFault}
 use Rattle.ak_keep.specs.Collections.{IsId}
 use Rattle.ak_keep.specs.Keepers.{Keeping, WhereHeld, WhereTold}
 use Rattle.ak_merge.proofs.CheckedRows.{faultless_of}
 use Rattle.ak_merge.specs.Holdings.{name_in, row_under}
+use Rattle.ak_undo.specs.declared.steps.Step.{Step}
 
 -- ---- the card
 checked_moved : (deck : ℤ) (card : Card) → IsId deck → IsCheckedCard card → IsCheckedCard (moved deck card)
@@ -32,7 +33,7 @@ pub move_keeps : (deck : ℤ) → IsId deck → KeepsCards (moved deck)
 move_keeps deck range = record { id = λ card. refl; checked = λ card. checked_moved deck card range }
 
 -- ---- the answer
-pub move_answered : (k : Keeping) (at deck : ℤ) (cards : List ℤ) (row : Row) (result : Result (Unit {0}) DeskFault)
+move_answered : (k : Keeping) (at deck : ℤ) (cards : List ℤ) (row : Row) (result : Result (Unit {0}) DeskFault)
     → WhereTold k (λ h. AnswersBy {T = Row} (RefusesAbsent (get h.rows) (name_in tables.Deck deck)) (Ok row))
     → WhereHeld k (λ c. AnswersBy (RefusesCardEdit at (moved deck) cards c) result) → WhereHeld k (λ c. AnswersBy (RefusesMove at deck cards c) result)
 move_answered k at deck cards row result held =
@@ -40,6 +41,19 @@ move_answered k at deck cards row result held =
     (λ c. AnswersBy (RefusesCardEdit at (moved deck) cards c) result) (λ c. AnswersBy (RefusesMove at deck cards c) result)
     (λ c passes answers. passed_first (RefusesAbsent (row_under c) (name_in tables.Deck deck)) (RefusesCardEdit at (moved deck) cards c) row result passes answers)
     (where_rows_held k (λ rows. AnswersBy {T = Row} (RefusesAbsent (get rows) (name_in tables.Deck deck)) (Ok row)) held)
+
+-- the end of the call, by that of the edit of the cards
+pub move_ended : (k now : Keeping) (at deck : ℤ) (cards : List ℤ) (row : Row) (steps left : List Step) (result : Result (Unit {0}) DeskFault)
+    → WhereTold k (λ h. AnswersBy {T = Row} (RefusesAbsent (get h.rows) (name_in tables.Deck deck)) (Ok row))
+    → EndsEdit at (card_edit (moved deck) cards) (RefusesCardEdit at (moved deck) cards) k now steps left result
+    → EndsEdit at (moving deck cards) (RefusesMove at deck cards) k now steps left result
+move_ended k now at deck cards row steps left result held ends = record {
+  done = ends.done;
+  same = ends.same;
+  kept = ends.kept;
+  stays = ends.stays;
+  answers = move_answered k at deck cards row result held ends.answers;
+}
 
 -- what it may answer
 pub move_listed : (result : Result (Unit {0}) DeskFault) → IfErr result (IsMissingOrEnd tables.Card) → IfErr result IsMoveFault

@@ -1,20 +1,20 @@
 -- A deck with other options stays in its ranges, and what the call answers.
-use Rattle.std.specs.Prelude.{◌≡◌, ◌⊎◌, ℤ, ◌++◌, Some, Result, Ok, Err, IfErr}
-use Rattle.std.proofs.Common.{ap, subst, inl, inr, arith}
+use Rattle.std.specs.Prelude.{◌≡◌, ◌⊎◌, ℤ, List, ◌++◌, Some, Result, Ok, Err, IfErr}
+use Rattle.std.proofs.Common.{refl, ap, subst, inl, inr, arith}
 use Rattle.std.specs.FinMap.{get}
 use Rattle.std.specs.Result.{IsErrOf}
 use Rattle.ak_base.specs.Decks.{title_faults, taken_faults}
-use Rattle.ak_base.specs.Rows.{IsChecked}
+use Rattle.ak_base.specs.Rows.{IsChecked, name_of}
 use Rattle.ak_base.specs.declared.decks.Deck.{Deck}
 use Rattle.ak_base.specs.declared.names.Table.TheVariants as tables
 use Rattle.ak_base.specs.declared.rows.Row.{Row}
 use Rattle.ak_base.specs.declared.rows.Row.TheVariants as rows
-use Rattle.ak_calls.proofs.Answering.{passed_first, refused_first}
+use Rattle.ak_calls.proofs.Answering.{on_ok-map, passed_first, refused_first}
 use Rattle.ak_calls.proofs.CheckedRows.{of_faultless}
 use Rattle.ak_calls.proofs.Ids.{id_fits}
-use Rattle.ak_calls.proofs.RowRules.{row_change_is}
+use Rattle.ak_calls.proofs.RowRules.{row_change_done, row_change_is}
 use Rattle.ak_calls.proofs.Telling.{where_held-both, where_rows_held, where_told-both}
-use Rattle.ak_calls.specs.Calls.{RefusesAbsent}
+use Rattle.ak_calls.specs.Calls.{DoesEdit, EndsEdit, RefusesAbsent}
 use Rattle.ak_calls.specs.RowEdits.{RefusesRowEdit, row_edit}
 use Rattle.ak_decks.specs.DeckOptions.{IsUseFault, RefusesUnheld, RefusesUse, options_use, using_options}
 use Rattle.ak_edit.specs.Ends.{RefusesStamp}
@@ -28,6 +28,7 @@ use Rattle.ak_keep.specs.Keepers.{Keeping, WhereHeld, WhereTold}
 use Rattle.ak_merge.proofs.CheckedRows.{faultless_of}
 use Rattle.ak_merge.specs.Edits.{Edit}
 use Rattle.ak_merge.specs.Holdings.{name_in, row_under}
+use Rattle.ak_undo.specs.declared.steps.Step.{Step}
 
 -- ---- the row
 pub checked_using : (options : ℤ) (row : Row) → IsId options → IsChecked row → IsChecked (using_options options row)
@@ -42,6 +43,16 @@ checked_using options (rows.Review r) range checked = checked
 checked_using options (rows.NoteType t) range checked = checked
 checked_using options (rows.Options o) range checked = checked
 checked_using options (rows.Grave g) range checked = checked
+
+-- it keeps its name
+pub using_named : (options : ℤ) (row : Row) → name_of (using_options options row) ≡ name_of row
+using_named options (rows.Deck d) = refl
+using_named options (rows.Note n) = refl
+using_named options (rows.Card c) = refl
+using_named options (rows.Review r) = refl
+using_named options (rows.NoteType t) = refl
+using_named options (rows.Options o) = refl
+using_named options (rows.Grave g) = refl
 
 -- ---- the answer
 -- the deck is held, as this row, and so are the options
@@ -59,7 +70,7 @@ one_answers at options deck row group result c passes answers =
     (passed_first first second row (Ok group) passes.deck passes.options)
     (subst (λ (e : Edit). AnswersBy (RefusesStamp at c e) result) (row_change_is (name_in tables.Deck deck) (using_options options) c row passes.row) answers)
 
-pub use_answered : (k : Keeping) (at options deck : ℤ) (row group : Row) (result : Result (Unit {0}) DeskFault)
+use_answered : (k : Keeping) (at options deck : ℤ) (row group : Row) (result : Result (Unit {0}) DeskFault)
     → WhereTold k (λ h. get h.rows (name_in tables.Deck deck) ≡ Some row)
     → WhereTold k (λ h. AnswersBy {T = Row} (RefusesAbsent (get h.rows) (name_in tables.Deck deck)) (Ok row))
     → WhereTold k (λ h. AnswersBy {T = Row} (RefusesAbsent (get h.rows) (name_in tables.Options options)) (Ok group))
@@ -75,6 +86,22 @@ use_answered k at options deck row group result held one other =
     (λ h. AnswersBy {T = Row} (RefusesAbsent (get h.rows) (name_in tables.Options options)) (Ok group))
     (λ h. AnswersBy {T = Row} (RefusesAbsent (get h.rows) (name_in tables.Deck deck)) (Ok row) × AnswersBy {T = Row} (RefusesAbsent (get h.rows) (name_in tables.Options options)) (Ok group))
     (λ h x y. (x, y)) one other)))
+
+-- the end of the call, by that of the edit of the row
+pub use_ended : (k now : Keeping) (at options deck : ℤ) (row group : Row) (steps left : List Step) (result : Result (Unit {0}) DeskFault)
+    → WhereTold k (λ h. get h.rows (name_in tables.Deck deck) ≡ Some row)
+    → WhereTold k (λ h. AnswersBy {T = Row} (RefusesAbsent (get h.rows) (name_in tables.Deck deck)) (Ok row))
+    → WhereTold k (λ h. AnswersBy {T = Row} (RefusesAbsent (get h.rows) (name_in tables.Options options)) (Ok group))
+    → EndsEdit at (row_edit (using_options options row)) (RefusesRowEdit at (using_options options row)) k now steps left result
+    → EndsEdit at (options_use options deck) (RefusesUse at options deck) k now steps left result
+use_ended k now at options deck row group steps left result held one other ends = record {
+  done = on_ok-map result (DoesEdit at (row_edit (using_options options row)) k now steps left) (DoesEdit at (options_use options deck) k now steps left)
+      (row_change_done k now at (name_in tables.Deck deck) (using_options options) row steps left held) ends.done;
+  same = ends.same;
+  kept = ends.kept;
+  stays = ends.stays;
+  answers = use_answered k at options deck row group result held one other ends.answers;
+}
 
 -- the options are not held
 pub use_refused : (k : Keeping) (at options deck : ℤ) (row : Row) (fault : DeskFault)

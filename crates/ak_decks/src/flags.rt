@@ -1,11 +1,11 @@
-ghost use Rattle.std.specs.Prelude.{◌≡◌, pos, true, false, IfErr, OnErr, OnOk};
+ghost use Rattle.std.specs.Prelude.{◌≡◌, pos, true, false, IfErr};
 ghost use Rattle.ak_base.specs.Cards.{IsCheckedCard};
 ghost use Rattle.ak_base.specs.Heads.{IsWithin};
 ghost use Rattle.ak_base.specs.declared.names.Table.TheVariants as tables;
-ghost use Rattle.ak_calls.specs.Calls.{DoesEdit, IsMissingOrEnd};
+ghost use Rattle.ak_calls.specs.Calls.{EditsBy, IsMissingOrEnd};
 ghost use Rattle.ak_decks.specs.Flags.{RefusesFlag, flagged, flagging};
-ghost use Rattle.ak_edit.specs.Refusals.{AnswersBy, DeskCause};
-ghost use Rattle.ak_keep.specs.Keepers.{WhereHeld, is_marked};
+ghost use Rattle.ak_edit.specs.Refusals.{DeskCause};
+ghost use Rattle.ak_keep.specs.Keepers.{is_marked};
 
 use ak_base::Card;
 use ak_calls::{CardChange, CardEdit, edit_cards};
@@ -31,11 +31,8 @@ pub fn flag<K: Keeper>(
     requires unmarked { is_marked (K.keeping keeper.old) ≡ false }
     requires held { (K.keeping keeper.old).headed.current ≡ true }
     requires value { IsWithin (pos 0) (pos 7) flag.now.value }
-    ensures ok { OnOk result (DoesEdit at (flagging flag.now.value flag.now.cards.now) (K.keeping keeper.old) (K.keeping keeper.new) steps.old steps.new) }
-    ensures err { OnErr result (K.keeping keeper.new ≡ K.keeping keeper.old) }
-    ensures kept { OnErr result (steps.new ≡ steps.old) }
-    ensures stays { (K.keeping keeper.new).headed ≡ (K.keeping keeper.old).headed }
-    ensures refused { WhereHeld (K.keeping keeper.old) (λ c. AnswersBy (RefusesFlag at flag.now.value flag.now.cards.now c) result) }
+    ensures edits { EditsBy K.Lookup keeper.old keeper.new steps.old steps.new result at
+        (flagging flag.now.value flag.now.cards.now) (RefusesFlag at flag.now.value flag.now.cards.now) }
     ensures listed { IfErr result (IsMissingOrEnd tables.Card) }
     ensures cause { DeskCause (K.health keeper.old) (K.health keeper.new) result }
 {

@@ -1,9 +1,9 @@
-ghost use Rattle.std.specs.Prelude.{◌≡◌, true, false, IfErr, OnErr, OnOk};
-ghost use Rattle.ak_calls.specs.Calls.{DoesEdit};
+ghost use Rattle.std.specs.Prelude.{◌≡◌, true, false, IfErr};
+ghost use Rattle.ak_calls.specs.Calls.{EditsBy};
 ghost use Rattle.ak_decks.specs.Moves.{IsMoveFault, RefusesMove, moving};
-ghost use Rattle.ak_edit.specs.Refusals.{AnswersBy, DeskCause};
+ghost use Rattle.ak_edit.specs.Refusals.{DeskCause};
 ghost use Rattle.ak_keep.specs.Collections.{IsId};
-ghost use Rattle.ak_keep.specs.Keepers.{WhereHeld, is_marked};
+ghost use Rattle.ak_keep.specs.Keepers.{is_marked};
 
 use ak_base::{Card, Name, Table};
 use ak_calls::{CardChange, CardEdit, edit_cards, held_row};
@@ -28,11 +28,8 @@ pub fn move_cards<K: Keeper>(
 ) -> Result<(), DeskFault>
     requires unmarked { is_marked (K.keeping keeper.old) ≡ false }
     requires held { (K.keeping keeper.old).headed.current ≡ true }
-    ensures ok { OnOk result (DoesEdit at (moving moved.now.deck moved.now.cards.now) (K.keeping keeper.old) (K.keeping keeper.new) steps.old steps.new) }
-    ensures err { OnErr result (K.keeping keeper.new ≡ K.keeping keeper.old) }
-    ensures kept { OnErr result (steps.new ≡ steps.old) }
-    ensures stays { (K.keeping keeper.new).headed ≡ (K.keeping keeper.old).headed }
-    ensures refused { WhereHeld (K.keeping keeper.old) (λ c. AnswersBy (RefusesMove at moved.now.deck moved.now.cards.now c) result) }
+    ensures edits { EditsBy K.Lookup keeper.old keeper.new steps.old steps.new result at
+        (moving moved.now.deck moved.now.cards.now) (RefusesMove at moved.now.deck moved.now.cards.now) }
     ensures listed { IfErr result IsMoveFault }
     ensures cause { DeskCause (K.health keeper.old) (K.health keeper.new) result }
 {

@@ -1,8 +1,8 @@
-ghost use Rattle.std.specs.Prelude.{◌≡◌, true, false, IfErr, OnErr, OnOk};
-ghost use Rattle.ak_calls.specs.Calls.{DoesEdit};
+ghost use Rattle.std.specs.Prelude.{◌≡◌, true, false, IfErr};
+ghost use Rattle.ak_calls.specs.Calls.{EditsBy};
 ghost use Rattle.ak_decks.specs.DeckOptions.{IsUseFault, RefusesUse, options_use, using_options};
-ghost use Rattle.ak_edit.specs.Refusals.{AnswersBy, DeskCause};
-ghost use Rattle.ak_keep.specs.Keepers.{WhereHeld, is_marked};
+ghost use Rattle.ak_edit.specs.Refusals.{DeskCause};
+ghost use Rattle.ak_keep.specs.Keepers.{is_marked};
 
 use ak_base::{Name, Row, Table};
 use ak_calls::{edit_row, held_row};
@@ -27,11 +27,8 @@ pub fn use_options<K: Keeper>(
 ) -> Result<(), DeskFault>
     requires unmarked { is_marked (K.keeping keeper.old) ≡ false }
     requires held { (K.keeping keeper.old).headed.current ≡ true }
-    ensures ok { OnOk result (DoesEdit at (options_use used.now.options used.now.deck) (K.keeping keeper.old) (K.keeping keeper.new) steps.old steps.new) }
-    ensures err { OnErr result (K.keeping keeper.new ≡ K.keeping keeper.old) }
-    ensures kept { OnErr result (steps.new ≡ steps.old) }
-    ensures stays { (K.keeping keeper.new).headed ≡ (K.keeping keeper.old).headed }
-    ensures refused { WhereHeld (K.keeping keeper.old) (λ c. AnswersBy (RefusesUse at used.now.options used.now.deck c) result) }
+    ensures edits { EditsBy K.Lookup keeper.old keeper.new steps.old steps.new result at
+        (options_use used.now.options used.now.deck) (RefusesUse at used.now.options used.now.deck) }
     ensures listed { IfErr result IsUseFault }
     ensures cause { DeskCause (K.health keeper.old) (K.health keeper.new) result }
 {

@@ -8,14 +8,8 @@ edit_cards-requires-clause-keeps g c =
     let fits : SFits w64 c.args.flag.now.value = search rules in
     rw (to_z-of_z w64 c.args.flag.now.value fits) (flag_keeps c.args.flag.now.value c.requires.value)
 
-pub returns-clause-ok : goal.returns-clause-ok
-returns-clause-ok g c =
+pub returns-clause-edits : goal.returns-clause-edits
+returns-clause-edits g c =
     let fits : SFits w64 c.args.flag.now.value = search rules in
     let at : SFits w64 c.args.at = c.ranges.at in
-    rw (to_z-of_z w64 c.args.flag.now.value fits, to_z-of_z w64 c.args.at at) at c.edit_cards.ensures.ok
-
-pub returns-clause-refused : goal.returns-clause-refused
-returns-clause-refused g c =
-    let fits : SFits w64 c.args.flag.now.value = search rules in
-    let at : SFits w64 c.args.at = c.ranges.at in
-    rw (to_z-of_z w64 c.args.flag.now.value fits, to_z-of_z w64 c.args.at at) at c.edit_cards.ensures.refused
+    rw (to_z-of_z w64 c.args.flag.now.value fits, to_z-of_z w64 c.args.at at) at c.edit_cards.ensures.edits

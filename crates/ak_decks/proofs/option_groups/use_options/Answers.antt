@@ -1,25 +1,32 @@
-use Rattle.std.proofs.Common.{ℤ, rules, w64, SFits, to_z, of_z}
+use Rattle.std.proofs.Common.{ℤ, refl, ap, ◌∙◌, rules, w64, SFits, to_z, of_z}
 use Rattle.std.proofs.lemmas.Int.{to_z-of_z}
 use Rattle.ak_base.specs.declared.names.Table.TheVariants as tables
-use Rattle.ak_calls.proofs.Answering.{on_ok-map}
+use Rattle.ak_base.specs.Tables.{buried_in}
+use Rattle.ak_base.specs.declared.names.Name.{Name}
+use Rattle.ak_calls.proofs.CheckedRows.{checked_edited}
 use Rattle.ak_calls.proofs.Ids.{id_of_checked}
-use Rattle.ak_calls.proofs.RowRules.{row_change_done}
-use Rattle.ak_calls.specs.Calls.{DoesEdit}
-use Rattle.ak_calls.specs.RowEdits.{row_edit}
-use Rattle.ak_decks.proofs.UsedOptions.{checked_using, second_cause, unheld_listed, use_answered, use_listed, use_refused}
-use Rattle.ak_decks.specs.DeckOptions.{options_use, using_options}
+use Rattle.ak_decks.proofs.UsedOptions.{checked_using, second_cause, unheld_listed, use_ended, use_listed, use_refused, using_named}
+use Rattle.ak_decks.specs.DeckOptions.{using_options}
 use Rattle.ak_keep.specs.Collections.{IsId}
+use Rattle.ak_keep.specs.Keepers.{Keeping}
 use Rattle.ak_merge.specs.Holdings.{name_in}
 use Rattle.ak_decks.proofs.option_groups.use_options.Goals as goal
 
-pub returns-in-Err-clause-refused : goal.returns-in-Err-clause-refused
-returns-in-Err-clause-refused g c =
+pub returns-in-Err-clause-edits : goal.returns-in-Err-clause-edits
+returns-in-Err-clause-edits g c =
     let deck : ℤ = c.args.used.now.deck in
     let options : ℤ = c.args.used.now.options in
     let fits : SFits w64 deck = search rules in
     let also : SFits w64 options = search rules in
-    use_refused (g.K.Lookup.keeping c.args.keeper.now) c.args.at options deck c.in_ok-row.row c.in-Err.fault
-    (rw (to_z-of_z w64 deck fits) at c.in_ok-row.ensures.refused) (rw (c.held_row.ensures.same, to_z-of_z w64 options also) at c.in-Err.ensures.refused)
+    let same = c.held_row-2.ensures.same ∙ c.held_row.ensures.same in
+    record {
+      done = tt;
+      same = same;
+      kept = refl;
+      stays = ap (λ (k : Keeping). k.headed) same;
+      answers = use_refused (g.K.Lookup.keeping c.args.keeper.now) c.args.at options deck c.in_ok-row.row c.in-Err.fault
+          (rw (to_z-of_z w64 deck fits) at c.in_ok-row.ensures.refused) (rw (c.held_row.ensures.same, to_z-of_z w64 options also) at c.in-Err.ensures.refused);
+    }
 
 pub returns-in-Err-clause-listed : goal.returns-in-Err-clause-listed
 returns-in-Err-clause-listed g c = unheld_listed (to_z w64 (of_z w64 c.args.used.now.options)) c.in-Err.fault c.in-Err.ensures.listed
@@ -32,34 +39,25 @@ edit_row-requires-clause-checked g c =
     let options : ℤ = c.args.used.now.options in
     let fits : SFits w64 options = search rules in
     let range : IsId options = id_of_checked c.in-Ok.group (name_in tables.Options options) c.in-Ok.ensures.checked (rw (to_z-of_z w64 options fits) at c.in-Ok.ensures.named) in
-    rw (c.with_options.ensures, to_z-of_z w64 options fits) (checked_using options c.in_ok-row.row range c.in_ok-row.ensures.checked)
+    rw (c.with_options.ensures, to_z-of_z w64 options fits)
+    (checked_edited (using_options options c.in_ok-row.row) (checked_using options c.in_ok-row.row range c.in_ok-row.ensures.checked))
 
-pub returns-clause-ok : goal.returns-clause-ok
-returns-clause-ok g c =
-    let k = g.K.Lookup.keeping c.args.keeper.now in
-    let now = g.K.Lookup.keeping c.edit_row.new.keeper in
+pub edit_row-requires-clause-plain : goal.edit_row-requires-clause-plain
+edit_row-requires-clause-plain g c =
+    rw c.with_options.ensures (ap (λ (name : Name). buried_in name.table) (using_named (to_z w64 (of_z w64 c.args.used.now.options)) c.in_ok-row.row ∙ c.in_ok-row.ensures.named))
+
+pub returns-clause-edits : goal.returns-clause-edits
+returns-clause-edits g c =
     let deck : ℤ = c.args.used.now.deck in
     let options : ℤ = c.args.used.now.options in
     let fits : SFits w64 deck = search rules in
     let also : SFits w64 options = search rules in
     let at : SFits w64 c.args.at = c.ranges.at in
-    on_ok-map c.edit_row.result (DoesEdit c.args.at (row_edit (using_options options c.in_ok-row.row)) k now c.args.steps.now c.edit_row.new.steps)
-    (DoesEdit c.args.at (options_use options deck) k now c.args.steps.now c.edit_row.new.steps)
-    (row_change_done k now c.args.at (name_in tables.Deck deck) (using_options options) c.in_ok-row.row c.args.steps.now c.edit_row.new.steps
-    (rw (to_z-of_z w64 deck fits) at c.in_ok-row.ensures.held))
-    (rw (c.held_row-2.ensures.same, c.held_row.ensures.same, c.with_options.ensures, to_z-of_z w64 options also, to_z-of_z w64 c.args.at at) at c.edit_row.ensures.ok)
-
-pub returns-clause-refused : goal.returns-clause-refused
-returns-clause-refused g c =
-    let deck : ℤ = c.args.used.now.deck in
-    let options : ℤ = c.args.used.now.options in
-    let fits : SFits w64 deck = search rules in
-    let also : SFits w64 options = search rules in
-    let at : SFits w64 c.args.at = c.ranges.at in
-    use_answered (g.K.Lookup.keeping c.args.keeper.now) c.args.at options deck c.in_ok-row.row c.in-Ok.group c.edit_row.result
+    use_ended (g.K.Lookup.keeping c.args.keeper.now) (g.K.Lookup.keeping c.edit_row.new.keeper) c.args.at options deck c.in_ok-row.row c.in-Ok.group
+    c.args.steps.now c.edit_row.new.steps c.edit_row.result
     (rw (to_z-of_z w64 deck fits) at c.in_ok-row.ensures.held) (rw (to_z-of_z w64 deck fits) at c.in_ok-row.ensures.refused)
     (rw (c.held_row.ensures.same, to_z-of_z w64 options also) at c.in-Ok.ensures.refused)
-    (rw (c.held_row-2.ensures.same, c.held_row.ensures.same, c.with_options.ensures, to_z-of_z w64 options also, to_z-of_z w64 c.args.at at) at c.edit_row.ensures.refused)
+    (rw (c.held_row-2.ensures.same, c.held_row.ensures.same, c.with_options.ensures, to_z-of_z w64 options also, to_z-of_z w64 c.args.at at) at c.edit_row.ensures.edits)
 
 pub returns-clause-listed : goal.returns-clause-listed
 returns-clause-listed g c = use_listed c.edit_row.result c.edit_row.ensures.listed
