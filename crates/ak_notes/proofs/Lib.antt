@@ -1,3 +1,12 @@
 pub mod NoteCards
 pub mod DeletionRules
 pub mod AdmittedDeletions
+pub mod ToldOrds
+pub mod FreeIds
+pub mod GivenTexts
+pub mod MadeNotes
+pub mod NewCards
+pub mod Needing
+pub mod AddedNotes
+pub mod AdmittedNotes
+pub mod NoteRows

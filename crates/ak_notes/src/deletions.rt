@@ -1,10 +1,10 @@
-ghost use Rattle.std.specs.Prelude.{◌≡◌, ◌⊎◌, true, false, IfErr, OnErr, OnOk};
+ghost use Rattle.std.specs.Prelude.{◌≡◌, ◌⊎◌, true, false, IfErr, OnOk};
 ghost use Rattle.std.specs.FinMap.{get};
 ghost use Rattle.ak_base.specs.declared.names.Table.TheVariants as tables;
-ghost use Rattle.ak_calls.specs.Calls.{DoesEdit, IsMissingOrEnd, RefusesAbsent, RefusesMissing};
+ghost use Rattle.ak_calls.specs.Calls.{ChangesBy, EditsBy, IsMissingOrEnd, RefusesAbsent, RefusesMissing};
 ghost use Rattle.ak_edit.specs.Refusals.{AnswersBy, DeskCause, IsFromOutside};
 ghost use Rattle.ak_edit.specs.declared.desk_faults.DeskFault.TheVariants as faults;
-ghost use Rattle.ak_keep.specs.Keepers.{KeepCause, WhereHeld, WhereTold, is_marked};
+ghost use Rattle.ak_keep.specs.Keepers.{KeepCause, WhereTold, is_marked};
 ghost use Rattle.ak_notes.specs.Deletions.{RefusesDeletion, deletion, without_cards, without_each, without_note};
 
 use ak_base::{Memory, Name, Table};
@@ -24,11 +24,8 @@ pub fn delete_notes<K: Keeper>(
 ) -> Result<(), DeskFault>
     requires unmarked { is_marked (K.keeping keeper.old) ≡ false }
     requires held { (K.keeping keeper.old).headed.current ≡ true }
-    ensures ok { OnOk result (DoesEdit at (deletion notes.now) (K.keeping keeper.old) (K.keeping keeper.new) steps.old steps.new) }
-    ensures err { OnErr result (K.keeping keeper.new ≡ K.keeping keeper.old) }
-    ensures kept { OnErr result (steps.new ≡ steps.old) }
-    ensures stays { (K.keeping keeper.new).headed ≡ (K.keeping keeper.old).headed }
-    ensures refused { WhereHeld (K.keeping keeper.old) (λ c. AnswersBy (RefusesDeletion at notes.now c) result) }
+    ensures edits { EditsBy K.Lookup keeper.old keeper.new steps.old steps.new result at
+        (deletion notes.now) (RefusesDeletion at notes.now) }
     ensures listed { IfErr result (IsMissingOrEnd tables.Note) }
     ensures cause { DeskCause (K.health keeper.old) (K.health keeper.new) result }
 {
@@ -44,8 +41,10 @@ fn remove_notes<K: Keeper>(
     notes: &[i64],
 ) -> Result<(), DeskFault>
     ensures same { K.keeping keeper.new ≡ K.keeping keeper.old }
-    ensures ok { OnOk result (WhereTold (K.keeping keeper.old) (λ h. change.new ≡ without_each h.rows notes.now change.old)) }
-    ensures refused { WhereTold (K.keeping keeper.old) (λ h. AnswersBy (RefusesMissing (get h.rows) tables.Note notes.now) result) }
+    ensures ok { OnOk result (ChangesBy K.Lookup keeper.old change.old change.new
+        (λ rows. without_each rows notes.now)) }
+    ensures refused { WhereTold (K.keeping keeper.old)
+        (λ h. AnswersBy (RefusesMissing (get h.rows) tables.Note notes.now) result) }
     ensures listed { IfErr result (IsMissingOrEnd tables.Note) }
     ensures cause { DeskCause (K.health keeper.old) (K.health keeper.new) result }
 {
@@ -62,7 +61,7 @@ fn remove_notes<K: Keeper>(
 /// Removes the note of this name with its cards, as they are held.
 fn remove_note<K: Keeper>(keeper: &mut K, change: &mut Change, name: Name) -> Result<(), DeskFault>
     ensures same { K.keeping keeper.new ≡ K.keeping keeper.old }
-    ensures ok { OnOk result (WhereTold (K.keeping keeper.old) (λ h. change.new ≡ without_note h.rows name change.old)) }
+    ensures ok { OnOk result (ChangesBy K.Lookup keeper.old change.old change.new (λ rows. without_note rows name)) }
     ensures refused { WhereTold (K.keeping keeper.old) (λ h. AnswersBy (RefusesAbsent (get h.rows) name) result) }
     ensures listed { IfErr result (λ fault. IsFromOutside fault ⊎ (fault ≡ faults.NoSuch name)) }
     ensures cause { DeskCause (K.health keeper.old) (K.health keeper.new) result }
@@ -76,7 +75,7 @@ fn remove_note<K: Keeper>(keeper: &mut K, change: &mut Change, name: Name) -> Re
 /// Removes the note of this name and its cards, as they are held.
 fn remove_held<K: Keeper>(keeper: &mut K, change: &mut Change, name: Name) -> Result<(), KeepFault>
     ensures same { K.keeping keeper.new ≡ K.keeping keeper.old }
-    ensures ok { OnOk result (WhereTold (K.keeping keeper.old) (λ h. change.new ≡ without_note h.rows name change.old)) }
+    ensures ok { OnOk result (ChangesBy K.Lookup keeper.old change.old change.new (λ rows. without_note rows name)) }
     ensures cause { KeepCause (K.health keeper.old) (K.health keeper.new) result }
 {
     let cards = keeper.cards_of(name.id)?;

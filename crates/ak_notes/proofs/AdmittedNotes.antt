@@ -1,0 +1,63 @@
+-- Edits that make a note with its cards are admitted.
+use Rattle.std.specs.Prelude.{◌≡◌, ℤ, Bool, true, false, ◌||◌, is_some, List, [], ◌∷◌}
+use Rattle.std.proofs.Common.{refl, sym, ap, subst, ◌∙◌}
+use Rattle.ak_base.specs.declared.cards.Card.{Card}
+use Rattle.ak_base.specs.declared.names.Name.{Name}
+use Rattle.ak_base.specs.declared.names.Table.{Table}
+use Rattle.ak_base.specs.declared.names.Table.TheVariants as tables
+use Rattle.ak_base.specs.declared.notes.Note.{Note}
+use Rattle.ak_base.specs.declared.rows.Row.TheVariants as rows
+use Rattle.ak_calls.specs.NewNames.{is_used}
+use Rattle.ak_edit.specs.FreeNames.{IsFree, first_name}
+use Rattle.ak_keep.specs.Collections.{Collection}
+use Rattle.ak_merge.proofs.EditFacts.{true_false}
+use Rattle.ak_merge.proofs.EditBuildingLaws.{puts_are_admitted, settings_are_admitted, tags_are_admitted, unedited_is_admitted}
+use Rattle.ak_merge.specs.EditBuilding.{MayPut, unedited, with_conf, with_row}
+use Rattle.ak_merge.specs.Edits.{Admits, Edit}
+use Rattle.ak_merge.specs.Holdings.{AreNamed, is_dead, name_in, row_under}
+use Rattle.ak_notes.specs.Additions.{IsAddition, added_place}
+use Rattle.ak_notes.specs.MadeNotes.{made_edit, with_cards}
+use Rattle.ak_notes.specs.NewCards.{AreNewCards, new_card, next_name}
+use Rattle.ak_notes.specs.declared.additions.NewNote.{NewNote}
+use Rattle.ak_notes.specs.declared.made_notes.MadeNote.{MadeNote}
+use Rattle.ak_notes.specs.declared.new_cards.CardPlace.{CardPlace}
+
+second_false : (a b : Bool) → (a || b) ≡ false → b ≡ false
+second_false true b is = true_false is
+second_false false b is = is
+
+-- a free name is not dead
+not_dead : (c : Collection) (first name : Name) (table : Table) → first.table ≡ table → IsFree (is_used (row_under c)) first name → is_dead (row_under c) (name_in table name.id) ≡ false
+not_dead c first name table of free =
+    let there : Name = name_in table name.id in
+    let same : name ≡ there = ap (λ (t : Table). name_in t name.id) (free.table ∙ of) in
+    second_false (is_some (row_under c there)) (is_dead (row_under c) there) (ap (is_used (row_under c)) (sym same) ∙ free.free)
+
+card_may : (c : Collection) (place : CardPlace) (ord : ℤ) (first name : Name) → first.table ≡ tables.Card → IsFree (is_used (row_under c)) first name → MayPut c (rows.Card (new_card place ord name.id))
+card_may c place ord first name of free = record { free = λ none. not_dead c first name tables.Card of free; review = λ is. absurd (cc) }
+
+cards_are_admitted : (c : Collection) (place : CardPlace) (first : Name) (ords : List ℤ) (cards : List Card) (edit : Edit) → first.table ≡ tables.Card → AreNewCards (is_used (row_under c)) place first ords cards
+    → Admits c edit → Admits c (with_cards cards edit)
+cards_are_admitted c place first [] cards edit of are admits = subst (λ (l : List Card). Admits c (with_cards l edit)) (sym are) admits
+cards_are_admitted c place first (ord ∷ ords) cards edit of are admits =
+    let name : Name = are.0 in
+    let card : Card = new_card place ord name.id in
+    let one : Admits c (with_row (rows.Card card) edit) = puts_are_admitted c edit (rows.Card card) admits (card_may c place ord first name of are.1) in
+    subst (λ (l : List Card). Admits c (with_cards l edit)) (sym are.3)
+    (cards_are_admitted c place (next_name name) ords are.2 (with_row (rows.Card card) edit) (are.1.table ∙ of) are.4 one)
+
+note_may : (c : Collection) (note : Note) (first name : Name) → first.table ≡ tables.Note → note.id ≡ name.id → IsFree (is_used (row_under c)) first name → MayPut c (rows.Note note)
+note_may c note first name of id free = record {
+  free = λ none. subst (λ (n : ℤ). is_dead (row_under c) (name_in tables.Note n) ≡ false) (sym id) (not_dead c first name tables.Note of free);
+  review = λ is. absurd (cc);
+}
+
+pub additions_are_admitted : (at : ℤ) (new : NewNote) (c : Collection) (made : MadeNote) → AreNamed (row_under c) → IsAddition at new c.rows c.head made → Admits c (made_edit new.tags made c)
+additions_are_admitted at new c made named is =
+    let adds = is.is in
+    let id : made.note.id ≡ adds.name.id = ap (λ (n : Note). n.id) adds.under.note in
+    let note : Admits c (with_row (rows.Note made.note) (unedited c)) =
+    puts_are_admitted c (unedited c) (rows.Note made.note) (unedited_is_admitted c named) (note_may c made.note (first_name tables.Note at) adds.name refl id adds.free) in
+    let cards : Admits c (with_cards made.cards (with_row (rows.Note made.note) (unedited c))) =
+    cards_are_admitted c (added_place new c.head adds.name.id) (first_name tables.Card at) _ made.cards (with_row (rows.Note made.note) (unedited c)) refl adds.under.cards.made note in
+    tags_are_admitted c _ new.tags (settings_are_admitted c _ made.conf cards)

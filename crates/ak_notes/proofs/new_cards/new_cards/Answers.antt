@@ -1,0 +1,52 @@
+use Rattle.std.proofs.Common.{◌≡◌, ◌≤ℤ◌, ◌<◌, ℤ, List, length, pos, get_or, refl, ap, ◌∙◌, rules, arith, w64, SFits, to_z, of_z}
+use Rattle.std.proofs.lemmas.Int.{ints, to_z-of_z}
+use Rattle.ak_faults.proofs.Healths.{goes_further, goes_nowhere}
+use Rattle.ak_notes.proofs.NewCards.{made_all, made_answers, makes_all, makes_one, one_lacks}
+use Rattle.ak_notes.proofs.new_cards.new_cards.Goals as goal
+
+pub loop-ord-init : goal.loop-ord-init
+loop-ord-init g c =
+    let at : SFits w64 c.args.at = c.ranges.at in
+    record {
+      id = c.first_card-first.ensures.id;
+      made = rw (c.first_card-first.ensures.name, to_z-of_z w64 c.args.at at, c.new-cards.ensures)
+          (makes_all (g.K.Lookup.keeping c.args.keeper.now) c.args.place c.args.at c.args.ords.now);
+      same = refl;
+      goes = goes_nowhere (g.K.Lookup.health c.args.keeper.now);
+    }
+
+pub loop-ord-preserved : goal.loop-ord-preserved
+loop-ord-preserved g c =
+    let k = g.K.Lookup.keeping c.args.keeper.now in
+    let i = c.loop-ord.ord-index in
+    let items = c.as_slice-ord-items.ensures in
+    let ord : ℤ = get_or c.as_slice-ord-items.result.now i (pos 0) in
+    let fits : SFits w64 ord = search rules in
+    let ahead : pos 1 ≤ℤ c.next_name-first.result.id = rw c.next_name-first.ensures (grind (arith, ints, c.loop-ord.invariant.id, c.in-Ok.ensures.range.1.low)) in
+    record {
+      id = ahead;
+      made = rw (c.next_name-first.ensures, c.in_ok-push.ensures.ok)
+          (makes_one k c.args.place (to_z w64 (of_z w64 c.args.at)) c.args.ords.now i c.loop-ord.first c.in-Ok.name c.loop-ord.cards c.in_ok-card.card (rw items at c.loop-ord-test.true)
+          (rw (to_z-of_z w64 ord fits, items) at c.in_ok-card.ensures) (rw c.loop-ord.invariant.same at c.in-Ok.ensures.free) c.loop-ord.invariant.made);
+      same = c.in-Ok.ensures.same ∙ c.loop-ord.invariant.same;
+      goes = goes_further c.loop-ord.invariant.goes c.in-Ok.ensures.cause.goes;
+    }
+
+pub returns-in-Err-clause-refused : goal.returns-in-Err-clause-refused
+returns-in-Err-clause-refused g c =
+    let at : SFits w64 c.args.at = c.ranges.at in
+    one_lacks (g.K.Lookup.keeping c.args.keeper.now) c.args.place c.args.at c.args.ords.now c.loop-ord.ord-index c.loop-ord.first c.loop-ord.cards c.in-Err.fault
+    (rw c.as_slice-ord-items.ensures at c.loop-ord-test.true) (rw c.loop-ord.invariant.same at c.in-Err.ensures.none) (rw (to_z-of_z w64 c.args.at at) at c.loop-ord.invariant.made)
+
+pub returns-clause-made : goal.returns-clause-made
+returns-clause-made g c =
+    let at : SFits w64 c.args.at = c.ranges.at in
+    made_all (g.K.Lookup.keeping c.args.keeper.now) c.args.place c.args.at c.args.ords.now c.loop-ord.ord-index c.loop-ord.first c.loop-ord.cards
+    (omega (arith, ap (λ (xs : List ℤ). length xs) c.as_slice-ord-items.ensures)) (rw (to_z-of_z w64 c.args.at at) at c.loop-ord.invariant.made)
+
+pub returns-clause-refused : goal.returns-clause-refused
+returns-clause-refused g c =
+    let at : SFits w64 c.args.at = c.ranges.at in
+    made_answers (g.K.Lookup.keeping c.args.keeper.now) c.args.place c.args.at c.args.ords.now c.loop-ord.cards
+    (made_all (g.K.Lookup.keeping c.args.keeper.now) c.args.place c.args.at c.args.ords.now c.loop-ord.ord-index c.loop-ord.first c.loop-ord.cards
+    (omega (arith, ap (λ (xs : List ℤ). length xs) c.as_slice-ord-items.ensures)) (rw (to_z-of_z w64 c.args.at at) at c.loop-ord.invariant.made))

@@ -1,0 +1,175 @@
+ghost use Rattle.std.specs.Prelude.{◌≡◌, ◌≤ℤ◌, pos, true, IfErr, IfOk, IfSome};
+ghost use Rattle.ak_base.specs.Heads.{IsConfInRange, IsWithin};
+ghost use Rattle.ak_base.specs.Limits.{last_id};
+ghost use Rattle.ak_base.specs.declared.names.Table.TheVariants as tables;
+ghost use Rattle.ak_cardgen.specs.Generation.{AreOrds};
+ghost use Rattle.ak_edit.specs.FreeNames.{IsFoundFrom, first_name};
+ghost use Rattle.ak_edit.specs.Refusals.{AnswersBy, DeskCause};
+ghost use Rattle.ak_keep.specs.Keepers.{WhereTold};
+ghost use Rattle.ak_keep.specs.Readings.{ReadsBy};
+ghost use Rattle.ak_notes.specs.MadeNotes.{IsGivenFault};
+ghost use Rattle.ak_notes.specs.NewCards.{AreNewIn, IsFreeIn, IsIdFault, IsNoneFreeFrom, RefusesFronts, RefusesIds, conf_after, new_card, next_name, place_after};
+
+use ak_base::{Card, Conf, LAST_COUNT, List, Memory, Name, NoteType, Table, Text};
+use ak_cardgen::{GenFault, ords_of};
+use ak_edit::{Change, DeskFault};
+use ak_keep::{KeepFault, Keeper};
+use std::alloc::Global;
+
+/// Of which note new cards are, in which deck, and at which place among the new cards.
+#[derive(Clone, Copy, Debug)]
+pub(crate) struct CardPlace {
+    pub(crate) note: i64,
+    pub(crate) deck: i64,
+    pub(crate) due: i64,
+}
+
+/// The ords of the cards that a note of the type has, refused if a front is no template.
+pub(crate) fn told_ords(
+    alloc: Global,
+    note_type: &NoteType,
+    fields: &List<Text>,
+) -> Result<List<i64>, DeskFault>
+    ensures ords { IfOk result (AreOrds note_type.now fields.now) }
+    ensures refused { AnswersBy (RefusesFronts note_type.now) result }
+    ensures listed { IfErr result IsGivenFault }
+{
+    match ords_of(alloc, note_type, fields) {
+        Ok(ords) => Ok(ords),
+        Err(GenFault::Template(fault)) => Err(DeskFault::Template(fault)),
+        Err(GenFault::Memory) => Err(DeskFault::Memory),
+    }
+}
+
+/// A new card for each of the ords, each with the first free id after the one before, refused if there are too few.
+pub(crate) fn new_cards<K: Keeper>(
+    keeper: &mut K,
+    ords: &List<i64>,
+    place: CardPlace,
+    at: i64,
+) -> Result<List<Card>, DeskFault>
+    ensures same { K.keeping keeper.new ≡ K.keeping keeper.old }
+    ensures made { IfOk result (λ cards. WhereTold (K.keeping keeper.old) (AreNewIn place (first_name tables.Card at) ords.now cards)) }
+    ensures refused { WhereTold (K.keeping keeper.old) (λ h. AnswersBy (RefusesIds at ords.now h.rows) result) }
+    ensures listed { IfErr result IsIdFault }
+    ensures cause { DeskCause (K.health keeper.old) (K.health keeper.new) result }
+{
+    let alloc = ords.allocator();
+    let mut cards = List::new(alloc);
+    let mut first = first_card(at);
+    for ord in ords.as_slice() {
+        let name = match next_free(keeper, alloc, first) {
+            Ok(name) => name,
+            Err(fault) => return Err(fault),
+        };
+        let card = new_card(alloc, place, *ord, name)?;
+        cards.push(card)?;
+        first = next_name(name);
+    }
+    Ok(cards)
+}
+
+/// The name from which on the cards look for theirs.
+fn first_card(at: i64) -> Name
+    ensures name { result ≡ first_name tables.Card at }
+    ensures id { pos 1 ≤ℤ result.id }
+{
+    Name {
+        table: Table::Card,
+        id: at.max(1),
+    }
+}
+
+/// The first free name from this one on.
+fn next_free<K: Keeper>(keeper: &mut K, alloc: Global, first: Name) -> Result<Name, DeskFault>
+    requires { pos 1 ≤ℤ first.id }
+    ensures same { K.keeping keeper.new ≡ K.keeping keeper.old }
+    ensures range { IfOk result (IsFoundFrom first) }
+    ensures free { IfOk result (λ name. WhereTold (K.keeping keeper.old) (IsFreeIn first name)) }
+    ensures none { IfErr result (IsNoneFreeFrom (K.keeping keeper.old) first) }
+    ensures cause { DeskCause (K.health keeper.old) (K.health keeper.new) result }
+{
+    let unchanged = Change::new(alloc);
+    let found = unchanged.free_name(keeper, first)?;
+    match found {
+        Some(name) => Ok(name),
+        None => Err(DeskFault::IdEnd),
+    }
+}
+
+/// The next name of the table.
+fn next_name(name: Name) -> Name
+    requires { name.id ≤ℤ last_id }
+    ensures { result ≡ next_name name }
+{
+    Name {
+        table: name.table,
+        id: name.id + 1,
+    }
+}
+
+/// A new card of this ord under this name.
+fn new_card(alloc: Global, place: CardPlace, ord: i64, name: Name) -> Result<Card, Memory>
+    ensures { IfOk result (λ card. card ≡ new_card place ord name.id) }
+{
+    let extra = Text::of(alloc, "")?;
+    Ok(Card {
+        id: name.id,
+        nid: place.note,
+        did: place.deck,
+        ord,
+        stamp: 0,
+        usn: -1,
+        kind: 0,
+        queue: 0,
+        due: place.due,
+        ivl: 0,
+        factor: 0,
+        reps: 0,
+        lapses: 0,
+        left: 0,
+        odue: 0,
+        odid: 0,
+        flags: 0,
+        extra,
+    })
+}
+
+/// The settings that are held.
+pub(crate) fn held_conf<K: Keeper>(keeper: &mut K, alloc: Global) -> Result<Conf, KeepFault>
+    requires held { (K.keeping keeper.old).headed.current ≡ true }
+    ensures reads { ReadsBy K.Lookup keeper.old keeper.new result (λ h conf. IfSome h.head (λ head. conf ≡ head.conf)) }
+    ensures range { IfOk result IsConfInRange }
+{
+    // For the proof alone: it says that what the keeper gives passes its check.
+    let _checks = keeper.marked();
+    Change::new(alloc).conf(keeper)
+}
+
+/// The settings after these cards came at the next place among the new cards.
+pub(crate) fn conf_after(cards: &[Card], conf: Conf) -> Conf
+    requires { IsConfInRange conf }
+    ensures conf { result ≡ conf_after cards.now conf }
+    ensures range { IsConfInRange result }
+{
+    match cards {
+        [] => conf,
+        [_, ..] => {
+            let mut after = conf;
+            after.next_pos = place_after(after.next_pos);
+            after
+        }
+    }
+}
+
+/// The next place, which at the last one stays.
+fn place_after(place: i64) -> i64
+    requires { IsWithin (pos 0) (pos 2_147_483_647) place }
+    ensures place { result ≡ place_after place }
+    ensures range { IsWithin (pos 0) (pos 2_147_483_647) result }
+{
+    if place < LAST_COUNT {
+        return place + 1;
+    }
+    place
+}
