@@ -1,0 +1,4 @@
+pub mod SweptRows
+pub mod TreeRules
+pub mod TreeAnswers
+pub mod AdmittedTrees
