@@ -1,0 +1,8 @@
+pub mod Adding
+pub mod AdmittedEdits
+pub mod Changing
+pub mod Defaults
+pub mod Deleting
+pub mod NewIds
+pub mod Spreading
+pub mod Taking

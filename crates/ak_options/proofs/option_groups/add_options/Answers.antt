@@ -1,0 +1,20 @@
+use Rattle.std.proofs.Common.{w64, SFits}
+use Rattle.std.proofs.lemmas.Int.{to_z-of_z}
+use Rattle.ak_options.proofs.Adding.{addition_ended, addition_given}
+use Rattle.ak_options.proofs.Taking.{given_cause}
+use Rattle.ak_options.proofs.option_groups.add_options.Goals as goal
+
+pub returns-in-Err-clause-adds : goal.returns-in-Err-clause-adds
+returns-in-Err-clause-adds g c =
+    addition_given (g.K.Lookup.keeping c.args.keeper.now) c.args.at c.args.options c.in-Err.fault c.args.steps.now
+    (rw (c.with_id-given.ensures, c.as_given.ensures) at c.in-Err.ensures.refused)
+
+pub returns-clause-adds : goal.returns-clause-adds
+returns-clause-adds g c =
+    let at : SFits w64 c.args.at = c.ranges.at in
+    addition_ended (g.K.Lookup.keeping c.args.keeper.now) (g.K.Lookup.keeping c.add_group.new.keeper) c.args.at c.args.options _ c.args.steps.now c.add_group.new.steps c.add_group.result
+    (rw (c.with_id-given.ensures, c.as_given.ensures) at c.in-Ok.ensures.answers)
+    (rw (c.with_id-given.ensures, c.as_given.ensures, to_z-of_z w64 c.args.at at) at c.add_group.ensures.adds)
+
+pub returns-in-Err-clause-cause : goal.returns-in-Err-clause-cause
+returns-in-Err-clause-cause g c = given_cause (g.K.Lookup.health c.args.keeper.now) c.with_id-given.result c.in-Err.fault c.in-Err.ensures.refused

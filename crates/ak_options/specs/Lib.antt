@@ -1,0 +1,3 @@
+pub mod OptionDeletions
+pub mod OptionGroups
+pub mod Spreads

@@ -1,0 +1,149 @@
+ghost use Rattle.std.specs.Prelude.{◌≡◌, true, false, IfErr, IfOk, OnOk};
+ghost use Rattle.ak_base.specs.OptionGroups.{IsCheckedOptions};
+ghost use Rattle.ak_base.specs.declared.rows.Row.TheVariants as rows;
+ghost use Rattle.ak_calls.specs.Calls.{EditsBy};
+ghost use Rattle.ak_calls.specs.RowEdits.{RefusesRowEdit, row_edit};
+ghost use Rattle.ak_edit.specs.Refusals.{AnswersBy, DeskCause, IsEndFault};
+ghost use Rattle.ak_keep.specs.Collections.{IsId};
+ghost use Rattle.ak_keep.specs.Keepers.{is_marked};
+ghost use Rattle.ak_options.specs.OptionGroups.{AddsBy, IsAdditionFault, IsChangeFault, RefusesAddition, RefusesChange, RefusesGiven, RefusesNewGroup, as_given, group_addition, options_addition, options_change, with_id};
+
+use ak_base::{Name, Options, Row, Table};
+use ak_calls::{edit_row, held_row, new_name};
+use ak_edit::DeskFault;
+use ak_keep::Keeper;
+use ak_undo::UndoList;
+
+/// Puts a group of options in place of the one of its id, at a moment in milliseconds. Its stamp and its update sequence number
+/// are replaced. A group that is held with the same fields is left alone. It is refused if no group of this id is held, then if
+/// the given one is out of its ranges, and then for a stamp or a moment that can't rise.
+pub fn set_options<K: Keeper>(
+    keeper: &mut K,
+    steps: &mut UndoList,
+    options: Options,
+    at: i64,
+) -> Result<(), DeskFault>
+    requires unmarked { is_marked (K.keeping keeper.old) ≡ false }
+    requires held { (K.keeping keeper.old).headed.current ≡ true }
+    ensures edits { EditsBy K.Lookup keeper.old keeper.new steps.old steps.new result at
+        (options_change options) (RefusesChange at options) }
+    ensures listed { IfErr result (IsChangeFault options.id) }
+    ensures cause { DeskCause (K.health keeper.old) (K.health keeper.new) result }
+{
+    let name = Name {
+        table: Table::Options,
+        id: options.id,
+    };
+    let held = held_row(keeper, name)?;
+    drop(held);
+    let group = as_given(options);
+    match check_given(&group) {
+        Ok(()) => {}
+        Err(fault) => return Err(fault),
+    }
+    edit_row(keeper, steps, Row::Options(group), at)
+}
+
+/// Adds a group of options, at a moment in milliseconds, and gives its id: the least free one from the moment on. The given id,
+/// stamp and update sequence number are replaced. It is refused if the given group is out of its ranges, then if no id is
+/// free, and then for a stamp or a moment that can't rise.
+pub fn add_options<K: Keeper>(
+    keeper: &mut K,
+    steps: &mut UndoList,
+    options: Options,
+    at: i64,
+) -> Result<i64, DeskFault>
+    requires unmarked { is_marked (K.keeping keeper.old) ≡ false }
+    requires held { (K.keeping keeper.old).headed.current ≡ true }
+    ensures adds { AddsBy K.Lookup keeper.old keeper.new steps.old steps.new result at
+        (options_addition options) (RefusesAddition at options) }
+    ensures range { IfOk result IsId }
+    ensures listed { IfErr result IsAdditionFault }
+    ensures cause { DeskCause (K.health keeper.old) (K.health keeper.new) result }
+{
+    // The given id is not looked at: any one in range stands in for it.
+    let given = with_id(as_given(options), 1);
+    match check_given(&given) {
+        Ok(()) => {}
+        Err(fault) => return Err(fault),
+    }
+    add_group(keeper, steps, given, at)
+}
+
+/// Adds a group that is in its ranges, and gives its id.
+fn add_group<K: Keeper>(
+    keeper: &mut K,
+    steps: &mut UndoList,
+    group: Options,
+    at: i64,
+) -> Result<i64, DeskFault>
+    requires unmarked { is_marked (K.keeping keeper.old) ≡ false }
+    requires held { (K.keeping keeper.old).headed.current ≡ true }
+    requires checked { IsCheckedOptions (as_given group) }
+    ensures adds { AddsBy K.Lookup keeper.old keeper.new steps.old steps.new result at
+        (group_addition group) (RefusesNewGroup at group) }
+    ensures range { IfOk result IsId }
+    ensures listed { IfErr result IsAdditionFault }
+    ensures cause { DeskCause (K.health keeper.old) (K.health keeper.new) result }
+{
+    let name = match new_name(steps.allocator(), keeper, Table::Options, at) {
+        Ok(name) => name,
+        Err(fault) => return Err(fault),
+    };
+    put_group(keeper, steps, with_id(group, name.id), at)
+}
+
+/// Puts a group that is in its ranges, and gives its id.
+fn put_group<K: Keeper>(
+    keeper: &mut K,
+    steps: &mut UndoList,
+    group: Options,
+    at: i64,
+) -> Result<i64, DeskFault>
+    requires unmarked { is_marked (K.keeping keeper.old) ≡ false }
+    requires held { (K.keeping keeper.old).headed.current ≡ true }
+    requires checked { IsCheckedOptions (as_given group) }
+    ensures id { IfOk result (λ id. id ≡ group.id) }
+    ensures edits { EditsBy K.Lookup keeper.old keeper.new steps.old steps.new result at
+        (row_edit (rows.Options group)) (RefusesRowEdit at (rows.Options group)) }
+    ensures listed { IfErr result IsEndFault }
+    ensures cause { DeskCause (K.health keeper.old) (K.health keeper.new) result }
+{
+    let id = group.id;
+    match edit_row(keeper, steps, Row::Options(group), at) {
+        Ok(()) => {}
+        Err(fault) => return Err(fault),
+    }
+    Ok(id)
+}
+
+/// The group as a call takes it: its stamp and its update sequence number are not looked at.
+fn as_given(options: Options) -> Options
+    ensures { result ≡ as_given options }
+{
+    let mut given = options;
+    given.stamp = 0;
+    given.usn = -1;
+    given
+}
+
+/// The group with this id.
+fn with_id(options: Options, id: i64) -> Options
+    ensures { result ≡ with_id id options }
+{
+    let mut made = options;
+    made.id = id;
+    made
+}
+
+/// Refuses a group that was given and is out of its ranges.
+fn check_given(group: &Options) -> Result<(), DeskFault>
+    ensures ok { OnOk result (IsCheckedOptions group.now) }
+    ensures answers { AnswersBy (RefusesGiven group.now) result }
+    ensures refused { IfErr result (RefusesGiven group.now) }
+{
+    match group.check() {
+        Ok(()) => Ok(()),
+        Err(fault) => Err(DeskFault::Row(fault)),
+    }
+}
