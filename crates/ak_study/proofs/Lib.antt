@@ -1,0 +1,7 @@
+pub mod AdmittedEdits
+pub mod BegunDays
+pub mod ChangedRows
+pub mod DayBeginnings
+pub mod DayStartRules
+pub mod PlacedCards
+pub mod RowPages

@@ -1,0 +1,3 @@
+pub mod CardPlaces
+pub mod DayStarts
+pub mod RowChanges
