@@ -1,0 +1,5 @@
+pub mod Checks
+pub mod Deciding
+pub mod Summing
+pub mod Twins
+pub mod Uploads

@@ -1,0 +1,5 @@
+pub mod Decisions
+pub mod Laws
+pub mod Serving
+pub mod Sessions
+pub mod Summaries

@@ -1,0 +1,389 @@
+// Which requests a session refuses: the tests of each, in their order. They ask no keeper, and all but one take no memory.
+ghost use Rattle.std.specs.Prelude.{◌≡◌, ◌++◌, ◌&&◌, ◌||◌, pos, negsuc, true, cond, IfOk, OnOk};
+ghost use Rattle.std.specs.List.{list_any, list_all};
+ghost use Rattle.std.specs.Option.{option_map, option_map_or};
+ghost use Rattle.std.specs.Ordering.{int_eq, eq_by_cmp};
+ghost use Rattle.ak_base.specs.Names.{name_cmp};
+ghost use Rattle.ak_base.specs.declared.names.Name.{Name as Named};
+ghost use Rattle.ak_base.specs.Limits.{last_head_usn};
+ghost use Rattle.ak_base.specs.declared.rows.Row.TheVariants as rows;
+ghost use Rattle.ak_keep.specs.Collections.{Rows};
+ghost use Rattle.ak_machine.specs.Decisions.{objection_in};
+ghost use Rattle.ak_session.specs.Messages.{chunk_rows, change_rows};
+ghost use Rattle.ak_session.specs.NextMethods.{methods_after};
+ghost use Rattle.ak_session.specs.Refusals.{first_objection, start_tests, grave_tests, change_tests, chunk_tests, upload_tests, is_between, is_checked, is_conf_in_range, is_id, is_newer_in_range, are_changes_in_range, is_tag_name, is_tag_in_range, is_whole_in_range, has_last_moment, has_twins, same_names, same_tags, has_no_next};
+ghost use Rattle.ak_session.specs.Requests.{asked_method, same_method};
+
+use crate::sessions::Session;
+use ak_base::{
+    Card, Conf, Deck, FIRST_DAY, Head, LAST_COUNT, LAST_DAY, LAST_HEAD_USN, LAST_ID, LAST_MOMENT,
+    LAST_STAMP, LAST_USN, Memory, NAME_BYTES, Name, Note, NoteType, Options, REST_BYTES, Review,
+    Row, Tag, Text,
+};
+use ak_messages::{Ask, Changes, Chunk, GraveIds, MOST_ENTRIES, Method, Newer, Whole};
+use std::alloc::Global;
+use std::collections::BTreeSet;
+
+/// Why a session refuses a request that has its next step.
+#[derive(Clone, Copy, Debug, PartialEq, Eq)]
+pub enum Cause {
+    /// Its method may not come next.
+    Method,
+    /// It asks for rows from a number on that is below 0 or over the server's.
+    Usn,
+    /// A number or a moment after the last one would be past its range.
+    Sequence,
+    /// It has over 250 entries.
+    Rows,
+    /// A row, an id, a name or a setting of it may not be held.
+    Row,
+    /// It has the settings though its side is not the newer one, or has none though it is.
+    Newer,
+}
+
+/// Whether the method may come after the last one that the session accepted.
+pub fn may_follow(live: &Session, method: Method) -> bool
+    ensures { result ≡ list_any (same_method method) (methods_after live.now.method live.now.done) }
+{
+    match live.method {
+        Method::Meta => matches!(method, Method::Start | Method::Upload | Method::Download),
+        Method::Start | Method::ApplyGraves => {
+            matches!(method, Method::ApplyGraves | Method::ApplyChanges)
+        }
+        Method::ApplyChanges => matches!(method, Method::Chunk),
+        Method::Chunk => {
+            if live.done {
+                matches!(method, Method::ApplyChunk)
+            } else {
+                matches!(method, Method::Chunk)
+            }
+        }
+        Method::ApplyChunk => {
+            if live.done {
+                matches!(method, Method::SanityCheck2)
+            } else {
+                matches!(method, Method::ApplyChunk)
+            }
+        }
+        Method::SanityCheck2 => matches!(method, Method::Finish),
+        Method::Finish | Method::Upload | Method::Download => false,
+    }
+}
+
+/// Why a start is refused, over a committed collection with this head. For the proof alone the numbers are references.
+pub fn objection_to_start(head: &Head, min_usn: &i64, lmod: &i64) -> Option<Cause>
+    ensures { (held : Rows) → option_map objection_in result
+        ≡ first_objection (start_tests (record { rows = held; head = head.now }) min_usn.now lmod.now) }
+{
+    if !is_between(*min_usn, 0, head.usn) {
+        return Some(Cause::Usn);
+    }
+    if has_no_number(head, *lmod) {
+        return Some(Cause::Sequence);
+    }
+    None
+}
+
+/// Whether the server's number is the last one, or a moment of either side is.
+fn has_no_number(head: &Head, lmod: i64) -> bool
+    ensures { result ≡ (int_eq head.now.usn last_head_usn || has_no_next head.now.moment || has_no_next lmod) }
+{
+    head.usn == LAST_HEAD_USN || has_no_next(head.moment) || has_no_next(lmod)
+}
+
+/// Why graves are refused.
+pub fn objection_to_graves(ids: &GraveIds) -> Option<Cause>
+    ensures { option_map objection_in result ≡ first_objection (grave_tests ids.now) }
+{
+    if MOST_ENTRIES < ids.entries() {
+        return Some(Cause::Rows);
+    }
+    if !are_graves_in_range(ids) {
+        return Some(Cause::Row);
+    }
+    None
+}
+
+/// Why changes are refused. The settings must be there exactly if the device is the newer side.
+pub fn objection_to_changes(is_device_newer: bool, changes: &Changes) -> Option<Cause>
+    ensures { option_map objection_in result ≡ first_objection (change_tests is_device_newer changes.now) }
+{
+    if !are_changes_in_range(changes) {
+        return Some(Cause::Row);
+    }
+    if is_device_newer != changes.newer.is_some() {
+        return Some(Cause::Newer);
+    }
+    None
+}
+
+/// Why a chunk is refused.
+pub fn objection_to_chunk(chunk: &Chunk) -> Option<Cause>
+    ensures { option_map objection_in result ≡ first_objection (chunk_tests chunk.now) }
+{
+    if MOST_ENTRIES < chunk.entries() {
+        return Some(Cause::Rows);
+    }
+    if !are_rows_checked(chunk) {
+        return Some(Cause::Row);
+    }
+    None
+}
+
+/// Why an upload is refused, over a committed collection with this head. To find two rows of one name takes memory.
+pub fn objection_to_upload(head: &Head, whole: &Whole) -> Result<Option<Cause>, Memory>
+    ensures { (held : Rows) → IfOk result (λ why. option_map objection_in why
+        ≡ first_objection (upload_tests (record { rows = held; head = head.now }) whole.now)) }
+{
+    if has_last_moment(head, whole) {
+        return Ok(Some(Cause::Sequence));
+    }
+    if !is_whole_in_range(whole) {
+        return Ok(Some(Cause::Row));
+    }
+    if has_twin_rows(whole.rows.allocator(), whole.rows.as_slice())? {
+        return Ok(Some(Cause::Row));
+    }
+    if has_twin_tags(whole.tags.as_slice()) {
+        return Ok(Some(Cause::Row));
+    }
+    Ok(None)
+}
+
+/// Whether a moment or a schema moment of either side is the last one.
+fn has_last_moment(head: &Head, whole: &Whole) -> bool
+    ensures { (held : Rows) → result ≡ has_last_moment (record { rows = held; head = head.now }) whole.now }
+{
+    has_no_next(head.moment)
+        || has_no_next(head.schema)
+        || has_no_next(whole.moment)
+        || has_no_next(whole.schema)
+}
+
+/// Whether what an upload holds is in its ranges: rows, tags, settings, and the second of creation.
+fn is_whole_in_range(whole: &Whole) -> bool
+    ensures { result ≡ is_whole_in_range whole.now }
+{
+    are_checked(whole.rows.as_slice())
+        && are_tags_in_range(whole.tags.as_slice())
+        && is_conf_in_range(&whole.conf)
+        && is_between(whole.crt, 0, LAST_STAMP)
+}
+
+/// Whether each of these rows passes its check.
+fn are_checked(rows: &[Row]) -> bool
+    ensures { result ≡ list_all is_checked rows.now }
+{
+    rows.iter().all(|row| row.check().is_ok())
+}
+
+/// Whether each of these tags is in its range.
+fn are_tags_in_range(tags: &[Tag]) -> bool
+    ensures { result ≡ list_all is_tag_in_range tags.now }
+{
+    tags.iter().all(|tag| is_tag_name(&tag.name) && is_between(tag.usn, -1, LAST_USN))
+}
+
+/// Whether two of these rows share a name.
+fn has_twin_rows(alloc: Global, rows: &[Row]) -> Result<bool, Memory>
+    ensures { IfOk result (λ found. found ≡ has_twins same_names rows.now) }
+{
+    let mut names = BTreeSet::new(alloc);
+    for row in rows {
+        if add_name(&mut names, row.name())? {
+            return Ok(true);
+        }
+    }
+    Ok(false)
+}
+
+/// Adds a name, and answers whether it was there already.
+fn add_name(names: &mut BTreeSet<Name>, name: Name) -> Result<bool, Memory>
+    ensures found { IfOk result (λ found. found ≡ list_any (eq_by_cmp name_cmp name) names.old.keys) }
+    ensures added { OnOk result ((other : Named) → list_any (eq_by_cmp name_cmp other) names.new.keys
+        ≡ cond (eq_by_cmp name_cmp name other) true (list_any (eq_by_cmp name_cmp other) names.old.keys)) }
+{
+    Ok(!names.insert(name)?)
+}
+
+/// Whether two of these tags share a name. It takes no memory.
+fn has_twin_tags(tags: &[Tag]) -> bool
+    ensures { result ≡ has_twins same_tags tags.now }
+{
+    let mut rest = tags;
+    while let Some((tag, others)) = rest.split_first() {
+        if has_same_tag(tag, others) {
+            return true;
+        }
+        rest = others;
+    }
+    false
+}
+
+/// Whether one of these tags has the name of this one.
+fn has_same_tag(tag: &Tag, others: &[Tag]) -> bool
+    ensures { result ≡ list_any (same_tags tag.now) others.now }
+{
+    others.iter().any(|other| tag.name == other.name)
+}
+
+/// The method of what is asked.
+pub fn method_of(ask: &Ask) -> Method
+    ensures { result ≡ asked_method ask.now }
+{
+    match ask {
+        Ask::Meta => Method::Meta,
+        Ask::Start { .. } => Method::Start,
+        Ask::ApplyGraves(_) => Method::ApplyGraves,
+        Ask::ApplyChanges(_) => Method::ApplyChanges,
+        Ask::Chunk => Method::Chunk,
+        Ask::ApplyChunk(_) => Method::ApplyChunk,
+        Ask::SanityCheck2(_) => Method::SanityCheck2,
+        Ask::Finish => Method::Finish,
+        Ask::Upload(_) => Method::Upload,
+        Ask::Download => Method::Download,
+    }
+}
+
+/// Whether a number is one from the least to the most.
+fn is_between(number: i64, least: i64, most: i64) -> bool
+    ensures { result ≡ is_between least most number }
+{
+    least <= number && number <= most
+}
+
+/// Whether the moment after this one is past the last one.
+fn has_no_next(moment: i64) -> bool
+    ensures { result ≡ has_no_next moment }
+{
+    LAST_MOMENT <= moment
+}
+
+/// Whether the ids of all graves are ids of rows.
+fn are_graves_in_range(ids: &GraveIds) -> bool
+    ensures { result ≡ list_all is_id (ids.now.cards ++ (ids.now.notes ++ ids.now.decks)) }
+{
+    are_ids(ids.cards.as_slice()) && are_ids(ids.notes.as_slice()) && are_ids(ids.decks.as_slice())
+}
+
+/// Whether all of these are ids of rows.
+fn are_ids(ids: &[i64]) -> bool
+    ensures { result ≡ list_all is_id ids.now }
+{
+    ids.iter().all(|id| is_between(*id, 1, LAST_ID))
+}
+
+/// Whether each row of a chunk passes its check.
+#[tactic(auto, using(crate::proofs::Checks::checked_three))]
+fn are_rows_checked(chunk: &Chunk) -> bool
+    ensures { result ≡ list_all is_checked (chunk_rows chunk.now) }
+{
+    are_reviews_checked(chunk.reviews.as_slice())
+        && are_cards_checked(chunk.cards.as_slice())
+        && are_notes_checked(chunk.notes.as_slice())
+}
+
+/// Whether each of these reviews passes its check.
+fn are_reviews_checked(reviews: &[Review]) -> bool
+    ensures { result ≡ list_all (λ (row : Review). is_checked (rows.Review row)) reviews.now }
+{
+    reviews.iter().all(|row| row.check().is_ok())
+}
+
+/// Whether each of these cards passes its check.
+fn are_cards_checked(cards: &[Card]) -> bool
+    ensures { result ≡ list_all (λ (row : Card). is_checked (rows.Card row)) cards.now }
+{
+    cards.iter().all(|row| row.check().is_ok())
+}
+
+/// Whether each of these notes passes its check.
+fn are_notes_checked(notes: &[Note]) -> bool
+    ensures { result ≡ list_all (λ (row : Note). is_checked (rows.Note row)) notes.now }
+{
+    notes.iter().all(|row| row.check().is_ok())
+}
+
+/// Whether what changes hold is in its ranges: rows, names of tags, and settings if there are some.
+fn are_changes_in_range(changes: &Changes) -> bool
+    ensures { result ≡ are_changes_in_range changes.now }
+{
+    are_changed_rows_checked(changes)
+        && are_tag_names(changes.tags.as_slice())
+        && is_newer_in_range(&changes.newer)
+}
+
+/// Whether each row of changes passes its check.
+#[tactic(auto, using(crate::proofs::Checks::checked_three))]
+fn are_changed_rows_checked(changes: &Changes) -> bool
+    ensures { result ≡ list_all is_checked (change_rows changes.now) }
+{
+    are_types_checked(changes.models.as_slice())
+        && are_decks_checked(changes.decks.as_slice())
+        && are_options_checked(changes.options.as_slice())
+}
+
+/// Whether each of these note types passes its check.
+fn are_types_checked(types: &[NoteType]) -> bool
+    ensures { result ≡ list_all (λ (row : NoteType). is_checked (rows.NoteType row)) types.now }
+{
+    types.iter().all(|row| row.check().is_ok())
+}
+
+/// Whether each of these decks passes its check.
+fn are_decks_checked(decks: &[Deck]) -> bool
+    ensures { result ≡ list_all (λ (row : Deck). is_checked (rows.Deck row)) decks.now }
+{
+    decks.iter().all(|row| row.check().is_ok())
+}
+
+/// Whether each of these groups of options passes its check.
+fn are_options_checked(options: &[Options]) -> bool
+    ensures { result ≡ list_all (λ (row : Options). is_checked (rows.Options row)) options.now }
+{
+    options.iter().all(|row| row.check().is_ok())
+}
+
+/// Whether each of these is the name of a tag: 1 to 512 bytes.
+fn are_tag_names(names: &[Text]) -> bool
+    ensures { result ≡ list_all is_tag_name names.now }
+{
+    names.iter().all(|name| is_tag_name(name))
+}
+
+/// Whether this is the name of a tag.
+fn is_tag_name(name: &Text) -> bool
+    ensures { result ≡ is_tag_name name.now }
+{
+    let bytes = name.as_str().len() as u64;
+    1 <= bytes && bytes <= NAME_BYTES
+}
+
+/// Whether the settings and the second of creation, if they are there, are in their ranges.
+fn is_newer_in_range(newer: &Option<Newer>) -> bool
+    ensures { result ≡ option_map_or is_newer_in_range newer.now true }
+{
+    match newer {
+        Some(newer) => is_conf_in_range(&newer.conf) && is_between(newer.crt, 0, LAST_STAMP),
+        None => true,
+    }
+}
+
+/// Whether the settings are in their ranges.
+fn is_conf_in_range(conf: &Conf) -> bool
+    ensures { result ≡ is_conf_in_range conf.now }
+{
+    are_conf_numbers_in_range(conf) && conf.rest.as_str().len() as u64 <= REST_BYTES
+}
+
+/// Whether the numbers of the settings are in their ranges.
+fn are_conf_numbers_in_range(conf: &Conf) -> bool
+    ensures { result ≡ (is_between (pos 0) (pos 2) conf.now.new_spread && is_between (pos 0) (pos 86_400) conf.now.collapse
+        && is_between (pos 0) (pos 2_147_483_647) conf.now.next_pos
+        && is_between (negsuc 9_999_999) (pos 100_000_000) conf.now.last_unburied) }
+{
+    is_between(conf.new_spread, 0, 2)
+        && is_between(conf.collapse, 0, 86_400)
+        && is_between(conf.next_pos, 0, LAST_COUNT)
+        && is_between(conf.last_unburied, FIRST_DAY, LAST_DAY)
+}
