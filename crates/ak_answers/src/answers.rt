@@ -1,0 +1,321 @@
+// What an accepted request does to the session's tables, and what it is given.
+ghost use Rattle.std.specs.Prelude.{◌≡◌, ◌++◌, true, false, IfOk, OnOk};
+ghost use Rattle.std.specs.Option.{option_map, unwrap_or};
+ghost use Rattle.ak_base.specs.Heads.{IsHeadInRange};
+ghost use Rattle.ak_keep.specs.Collections.{Rows};
+ghost use Rattle.ak_keep.specs.Keepers.{IsMarkedAt, KeepCause, WhereTold, back, changed, is_marked, marked_here};
+ghost use Rattle.ak_keep.specs.Readings.{ReadsBy};
+ghost use Rattle.ak_keep.specs.declared.keepers.Wanted.TheVariants.{From as From_usn};
+ghost use Rattle.ak_merge.specs.Commits.{with_received};
+ghost use Rattle.ak_merge.specs.Exchanges.{wanted_tags};
+ghost use Rattle.ak_messages.specs.declared.requests.Ask.TheVariants as asks;
+ghost use Rattle.ak_answers.specs.Answers.{Answers, HasHead, IsNextChunk, MayBeTaken, answered, changes_given, expects_mark, held_with, is_chunk, settings_unless_newer, tables_of};
+ghost use Rattle.ak_session.specs.Asks.{brought};
+ghost use Rattle.ak_session.specs.Messages.{grave_ids, newer_of, settings_in};
+ghost use Rattle.ak_session.specs.Slices.{wanted_changes, wanted_graves};
+
+use crate::chunks::next_rows;
+use crate::lists::append_page;
+use crate::sanity::sanity_of;
+use crate::takes::{
+    take_cards, take_decks, take_graves, take_notes, take_options, take_reviews, take_types,
+};
+use crate::walks::rows_from;
+use crate::wholes::whole_of;
+use ak_base::{Conf, Head, List, Memory, Name, Row, Table, Tag, Text};
+use ak_keep::{KeepFault, Keeper, Wanted};
+use ak_machine::{Changed, Session, changed_of, chunk_of, grave_ids};
+use ak_merge::take_tags;
+use ak_messages::{Ask, Changes, Chunk, Give, GraveIds, Newer};
+use std::alloc::Global;
+
+/// What a request was tested against: the head that is held, and the live session.
+#[derive(Drop)]
+pub struct Basis {
+    pub head: Head,
+    pub live: Session,
+}
+
+/// What an accepted request is given, whether it was the last chunk of its direction, and where the next chunk begins.
+#[derive(Drop)]
+pub struct Answered {
+    pub give: Give,
+    pub done: bool,
+    pub given: Name,
+}
+
+/// Answers an accepted request that neither commits nor is a meta. A refusal may leave the session half done.
+pub fn answer<K: Keeper>(
+    alloc: Global,
+    keeper: &mut K,
+    basis: Basis,
+    ask: &Ask,
+) -> Result<Answered, KeepFault>
+    requires held { HasHead (K.keeping keeper.old) basis.head }
+    requires marked { is_marked (K.keeping keeper.old) ≡ expects_mark ask.now }
+    requires taken { MayBeTaken (brought ask.now) }
+    ensures ok { OnOk result (K.keeping keeper.new ≡ answered ask.now (K.keeping keeper.old)) }
+    ensures told { IfOk result (λ it. WhereTold (K.keeping keeper.old) (λ h. Answers (tables_of basis h) basis.live ask.now it)) }
+    ensures given { IfOk result (λ it. is_chunk ask.now ≡ false → it.given ≡ basis.live.given) }
+    ensures committed { back (K.keeping keeper.new) ≡ back (K.keeping keeper.old) }
+    ensures cause { KeepCause (K.health keeper.old) (K.health keeper.new) result }
+{
+    let given = basis.live.given;
+    match ask {
+        Ask::Start { min_usn, .. } => {
+            let graves = start(alloc, keeper, *min_usn)?;
+            Ok(give_answer(Give::Graves(graves), false, given))
+        }
+        Ask::ApplyGraves(ids) => {
+            apply_graves(keeper, ids, &basis.head)?;
+            Ok(give_answer(Give::Nothing, false, given))
+        }
+        Ask::ApplyChanges(changes) => {
+            let changes = exchange_changes(alloc, keeper, basis, changes)?;
+            Ok(give_answer(Give::Changes(changes), false, given))
+        }
+        Ask::Chunk => give_chunk(alloc, keeper, basis.live),
+        Ask::ApplyChunk(chunk) => {
+            apply_chunk(keeper, chunk, &basis.head)?;
+            Ok(give_answer(Give::Nothing, chunk.done, given))
+        }
+        Ask::SanityCheck2(counts) => {
+            let sanity = sanity_of(keeper, *counts)?;
+            Ok(give_answer(Give::Sanity(sanity), false, given))
+        }
+        Ask::Download => {
+            let whole = whole_of(alloc, keeper, basis.head)?;
+            Ok(give_answer(Give::Whole(whole), false, given))
+        }
+        Ask::Meta => Ok(give_answer(Give::Nothing, false, given)),
+        Ask::Finish => Ok(give_answer(Give::Nothing, false, given)),
+        Ask::Upload(_) => Ok(give_answer(Give::Nothing, false, given)),
+    }
+}
+
+/// What is answered.
+fn give_answer(give: Give, done: bool, given: Name) -> Answered
+    ensures { result ≡ record { give = give; done = done; given = given } }
+{
+    Answered { give, done, given }
+}
+
+/// A start: the graves with at least the number are given, and the keeper is marked.
+#[tactic(auto, using(crate::proofs::Marking::back_stays))]
+fn start<K: Keeper>(alloc: Global, keeper: &mut K, min_usn: i64) -> Result<GraveIds, KeepFault>
+    requires unmarked { is_marked (K.keeping keeper.old) ≡ false }
+    ensures ok { OnOk result (K.keeping keeper.new ≡ marked_here (K.keeping keeper.old)) }
+    ensures told { IfOk result (λ ids. WhereTold (K.keeping keeper.old) (λ h. ids ≡ grave_ids (wanted_graves (From_usn min_usn) h.rows))) }
+    ensures committed { back (K.keeping keeper.new) ≡ back (K.keeping keeper.old) }
+    ensures cause { KeepCause (K.health keeper.old) (K.health keeper.new) result }
+{
+    let graves = graves_from(keeper, Wanted::From(min_usn))?;
+    let ids = grave_ids(alloc, graves.as_slice())?;
+    keeper.mark()?;
+    Ok(ids)
+}
+
+/// The wanted graves: of notes, then of cards, then of decks.
+fn graves_from<K: Keeper>(keeper: &mut K, want: Wanted) -> Result<Vec<Row>, KeepFault>
+    ensures reads { ReadsBy K.Lookup keeper.old keeper.new result (λ h rows.
+        rows.items ≡ wanted_graves want h.rows) }
+{
+    let mut graves = rows_from(keeper, Table::NoteGrave, want)?.into_vec();
+    let cards = rows_from(keeper, Table::CardGrave, want)?;
+    let decks = rows_from(keeper, Table::DeckGrave, want)?;
+    append_pages(&mut graves, cards, decks)?;
+    Ok(graves)
+}
+
+/// Adds two pages of rows at the end.
+fn append_pages(rows: &mut Vec<Row>, one: List<Row>, other: List<Row>) -> Result<(), Memory>
+    ensures { OnOk result (rows.new.items ≡ rows.old.items ++ (one ++ other)) }
+{
+    append_page(rows, one)?;
+    append_page(rows, other)
+}
+
+/// Takes the graves that came.
+fn apply_graves<K: Keeper>(keeper: &mut K, ids: &GraveIds, head: &Head) -> Result<(), KeepFault>
+    requires held { HasHead (K.keeping keeper.old) head.now }
+    requires marked { is_marked (K.keeping keeper.old) ≡ true }
+    requires taken { MayBeTaken (brought (asks.ApplyGraves ids.now)) }
+    ensures ok { OnOk result (K.keeping keeper.new ≡ changed (held_with (brought (asks.ApplyGraves ids.now))) (K.keeping keeper.old)) }
+    ensures committed { back (K.keeping keeper.new) ≡ back (K.keeping keeper.old) }
+    ensures cause { KeepCause (K.health keeper.old) (K.health keeper.new) result }
+{
+    take_graves(keeper, 1, ids.notes.as_slice(), head.usn)?;
+    take_graves(keeper, 0, ids.cards.as_slice(), head.usn)?;
+    take_graves(keeper, 2, ids.decks.as_slice(), head.usn)
+}
+
+/// Gives the server's changes as they were before it takes those that came.
+fn exchange_changes<K: Keeper>(
+    alloc: Global,
+    keeper: &mut K,
+    basis: Basis,
+    came: &Changes,
+) -> Result<Changes, KeepFault>
+    requires held { HasHead (K.keeping keeper.old) basis.head }
+    requires marked { is_marked (K.keeping keeper.old) ≡ true }
+    requires taken { MayBeTaken (brought (asks.ApplyChanges came.now)) }
+    ensures ok { OnOk result (K.keeping keeper.new ≡ changed (held_with (brought (asks.ApplyChanges came.now))) (K.keeping keeper.old)) }
+    ensures told { IfOk result (λ given. WhereTold (K.keeping keeper.old) (λ h.
+        given ≡ changes_given (tables_of basis h) basis.live)) }
+    ensures committed { back (K.keeping keeper.new) ≡ back (K.keeping keeper.old) }
+    ensures cause { KeepCause (K.health keeper.old) (K.health keeper.new) result }
+{
+    let given = changes_from(alloc, keeper, &basis)?;
+    take_changes(keeper, came, basis.head)?;
+    Ok(given)
+}
+
+/// The server's changes: its rows and tags with at least the session's number, and its settings if it is the newer side.
+fn changes_from<K: Keeper>(
+    alloc: Global,
+    keeper: &mut K,
+    basis: &Basis,
+) -> Result<Changes, KeepFault>
+    ensures reads { ReadsBy K.Lookup keeper.old keeper.new result (λ h given.
+        given ≡ changes_given (tables_of basis.now h) basis.now.live) }
+{
+    let rows = changed_rows(keeper, Wanted::From(basis.live.least_usn))?;
+    let Changed {
+        models,
+        decks,
+        options,
+    } = changed_of(alloc, rows)?;
+    let tags = tags_from(alloc, basis.head.tags.as_slice(), &basis.live)?;
+    let newer = settings_given(&basis.head, &basis.live)?;
+    Ok(Changes {
+        models,
+        decks,
+        options,
+        tags,
+        newer,
+    })
+}
+
+/// The wanted rows that are not given by chunks: note types, then decks, then options.
+fn changed_rows<K: Keeper>(keeper: &mut K, want: Wanted) -> Result<Vec<Row>, KeepFault>
+    ensures reads { ReadsBy K.Lookup keeper.old keeper.new result (λ h rows.
+        rows.items ≡ wanted_changes want h.rows) }
+{
+    let mut types = rows_from(keeper, Table::NoteType, want)?.into_vec();
+    let decks = rows_from(keeper, Table::Deck, want)?;
+    let options = rows_from(keeper, Table::Options, want)?;
+    append_pages(&mut types, decks, options)?;
+    Ok(types)
+}
+
+/// The names of the tags with at least the session's number, in their order.
+fn tags_from(alloc: Global, tags: &[Tag], live: &Session) -> Result<List<Text>, Memory>
+    ensures { IfOk result (λ names. names ≡ wanted_tags (From_usn live.now.least_usn) tags.now) }
+{
+    let mut names = List::new(alloc);
+    for tag in tags {
+        if live.least_usn <= tag.usn {
+            names.push(tag.name.copy()?)?;
+        }
+    }
+    Ok(names)
+}
+
+/// The server's settings, unless the device was changed after the committed collection.
+fn settings_given(head: &Head, live: &Session) -> Result<Option<Newer>, Memory>
+    ensures { IfOk result (λ newer. newer ≡ option_map newer_of (settings_unless_newer head.now live.now.moment)) }
+{
+    if head.moment < live.moment {
+        return Ok(None);
+    }
+    Ok(Some(Newer {
+        conf: head.conf.copy()?,
+        crt: head.crt,
+    }))
+}
+
+/// Takes the changes that came: rows, then tags and settings.
+fn take_changes<K: Keeper>(keeper: &mut K, came: &Changes, head: Head) -> Result<(), KeepFault>
+    requires marked { is_marked (K.keeping keeper.old) ≡ true }
+    requires held { HasHead (K.keeping keeper.old) head }
+    requires taken { MayBeTaken (brought (asks.ApplyChanges came.now)) }
+    ensures ok { OnOk result (K.keeping keeper.new ≡ changed (held_with (brought (asks.ApplyChanges came.now))) (K.keeping keeper.old)) }
+    ensures stays { IsMarkedAt (back (K.keeping keeper.old)) (K.keeping keeper.new) }
+    ensures cause { KeepCause (K.health keeper.old) (K.health keeper.new) result }
+{
+    take_types(keeper, came.models.as_slice(), head.usn)?;
+    take_decks(keeper, came.decks.as_slice(), head.usn)?;
+    take_options(keeper, came.options.as_slice(), head.usn)?;
+    let head = head_with(head, came)?;
+    keeper.set_head(head)
+}
+
+/// The head once the tags and settings that came are taken.
+#[tactic(auto, using(crate::proofs::HeadRanges::taken_head_fits))]
+fn head_with(head: Head, came: &Changes) -> Result<Head, Memory>
+    requires range { IsHeadInRange head }
+    requires taken { MayBeTaken (brought (asks.ApplyChanges came.now)) }
+    ensures ok { (held : Rows) → IfOk result (λ made.
+        made ≡ (with_received (brought (asks.ApplyChanges came.now)) (record { rows = held; head = head })).head) }
+    ensures range { IfOk result IsHeadInRange }
+{
+    let Head {
+        crt,
+        moment,
+        schema,
+        usn,
+        last_sync,
+        conf,
+        tags,
+    } = head;
+    let tags = take_tags(tags, came.tags.as_slice(), usn)?;
+    let (conf, crt) = settings_after(&came.newer, conf, crt)?;
+    Ok(Head {
+        crt,
+        moment,
+        schema,
+        usn,
+        last_sync,
+        conf,
+        tags,
+    })
+}
+
+/// The settings that came, or else the held ones.
+fn settings_after(newer: &Option<Newer>, conf: Conf, crt: i64) -> Result<(Conf, i64), Memory>
+    ensures conf { IfOk result (λ made. made.0 ≡ (unwrap_or (option_map settings_in newer.now) (record { conf = conf; crt = crt })).conf) }
+    ensures crt { IfOk result (λ made. made.1 ≡ (unwrap_or (option_map settings_in newer.now) (record { conf = conf; crt = crt })).crt) }
+{
+    match newer {
+        Some(newer) => Ok((newer.conf.copy()?, newer.crt)),
+        None => Ok((conf, crt)),
+    }
+}
+
+/// Gives the next rows.
+fn give_chunk<K: Keeper>(
+    alloc: Global,
+    keeper: &mut K,
+    live: Session,
+) -> Result<Answered, KeepFault>
+    ensures reads { ReadsBy K.Lookup keeper.old keeper.new result (λ h it. IsNextChunk h.rows live it) }
+{
+    let (rows, given) = next_rows(alloc, keeper, live.given, Wanted::From(live.least_usn))?;
+    let chunk = chunk_of(alloc, rows)?;
+    let done = chunk.done;
+    Ok(give_answer(Give::Chunk(chunk), done, given))
+}
+
+/// Takes the rows of a chunk.
+fn apply_chunk<K: Keeper>(keeper: &mut K, chunk: &Chunk, head: &Head) -> Result<(), KeepFault>
+    requires held { HasHead (K.keeping keeper.old) head.now }
+    requires marked { is_marked (K.keeping keeper.old) ≡ true }
+    requires taken { MayBeTaken (brought (asks.ApplyChunk chunk.now)) }
+    ensures ok { OnOk result (K.keeping keeper.new ≡ changed (held_with (brought (asks.ApplyChunk chunk.now))) (K.keeping keeper.old)) }
+    ensures committed { back (K.keeping keeper.new) ≡ back (K.keeping keeper.old) }
+    ensures cause { KeepCause (K.health keeper.old) (K.health keeper.new) result }
+{
+    take_reviews(keeper, chunk.reviews.as_slice(), head.usn)?;
+    take_cards(keeper, chunk.cards.as_slice(), head.usn)?;
+    take_notes(keeper, chunk.notes.as_slice(), head.usn)
+}
