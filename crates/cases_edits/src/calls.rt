@@ -2,6 +2,7 @@ ghost use Rattle.std.specs.Prelude.{◌≤ℤ◌, pos, IfOk};
 
 use crate::faults::fault_text;
 use crate::sessions::Session;
+use crate::{deck_calls, note_calls, option_calls, study_calls};
 use ak_decks::{FlagCards, MoveCards, UseOptions, flag, move_cards, use_options};
 use ak_edit::{DeskFault, undo};
 use ak_keep::{Keeper, Lookup};
@@ -27,6 +28,16 @@ pub fn call(
         "move-cards" => move_by(alloc, session, &arguments),
         "use-options" => use_by(alloc, session, &arguments),
         "delete-notes" => delete_by(alloc, session, &arguments),
+        "delete-deck" => deck_calls::delete_by(alloc, session, &arguments),
+        "add-note" => note_calls::add_by(alloc, session, &arguments),
+        "set-options" => option_calls::set_by(alloc, session, &arguments),
+        "add-options" => option_calls::add_by(alloc, session, &arguments),
+        "delete-options" => option_calls::delete_by(alloc, session, &arguments),
+        "set-spread" => option_calls::spread_by(alloc, session, &arguments),
+        "start-day" => study_calls::start_by(alloc, session, &arguments),
+        "suspend" => study_calls::suspend_by(alloc, session, &arguments),
+        "unsuspend" => study_calls::unsuspend_by(alloc, session, &arguments),
+        "bury" => study_calls::bury_by(alloc, session, &arguments),
         _ => undo_by(alloc, session, &arguments),
     }
 }
@@ -108,7 +119,7 @@ fn undo_by(alloc: Global, session: &mut Session, arguments: &Value) -> Result<St
 }
 
 /// The moment at the first place of the arguments, in milliseconds, that a clock may tell.
-fn moment_at(arguments: &Value) -> Result<i64, Unread>
+pub fn moment_at(arguments: &Value) -> Result<i64, Unread>
     ensures { IfOk result (λ at. (pos 0 ≤ℤ at) × (at ≤ℤ pos 4_294_967_294_999)) }
 {
     let at = number_at(arguments, 0)?;
@@ -119,7 +130,7 @@ fn moment_at(arguments: &Value) -> Result<i64, Unread>
 }
 
 /// The ids at a place of the arguments.
-fn ids_at(alloc: Global, arguments: &Value, place: usize) -> Result<Vec<i64>, Unread> {
+pub fn ids_at(alloc: Global, arguments: &Value, place: usize) -> Result<Vec<i64>, Unread> {
     let mut ids = Vec::new(alloc);
     for value in list_at(arguments, place)? {
         ids.push(value.as_i64().ok_or(Unread::Bad)?)?;
@@ -128,7 +139,7 @@ fn ids_at(alloc: Global, arguments: &Value, place: usize) -> Result<Vec<i64>, Un
 }
 
 /// `ok`, or why the call was refused.
-fn done(alloc: Global, answer: Result<(), DeskFault>) -> Result<String, Unread> {
+pub fn done(alloc: Global, answer: Result<(), DeskFault>) -> Result<String, Unread> {
     match answer {
         Ok(()) => Ok(String::from_str(alloc, "ok")?),
         Err(fault) => fault_text(alloc, fault),

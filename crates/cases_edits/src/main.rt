@@ -3,8 +3,12 @@
 #![tactic(auto)]
 
 mod calls;
+mod deck_calls;
 mod faults;
+mod note_calls;
+mod option_calls;
 mod sessions;
+mod study_calls;
 
 use crate::sessions::Session;
 use ak_io::{Sink, Source, StdSink, StdSource};

@@ -27,9 +27,21 @@ impl Session {
         match word {
             "steps" => self.steps_text(alloc),
             "forget" => self.forget(alloc),
-            "flag" | "move-cards" | "use-options" | "delete-notes" | "undo" => {
-                call(alloc, self, word, rest)
-            },
+            "flag"
+            | "move-cards"
+            | "use-options"
+            | "delete-deck"
+            | "add-note"
+            | "set-options"
+            | "add-options"
+            | "delete-options"
+            | "set-spread"
+            | "delete-notes"
+            | "start-day"
+            | "suspend"
+            | "unsuspend"
+            | "bury"
+            | "undo" => call(alloc, self, word, rest),
             _ => answer_of(alloc, &mut self.keeper, word, rest),
         }
     }

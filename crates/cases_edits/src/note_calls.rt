@@ -1,0 +1,65 @@
+use crate::calls::moment_at;
+use crate::faults::fault_text;
+use crate::sessions::Session;
+use ak_base::Text;
+use ak_edit::DeskFault;
+use ak_keep::{Keeper, Lookup};
+use ak_notes::{Added, NewNote, add_note};
+use cases_lines::{Unread, listed, natural_at, number_at, texts_at};
+use serde_json::Value;
+use std::alloc::Global;
+
+/// `add-note [AT, WORD, TYPE, DECK, GUID, FIELDS, TAGS]`.
+pub fn add_by(alloc: Global, session: &mut Session, arguments: &Value) -> Result<String, Unread> {
+    let at = moment_at(arguments)?;
+    let new = new_note_at(alloc, arguments)?;
+    if session.keeper.marked() || !session.keeper.held() {
+        return Err(Unread::Bad);
+    }
+    added(
+        alloc,
+        add_note(&mut session.keeper, &mut session.steps, &new, at),
+    )
+}
+
+/// The note that the arguments give from the second place on.
+fn new_note_at(alloc: Global, arguments: &Value) -> Result<NewNote, Unread> {
+    let guid = guid_at(alloc, arguments)?;
+    let fields = texts_at(alloc, arguments, 5)?;
+    let tags = texts_at(alloc, arguments, 6)?;
+    Ok(NewNote {
+        note_type: number_at(arguments, 2)?,
+        deck: number_at(arguments, 3)?,
+        guid,
+        fields,
+        tags,
+        chance: natural_at(arguments, 1)?,
+    })
+}
+
+/// The text at the fifth place, none if it is null.
+fn guid_at(alloc: Global, arguments: &Value) -> Result<Option<Text>, Unread> {
+    match arguments.get(4) {
+        Some(Value::Null) => Ok(None),
+        Some(value) => {
+            let guid = value.as_str().ok_or(Unread::Bad)?;
+            Ok(Some(Text::of(alloc, guid)?))
+        },
+        None => Err(Unread::Bad),
+    }
+}
+
+/// `added`, the note's id and those of its cards, or why the call was refused.
+fn added(alloc: Global, answer: Result<Added, DeskFault>) -> Result<String, Unread> {
+    match answer {
+        Ok(added) => added_text(alloc, &added),
+        Err(fault) => fault_text(alloc, fault),
+    }
+}
+
+/// `added`, the note's id and those of its cards.
+fn added_text(alloc: Global, added: &Added) -> Result<String, Unread> {
+    let note = added.note;
+    let cards = listed(alloc, added.cards.as_slice())?;
+    Ok(format!(in alloc; "added {note} {cards}")?)
+}
