@@ -1,0 +1,4 @@
+pub mod CheckedOrds
+pub mod Joining
+pub mod Sides
+pub mod ToldCards

@@ -1,0 +1,2 @@
+pub mod CardFaces
+pub mod CardPages
