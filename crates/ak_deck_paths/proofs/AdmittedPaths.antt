@@ -1,0 +1,84 @@
+-- Edits that make decks, or move a subtree, are admitted.
+use Rattle.std.specs.Prelude.{◌≡◌, ℕ, ℤ, Bool, true, false, ◌||◌, is_some, if◌then◌else◌, List, [], ◌∷◌}
+use Rattle.std.proofs.Common.{refl, sym, ap, subst, ◌∙◌}
+use Rattle.ak_base.specs.Rows.{name_of}
+use Rattle.ak_base.specs.declared.decks.Deck.{Deck}
+use Rattle.ak_base.specs.declared.names.Name.{Name}
+use Rattle.ak_base.specs.declared.names.Table.{Table}
+use Rattle.ak_base.specs.declared.names.Table.TheVariants as tables
+use Rattle.ak_base.specs.declared.rows.Row.{Row}
+use Rattle.ak_base.specs.declared.rows.Row.TheVariants as rows
+use Rattle.ak_calls.specs.NewNames.{is_used}
+use Rattle.ak_edit.specs.FreeNames.{IsFree, first_name}
+use Rattle.ak_keep.specs.Collections.{Collection}
+use Rattle.ak_merge.proofs.EditBuildingLaws.{maps_are_admitted, puts_are_admitted, unedited_is_admitted}
+use Rattle.ak_merge.proofs.EditFacts.{true_false}
+use Rattle.ak_merge.specs.EditBuilding.{MayMap, MayPut, unedited, with_row, with_rows_mapped}
+use Rattle.ak_merge.specs.Edits.{Admits, Edit}
+use Rattle.ak_merge.specs.Holdings.{AreNamed, is_dead, name_in, row_under}
+use Rattle.ak_deck_paths.specs.Additions.{AreAdded, added_paths, addition}
+use Rattle.ak_deck_paths.specs.ChangedDecks.{with_decks}
+use Rattle.ak_deck_paths.specs.DeckPaths.{decks_in, is_under, missing_above, moved_deck, renamed}
+use Rattle.ak_deck_paths.specs.NewDecks.{AreMadeOf, IsNewDeck, next_name}
+use Rattle.ak_deck_paths.specs.Renames.{AreMadeAbove, renaming}
+
+second_false : (a b : Bool) → (a || b) ≡ false → b ≡ false
+second_false true b is = true_false is
+second_false false b is = is
+
+-- a free name is not dead
+not_dead : (c : Collection) (first name : Name) → first.table ≡ tables.Deck → IsFree (is_used (row_under c)) first name → is_dead (row_under c) (name_in tables.Deck name.id) ≡ false
+not_dead c first name of free =
+    let there : Name = name_in tables.Deck name.id in
+    let same : name ≡ there = ap (λ (t : Table). name_in t name.id) (free.table ∙ of) in
+    second_false (is_some (row_under c there)) (is_dead (row_under c) there) (ap (is_used (row_under c)) (sym same) ∙ free.free)
+
+deck_may : (c : Collection) (path : List ℕ) (deck : Deck) (first name : Name) → first.table ≡ tables.Deck → IsFree (is_used (row_under c)) first name → IsNewDeck path name.id deck → MayPut c (rows.Deck deck)
+deck_may c path deck first name of free is = record {
+  free = λ none. subst (λ (id : ℤ). is_dead (row_under c) (name_in tables.Deck id) ≡ false) (sym is.id) (not_dead c first name of free);
+  review = λ is. absurd (cc);
+}
+
+decks_are_admitted : (c : Collection) (first : Name) (paths : List (List ℕ)) (made : List Deck) (edit : Edit) → first.table ≡ tables.Deck
+    → AreMadeOf (is_used (row_under c)) IsNewDeck first paths made → Admits c edit → Admits c (with_decks made edit)
+decks_are_admitted c first [] made edit of are admits = subst (λ (ds : List Deck). Admits c (with_decks ds edit)) (sym are) admits
+decks_are_admitted c first (path ∷ paths) made edit of are admits =
+    let name : Name = are.0 in
+    let one : Admits c (with_row (rows.Deck are.2) edit) = puts_are_admitted c edit (rows.Deck are.2) admits (deck_may c path are.2 first name of are.1 are.3) in
+    subst (λ (ds : List Deck). Admits c (with_decks ds edit)) (sym are.5)
+    (decks_are_admitted c (next_name name) paths are.4 (with_row (rows.Deck are.2) edit) (are.1.table ∙ of) are.6 one)
+
+pub deck_additions_are_admitted : (at : ℤ) (path : List ℕ) (made : List Deck) (c : Collection) → AreNamed (row_under c) → AreAdded at path c.rows made → Admits c (addition made c)
+deck_additions_are_admitted at path made c named are =
+    decks_are_admitted c (first_name tables.Deck at) (added_paths (decks_in c.rows) path) made (unedited c) refl are (unedited_is_admitted c named)
+
+-- ---- a subtree that moves
+deck_named : (old new : List ℕ) (deck : Deck) (under : Bool) → name_of (rows.Deck (if under then moved_deck old new deck else deck)) ≡ name_of (rows.Deck deck)
+deck_named old new deck true = refl
+deck_named old new deck false = refl
+
+pub renamed_named : (old new : List ℕ) (row : Row) → name_of (renamed old new row) ≡ name_of row
+renamed_named old new (rows.Deck deck) = deck_named old new deck (is_under old deck)
+renamed_named old new (rows.Note note) = refl
+renamed_named old new (rows.Card card) = refl
+renamed_named old new (rows.Review review) = refl
+renamed_named old new (rows.NoteType note_type) = refl
+renamed_named old new (rows.Options options) = refl
+renamed_named old new (rows.Grave grave) = refl
+
+review_stays : (old new : List ℕ) (row : Row) → (name_of row).table ≡ tables.Review → renamed old new row ≡ row
+review_stays old new (rows.Deck deck) is = absurd (cc)
+review_stays old new (rows.Note note) is = refl
+review_stays old new (rows.Card card) is = refl
+review_stays old new (rows.Review review) is = refl
+review_stays old new (rows.NoteType note_type) is = refl
+review_stays old new (rows.Options options) is = refl
+review_stays old new (rows.Grave grave) is = refl
+
+may_rename : (old new : List ℕ) → MayMap (renamed old new)
+may_rename old new = record { name = renamed_named old new; review = review_stays old new }
+
+pub deck_renames_are_admitted : (at : ℤ) (old new : List ℕ) (made : List Deck) (c : Collection) → AreNamed (row_under c) → AreMadeAbove at new c.rows made → Admits c (renaming old new made c)
+deck_renames_are_admitted at old new made c named are =
+    decks_are_admitted c (first_name tables.Deck at) (missing_above (decks_in c.rows) new) made (with_rows_mapped (renamed old new) (unedited c)) refl are
+    (maps_are_admitted c (unedited c) (renamed old new) (unedited_is_admitted c named) (may_rename old new))

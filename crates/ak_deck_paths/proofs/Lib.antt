@@ -1,0 +1,13 @@
+mod Collecting
+mod PathFacts
+mod FreeIds
+mod MakingDecks
+mod ShortPaths
+mod CheckedDecks
+mod PuttingDecks
+mod Ending
+mod AddedDecks
+mod ChangedRows
+mod MovedDecks
+mod RenamedDecks
+mod AdmittedPaths
