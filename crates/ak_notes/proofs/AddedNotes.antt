@@ -29,12 +29,12 @@ use Rattle.ak_keep.specs.Keepers.{Keeping, WhereHeld, WhereTold}
 use Rattle.ak_keep.specs.Lookups.{note_type_at}
 use Rattle.ak_merge.specs.Edits.{Edit}
 use Rattle.ak_notes.proofs.FreeIds.{card_ids_answer, cards_of_once, free_once}
-use Rattle.ak_notes.proofs.MadeNotes.{made_asked}
+use Rattle.ak_notes.proofs.MadeNotes.{made_answer, made_asked}
+use Rattle.ak_notes.proofs.Needing.{other_answer, other_refusal}
 use Rattle.ak_notes.proofs.NewCards.{where_always}
-use Rattle.ak_notes.specs.Additions.{DoesAdd, IsAdded, IsAddedFor, IsAddedUnder, IsAddition, IsMadeFor, IsMadeOf, IsMadeUnder, IsMadeWith, RefusesAddition, RefusesMaking, RefusesOfType, RefusesShown, RefusesToAdd, added_place, added_row, at_least_one}
-use Rattle.ak_notes.specs.GivenTexts.{RefusesGiven}
-use Rattle.ak_notes.specs.MadeNotes.{IsGivenFault, IsMakingFault, IsMissingIn, RefusesMade, made_edit, made_over}
-use Rattle.ak_notes.specs.NewCards.{AreNewCards, AreNewIn, RefusesCardIds, RefusesFronts, RefusesIds, conf_after}
+use Rattle.ak_notes.specs.Additions.{DoesAdd, IsAdded, IsAddedFor, IsAddedUnder, IsAddition, IsMadeFor, IsMadeOf, IsMadeUnder, IsMadeWith, RefusesAddition, RefusesMaking, RefusesShown, RefusesToAdd, added_place, added_row}
+use Rattle.ak_notes.specs.MadeNotes.{IsGivenFault, IsMakingFault, IsMissingIn, RefusesMade, made_over}
+use Rattle.ak_notes.specs.NewCards.{AreNewCards, AreNewIn, RefusesCardIds, RefusesFronts, RefusesIds, at_least_one, conf_after}
 use Rattle.ak_notes.specs.declared.additions.Added.{Added}
 use Rattle.ak_notes.specs.declared.additions.NewNote.{NewNote}
 use Rattle.ak_notes.specs.declared.made_notes.MadeNote.{MadeNote}
@@ -91,25 +91,6 @@ add_done k now at new made added o steps left is over note cards =
     }) (made_held k at new made is)
 
 -- ---- what it answers
--- the same tests accept whatever is answered
-pub other_answer : {T U : Type 0} (tests : Refusal) (value : T) (other : U) → AnswersBy {T = T} tests (Ok value) → AnswersBy {T = U} tests (Ok other)
-other_answer tests value other answers = record { accepted = answers.accepted; refused = tt }
-
-pub other_refusal : {T U : Type 0} (tests : Refusal) (fault : DeskFault) → AnswersBy {T = T} tests (Err fault) → AnswersBy {T = U} tests (Err fault)
-other_refusal tests fault answers = record { accepted = tt; refused = answers.refused }
-
-made_answer : {T : Type 0} (at : ℤ) (new : NewNote) (c : Collection) (made : MadeNote) (result : Result T DeskFault)
-    → IsAddition at new c.rows c.head made → AnswersBy (RefusesEnd at c (made_edit new.tags made c)) result → AnswersBy (RefusesMade at new.tags c (IsAddition at new c.rows c.head)) result
-made_answer at new c made (Ok value) is answers = record {
-  accepted = λ fault refuses. answers.accepted fault
-      (subst (λ (m : MadeNote). RefusesEnd at c (made_edit new.tags m c) fault) (added_once at new c.rows c.head refuses.0 made refuses.1 is) refuses.2);
-  refused = tt;
-}
-made_answer at new c made (Err fault) is answers = record {
-  accepted = tt;
-  refused = elim answers.refused [ inl outside ↦ inl outside | inr refuses ↦ inr (made, is, refuses) ];
-}
-
 record Passes (at : ℤ) (new : NewNote) (made : MadeNote) (c : Collection) : Type 0 where
   is : IsAddition at new c.rows c.head made
   tests : AnswersBy {T = MadeNote} (RefusesToAdd at new c.rows) (Ok made)
@@ -118,7 +99,7 @@ end_answer : {T : Type 0} (at : ℤ) (new : NewNote) (made : MadeNote) (o : Over
     → Passes at new made c → AnswersBy (RefusesEnd at c (edit_of o c)) result → AnswersBy (RefusesAddition at new c) result
 end_answer at new made o result c over passes answers =
     passed_first (RefusesToAdd at new c.rows) (RefusesMade at new.tags c (IsAddition at new c.rows c.head)) made result passes.tests
-    (made_answer at new c made result passes.is
+    (made_answer at new.tags c (IsAddition at new c.rows c.head) made result (λ other is. added_once at new c.rows c.head other made is passes.is) passes.is
     (subst (λ (e : Edit). AnswersBy (RefusesEnd at c e) result) (ap (λ (p : Overlay). edit_of p c) over ∙ made_asked new.tags made c) answers))
 
 passes_held : (k : Keeping) (at : ℤ) (new : NewNote) (made : MadeNote) → WhereTold k (IsMadeOf at new made)
@@ -212,21 +193,6 @@ of_parts k at note_type new name told before made held cards note conf =
     ] settings) held cards
 
 -- ---- the answers of the parts
--- the texts are refused
-pub texts_refused : (k : Keeping) (at : ℤ) (new : NewNote) (note_type : NoteType) (fault : DeskFault)
-    → AnswersBy {T = Unit {0}} (RefusesGiven note_type new.fields new.tags) (Err fault) → WhereTold k (λ h. AnswersBy {T = MadeNote} (RefusesOfType at new note_type h.rows) (Err fault))
-texts_refused k at new note_type fault answers =
-    where_always k (λ h. AnswersBy {T = MadeNote} (RefusesOfType at new note_type h.rows) (Err fault))
-    (λ h. refused_first (RefusesGiven note_type new.fields new.tags) (RefusesMaking at new note_type h.rows) fault answers)
-
--- the texts pass
-pub texts_pass : (k : Keeping) (at : ℤ) (new : NewNote) (note_type : NoteType) (value : Unit {0}) (result : Result MadeNote DeskFault)
-    → AnswersBy {T = Unit {0}} (RefusesGiven note_type new.fields new.tags) (Ok value) → WhereTold k (λ h. AnswersBy (RefusesMaking at new note_type h.rows) result)
-    → WhereTold k (λ h. AnswersBy (RefusesOfType at new note_type h.rows) result)
-texts_pass k at new note_type value result passes =
-    where_told-map k (λ h. AnswersBy (RefusesMaking at new note_type h.rows) result) (λ h. AnswersBy (RefusesOfType at new note_type h.rows) result)
-    (λ h answers. passed_first (RefusesGiven note_type new.fields new.tags) (RefusesMaking at new note_type h.rows) value result passes answers)
-
 -- no id is free for the note
 pub id_refuses : (k : Keeping) (at : ℤ) (new : NewNote) (note_type : NoteType) (fault : DeskFault) → WhereTold k (λ h. AnswersBy {T = Name} (RefusesId at tables.Note (get h.rows)) (Err fault))
     → WhereTold k (λ h. AnswersBy {T = MadeNote} (RefusesMaking at new note_type h.rows) (Err fault))
@@ -242,14 +208,7 @@ id_passes k at new note_type name result =
     (λ h. AnswersBy (RefusesMaking at new note_type h.rows) result)
     (λ h passes answers. passed_first (RefusesId at tables.Note (get h.rows)) (RefusesShown at new note_type h.rows) name result passes answers)
 
--- a front is no template
-pub front_refuses : (k : Keeping) (at : ℤ) (new : NewNote) (note_type : NoteType) (fault : DeskFault) → AnswersBy {T = List ℤ} (RefusesFronts note_type) (Err fault)
-    → WhereTold k (λ h. AnswersBy {T = MadeNote} (RefusesShown at new note_type h.rows) (Err fault))
-front_refuses k at new note_type fault answers =
-    where_always k (λ h. AnswersBy {T = MadeNote} (RefusesShown at new note_type h.rows) (Err fault))
-    (λ h. refused_first (RefusesFronts note_type) (RefusesCardIds at at_least_one note_type new.fields h.rows) fault answers)
-
--- all are
+-- all fronts are templates
 pub fronts_pass : (k : Keeping) (at : ℤ) (new : NewNote) (note_type : NoteType) (told : List ℤ) (result : Result MadeNote DeskFault) → AnswersBy {T = List ℤ} (RefusesFronts note_type) (Ok told)
     → AreOrds note_type new.fields told → WhereTold k (λ h. AnswersBy (RefusesIds at (at_least_one told) h.rows) result) → WhereTold k (λ h. AnswersBy (RefusesShown at new note_type h.rows) result)
 fronts_pass k at new note_type told result passes are =
@@ -257,25 +216,12 @@ fronts_pass k at new note_type told result passes are =
     (λ h answers. passed_first (RefusesFronts note_type) (RefusesCardIds at at_least_one note_type new.fields h.rows) told result passes
     (card_ids_answer at at_least_one note_type new.fields h.rows told result are answers))
 
--- the answer for ids is that of what is made
-pub ids_refuse : (k : Keeping) (at : ℤ) (ords : List ℤ) (fault : DeskFault) → WhereTold k (λ h. AnswersBy {T = List Card} (RefusesIds at ords h.rows) (Err fault))
-    → WhereTold k (λ h. AnswersBy {T = MadeNote} (RefusesIds at ords h.rows) (Err fault))
-ids_refuse k at ords fault =
-    where_told-map k (λ h. AnswersBy {T = List Card} (RefusesIds at ords h.rows) (Err fault)) (λ h. AnswersBy {T = MadeNote} (RefusesIds at ords h.rows) (Err fault))
-    (λ h answers. other_refusal (RefusesIds at ords h.rows) fault answers)
-
-pub ids_pass : (k : Keeping) (at : ℤ) (ords : List ℤ) (cards : List Card) (made : MadeNote) → WhereTold k (λ h. AnswersBy {T = List Card} (RefusesIds at ords h.rows) (Ok cards))
-    → WhereTold k (λ h. AnswersBy {T = MadeNote} (RefusesIds at ords h.rows) (Ok made))
-ids_pass k at ords cards made =
-    where_told-map k (λ h. AnswersBy {T = List Card} (RefusesIds at ords h.rows) (Ok cards)) (λ h. AnswersBy {T = MadeNote} (RefusesIds at ords h.rows) (Ok made))
-    (λ h answers. other_answer (RefusesIds at ords h.rows) cards made answers)
-
 -- ---- other forms
 pub if_ok-map : (result : Result MadeNote DeskFault) (P Q : MadeNote → Type 0) → ((made : MadeNote) → P made → Q made) → IfOk result P → IfOk result Q
 if_ok-map (Ok made) P Q step is = step made is
 if_ok-map (Err fault) P Q step is = tt
 
-outside_listed : (fault : DeskFault) → IsFromOutside fault → IsMakingFault fault
+pub outside_listed : (fault : DeskFault) → IsFromOutside fault → IsMakingFault fault
 outside_listed fault outside = elim outside [ inl is ↦ subst IsMakingFault (sym is) tt | inr is ↦ subst IsMakingFault (sym is) tt ]
 
 pub id_listed : (fault : DeskFault) → IsFromOutside fault ⊎ (fault ≡ faults.IdEnd) → IsMakingFault fault
@@ -331,8 +277,12 @@ later_cause a b c fault goes cause = record {
   unfailed = λ calm is. cause.unfailed (goes.calm calm) (ap Err (fault_is fault faults.Failed is));
 }
 
+-- what goes through does not fail
+pub ok_cause : {T : Type 0} (a b : Health) (value : T) → GoesOn a b → DeskCause {T = T} a b (Ok value)
+ok_cause a b value goes = record { goes = goes; failed = λ is. absurd (cc); unfailed = λ _ is. absurd (cc) }
+
 -- out of memory
-pub outside_told : (k : Keeping) (tests : Collection → Refusal) (fault : DeskFault) → IsFromOutside fault → WhereHeld k (λ c. AnswersBy {T = Added} (tests c) (Err fault))
-outside_told k tests fault outside =
-    where_always k (λ h. IfSome (collection_of h) (λ c. AnswersBy {T = Added} (tests c) (Err fault)))
-    (λ h. elim (collection_of h) as (λ (o : Option Collection). IfSome o (λ c. AnswersBy {T = Added} (tests c) (Err fault))) [ None ↦ tt | Some c ↦ record { accepted = tt; refused = inl outside } ])
+pub outside_told : (T : Type 0) (k : Keeping) (tests : Collection → Refusal) (fault : DeskFault) → IsFromOutside fault → WhereHeld k (λ c. AnswersBy {T = T} (tests c) (Err fault))
+outside_told T k tests fault outside =
+    where_always k (λ h. IfSome (collection_of h) (λ c. AnswersBy {T = T} (tests c) (Err fault)))
+    (λ h. elim (collection_of h) as (λ (o : Option Collection). IfSome o (λ c. AnswersBy {T = T} (tests c) (Err fault))) [ None ↦ tt | Some c ↦ record { accepted = tt; refused = inl outside } ])

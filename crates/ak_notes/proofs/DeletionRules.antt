@@ -1,5 +1,5 @@
 -- What the removals of notes and their cards, one by one, ask for, and when their edit is refused.
-use Rattle.std.specs.Prelude.{◌≡◌, ℕ, ℤ, pos, ◌+◌, ◌<◌, Bool, true, false, not, ◌||◌, cond, if◌then◌else◌, IsTrue, List, [], ◌∷◌, length, get_or, drop, Option, Some, None, Result, Ok, is_some}
+use Rattle.std.specs.Prelude.{◌≡◌, ℕ, ℤ, pos, ◌+◌, ◌<◌, Bool, true, false, not, ◌||◌, cond, if◌then◌else◌, List, [], ◌∷◌, length, get_or, drop, Option, Some, None, Result, Ok}
 use Rattle.std.proofs.Common.{refl, sym, ap, subst, ◌∙◌}
 use Rattle.std.proofs.Math.Path.{fun_ext}
 use Rattle.std.proofs.lemmas.List.{at_drop_more}
@@ -10,8 +10,7 @@ use Rattle.std.specs.Option.{option_and_then, option_map, option_map_or, unwrap_
 use Rattle.std.specs.Ordering.{eq_by_cmp, int_eq}
 use Rattle.ak_base.proofs.RowFacts.{same_fields-itself}
 use Rattle.ak_base.specs.Contents.{same_but_stamp_and_usn}
-use Rattle.ak_base.specs.Graves.{grave_table}
-use Rattle.ak_base.specs.Names.{name_cmp, names_total}
+use Rattle.ak_base.specs.Names.{name_cmp}
 use Rattle.ak_base.specs.Rows.{name_of}
 use Rattle.ak_base.specs.Tables.{graves_of, of_grave_code}
 use Rattle.ak_base.specs.declared.names.Name.{Name}

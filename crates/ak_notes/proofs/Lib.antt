@@ -8,5 +8,7 @@ pub mod MadeNotes
 pub mod NewCards
 pub mod Needing
 pub mod AddedNotes
+pub mod EditedNotes
+pub mod CardOrds
 pub mod AdmittedNotes
 pub mod NoteRows

@@ -1,6 +1,6 @@
 -- The fields of a note, joined.
 use Rattle.std.specs.Prelude.{◌≡◌, ℕ, List, [], ◌∷◌, ◌++◌}
-use Rattle.std.proofs.Common.{refl, sym, ap, append-nil}
+use Rattle.std.proofs.Common.{ap, append-nil}
 use Rattle.std.specs.List.{join_with_byte}
 use Rattle.ak_notes.specs.NoteRows.{led_by}
 

@@ -1,5 +1,5 @@
 -- A note that is added, with its cards.
-use Rattle.std.specs.Prelude.{◌≡◌, ◌⊎◌, ℤ, pos, List, [], ◌∷◌, map, IfSome, Some}
+use Rattle.std.specs.Prelude.{◌≡◌, ◌⊎◌, ℤ, List, map, IfSome, Some}
 use Rattle.std.specs.FinMap.{get}
 use Rattle.std.specs.Option.{unwrap_or}
 use Rattle.ak_base.specs.declared.cards.Card.{Card}
@@ -20,7 +20,7 @@ use Rattle.ak_keep.specs.Lookups.{deck_at, note_type_at}
 use Rattle.ak_merge.specs.Holdings.{name_in}
 use Rattle.ak_notes.specs.GivenTexts.{RefusesGiven}
 use Rattle.ak_notes.specs.MadeNotes.{IsMakingFault, NeedsHeld, RefusesMade, made_edit}
-use Rattle.ak_notes.specs.NewCards.{AreCardsOf, AreNewCards, RefusesCardIds, RefusesFronts, conf_after}
+use Rattle.ak_notes.specs.NewCards.{AreCardsOf, AreNewCards, RefusesCardIds, RefusesFronts, at_least_one, conf_after}
 use Rattle.ak_notes.specs.NoteRows.{blank_note, made_guid, with_texts}
 use Rattle.ak_notes.specs.declared.additions.Added.{Added}
 use Rattle.ak_notes.specs.declared.additions.NewNote.{NewNote}
@@ -29,11 +29,6 @@ use Rattle.ak_notes.specs.declared.made_notes.MadeNote.{MadeNote}
 use Rattle.ak_undo.specs.declared.steps.Step.{Step}
 
 -- ---- the rule
--- the ords of a new note's cards: a note that shows nothing has one card, of ord 0
-abbrev pub at_least_one : List ℤ → List ℤ
-at_least_one [] = pos 0 ∷ []
-at_least_one (ord ∷ ords) = ord ∷ ords
-
 -- the row of a new note of this id
 abbrev pub added_row : NoteType → NewNote → ℤ → Note
 added_row note_type new id =

@@ -1,5 +1,5 @@
 -- What a call makes of a note, and the edit that asks for it.
-use Rattle.std.specs.Prelude.{◌≡◌, ◌⊎◌, ⊤, ℕ, ℤ, List, [], ◌∷◌, Option, Some, None, Result}
+use Rattle.std.specs.Prelude.{◌≡◌, ◌⊎◌, ⊤, ℕ, ℤ, List, [], ◌∷◌, Option, Some, None, IfErr, IfOk, Result}
 use Rattle.ak_base.specs.declared.cards.Card.{Card}
 use Rattle.ak_base.specs.declared.names.Name.{Name}
 use Rattle.ak_base.specs.declared.rows.Row.TheVariants as rows
@@ -8,7 +8,7 @@ use Rattle.ak_edit.specs.Overlays.{Overlay, conf_over, put_over, tag_over}
 use Rattle.ak_edit.specs.Refusals.{AnswersBy, IsFromOutside, Refusal}
 use Rattle.ak_edit.specs.declared.desk_faults.DeskFault.{DeskFault}
 use Rattle.ak_edit.specs.declared.desk_faults.DeskFault.TheVariants as faults
-use Rattle.ak_keep.specs.Collections.{Collection, Rows}
+use Rattle.ak_keep.specs.Collections.{Collection, Holding, Rows}
 use Rattle.ak_keep.specs.Keepers.{Keeping, WhereTold}
 use Rattle.ak_keep.specs.declared.readables.Lookup.{Ghosts}
 use Rattle.ak_merge.specs.EditBuilding.{unedited, with_conf, with_row, with_tags}
@@ -34,11 +34,20 @@ NeedsHeld (Some row) name tests fault = tests row fault
 
 -- where it is told what is held, this row of the name is not, or the fault comes from outside
 abbrev pub IsMissingIn : {A : Type 0} → Keeping → (Rows → Option A) → Name → DeskFault → Type 0
-IsMissingIn k row name fault = IsFromOutside fault ⊎ (WhereTold k (λ h. row h.rows ≡ None) × (fault ≡ faults.NoSuch name))
+IsMissingIn k row name fault =
+    IsFromOutside fault ⊎ (WhereTold k (λ h. row h.rows ≡ None) × (fault ≡ faults.NoSuch name))
+
+-- the same of a part of a call that looks for the row
+abbrev pub MissesIn : {Self T A : Type 0} → Ghosts Self → Self → Result T DeskFault → (Rows → Option A) → Name → Type 0
+MissesIn K was result row name = IfErr result (IsMissingIn (K.keeping was) row name)
 
 -- the answer of a part of a call with these tests of the rows that are held, where they are told
 abbrev pub AnswersIn : {Self T : Type 0} → Ghosts Self → Self → Result T DeskFault → (Rows → Refusal) → Type 0
 AnswersIn K was result tests = WhereTold (K.keeping was) (λ h. AnswersBy (tests h.rows) result)
+
+-- what a part of a call makes, of the rows that are held, where they are told
+abbrev pub MakesIn : {Self T : Type 0} → Ghosts Self → Self → Result T DeskFault → (T → Holding → Type 0) → Type 0
+MakesIn K was result IsMade = IfOk result (λ made. WhereTold (K.keeping was) (IsMade made))
 
 -- a row that is made does not pass its check, or a stamp or the moment ends
 abbrev pub RefusesMade : ℤ → List (List ℕ) → Collection → (MadeNote → Type 0) → Refusal

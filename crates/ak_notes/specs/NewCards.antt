@@ -1,5 +1,5 @@
 -- The cards that a call makes for a note, and why it can't.
-use Rattle.std.specs.Prelude.{◌≡◌, ◌⊎◌, ℕ, zero, suc, ℤ, pos, negsuc, ◌+ℤ◌, Bool, int_lt, if◌then◌else◌, List, [], ◌∷◌, length, Option, Some, None}
+use Rattle.std.specs.Prelude.{◌≡◌, ◌⊎◌, ℕ, zero, suc, ℤ, pos, negsuc, ◌+ℤ◌, Bool, int_lt, if◌then◌else◌, List, [], ◌∷◌, length, Some, None}
 use Rattle.std.specs.FinMap.{get}
 use Rattle.ak_base.specs.declared.cards.Card.{Card}
 use Rattle.ak_base.specs.declared.heads.Conf.{Conf}
@@ -66,6 +66,11 @@ new_card place ord id = record {
   extra = [];
 }
 
+-- the ords of the cards of a note that needs one: if it shows nothing, it gets one of ord 0
+abbrev pub at_least_one : List ℤ → List ℤ
+at_least_one [] = pos 0 ∷ []
+at_least_one (ord ∷ ords) = ord ∷ ords
+
 -- a new card for each of these ords, in their order: each has the first free id after the one before
 abbrev pub AreNewCards : (Name → Bool) → CardPlace → Name → List ℤ → List Card → Type 0
 AreNewCards used place first [] cards = cards ≡ []
@@ -76,6 +81,11 @@ AreNewCards used place first (ord ∷ ords) cards =
 -- the same in what is held
 abbrev pub AreNewIn : CardPlace → Name → List ℤ → List Card → Holding → Type 0
 AreNewIn place first ords cards h = AreNewCards (is_used (get h.rows)) place first ords cards
+
+-- the name from which on the next card looks for its own after these, which began at this one
+abbrev pub first_after : List Card → Name → Name
+first_after [] first = first
+first_after (card ∷ cards) first = first_after cards (name_in first.table (card.id +ℤ pos 1))
 
 -- a new card for each of the ords that are picked of those of a note with these fields
 pub record AreCardsOf (at : ℤ) (pick : List ℤ → List ℤ) (place : CardPlace) (note_type : NoteType) (fields : List (List ℕ)) (held : Rows) (cards : List Card) : Type 0 where
@@ -88,9 +98,13 @@ abbrev pub RefusesFronts : NoteType → Refusal
 RefusesFronts note_type fault =
     (front : TemplateFault) × (generation_fault note_type ≡ Some front) × (fault ≡ faults.Template front)
 
--- there are too few free ids for cards of these ords
+-- there are too few free ids for cards of these ords from this name on
+abbrev pub RefusesIdsFrom : Name → List ℤ → Rows → Refusal
+RefusesIdsFrom first ords held fault = LacksIds (is_used (get held)) first (length ords) × (fault ≡ faults.IdEnd)
+
+-- the same from the first name of a moment on
 abbrev pub RefusesIds : ℤ → List ℤ → Rows → Refusal
-RefusesIds at ords held fault = LacksIds (is_used (get held)) (first_name tables.Card at) (length ords) × (fault ≡ faults.IdEnd)
+RefusesIds at ords held = RefusesIdsFrom (first_name tables.Card at) ords held
 
 -- the same of the ords that are picked of those of a note with these fields
 abbrev pub RefusesCardIds : ℤ → (List ℤ → List ℤ) → NoteType → List (List ℕ) → Rows → Refusal

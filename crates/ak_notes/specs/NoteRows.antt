@@ -1,5 +1,5 @@
 -- What a note has of the texts that it is given.
-use Rattle.std.specs.Prelude.{ℕ, ℤ, pos, negsuc, ◌+◌, ◌/◌, ◌%◌, nat_lt, if◌then◌else◌, List, [], ◌∷◌, ◌++◌, codes, Option, Some, None}
+use Rattle.std.specs.Prelude.{ℕ, ℤ, pos, negsuc, ◌+◌, ◌/◌, ◌%◌, nat_lt, if◌then◌else◌, List, [], ◌∷◌, ◌++◌}
 use Rattle.std.specs.Fmt.{signed_decimal}
 use Rattle.std.specs.List.{join_with_byte}
 use Rattle.ak_base.specs.declared.note_types.NoteType.{NoteType}
@@ -15,14 +15,17 @@ led_by byte [] = []
 led_by byte (text ∷ texts) = byte ∷ text ++ led_by byte texts
 
 -- ---- the row
--- the note with these fields and tags, as one of this type
-abbrev pub with_texts : NoteType → List (List ℕ) → List (List ℕ) → Note → Note
-with_texts note_type fields tags note = record note {
-  tags = stored_tags tags;
+-- the note with these fields, as one of this type: its tags stay
+abbrev pub with_fields : NoteType → List (List ℕ) → Note → Note
+with_fields note_type fields note = record note {
   flds = join_with_byte 31 fields;
   sfld = sort_text_of note_type fields;
   csum = checksum (field_at (pos 0) fields);
 }
+
+-- the note with these fields and tags, as one of this type
+abbrev pub with_texts : NoteType → List (List ℕ) → List (List ℕ) → Note → Note
+with_texts note_type fields tags note = record (with_fields note_type fields note) { tags = stored_tags tags }
 
 -- ---- a new one
 -- a hexadecimal digit, in lower case

@@ -8,13 +8,15 @@ ghost use Rattle.ak_keep.specs.Keepers.{WhereHeld, WhereTold, is_marked};
 ghost use Rattle.ak_keep.specs.Lookups.{deck_at, note_type_at};
 ghost use Rattle.ak_merge.specs.Holdings.{name_in};
 ghost use Rattle.ak_merge.specs.Tags.{IsTagName};
-ghost use Rattle.ak_notes.specs.Additions.{DoesAdd, IsAddFault, IsMadeFor, IsMadeOf, IsMadeUnder, IsMadeWith, RefusesAddition, RefusesForDeck, RefusesMaking, RefusesOfType, RefusesShown, RefusesToAdd, added_row, at_least_one};
+ghost use Rattle.ak_notes.specs.Additions.{DoesAdd, IsAddFault, IsMadeFor, IsMadeOf, IsMadeUnder, IsMadeWith, RefusesAddition, RefusesForDeck, RefusesMaking, RefusesOfType, RefusesShown, RefusesToAdd, added_row};
 ghost use Rattle.ak_notes.specs.MadeNotes.{AnswersIn, IsMakingFault, IsMissingIn};
-ghost use Rattle.ak_notes.specs.NewCards.{RefusesIds};
+ghost use Rattle.ak_notes.specs.NewCards.{RefusesIds, at_least_one};
 
 use crate::given_texts::check_given;
 use crate::made_notes::{MadeNote, put_made};
-use crate::new_cards::{CardPlace, conf_after, held_conf, new_cards, told_ords};
+use crate::new_cards::{
+    CardPlace, at_least_one, conf_after, first_card, held_conf, new_cards, told_ords,
+};
 use crate::note_rows::{blank_note, guid_of, with_texts};
 use ak_base::{Conf, Deck, List, Memory, Name, Note, NoteType, Table, Text};
 use ak_calls::new_name;
@@ -47,6 +49,10 @@ pub struct Added {
 
 /// Adds a note and its cards, at a moment in milliseconds. The cards are those that its type makes of its fields, and one of
 /// ord 0 if the type makes none. They come into the deck at the next place among the new cards.
+///
+/// It is refused if the type is not held, then if the deck is not; then if the fields are not as many as the type's, for a tag
+/// or a field out of its range, if no id is free for the note, for a front that is no template, if too few ids are free for the
+/// cards, for a made row that fails its check, and for a stamp or a moment that can't rise.
 pub fn add_note<K: Keeper>(
     keeper: &mut K,
     steps: &mut UndoList,
@@ -109,7 +115,7 @@ fn read_addition<K: Keeper>(keeper: &mut K, new: &NewNote, at: i64) -> Result<Ma
 }
 
 /// The note type of this id, refused if it is not held.
-fn held_type<K: Keeper>(keeper: &mut K, id: i64) -> Result<NoteType, DeskFault>
+pub fn held_type<K: Keeper>(keeper: &mut K, id: i64) -> Result<NoteType, DeskFault>
     ensures same { K.keeping keeper.new ≡ K.keeping keeper.old }
     ensures found { IfOk result (λ found. WhereTold (K.keeping keeper.old) (λ h. note_type_at h.rows id ≡ Some found)) }
     ensures missing { IfErr result (IsMissingIn (K.keeping keeper.old) (λ rows. note_type_at rows id) (name_in tables.NoteType id)) }
@@ -258,8 +264,10 @@ fn make_told<K: Keeper>(
     let before = held_conf(keeper, alloc)?;
     let place = place_for(making.new, name, &before);
     let note = note_of(alloc, making.note_type, making.new, name)?;
-    match new_cards(keeper, &ords, place, making.at) {
-        Ok(cards) => {
+    let start = first_card(making.at);
+    match new_cards(keeper, &ords, place, start) {
+        Ok(made) => {
+            let cards = made.cards;
             let conf = conf_after(cards.as_slice(), before);
             Ok(MadeNote { note, cards, conf })
         }
@@ -286,15 +294,4 @@ fn note_of(alloc: Global, note_type: &NoteType, new: &NewNote, name: Name) -> Re
     let blank = blank_note(alloc, name.id, new.note_type, guid)?;
     let note = with_texts(blank, note_type, &new.fields, &new.tags)?;
     Ok(note)
-}
-
-/// These ords, and ord 0 if there are none.
-fn at_least_one(ords: List<i64>) -> Result<List<i64>, Memory>
-    ensures { IfOk result (λ made. made ≡ at_least_one ords) }
-{
-    let mut made = ords;
-    if made.as_slice().is_empty() {
-        made.push(0)?;
-    }
-    Ok(made)
 }

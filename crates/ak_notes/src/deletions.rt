@@ -85,7 +85,7 @@ fn remove_held<K: Keeper>(keeper: &mut K, change: &mut Change, name: Name) -> Re
 }
 
 /// Removes the cards of these ids.
-fn remove_cards(change: &mut Change, cards: &[i64]) -> Result<(), Memory>
+pub fn remove_cards(change: &mut Change, cards: &[i64]) -> Result<(), Memory>
     ensures { OnOk result (change.new ≡ without_cards cards.now change.old) }
 {
     for id in cards {

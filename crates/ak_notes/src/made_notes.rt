@@ -28,8 +28,8 @@ pub(crate) fn put_made(change: &mut Change, made: MadeNote, tags: &List<Text>) -
     add_tags(change, tags.as_slice())
 }
 
-/// Puts each of the cards.
-fn put_cards(change: &mut Change, cards: Vec<Card>) -> Result<(), Memory>
+/// Puts each of the cards under its name.
+pub fn put_cards(change: &mut Change, cards: Vec<Card>) -> Result<(), Memory>
     ensures { OnOk result (change.new ≡ cards_over cards.items change.old) }
 {
     for card in cards {

@@ -7,8 +7,8 @@ ghost use Rattle.ak_edit.specs.FreeNames.{IsFoundFrom, first_name};
 ghost use Rattle.ak_edit.specs.Refusals.{AnswersBy, DeskCause};
 ghost use Rattle.ak_keep.specs.Keepers.{WhereTold};
 ghost use Rattle.ak_keep.specs.Readings.{ReadsBy};
-ghost use Rattle.ak_notes.specs.MadeNotes.{IsGivenFault};
-ghost use Rattle.ak_notes.specs.NewCards.{AreNewIn, IsFreeIn, IsIdFault, IsNoneFreeFrom, RefusesFronts, RefusesIds, conf_after, new_card, next_name, place_after};
+ghost use Rattle.ak_notes.specs.MadeNotes.{AnswersIn, IsGivenFault};
+ghost use Rattle.ak_notes.specs.NewCards.{AreNewIn, IsFreeIn, IsIdFault, IsNoneFreeFrom, RefusesFronts, RefusesIdsFrom, at_least_one, conf_after, first_after, new_card, next_name, place_after};
 
 use ak_base::{Card, Conf, LAST_COUNT, List, Memory, Name, NoteType, Table, Text};
 use ak_cardgen::{GenFault, ords_of};
@@ -25,7 +25,7 @@ pub(crate) struct CardPlace {
 }
 
 /// The ords of the cards that a note of the type has, refused if a front is no template.
-pub(crate) fn told_ords(
+pub fn told_ords(
     alloc: Global,
     note_type: &NoteType,
     fields: &List<Text>,
@@ -41,22 +41,45 @@ pub(crate) fn told_ords(
     }
 }
 
-/// A new card for each of the ords, each with the first free id after the one before, refused if there are too few.
+/// New cards, and the name from which on the next one looks for its own.
+#[derive(Drop)]
+pub(crate) struct MadeCards {
+    pub(crate) cards: List<Card>,
+    pub(crate) next: Name,
+}
+
+/// These ords, and ord 0 if there are none.
+pub(crate) fn at_least_one(ords: List<i64>) -> Result<List<i64>, Memory>
+    ensures { IfOk result (λ made. made ≡ at_least_one ords) }
+{
+    let mut made = ords;
+    if made.as_slice().is_empty() {
+        made.push(0)?;
+    }
+    Ok(made)
+}
+
+/// A new card for each of the ords, the first with the first free id from `start` on and each other with the first free one
+/// after the one before, refused if there are too few.
 pub(crate) fn new_cards<K: Keeper>(
     keeper: &mut K,
     ords: &List<i64>,
     place: CardPlace,
-    at: i64,
-) -> Result<List<Card>, DeskFault>
+    start: Name,
+) -> Result<MadeCards, DeskFault>
+    requires { pos 1 ≤ℤ start.id }
     ensures same { K.keeping keeper.new ≡ K.keeping keeper.old }
-    ensures made { IfOk result (λ cards. WhereTold (K.keeping keeper.old) (AreNewIn place (first_name tables.Card at) ords.now cards)) }
-    ensures refused { WhereTold (K.keeping keeper.old) (λ h. AnswersBy (RefusesIds at ords.now h.rows) result) }
+    ensures made { IfOk result (λ made. WhereTold (K.keeping keeper.old) (AreNewIn place start ords.now made.cards)) }
+    ensures next { IfOk result (λ made. made.next ≡ first_after made.cards start) }
+    ensures table { IfOk result (λ made. made.next.table ≡ start.table) }
+    ensures id { IfOk result (λ made. pos 1 ≤ℤ made.next.id) }
+    ensures refused { AnswersIn K.Lookup keeper.old result (RefusesIdsFrom start ords.now) }
     ensures listed { IfErr result IsIdFault }
     ensures cause { DeskCause (K.health keeper.old) (K.health keeper.new) result }
 {
     let alloc = ords.allocator();
     let mut cards = List::new(alloc);
-    let mut first = first_card(at);
+    let mut first = start;
     for ord in ords.as_slice() {
         let name = match next_free(keeper, alloc, first) {
             Ok(name) => name,
@@ -66,11 +89,11 @@ pub(crate) fn new_cards<K: Keeper>(
         cards.push(card)?;
         first = next_name(name);
     }
-    Ok(cards)
+    Ok(MadeCards { cards, next: first })
 }
 
-/// The name from which on the cards look for theirs.
-fn first_card(at: i64) -> Name
+/// The name from which on the cards that are made at a moment look for theirs.
+pub(crate) fn first_card(at: i64) -> Name
     ensures name { result ≡ first_name tables.Card at }
     ensures id { pos 1 ≤ℤ result.id }
 {

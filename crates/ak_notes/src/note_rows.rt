@@ -3,14 +3,14 @@ ghost use Rattle.std.specs.List.{join_with_byte};
 ghost use Rattle.std.specs.Option.{unwrap_or};
 ghost use Rattle.std.specs.String.{string_bytes};
 ghost use Rattle.ak_cardgen.specs.SortTexts.{field_at};
-ghost use Rattle.ak_notes.specs.NoteRows.{blank_note, hex_digit, led_by, made_guid, with_texts};
+ghost use Rattle.ak_notes.specs.NoteRows.{blank_note, hex_digit, led_by, made_guid, with_fields, with_texts};
 
 use ak_base::{List, Memory, Note, NoteType, Text};
 use ak_calls::stored_tags;
 use ak_cardgen::{csum, sort_text};
 use std::alloc::Global;
 
-/// The note with these fields and tags, as one of this type: what it is sorted by and its checksum follow from the fields.
+/// The note with these fields and tags, as one of this type.
 pub(crate) fn with_texts(
     note: Note,
     note_type: &NoteType,
@@ -19,9 +19,17 @@ pub(crate) fn with_texts(
 ) -> Result<Note, Memory>
     ensures { IfOk result (λ made. made ≡ with_texts note_type.now fields.now tags.now note) }
 {
+    let mut made = with_fields(note, note_type, fields)?;
+    made.tags = stored_tags(fields.allocator(), tags.as_slice())?;
+    Ok(made)
+}
+
+/// The note with these fields, as one of this type: what it is sorted by and its checksum follow, and its tags stay.
+pub fn with_fields(note: Note, note_type: &NoteType, fields: &List<Text>) -> Result<Note, Memory>
+    ensures { IfOk result (λ made. made ≡ with_fields note_type.now fields.now note) }
+{
     let alloc = fields.allocator();
     let mut made = note;
-    made.tags = stored_tags(alloc, tags.as_slice())?;
     made.flds = joined_fields(alloc, fields.as_slice())?;
     made.sfld = sort_text(alloc, note_type, fields)?;
     made.csum = csum(alloc, first_field(fields.as_slice()))?;

@@ -3,6 +3,7 @@ use Rattle.std.proofs.lemmas.Int.{to_z-of_z}
 use Rattle.std.proofs.lemmas.Result.{err_from_is_err_and}
 use Rattle.ak_notes.proofs.AddedNotes.{add_accepted, add_done, add_refused, add_tested, later_cause, outside_told}
 use Rattle.ak_notes.specs.Additions.{RefusesAddition}
+use Rattle.ak_notes.specs.declared.additions.Added.{Added}
 use Rattle.ak_notes.proofs.additions.add_note.Goals as goal
 
 pub returns-in-Err-clause-refused : goal.returns-in-Err-clause-refused
@@ -40,4 +41,4 @@ returns-in-Err-finish-clause-cause g c = later_cause _ _ _ c.in-Err-finish.fault
 pub returns-in_err-put_made-clause-refused : goal.returns-in_err-put_made-clause-refused
 returns-in_err-put_made-clause-refused g c =
     let p = err_from_is_err_and c.from_residual-in_err-put_made.result c.from_residual-in_err-put_made.ensures.1 in
-    rw p.1 (outside_told (g.K.Lookup.keeping c.args.keeper.now) (RefusesAddition c.args.at c.args.new.now) p.0 (inr p.2))
+    rw p.1 (outside_told Added (g.K.Lookup.keeping c.args.keeper.now) (RefusesAddition c.args.at c.args.new.now) p.0 (inr p.2))

@@ -1,12 +1,16 @@
 use Rattle.ak_keep.specs.Keepers.{WhereTold}
-use Rattle.ak_notes.proofs.AddedNotes.{front_refuses, fronts_pass, given_cause, given_listed, if_ok-map, of_ords}
+use Rattle.ak_notes.proofs.AddedNotes.{fronts_pass, given_cause, given_listed, if_ok-map, of_ords}
+use Rattle.ak_notes.proofs.Needing.{test_refuses}
 use Rattle.ak_notes.specs.Additions.{IsMadeUnder, IsMadeWith}
+use Rattle.ak_notes.specs.NewCards.{RefusesCardIds, RefusesFronts, at_least_one}
+use Rattle.ak_notes.specs.declared.made_notes.MadeNote.{MadeNote}
 use Rattle.ak_notes.proofs.additions.make_named.Goals as goal
 
 pub returns-in-Err-clause-refused : goal.returns-in-Err-clause-refused
 returns-in-Err-clause-refused g c =
     let m = c.args.making.now in
-    front_refuses (g.K.Lookup.keeping c.args.keeper.now) m.at m.new.now m.note_type.now c.in-Err.fault c.in-Err.ensures.refused
+    test_refuses MadeNote (g.K.Lookup.keeping c.args.keeper.now) (RefusesFronts m.note_type.now) (RefusesCardIds m.at at_least_one m.note_type.now m.new.now.fields)
+    c.in-Err.fault c.in-Err.ensures.refused
 
 pub returns-in-Err-clause-listed : goal.returns-in-Err-clause-listed
 returns-in-Err-clause-listed g c = given_listed c.in-Err.fault c.in-Err.ensures.listed

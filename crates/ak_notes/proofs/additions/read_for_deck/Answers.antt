@@ -2,17 +2,25 @@ use Rattle.std.proofs.lemmas.Int.{to_z-of_z}
 use Rattle.std.proofs.Common.{w64, SFits}
 use Rattle.std.specs.List.{AllByRecursion}
 use Rattle.ak_merge.specs.Tags.{IsTagName}
-use Rattle.ak_notes.proofs.AddedNotes.{given_cause, given_listed, on_ok, texts_pass, texts_refused}
+use Rattle.ak_notes.proofs.AddedNotes.{given_cause, given_listed, on_ok}
+use Rattle.ak_notes.proofs.Needing.{test_passes, test_refuses}
+use Rattle.ak_notes.specs.Additions.{RefusesMaking}
+use Rattle.ak_notes.specs.GivenTexts.{RefusesGiven}
+use Rattle.ak_notes.specs.declared.made_notes.MadeNote.{MadeNote}
 use Rattle.ak_notes.proofs.additions.read_for_deck.Goals as goal
 
 pub returns-in-Err-clause-refused : goal.returns-in-Err-clause-refused
 returns-in-Err-clause-refused g c =
-    texts_refused (g.K.Lookup.keeping c.args.keeper.now) c.args.at c.args.new.now c.args.note_type.now c.in-Err.fault c.in-Err.ensures.refused
+    let new = c.args.new.now in
+    test_refuses MadeNote (g.K.Lookup.keeping c.args.keeper.now) (RefusesGiven c.args.note_type.now new.fields new.tags) (RefusesMaking c.args.at new c.args.note_type.now)
+    c.in-Err.fault c.in-Err.ensures.refused
 
 pub returns-in-Ok-clause-refused : goal.returns-in-Ok-clause-refused
 returns-in-Ok-clause-refused g c =
     let at : SFits w64 c.args.at = c.ranges.at in
-    texts_pass (g.K.Lookup.keeping c.args.keeper.now) c.args.at c.args.new.now c.args.note_type.now tt c.make_addition.result c.in-Ok.ensures.refused
+    let new = c.args.new.now in
+    test_passes (g.K.Lookup.keeping c.args.keeper.now) (RefusesGiven c.args.note_type.now new.fields new.tags) (RefusesMaking c.args.at new c.args.note_type.now)
+    tt c.make_addition.result c.in-Ok.ensures.refused
     (rw (to_z-of_z w64 c.args.at at) at c.make_addition.ensures.refused)
 
 pub returns-in-Ok-clause-names : goal.returns-in-Ok-clause-names
