@@ -1,7 +1,16 @@
+pub mod AdmittedAnswers
 pub mod AdmittedEdits
+pub mod AnswerFaults
+pub mod AnsweredEnds
+pub mod AnsweredRows
+pub mod AskedCards
+pub mod AskedKeepers
 pub mod BegunDays
+pub mod BuriedSiblings
 pub mod ChangedRows
 pub mod DayBeginnings
+pub mod DayLaws
 pub mod DayStartRules
 pub mod PlacedCards
+pub mod PreparedAnswers
 pub mod RowPages

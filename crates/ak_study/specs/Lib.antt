@@ -1,3 +1,9 @@
+pub mod Answers
+pub mod Asking
 pub mod CardPlaces
 pub mod DayStarts
+pub mod DeckCounts
+pub mod LeechTags
 pub mod RowChanges
+pub mod Scheduling
+pub mod Siblings

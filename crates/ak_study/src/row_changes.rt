@@ -27,7 +27,8 @@ pub(crate) fn change_rows<R: Readable, C: RowChange>(
     table: Table,
     by: &C,
 ) -> Result<(), KeepFault>
-    ensures reads { ReadsBy R.Lookup from.old from.new result (λ h _. change.new ≡ put_changed (C.change by.now) (rows_past table (pos 0) h.rows) change.old) }
+    ensures reads { ReadsBy R.Lookup from.old from.new result (λ h _.
+        change.new ≡ put_changed (C.change by.now) (rows_past table (pos 0) h.rows) change.old) }
 {
     let mut walk = Walk::over(table);
     'pages: while !walk.is_done() {
