@@ -1,0 +1,97 @@
+-- Numbers in their ranges and their texts.
+use Rattle.std.proofs.Common.{◌≡◌, ℕ, zero, suc, ◌^◌, ◌<◌, ◌≤◌, ◌==◌, nat_lt, nat_le, ℤ, pos, negsuc, Bool, true, false, not, ◌&&◌, if◌then◌else◌, List, [], ◌∷◌, length, get_or, Option, Some, None, option_and_then, refl, sym, ap, subst, ◌∙◌, arith, rules}
+use Rattle.std.specs.Prelude.{◌≤ℤ◌}
+use Rattle.std.proofs.lemmas.Bool.{and_parts, not-true, eqb-true}
+use Rattle.std.proofs.lemmas.Fmt.{digits_decimal, decimal-digits_value}
+use Rattle.std.proofs.lemmas.Grind.{common_steps}
+use Rattle.std.proofs.lemmas.Int.{ints}
+use Rattle.std.proofs.lemmas.Option.{same_Some, option_and_then_some}
+use Rattle.std.proofs.lemmas.Str.Parse.{IsNumeralModel, numerals_by_value}
+use Rattle.std.specs.Char.{is_ascii_digit}
+use Rattle.std.specs.Fmt.{decimal, signed_decimal}
+use Rattle.std.specs.Str.{all_ascii_digits}
+use Rattle.std.specs.Str.Parse.{digits_value}
+use Rattle.ak_base.specs.Decimals.{is_decimal, at_most, number_of}
+use Rattle.ak_base.specs.Heads.{IsWithin}
+use Rattle.ak_base.proofs.Numerals.{decimal_read}
+use Rattle.ak_lines.specs.Reading.{number_in}
+use Rattle.ak_lines.proofs.Spaces.{is_spaceless}
+
+own : IsNumeralModel (λ ds. all_ascii_digits ds ≡ true) (digits_value 10)
+own = numerals_by_value _ (search rules)
+
+-- ---- digits are no spaces
+no_space : (byte : ℕ) → is_ascii_digit byte ≡ true → (32 == byte) ≡ false
+no_space byte h = grind (arith, h)
+
+digits_spaceless : (text : List ℕ) → all_ascii_digits text ≡ true → is_spaceless text ≡ true
+digits_spaceless [] h = refl
+digits_spaceless (byte ∷ text) h =
+    let p = and_parts (is_ascii_digit byte) (all_ascii_digits text) h in
+    rw (no_space byte p.0) (digits_spaceless text p.1)
+
+-- ---- a number that is written is read
+in_least : (least n : ℕ) → least ≤ n → (if nat_lt n least then None else Some (pos n)) ≡ Some (pos n)
+in_least least n h = grind (arith, common_steps, h)
+
+low_of : (least n : ℕ) → pos least ≤ℤ pos n → least ≤ n
+low_of least n h = omega (arith, ints, h)
+
+not_below : (least n : ℕ) → pos least ≤ℤ negsuc n → ⊥
+not_below least n h = omega (arith, ints, h)
+
+pub number_read : (least most : ℕ) (z : ℤ) → most < 2 ^ 64 → IsWithin (pos least) (pos most) z → number_in (least, most) (signed_decimal z) ≡ Some z
+number_read least most (pos n) small h = rw (decimal_read most n (low_of n most h.high) small) (in_least least n (low_of least n h.low))
+number_read least most (negsuc n) small h = absurd (not_below least n h.low)
+
+pub number_spaceless : (least most : ℕ) (z : ℤ) → most < 2 ^ 64 → IsWithin (pos least) (pos most) z → is_spaceless (signed_decimal z) ≡ true
+number_spaceless least most (pos n) small h =
+    let high = low_of n most h.high in
+    digits_spaceless (decimal n) (digits_decimal own n (omega (arith, high, small)))
+number_spaceless least most (negsuc n) small h = absurd (not_below least n h.low)
+
+-- ---- a number that is read is written so
+at_most_was : (most value n : ℕ) → at_most most value ≡ Some n → (value ≡ n) × (n ≤ most)
+at_most_was most value n h =
+    elim (nat_le value most) as (λ b. nat_le value most ≡ b → (if b then Some value else None) ≡ Some n → (value ≡ n) × (n ≤ most)) [
+      | true ↦ λ e g. let same = same_Some value n g in (same, grind (arith, e, same))
+      | false ↦ λ e g. grind (arith, g)
+    ] refl h
+
+are_digits : (text : List ℕ) → is_decimal text ≡ true → (all_ascii_digits text ≡ true) × (0 < length text)
+are_digits [] h = grind (arith, h)
+are_digits (digit ∷ []) h = (rw h refl, omega arith)
+are_digits (first ∷ second ∷ others) h = ((and_parts (not (first == 48)) _ h).1, omega arith)
+
+lone_zero : (text : List ℕ) → is_decimal text ≡ true → get_or text 0 0 ≡ 48 → length text ≡ 1
+lone_zero [] h e = grind (arith, h)
+lone_zero (digit ∷ []) h e = refl
+lone_zero (first ∷ second ∷ others) h e =
+    let p : (first == 48) ≡ false = not-true (first == 48) (and_parts (not (first == 48)) _ h).0 in
+    grind (arith, p, e)
+
+decimal_written : (most n : ℕ) (text : List ℕ) → most < 2 ^ 64 → number_of most text ≡ Some n → (decimal n ≡ text) × (n ≤ most)
+unfolding number_of
+decimal_written most n text small h =
+    elim (is_decimal text) as (λ b. is_decimal text ≡ b → (if b then at_most most (digits_value 10 text) else None) ≡ Some n → (decimal n ≡ text) × (n ≤ most)) [
+      | true ↦ λ e g. let was = at_most_was most (digits_value 10 text) n g in let d = are_digits text e in
+          (ap decimal (sym was.0) ∙ decimal-digits_value own text d.0 d.1 (lone_zero text e) (omega (arith, was.0, was.1, small)), was.1)
+      | false ↦ λ e g. grind (arith, g)
+    ] refl h
+
+least_was : (least n : ℕ) (z : ℤ) → (if nat_lt n least then None else Some (pos n)) ≡ Some z → (pos n ≡ z) × (least ≤ n)
+least_was least n z h =
+    elim (nat_lt n least) as (λ b. nat_lt n least ≡ b → (if b then None else Some (pos n)) ≡ Some z → (pos n ≡ z) × (least ≤ n)) [
+      | true ↦ λ e g. grind (arith, g)
+      | false ↦ λ e g. (same_Some (pos n) z g, grind (arith, e))
+    ] refl h
+
+within : (least most n : ℕ) → least ≤ n → n ≤ most → IsWithin (pos least) (pos most) (pos n)
+within least most n low high = record { low = omega (arith, ints, low); high = omega (arith, ints, high) }
+
+pub number_written : (least most : ℕ) (text : List ℕ) (z : ℤ) → most < 2 ^ 64 → number_in (least, most) text ≡ Some z → (signed_decimal z ≡ text) × IsWithin (pos least) (pos most) z
+number_written least most text z small h =
+    option_and_then_some _ (number_of most text) z h (λ n was is.
+    let d = decimal_written most n text small was in
+    let l = least_was least n z is in
+    (ap signed_decimal (sym l.0) ∙ d.0, subst (IsWithin (pos least) (pos most)) l.0 (within least most n l.1 d.1)))
