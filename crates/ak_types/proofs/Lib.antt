@@ -1,0 +1,15 @@
+pub mod Taking
+pub mod NewIds
+pub mod Adding
+pub mod Deleting
+pub mod UsedTypes
+pub mod PlaceMapping
+pub mod RetypedNames
+pub mod AdmittedEdits
+pub mod NoteWalks
+pub mod MissingAll
+pub mod TypeEditing
+pub mod Testing
+pub mod Fronts
+pub mod Listing
+pub mod NoteParts

@@ -1,0 +1,55 @@
+use Rattle.std.proofs.Common.{ℤ, w64, SFits}
+use Rattle.std.proofs.lemmas.Int.{to_z-of_z}
+use Rattle.ak_types.proofs.Adding.{checked_with_id, end_listed, id_in_range, id_in_w64, id_listed, side_listed, type_ended, type_full, type_unread, unread}
+use Rattle.ak_types.proofs.Taking.{later_cause, no_cause}
+use Rattle.ak_types.proofs.type_additions.add_type.Goals as goal
+
+pub returns-in-Err-clause-adds : goal.returns-in-Err-clause-adds
+returns-in-Err-clause-adds g c =
+    let at : SFits w64 c.args.at = c.ranges.at in
+    type_full (g.K.Lookup.keeping c.args.keeper.now) (g.K.Lookup.keeping c.new_name.new.keeper) c.args.at c.args.note_type c.in-Err.fault c.args.steps.now c.new_name.ensures.same
+    (rw (to_z-of_z w64 c.args.at at) at c.in-Err.ensures.refused)
+
+pub returns-in-Err-clause-listed : goal.returns-in-Err-clause-listed
+returns-in-Err-clause-listed g c = id_listed c.in-Err.fault c.in-Err.ensures.listed
+
+pub returns-in-Err-check_sides-clause-adds : goal.returns-in-Err-check_sides-clause-adds
+returns-in-Err-check_sides-clause-adds g c =
+    let at : SFits w64 c.args.at = c.ranges.at in
+    type_unread (g.K.Lookup.keeping c.args.keeper.now) (g.K.Lookup.keeping c.new_name.new.keeper) c.args.at c.args.note_type c.in-Ok.name c.in-Err-check_sides.fault c.args.steps.now c.new_name.ensures.same
+    c.in-Ok.ensures.table (rw (to_z-of_z w64 c.args.at at) at c.in-Ok.ensures.new) (rw (to_z-of_z w64 c.args.at at) at c.in-Ok.ensures.refused) c.in-Err-check_sides.ensures.answers
+
+pub returns-in-Err-check_sides-clause-listed : goal.returns-in-Err-check_sides-clause-listed
+returns-in-Err-check_sides-clause-listed g c = side_listed c.in-Err-check_sides.fault c.in-Err-check_sides.ensures.listed
+
+pub returns-in-Err-check_sides-clause-cause : goal.returns-in-Err-check_sides-clause-cause
+returns-in-Err-check_sides-clause-cause g c = no_cause _ _ c.in-Err-check_sides.fault c.new_name.ensures.cause.goes (unread c.in-Err-check_sides.fault c.in-Err-check_sides.ensures.listed)
+
+pub put_type-requires-clause-checked : goal.put_type-requires-clause-checked
+put_type-requires-clause-checked g c =
+    let id : ℤ = c.in-Ok.name.id in
+    let fits : SFits w64 id = id_in_w64 id c.in-Ok.ensures.range in
+    rw (c.with_id.ensures, to_z-of_z w64 id fits) (checked_with_id c.args.note_type id c.in-Ok.ensures.range c.requires.checked)
+
+pub returns-clause-adds : goal.returns-clause-adds
+returns-clause-adds g c =
+    let id : ℤ = c.in-Ok.name.id in
+    let fits : SFits w64 id = id_in_w64 id c.in-Ok.ensures.range in
+    let at : SFits w64 c.args.at = c.ranges.at in
+    let same = c.new_name.ensures.same in
+    type_ended (g.K.Lookup.keeping c.args.keeper.now) (g.K.Lookup.keeping c.put_type.new.keeper) c.args.at c.args.note_type c.in-Ok.name tt c.args.steps.now c.put_type.new.steps c.put_type.result
+    c.in-Ok-check_sides.ensures.answers c.in-Ok.ensures.table (rw (to_z-of_z w64 c.args.at at) at c.in-Ok.ensures.new) (rw (to_z-of_z w64 c.args.at at) at c.in-Ok.ensures.refused)
+    (rw (c.with_id.ensures, to_z-of_z w64 id fits) at c.put_type.ensures.id)
+    (rw (same, c.with_id.ensures, to_z-of_z w64 id fits, to_z-of_z w64 c.args.at at) at c.put_type.ensures.edits)
+
+pub returns-clause-range : goal.returns-clause-range
+returns-clause-range g c =
+    let id : ℤ = c.in-Ok.name.id in
+    let fits : SFits w64 id = id_in_w64 id c.in-Ok.ensures.range in
+    id_in_range c.put_type.result id c.in-Ok.ensures.range (rw (c.with_id.ensures, to_z-of_z w64 id fits) at c.put_type.ensures.id)
+
+pub returns-clause-listed : goal.returns-clause-listed
+returns-clause-listed g c = end_listed c.put_type.result c.put_type.ensures.listed
+
+pub returns-clause-cause : goal.returns-clause-cause
+returns-clause-cause g c = later_cause _ _ _ c.put_type.result c.new_name.ensures.cause.goes c.put_type.ensures.cause
