@@ -12,7 +12,7 @@ use Rattle.ak_keep.specs.Collections.{Collection}
 use Rattle.ak_merge.specs.Commits.{Received, Settings, settings_of, with_received}
 use Rattle.ak_merge.specs.Tags.{tags_taken}
 use Rattle.ak_merge.proofs.TagLaws.{tags_stay_in_range, tags_stay_ordered}
-use Rattle.ak_answers.specs.Answers.{MayBeTaken}
+use Rattle.ak_parts.specs.Takes.{MayBeTaken}
 
 -- the number of a head is one that a row may have
 pub usn_fits : (usn : ℤ) → IsWithin (pos 0) last_head_usn usn → IsWithin (pos 0) (pos 2_147_483_647) usn

@@ -22,8 +22,8 @@ use Rattle.ak_keep.proofs.RowsByName.{both_first, both_second}
 use Rattle.ak_keep.specs.Collections.{Rows, Holding, IsWellFormed, is_past}
 use Rattle.ak_keep.specs.Keepers.{Keeping, WhereTold}
 use Rattle.ak_merge.proofs.Finding.{id_over_zero}
+use Rattle.ak_parts.proofs.Pages.{both}
 use Rattle.ak_answers.specs.Wholes.{rows_in}
-use Rattle.ak_answers.proofs.Pages.{both}
 
 -- the rows of these tables, table by table
 abbrev pub rows_in_all : List Table → Rows → List Row

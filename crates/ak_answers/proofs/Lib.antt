@@ -1,14 +1,8 @@
 pub mod Answering
 pub mod Finishing
-pub mod Gathering
 pub mod HeadRanges
 pub mod InTables
 pub mod Marking
 pub mod NextChunk
-pub mod Pages
-pub mod Placing
 pub mod Receiving
-pub mod Taken
-pub mod Taking
 pub mod Uploading
-pub mod Walking

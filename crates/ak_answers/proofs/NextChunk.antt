@@ -8,9 +8,9 @@ use Rattle.ak_keep.specs.declared.keepers.Wanted.TheVariants.{From}
 use Rattle.ak_machine.specs.declared.sessions.Session.{Session}
 use Rattle.ak_messages.specs.declared.replies.Give.TheVariants as gives
 use Rattle.ak_messages.specs.declared.requests.Chunk.{Chunk}
+use Rattle.ak_parts.specs.Chunks.{IsSlice, ahead_of}
 use Rattle.ak_session.specs.Messages.{chunk_of}
 use Rattle.ak_answers.specs.Answers.{IsNextChunk}
-use Rattle.ak_answers.specs.Chunks.{IsSlice, ahead_of}
 use Rattle.ak_answers.specs.declared.answers.Answered.{Answered}
 
 -- a chunk of a slice is the next one

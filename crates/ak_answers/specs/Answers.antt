@@ -1,10 +1,7 @@
 -- What an accepted request does to a session's tables, and what it is given.
-use Rattle.std.specs.List.{All}
 use Rattle.std.specs.Option.{option_map_or}
-use Rattle.std.specs.Prelude.{◌≡◌, ℤ, pos, true, false, Bool, int_lt, if◌then◌else◌, List, Option, Some, None, IfSome}
-use Rattle.ak_base.specs.Heads.{IsConfInRange, IsHeadInRange, IsWithin}
-use Rattle.ak_base.specs.Limits.{last_stamp}
-use Rattle.ak_base.specs.Rows.{IsChecked}
+use Rattle.std.specs.Prelude.{◌≡◌, ℤ, true, false, Bool, int_lt, if◌then◌else◌, List, Option, Some, None}
+use Rattle.ak_base.specs.Heads.{IsHeadInRange}
 use Rattle.ak_base.specs.declared.heads.Head.{Head}
 use Rattle.ak_base.specs.declared.rows.Row.{Row}
 use Rattle.ak_keep.specs.Collections.{Rows, Collection, Holding}
@@ -16,14 +13,13 @@ use Rattle.ak_machine.specs.Summaries.{is_last_chunk}
 use Rattle.ak_machine.specs.declared.sessions.Session.{Session}
 use Rattle.ak_merge.specs.Commits.{Received, Settings, settings_of, with_received}
 use Rattle.ak_merge.specs.Exchanges.{wanted_tags}
-use Rattle.ak_merge.specs.Tags.{IsTagName}
 use Rattle.ak_messages.specs.declared.methods.Method.TheVariants as methods
 use Rattle.ak_messages.specs.declared.replies.Give.TheVariants as gives
 use Rattle.ak_messages.specs.declared.requests.Ask.{Ask}
 use Rattle.ak_messages.specs.declared.requests.Ask.TheVariants as asks
 use Rattle.ak_messages.specs.declared.requests.Changes.{Changes}
 use Rattle.ak_protocol.specs.Replies.{granted}
-use Rattle.ak_answers.specs.Chunks.{IsSlice, ahead_of}
+use Rattle.ak_parts.specs.Chunks.{IsSlice, ahead_of}
 use Rattle.ak_answers.specs.declared.answers.Answered.{Answered}
 use Rattle.ak_answers.specs.declared.answers.Basis.{Basis}
 use Rattle.ak_session.specs.Asks.{brought}
@@ -36,13 +32,6 @@ pub record HasHead (k : Keeping) (head : Head) : Type 0 where
   pub held : k.headed.current ≡ true
   pub told : WhereTold k (λ h. h.head ≡ Some head)
   pub range : IsHeadInRange head
-
--- what came is in its ranges
-pub record MayBeTaken (came : Received) : Type 0 where
-  pub rows : All IsChecked came.rows
-  pub tags : All IsTagName came.tags
-  pub conf : IfSome came.settings (λ settings. IsConfInRange settings.conf)
-  pub crt : IfSome came.settings (λ settings. IsWithin (pos 0) last_stamp settings.crt)
 
 -- what is held once this came, if a collection is held
 abbrev pub held_with : Received → Holding → Holding

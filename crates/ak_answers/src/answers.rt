@@ -1,5 +1,5 @@
 // What an accepted request does to the session's tables, and what it is given.
-ghost use Rattle.std.specs.Prelude.{◌≡◌, ◌++◌, true, false, IfOk, OnOk};
+ghost use Rattle.std.specs.Prelude.{◌≡◌, true, false, IfOk, OnOk};
 ghost use Rattle.std.specs.Option.{option_map, unwrap_or};
 ghost use Rattle.ak_base.specs.Heads.{IsHeadInRange};
 ghost use Rattle.ak_keep.specs.Collections.{Rows};
@@ -7,26 +7,24 @@ ghost use Rattle.ak_keep.specs.Keepers.{IsMarkedAt, KeepCause, WhereTold, back, 
 ghost use Rattle.ak_keep.specs.Readings.{ReadsBy};
 ghost use Rattle.ak_keep.specs.declared.keepers.Wanted.TheVariants.{From as From_usn};
 ghost use Rattle.ak_merge.specs.Commits.{with_received};
-ghost use Rattle.ak_merge.specs.Exchanges.{wanted_tags};
 ghost use Rattle.ak_messages.specs.declared.requests.Ask.TheVariants as asks;
-ghost use Rattle.ak_answers.specs.Answers.{Answers, HasHead, IsNextChunk, MayBeTaken, answered, changes_given, expects_mark, held_with, is_chunk, settings_unless_newer, tables_of};
+ghost use Rattle.ak_answers.specs.Answers.{Answers, HasHead, IsNextChunk, answered, changes_given, expects_mark, held_with, is_chunk, settings_unless_newer, tables_of};
+ghost use Rattle.ak_parts.specs.Takes.{MayBeTaken};
 ghost use Rattle.ak_session.specs.Asks.{brought};
 ghost use Rattle.ak_session.specs.Messages.{grave_ids, newer_of, settings_in};
-ghost use Rattle.ak_session.specs.Slices.{wanted_changes, wanted_graves};
+ghost use Rattle.ak_session.specs.Slices.{wanted_graves};
 
-use crate::chunks::next_rows;
-use crate::lists::append_page;
 use crate::sanity::sanity_of;
-use crate::takes::{
-    take_cards, take_decks, take_graves, take_notes, take_options, take_reviews, take_types,
-};
-use crate::walks::rows_from;
 use crate::wholes::whole_of;
-use ak_base::{Conf, Head, List, Memory, Name, Row, Table, Tag, Text};
+use ak_base::{Conf, Head, Memory, Name};
 use ak_keep::{KeepFault, Keeper, Wanted};
-use ak_machine::{Changed, Session, changed_of, chunk_of, grave_ids};
+use ak_machine::Session;
 use ak_merge::take_tags;
 use ak_messages::{Ask, Changes, Chunk, Give, GraveIds, Newer};
+use ak_parts::{
+    Changed, changed_of, chunk_of, grave_ids, next_rows, take_changed_rows, take_chunk_rows,
+    take_given_graves, wanted_changes, wanted_graves, wanted_tags,
+};
 use std::alloc::Global;
 
 /// What a request was tested against: the head that is held, and the live session.
@@ -109,30 +107,10 @@ fn start<K: Keeper>(alloc: Global, keeper: &mut K, min_usn: i64) -> Result<Grave
     ensures committed { back (K.keeping keeper.new) ≡ back (K.keeping keeper.old) }
     ensures cause { KeepCause (K.health keeper.old) (K.health keeper.new) result }
 {
-    let graves = graves_from(keeper, Wanted::From(min_usn))?;
+    let graves = wanted_graves(keeper, Wanted::From(min_usn))?;
     let ids = grave_ids(alloc, graves.as_slice())?;
     keeper.mark()?;
     Ok(ids)
-}
-
-/// The wanted graves: of notes, then of cards, then of decks.
-fn graves_from<K: Keeper>(keeper: &mut K, want: Wanted) -> Result<Vec<Row>, KeepFault>
-    ensures reads { ReadsBy K.Lookup keeper.old keeper.new result (λ h rows.
-        rows.items ≡ wanted_graves want h.rows) }
-{
-    let mut graves = rows_from(keeper, Table::NoteGrave, want)?.into_vec();
-    let cards = rows_from(keeper, Table::CardGrave, want)?;
-    let decks = rows_from(keeper, Table::DeckGrave, want)?;
-    append_pages(&mut graves, cards, decks)?;
-    Ok(graves)
-}
-
-/// Adds two pages of rows at the end.
-fn append_pages(rows: &mut Vec<Row>, one: List<Row>, other: List<Row>) -> Result<(), Memory>
-    ensures { OnOk result (rows.new.items ≡ rows.old.items ++ (one ++ other)) }
-{
-    append_page(rows, one)?;
-    append_page(rows, other)
 }
 
 /// Takes the graves that came.
@@ -144,9 +122,7 @@ fn apply_graves<K: Keeper>(keeper: &mut K, ids: &GraveIds, head: &Head) -> Resul
     ensures committed { back (K.keeping keeper.new) ≡ back (K.keeping keeper.old) }
     ensures cause { KeepCause (K.health keeper.old) (K.health keeper.new) result }
 {
-    take_graves(keeper, 1, ids.notes.as_slice(), head.usn)?;
-    take_graves(keeper, 0, ids.cards.as_slice(), head.usn)?;
-    take_graves(keeper, 2, ids.decks.as_slice(), head.usn)
+    take_given_graves(keeper, ids, head.usn)
 }
 
 /// Gives the server's changes as they were before it takes those that came.
@@ -179,13 +155,14 @@ fn changes_from<K: Keeper>(
     ensures reads { ReadsBy K.Lookup keeper.old keeper.new result (λ h given.
         given ≡ changes_given (tables_of basis.now h) basis.now.live) }
 {
-    let rows = changed_rows(keeper, Wanted::From(basis.live.least_usn))?;
+    let want = Wanted::From(basis.live.least_usn);
+    let rows = wanted_changes(keeper, want)?;
     let Changed {
         models,
         decks,
         options,
     } = changed_of(alloc, rows)?;
-    let tags = tags_from(alloc, basis.head.tags.as_slice(), &basis.live)?;
+    let tags = wanted_tags(alloc, basis.head.tags.as_slice(), &want)?;
     let newer = settings_given(&basis.head, &basis.live)?;
     Ok(Changes {
         models,
@@ -194,31 +171,6 @@ fn changes_from<K: Keeper>(
         tags,
         newer,
     })
-}
-
-/// The wanted rows that are not given by chunks: note types, then decks, then options.
-fn changed_rows<K: Keeper>(keeper: &mut K, want: Wanted) -> Result<Vec<Row>, KeepFault>
-    ensures reads { ReadsBy K.Lookup keeper.old keeper.new result (λ h rows.
-        rows.items ≡ wanted_changes want h.rows) }
-{
-    let mut types = rows_from(keeper, Table::NoteType, want)?.into_vec();
-    let decks = rows_from(keeper, Table::Deck, want)?;
-    let options = rows_from(keeper, Table::Options, want)?;
-    append_pages(&mut types, decks, options)?;
-    Ok(types)
-}
-
-/// The names of the tags with at least the session's number, in their order.
-fn tags_from(alloc: Global, tags: &[Tag], live: &Session) -> Result<List<Text>, Memory>
-    ensures { IfOk result (λ names. names ≡ wanted_tags (From_usn live.now.least_usn) tags.now) }
-{
-    let mut names = List::new(alloc);
-    for tag in tags {
-        if live.least_usn <= tag.usn {
-            names.push(tag.name.copy()?)?;
-        }
-    }
-    Ok(names)
 }
 
 /// The server's settings, unless the device was changed after the committed collection.
@@ -243,9 +195,7 @@ fn take_changes<K: Keeper>(keeper: &mut K, came: &Changes, head: Head) -> Result
     ensures stays { IsMarkedAt (back (K.keeping keeper.old)) (K.keeping keeper.new) }
     ensures cause { KeepCause (K.health keeper.old) (K.health keeper.new) result }
 {
-    take_types(keeper, came.models.as_slice(), head.usn)?;
-    take_decks(keeper, came.decks.as_slice(), head.usn)?;
-    take_options(keeper, came.options.as_slice(), head.usn)?;
+    take_changed_rows(keeper, came, head.usn)?;
     let head = head_with(head, came)?;
     keeper.set_head(head)
 }
@@ -315,7 +265,5 @@ fn apply_chunk<K: Keeper>(keeper: &mut K, chunk: &Chunk, head: &Head) -> Result<
     ensures committed { back (K.keeping keeper.new) ≡ back (K.keeping keeper.old) }
     ensures cause { KeepCause (K.health keeper.old) (K.health keeper.new) result }
 {
-    take_reviews(keeper, chunk.reviews.as_slice(), head.usn)?;
-    take_cards(keeper, chunk.cards.as_slice(), head.usn)?;
-    take_notes(keeper, chunk.notes.as_slice(), head.usn)
+    take_chunk_rows(keeper, chunk, head.usn)
 }

@@ -5,10 +5,10 @@ ghost use Rattle.ak_keep.specs.Readings.{ReadsBy};
 ghost use Rattle.ak_protocol.specs.Replies.{whole_of};
 ghost use Rattle.ak_answers.specs.Wholes.{rows_in, whole_with};
 
-use crate::lists::append_page;
 use ak_base::{Head, List, Row, Table};
 use ak_keep::{KeepFault, Keeper, Walk};
 use ak_messages::Whole;
+use ak_parts::append_page;
 use std::alloc::Global;
 
 /// All rows that are held by table and id, graves too, with this head but for the moment of its last sync.

@@ -1,4 +1,3 @@
-pub mod Checks
 pub mod Deciding
 pub mod Summing
 pub mod Twins

@@ -1,17 +1,15 @@
-// The machine of a server: what it remembers of an account, which requests it accepts, and what its replies are made of.
+// The machine of a server: what it remembers of an account, which requests it accepts, and the form of its replies.
 // Nothing here asks a keeper.
 #![tactic(auto)]
 
 mod decisions;
 mod objections;
-mod parts;
 mod replies;
 mod sessions;
 mod summary_laws;
 
 pub use decisions::{Declined, refusal_of};
 pub use objections::Cause;
-pub use parts::{Changed, changed_of, chunk_of, grave_ids};
 pub use replies::{declined_reply, granted, meta_reply, setback_reply, unknown_key};
 pub use sessions::{Kept, Session};
 pub use summary_laws::summaries_serve_alike;

@@ -3,8 +3,8 @@ use Rattle.std.proofs.lemmas.Int.{to_z-of_z}
 use Rattle.ak_keep.proofs.Causing.{cause-ok}
 use Rattle.ak_keep.proofs.Told.{where_told-map}
 use Rattle.ak_keep.specs.declared.keepers.Wanted.TheVariants.{From}
+use Rattle.ak_parts.specs.Chunks.{IsSlice, ahead_of}
 use Rattle.ak_answers.specs.Answers.{IsNextChunk}
-use Rattle.ak_answers.specs.Chunks.{IsSlice, ahead_of}
 use Rattle.ak_answers.proofs.NextChunk.{next_chunk}
 use Rattle.ak_answers.proofs.answers.give_chunk.Goals as goal
 

@@ -5,8 +5,8 @@ use Rattle.ak_keep.specs.Keepers.{WhereTold}
 use Rattle.ak_keep.specs.Walks.{ahead}
 use Rattle.ak_keep.specs.declared.walks.Walk.{Walk}
 use Rattle.ak_answers.specs.Wholes.{rows_in}
-use Rattle.ak_answers.proofs.Gathering.{where_all}
-use Rattle.ak_answers.proofs.Pages.{next_page}
+use Rattle.ak_parts.proofs.Gathering.{where_all}
+use Rattle.ak_parts.proofs.Pages.{next_page}
 use Rattle.ak_answers.proofs.wholes.read_table.Goals as goal
 
 pub pages-init : goal.pages-init

@@ -1,0 +1,9 @@
+pub mod Checks
+pub mod Gathering
+pub mod InRange
+pub mod Pages
+pub mod Parted
+pub mod Placing
+pub mod Taken
+pub mod Taking
+pub mod Walking
