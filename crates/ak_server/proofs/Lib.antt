@@ -1,0 +1,16 @@
+pub mod Adding
+pub mod Beginning
+pub mod Closing
+pub mod Counting
+pub mod Faulting
+pub mod Followings
+pub mod GoingOn
+pub mod Keepings
+pub mod Outcomes
+pub mod Passing
+pub mod Places
+pub mod Replying
+pub mod Seeing
+pub mod Settling
+pub mod Standing
+pub mod Viewing

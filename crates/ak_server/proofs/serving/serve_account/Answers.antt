@@ -1,0 +1,8 @@
+use Rattle.ak_server.proofs.Beginning.{does_so_struck, struck_since}
+use Rattle.ak_server.proofs.serving.serve_account.Goals as goal
+
+pub returns-in-Err-clause-serves : goal.returns-in-Err-clause-serves
+returns-in-Err-clause-serves g c =
+    does_so_struck g.K.Lookup.keeping c.args.account.now c.strike.new.account c.args.request.now c.requires.right
+    (struck_since g.K.Lookup.keeping c.args.account.now c.attempt.new.account c.strike.new.account c.args.request.now c.in-Err.ensures.err c.strike.ensures.struck)
+    c.args.now c.in-Err.fault c.setback_reply.result c.setback_reply.ensures

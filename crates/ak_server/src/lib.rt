@@ -1,0 +1,9 @@
+// The server of a sync: its accounts, each a keeper with at most one live session, and what it makes of requests.
+#![tactic(auto)]
+
+mod accounts;
+mod servers;
+mod serving;
+
+pub use accounts::Account;
+pub use servers::{AddFault, Server};
