@@ -1,0 +1,16 @@
+// The wire of a device: what a call of it makes of the log of the server that it leads to, how often a request is tried,
+// and the forms of the replies of a sync.
+#![tactic(auto)]
+
+mod asks;
+mod forms;
+mod said;
+mod tries;
+mod wires;
+
+pub use asks::{
+    Unanswered, ask_changes, ask_chunk, ask_graves, ask_meta, ask_moment, ask_nothing, ask_sanity,
+};
+pub use said::said_of;
+pub use tries::try_thrice;
+pub use wires::{MetaSaid, Said, Wire, WireEnd};
