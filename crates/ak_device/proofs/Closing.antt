@@ -1,0 +1,74 @@
+-- A device that sets its moments and commits.
+use Rattle.std.specs.Option.{option_map}
+use Rattle.std.specs.Prelude.{◌≡◌, ℤ, pos, ◌+ℤ◌, ◌≤ℤ◌, ◌<ℤ◌, Option, Some, None, Result, Ok, Err, IfOk, IfSome, OnOk}
+use Rattle.std.proofs.Common.{refl, sym, ap, subst, ◌∙◌, arith}
+use Rattle.std.proofs.lemmas.Int.{ints}
+use Rattle.ak_base.specs.Heads.{IsMoment, IsWithin}
+use Rattle.ak_base.specs.Limits.{last_head_usn, last_stamp}
+use Rattle.ak_base.specs.declared.heads.Head.{Head}
+use Rattle.ak_device.specs.Devices.{RaisesMoments, moments_raised, raised}
+use Rattle.ak_io.specs.Arrivals.{IsClockMoment}
+use Rattle.ak_keep.specs.Collections.{Holding, with_moments}
+use Rattle.ak_keep.specs.Keepers.{Keeping, WhereTold, changed, committed, moments_set}
+use Rattle.ak_keep.specs.Marks as marks
+use Rattle.ak_keep.specs.Marks.{WithMark}
+use Rattle.ak_parts.proofs.Parted.{if_ok}
+
+-- what was made and then committed
+pub committed_after : {T E : Type 0} (made result : Result T E) (step : Keeping → Keeping) (k0 k1 k2 : Keeping)
+    → IfOk result (λ value. made ≡ Ok value) → OnOk made (k1 ≡ step k0) → OnOk result (k2 ≡ committed k1) → OnOk result (k2 ≡ committed (step k0))
+committed_after {T = T} {E = E} made (Ok value) step k0 k1 k2 is so last =
+    last ∙ ap committed (subst (λ (r : Result T E). OnOk r (k1 ≡ step k0)) is so)
+committed_after made (Err error) step k0 k1 k2 is so last = tt
+
+-- ---- moments that rise
+committed_told : (f : Holding → Holding) (t : Option (WithMark Holding))
+    → option_map marks.committed (option_map (marks.changed f) t) ≡ option_map (marks.changed f) (option_map marks.committed t)
+committed_told f None = refl
+committed_told f (Some w) = refl
+
+-- to commit what was changed is to change what was committed
+committed_changed : (f : Holding → Holding) (k : Keeping) → committed (changed f k) ≡ changed f (committed k)
+committed_changed f k = ap (λ (t : Option (WithMark Holding)). record { headed = marks.committed k.headed; told = t }) (committed_told f k.told)
+
+abbrev raised_of : ℤ → Head → Holding → Holding
+raised_of at head = with_moments (raised at head.moment) (raised at head.schema) head.usn head.last_sync
+
+abbrev head_raised : ℤ → Head → Head
+head_raised at head = record head { moment = raised at head.moment; schema = raised at head.schema }
+
+raise_held : (at : ℤ) (head : Head) (h : Holding) → h.head ≡ Some head → raised_of at head h ≡ moments_raised at h
+raise_held at head h is =
+    ap (λ (o : Option Head). record { rows = h.rows; head = o })
+    (ap (option_map (λ (own : Head). record own { moment = raised at head.moment; schema = raised at head.schema; usn = head.usn; last_sync = head.last_sync })) is
+    ∙ sym (ap (option_map (head_raised at)) is))
+
+raise_told : (at : ℤ) (head : Head) (t : Option (WithMark Holding)) → IfSome t (λ w. w.current.head ≡ Some head)
+    → option_map (marks.changed (raised_of at head)) t ≡ option_map (marks.changed (moments_raised at)) t
+raise_told at head None is = refl
+raise_told at head (Some w) is = ap (λ (h : Holding). Some (record { current = h; mark = w.mark })) (raise_held at head w.current is)
+
+-- a mark, moments that are raised, and a commit
+pub raises : {T E : Type 0} (result : Result T E) (at : ℤ) (head : Head) (k0 ka km k2 : Keeping) → ka ≡ k0
+    → WhereTold k0 (λ h. h.head ≡ Some head) → committed km ≡ ka
+    → OnOk result (k2 ≡ committed (moments_set (raised at head.moment) (raised at head.schema) head.usn head.last_sync km))
+    → OnOk result (RaisesMoments at k0 k2)
+raises result at head k0 ka km k2 same is commits last =
+    if_ok result _ _ (λ so.
+    so
+    ∙ committed_changed (raised_of at head) km
+    ∙ ap (changed (raised_of at head)) (commits ∙ same)
+    ∙ ap (λ (t : Option (WithMark Holding)). record { headed = k0.headed; told = t }) (raise_told at head k0.told is))
+    last
+
+-- a moment that is raised is one
+pub raised_fits : (at old : ℤ) → IsClockMoment at → IsMoment old → IsMoment (raised at old)
+raised_fits at old clock is =
+    let low = clock.low in
+    let high = clock.high in
+    let own = is.low in
+    record { low = grind (arith, ints, low, high, own); high = grind (arith, ints) }
+
+-- ---- the next number
+pub next_within : (usn : ℤ) → pos 0 ≤ℤ usn → usn <ℤ last_head_usn → IsWithin (pos 0) last_stamp (usn +ℤ pos 1)
+next_within usn low high = record { low = omega (arith, ints, low); high = omega (arith, ints, high) }

@@ -1,0 +1,5 @@
+pub mod Closing
+pub mod Heads
+pub mod Receiving
+pub mod Sending
+pub mod Settling

@@ -1,0 +1,11 @@
+use Rattle.std.proofs.Common.{◌∙◌, rules, w64, SFits}
+use Rattle.std.proofs.lemmas.Int.{to_z-of_z}
+use Rattle.ak_device.proofs.Receiving.{rows_came}
+use Rattle.ak_parts.proofs.Parted.{if_ok}
+use Rattle.ak_session.specs.Messages.{chunk_rows}
+use Rattle.ak_device.proofs.receipts.take_chunk.Goals as goal
+
+pub returns-clause-ok : goal.returns-clause-ok
+returns-clause-ok g c =
+    let usn : SFits w64 c.args.usn = search rules in
+    if_ok c.take_chunk_rows.result _ _ (λ is. is ∙ rows_came c.args.usn (chunk_rows c.args.chunk.now) (g.K.Lookup.keeping c.args.keeper.now)) (rw (to_z-of_z w64 c.args.usn usn) at c.take_chunk_rows.ensures.ok)

@@ -1,0 +1,86 @@
+-- What a device holds while it syncs, and what it sends.
+use Rattle.std.specs.FinMap.{get}
+use Rattle.std.specs.Int.{int_max, int_min}
+use Rattle.std.specs.Option.{option_map, unwrap_or}
+use Rattle.std.specs.Prelude.{◌≡◌, ℤ, pos, ◌+ℤ◌, int_lt, if◌then◌else◌, List, Option, Some, None}
+use Rattle.ak_base.specs.Limits.{last_moment}
+use Rattle.ak_base.specs.declared.heads.Head.{Head}
+use Rattle.ak_base.specs.declared.names.Name.{Name}
+use Rattle.ak_base.specs.declared.rows.Row.{Row}
+use Rattle.ak_keep.specs.Collections.{Rows, Holding}
+use Rattle.ak_keep.specs.Keepers.{Keeping, changed}
+use Rattle.ak_keep.specs.Marks.{WithMark}
+use Rattle.ak_keep.specs.declared.keepers.Wanted.TheVariants.{Unsent}
+use Rattle.ak_merge.specs.Commits.{Received, Settings, settings_of}
+use Rattle.ak_merge.specs.Edits.{advanced}
+use Rattle.ak_merge.specs.Exchanges.{settled, settled_tags, wanted_tags}
+use Rattle.ak_merge.specs.Tags.{tags_taken}
+use Rattle.ak_merge.specs.Takings.{all_taken}
+use Rattle.ak_messages.specs.declared.requests.Changes.{Changes}
+use Rattle.ak_messages.specs.declared.requests.Chunk.{Chunk}
+use Rattle.ak_parts.specs.Chunks.{IsSlice, ahead_of}
+use Rattle.ak_session.specs.Messages.{changes_of, chunk_of}
+use Rattle.ak_session.specs.Slices.{wanted_changes}
+
+-- ---- what comes to a device
+-- a head once this came: each tag that was not held has the server's number, and settings that came stand
+abbrev pub head_with : ℤ → Received → Head → Head
+head_with usn came head =
+    let settings = unwrap_or came.settings (settings_of head) in
+    record head { tags = tags_taken usn came.tags head.tags; conf = settings.conf; crt = settings.crt }
+
+-- what a device holds once this came: each row, one after the other, is taken with the server's number
+abbrev pub received : ℤ → Received → Holding → Holding
+received usn came h = record { rows = all_taken usn came.rows h.rows; head = option_map (head_with usn came) h.head }
+
+-- ---- what a device sends
+-- the settings of a head that was changed after this moment
+abbrev pub settings_since : ℤ → Head → Option Settings
+settings_since moment head = if int_lt moment head.moment then Some (settings_of head) else None
+
+-- the changes of these rows, with the tags of a head that were not sent yet, and its settings if it was changed after this moment
+abbrev pub changes_from : ℤ → List Row → Head → Changes
+changes_from moment rows head =
+    changes_of (record { rows = rows; tags = wanted_tags Unsent head.tags; settings = settings_since moment head })
+
+-- a device's changes, over a server that was changed last at this moment: its note types, decks, options and tags that were not sent
+-- yet, and its settings if it was changed last
+abbrev pub changes_to_send : ℤ → Rows → Head → Changes
+changes_to_send moment rows = changes_from moment (wanted_changes Unsent rows)
+
+-- the next chunk that a device sends, from one place to the next: a slice of its reviews, cards and notes that were not sent yet
+pub record IsNextToSend (rows : Rows) (from : Name) (chunk : Chunk) (next : Name) : Type 0 where
+  pub part : List Row
+  pub slice : IsSlice (ahead_of Unsent from rows) part (ahead_of Unsent next rows)
+  pub chunk_is : chunk ≡ chunk_of part
+
+-- ---- what was sent is settled
+-- each row and each tag that was not sent yet has this number, and the rest is as it was
+pub record IsSettledTo (usn : ℤ) (before after : Holding) : Type 0 where
+  pub rows : (name : Name) → get after.rows name ≡ option_map (settled usn) (get before.rows name)
+  pub head : after.head ≡ option_map (λ (head : Head). record head { tags = settled_tags usn head.tags }) before.head
+
+-- the same of what a keeper tells. What was held at the mark stays
+abbrev pub SettlesTold : ℤ → Option (WithMark Holding) → Option (WithMark Holding) → Type 0
+SettlesTold usn None now = now ≡ None
+SettlesTold usn (Some w) now =
+    (after : Holding) × (now ≡ Some (record { current = after; mark = w.mark })) × IsSettledTo usn w.current after
+
+-- a keeper whose rows and tags that were not sent yet have this number
+pub record Settles (usn : ℤ) (before now : Keeping) : Type 0 where
+  pub headed : now.headed ≡ before.headed
+  pub told : SettlesTold usn before.told now.told
+
+-- ---- after a bad sanity check
+-- a moment that is raised at this moment: the greater of it and the moment after the old one. The last moment stays
+abbrev pub raised : ℤ → ℤ → ℤ
+raised at old = int_min (advanced at old) last_moment
+
+-- the collection that is told has both moments raised, and all else stays
+abbrev pub moments_raised : ℤ → Holding → Holding
+moments_raised at h =
+    record h { head = option_map (λ (head : Head). record head { moment = raised at head.moment; schema = raised at head.schema }) h.head }
+
+-- a keeper whose collection has both moments raised at this moment
+abbrev pub RaisesMoments : ℤ → Keeping → Keeping → Type 0
+RaisesMoments at before now = now ≡ changed (moments_raised at) before

@@ -1,0 +1,106 @@
+// What the server gave is taken with the server's number. A refusal leaves the keeper marked, with some of it taken.
+ghost use Rattle.std.specs.Prelude.{◌≡◌, pos, true, OnOk, IfOk};
+ghost use Rattle.std.specs.List.{All};
+ghost use Rattle.std.specs.Option.{option_map, unwrap_or};
+ghost use Rattle.ak_base.specs.Heads.{IsHeadInRange, IsWithin};
+ghost use Rattle.ak_base.specs.Limits.{last_head_usn};
+ghost use Rattle.ak_base.specs.Rows.{IsChecked};
+ghost use Rattle.ak_device.specs.Devices.{head_with, received};
+ghost use Rattle.ak_keep.specs.Keepers.{IsMarkedAt, KeepCause, back, changed, is_marked};
+ghost use Rattle.ak_messages.specs.declared.replies.Give.TheVariants as gives;
+ghost use Rattle.ak_parts.specs.Takes.{MayBeTaken};
+ghost use Rattle.ak_session.specs.Messages.{settings_in};
+ghost use Rattle.ak_session.specs.Replies.{replied};
+
+use ak_base::{Conf, Head, Memory};
+use ak_keep::{KeepFault, Keeper};
+use ak_merge::take_tags;
+use ak_messages::{Changes, Chunk, GraveIds, Newer};
+use ak_parts::{head_of, take_changed_rows, take_chunk_rows, take_given_graves};
+
+/// Takes the graves that a start was given.
+#[tactic(auto, using(crate::proofs::Receiving::usn_fits))]
+pub fn take_graves<K: Keeper>(keeper: &mut K, ids: &GraveIds, usn: i64) -> Result<(), KeepFault>
+    requires marked { is_marked (K.keeping keeper.old) ≡ true }
+    requires taken { MayBeTaken (replied (gives.Graves ids.now)) }
+    requires usn { IsWithin (pos 0) last_head_usn usn }
+    ensures ok { OnOk result (K.keeping keeper.new
+        ≡ changed (received usn (replied (gives.Graves ids.now))) (K.keeping keeper.old)) }
+    ensures stays { IsMarkedAt (back (K.keeping keeper.old)) (K.keeping keeper.new) }
+    ensures cause { KeepCause (K.health keeper.old) (K.health keeper.new) result }
+{
+    take_given_graves(keeper, ids, usn)
+}
+
+/// Takes the changes that the server gave: rows, then tags and settings.
+#[tactic(auto, using(crate::proofs::Receiving::usn_fits))]
+pub fn take_changes<K: Keeper>(keeper: &mut K, came: &Changes, usn: i64) -> Result<(), KeepFault>
+    requires marked { is_marked (K.keeping keeper.old) ≡ true }
+    requires held { (K.keeping keeper.old).headed.current ≡ true }
+    requires taken { MayBeTaken (replied (gives.Changes came.now)) }
+    requires usn { IsWithin (pos 0) last_head_usn usn }
+    ensures ok { OnOk result (K.keeping keeper.new
+        ≡ changed (received usn (replied (gives.Changes came.now))) (K.keeping keeper.old)) }
+    ensures stays { IsMarkedAt (back (K.keeping keeper.old)) (K.keeping keeper.new) }
+    ensures cause { KeepCause (K.health keeper.old) (K.health keeper.new) result }
+{
+    let head = head_of(keeper)?;
+    take_changed_rows(keeper, came, usn)?;
+    let head = head_with(head, came, usn)?;
+    keeper.set_head(head)
+}
+
+/// Takes the rows of a chunk that the server gave.
+#[tactic(auto, using(crate::proofs::Receiving::usn_fits))]
+pub fn take_chunk<K: Keeper>(keeper: &mut K, chunk: &Chunk, usn: i64) -> Result<(), KeepFault>
+    requires marked { is_marked (K.keeping keeper.old) ≡ true }
+    requires taken { MayBeTaken (replied (gives.Chunk chunk.now)) }
+    requires usn { IsWithin (pos 0) last_head_usn usn }
+    ensures ok { OnOk result (K.keeping keeper.new
+        ≡ changed (received usn (replied (gives.Chunk chunk.now))) (K.keeping keeper.old)) }
+    ensures stays { IsMarkedAt (back (K.keeping keeper.old)) (K.keeping keeper.new) }
+    ensures cause { KeepCause (K.health keeper.old) (K.health keeper.new) result }
+{
+    take_chunk_rows(keeper, chunk, usn)
+}
+
+/// The head once the tags and settings that came are taken.
+fn head_with(head: Head, came: &Changes, usn: i64) -> Result<Head, Memory>
+    requires range { IsHeadInRange head }
+    requires taken { MayBeTaken (replied (gives.Changes came.now)) }
+    requires usn { IsWithin (pos 0) last_head_usn usn }
+    ensures ok { IfOk result (λ made. made ≡ head_with usn (replied (gives.Changes came.now)) head) }
+    ensures range { IfOk result IsHeadInRange }
+{
+    let Head {
+        crt,
+        moment,
+        schema,
+        usn: own,
+        last_sync,
+        conf,
+        tags,
+    } = head;
+    let tags = take_tags(tags, came.tags.as_slice(), usn)?;
+    let (conf, crt) = settings_after(&came.newer, conf, crt)?;
+    Ok(Head {
+        crt,
+        moment,
+        schema,
+        usn: own,
+        last_sync,
+        conf,
+        tags,
+    })
+}
+
+/// The settings that came, or else the held ones.
+fn settings_after(newer: &Option<Newer>, conf: Conf, crt: i64) -> Result<(Conf, i64), Memory>
+    ensures conf { IfOk result (λ made. made.0 ≡ (unwrap_or (option_map settings_in newer.now) (record { conf = conf; crt = crt })).conf) }
+    ensures crt { IfOk result (λ made. made.1 ≡ (unwrap_or (option_map settings_in newer.now) (record { conf = conf; crt = crt })).crt) }
+{
+    match newer {
+        Some(newer) => Ok((newer.conf.copy()?, newer.crt)),
+        None => Ok((conf, crt)),
+    }
+}
