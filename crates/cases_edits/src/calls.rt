@@ -2,7 +2,7 @@ ghost use Rattle.std.specs.Prelude.{◌≤ℤ◌, pos, IfOk};
 
 use crate::faults::fault_text;
 use crate::sessions::Session;
-use crate::{deck_calls, note_calls, option_calls, study_calls};
+use crate::{deck_calls, note_calls, option_calls, queue_calls, study_calls, type_calls};
 use ak_decks::{FlagCards, MoveCards, UseOptions, flag, move_cards, use_options};
 use ak_edit::{DeskFault, undo};
 use ak_keep::{Keeper, Lookup};
@@ -28,16 +28,25 @@ pub fn call(
         "move-cards" => move_by(alloc, session, &arguments),
         "use-options" => use_by(alloc, session, &arguments),
         "delete-notes" => delete_by(alloc, session, &arguments),
+        "add-deck" => deck_calls::add_by(alloc, session, &arguments),
+        "rename-deck" => deck_calls::rename_by(alloc, session, &arguments),
         "delete-deck" => deck_calls::delete_by(alloc, session, &arguments),
         "add-note" => note_calls::add_by(alloc, session, &arguments),
+        "edit-note" => note_calls::edit_by(alloc, session, &arguments),
         "set-options" => option_calls::set_by(alloc, session, &arguments),
         "add-options" => option_calls::add_by(alloc, session, &arguments),
         "delete-options" => option_calls::delete_by(alloc, session, &arguments),
         "set-spread" => option_calls::spread_by(alloc, session, &arguments),
+        "add-type" => type_calls::add_by(alloc, session, &arguments),
+        "edit-type" => type_calls::edit_by(alloc, session, &arguments),
+        "delete-type" => type_calls::delete_by(alloc, session, &arguments),
         "start-day" => study_calls::start_by(alloc, session, &arguments),
         "suspend" => study_calls::suspend_by(alloc, session, &arguments),
         "unsuspend" => study_calls::unsuspend_by(alloc, session, &arguments),
         "bury" => study_calls::bury_by(alloc, session, &arguments),
+        "answer" => study_calls::answer_by(alloc, session, &arguments),
+        "next" => queue_calls::next_by(alloc, session, &arguments),
+        "counts" => queue_calls::counts_by(alloc, session, &arguments),
         _ => undo_by(alloc, session, &arguments),
     }
 }
@@ -136,6 +145,14 @@ pub fn ids_at(alloc: Global, arguments: &Value, place: usize) -> Result<Vec<i64>
         ids.push(value.as_i64().ok_or(Unread::Bad)?)?;
     }
     Ok(ids)
+}
+
+/// `added` and the id, or why the call was refused.
+pub fn added(alloc: Global, answer: Result<i64, DeskFault>) -> Result<String, Unread> {
+    match answer {
+        Ok(id) => Ok(format!(in alloc; "added {id}")?),
+        Err(fault) => fault_text(alloc, fault),
+    }
 }
 
 /// `ok`, or why the call was refused.

@@ -7,8 +7,10 @@ mod deck_calls;
 mod faults;
 mod note_calls;
 mod option_calls;
+mod queue_calls;
 mod sessions;
 mod study_calls;
+mod type_calls;
 
 use crate::sessions::Session;
 use ak_io::{Sink, Source, StdSink, StdSource};

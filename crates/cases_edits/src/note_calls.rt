@@ -1,17 +1,17 @@
-use crate::calls::moment_at;
+use crate::calls::done;
 use crate::faults::fault_text;
 use crate::sessions::Session;
 use ak_base::Text;
 use ak_edit::DeskFault;
 use ak_keep::{Keeper, Lookup};
-use ak_notes::{Added, NewNote, add_note};
+use ak_notes::{Added, NewNote, NoteEdit, add_note, edit_note};
 use cases_lines::{Unread, listed, natural_at, number_at, texts_at};
 use serde_json::Value;
 use std::alloc::Global;
 
 /// `add-note [AT, WORD, TYPE, DECK, GUID, FIELDS, TAGS]`.
 pub fn add_by(alloc: Global, session: &mut Session, arguments: &Value) -> Result<String, Unread> {
-    let at = moment_at(arguments)?;
+    let at = number_at(arguments, 0)?;
     let new = new_note_at(alloc, arguments)?;
     if session.keeper.marked() || !session.keeper.held() {
         return Err(Unread::Bad);
@@ -62,4 +62,28 @@ fn added_text(alloc: Global, added: &Added) -> Result<String, Unread> {
     let note = added.note;
     let cards = listed(alloc, added.cards.as_slice())?;
     Ok(format!(in alloc; "added {note} {cards}")?)
+}
+
+/// `edit-note [AT, NOTE, FIELDS, TAGS]`.
+pub fn edit_by(alloc: Global, session: &mut Session, arguments: &Value) -> Result<String, Unread> {
+    let at = number_at(arguments, 0)?;
+    let given = note_edit_at(alloc, arguments)?;
+    if session.keeper.marked() || !session.keeper.held() {
+        return Err(Unread::Bad);
+    }
+    done(
+        alloc,
+        edit_note(&mut session.keeper, &mut session.steps, &given, at),
+    )
+}
+
+/// The texts that the arguments give a note from the first place on.
+fn note_edit_at(alloc: Global, arguments: &Value) -> Result<NoteEdit, Unread> {
+    let fields = texts_at(alloc, arguments, 2)?;
+    let tags = texts_at(alloc, arguments, 3)?;
+    Ok(NoteEdit {
+        note: number_at(arguments, 1)?,
+        fields,
+        tags,
+    })
 }

@@ -1,8 +1,6 @@
-use crate::calls::{done, moment_at};
-use crate::faults::fault_text;
+use crate::calls::{added, done, moment_at};
 use crate::sessions::Session;
 use ak_base::Options;
-use ak_edit::DeskFault;
 use ak_keep::{Keeper, Lookup};
 use ak_options::{DeleteOptions, add_options, delete_options, set_options, set_spread};
 use cases_lines::{Unread, number_at, options_at};
@@ -24,7 +22,7 @@ pub fn set_by(alloc: Global, session: &mut Session, arguments: &Value) -> Result
 
 /// `add-options [AT, GROUP, ID, STAMP, USN, TAKEN]`.
 pub fn add_by(alloc: Global, session: &mut Session, arguments: &Value) -> Result<String, Unread> {
-    let at = moment_at(arguments)?;
+    let at = number_at(arguments, 0)?;
     let options = group_at(alloc, arguments)?;
     if session.keeper.marked() || !session.keeper.held() {
         return Err(Unread::Bad);
@@ -83,17 +81,9 @@ fn group_at(alloc: Global, arguments: &Value) -> Result<Options, Unread> {
 }
 
 /// The truth value at a place of the arguments.
-fn truth_at(arguments: &Value, place: usize) -> Result<bool, Unread> {
+pub fn truth_at(arguments: &Value, place: usize) -> Result<bool, Unread> {
     match arguments.get(place) {
         Some(value) => value.as_bool().ok_or(Unread::Bad),
         None => Err(Unread::Bad),
-    }
-}
-
-/// `added` and the id, or why the call was refused.
-fn added(alloc: Global, answer: Result<i64, DeskFault>) -> Result<String, Unread> {
-    match answer {
-        Ok(id) => Ok(format!(in alloc; "added {id}")?),
-        Err(fault) => fault_text(alloc, fault),
     }
 }
