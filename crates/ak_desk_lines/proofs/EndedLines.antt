@@ -1,0 +1,105 @@
+-- How a line ends by the call that it makes.
+use Rattle.std.specs.Prelude.{◌≡◌, ℤ, Result, Ok, Err, IfErr, IfOk, OnOk, OnErr, List}
+use Rattle.std.proofs.Common.{refl, ap, ◌∙◌}
+use Rattle.ak_calls.proofs.Telling.{where_held-both, where_held-map}
+use Rattle.ak_calls.specs.Calls.{EndsEdit}
+use Rattle.ak_desk_lines.specs.Accepted.{Does, answer_with, done_answer}
+use Rattle.ak_desk_lines.specs.Places.{Edits, Place}
+use Rattle.ak_desk_lines.specs.LineEnds.{AnswersLine, EndsLine, HasAnswerForm, IsLeft, KeepsIfReading}
+use Rattle.ak_desk_lines.specs.declared.turns.Turn.{Turn}
+use Rattle.ak_edit.specs.Ends.{IsFinished}
+use Rattle.ak_edit.specs.Refusals.{AnswersBy, Refusal}
+use Rattle.ak_edit.specs.declared.desk_faults.DeskFault.{DeskFault}
+use Rattle.ak_keep.specs.Collections.{Collection}
+use Rattle.ak_keep.specs.Keepers.{Keeping, WhereHeld}
+use Rattle.ak_lines.specs.declared.desk_lines.DeskLine.{DeskLine}
+use Rattle.ak_merge.specs.Edits.{Edit}
+use Rattle.ak_texts.specs.declared.answers.DeskAnswer.{DeskAnswer}
+use Rattle.ak_texts.specs.declared.answers.DeskAnswer.TheVariants as answers
+use Rattle.ak_undo.specs.declared.steps.Step.{Step}
+
+-- two places with the same parts are the same
+pub same_place : (was now : Place) → now.keeping ≡ was.keeping → now.steps ≡ was.steps → now ≡ was
+same_place was now held steps =
+    ap (λ (k : Keeping). record { keeping = k; steps = now.steps }) held
+    ∙ ap (λ (s : List Step). record { keeping = was.keeping; steps = s }) steps
+
+-- an acceptance tells the same of another answer
+other_answer : (T U : Type 0) (tests : Refusal) (value : T) (answer : U) → AnswersBy tests (Ok value) → AnswersBy tests (Ok answer)
+other_answer T U tests value answer by = record { accepted = by.accepted; refused = tt }
+
+-- a refusal tells the same of answers of another kind
+other_kind : (T U : Type 0) (tests : Refusal) (fault : DeskFault) → AnswersBy {T = T} tests (Err fault) → AnswersBy {T = U} tests (Err fault)
+other_kind T U tests fault by = record { accepted = tt; refused = by.refused }
+
+-- a line whose call was accepted
+pub accepted_line : (T : Type 0) (line : DeskLine) (t : Turn) (was now : Place) (value : T) (answer : DeskAnswer) (IsDone : Collection → Type 0) (tests : Collection → Refusal)
+    → ((c : Collection) → IsDone c → Does line t c was now answer)
+    → ((c : Collection) → AnswersBy (tests c) (Ok answer) → AnswersLine line t c was now (Ok answer))
+    → KeepsIfReading line was now → HasAnswerForm line answer
+    → WhereHeld was.keeping IsDone → WhereHeld was.keeping (λ c. AnswersBy (tests c) (Ok value))
+    → now.keeping.headed ≡ was.keeping.headed → EndsLine line t was now (Ok answer)
+accepted_line T line t was now value answer IsDone tests does told reads form done answers stays = record {
+  does = where_held-map was.keeping IsDone (λ c. Does line t c was now answer) does done;
+  answers =
+      where_held-map was.keeping (λ c. AnswersBy (tests c) (Ok value)) (λ c. AnswersLine line t c was now (Ok answer))
+      (λ c by. told c (other_answer T DeskAnswer (tests c) value answer by)) answers;
+  left = tt;
+  reads = reads;
+  form = form;
+  stays = stays;
+}
+
+-- a line whose call was refused and left all as it was
+pub refused_line : (T : Type 0) (line : DeskLine) (t : Turn) (was now : Place) (fault : DeskFault) (tests : Collection → Refusal)
+    → ((c : Collection) → AnswersBy {T = DeskAnswer} (tests c) (Err fault) → AnswersLine line t c was now (Err fault))
+    → (now ≡ was → IsLeft line t fault was now)
+    → WhereHeld was.keeping (λ c. AnswersBy {T = T} (tests c) (Err fault))
+    → now.keeping ≡ was.keeping → now.steps ≡ was.steps → EndsLine line t was now (Err fault)
+refused_line T line t was now fault tests told left answers held steps = record {
+  does = tt;
+  answers =
+      where_held-map was.keeping (λ c. AnswersBy {T = T} (tests c) (Err fault)) (λ c. AnswersLine line t c was now (Err fault))
+      (λ c by. told c (other_kind T DeskAnswer (tests c) fault by)) answers;
+  left = left (same_place was now held steps);
+  reads = tt;
+  form = tt;
+  stays = ap (λ (k : Keeping). k.headed) held;
+}
+
+-- a line that is answered as its call is
+pub call_line : (T : Type 0) (line : DeskLine) (t : Turn) (was now : Place) (made : Result T DeskFault) (answer : T → DeskAnswer) (IsDone : T → Collection → Type 0) (tests : Collection → Refusal)
+    → ((value : T) (c : Collection) → IsDone value c → Does line t c was now (answer value))
+    → ((c : Collection) (result : Result DeskAnswer DeskFault) → AnswersBy (tests c) result → AnswersLine line t c was now result)
+    → ((fault : DeskFault) → now ≡ was → IsLeft line t fault was now)
+    → KeepsIfReading line was now → ((value : T) → HasAnswerForm line (answer value))
+    → IfOk made (λ value. WhereHeld was.keeping (IsDone value)) → WhereHeld was.keeping (λ c. AnswersBy (tests c) made)
+    → OnErr made (now.keeping ≡ was.keeping) → OnErr made (now.steps ≡ was.steps) → now.keeping.headed ≡ was.keeping.headed
+    → EndsLine line t was now (answer_with answer made)
+call_line T line t was now (Ok value) answer IsDone tests does told left reads form done answers held steps stays =
+    accepted_line T line t was now value (answer value) (IsDone value) tests (does value) (λ c. told c (Ok (answer value))) reads (form value) done answers stays
+call_line T line t was now (Err fault) answer IsDone tests does told left reads form done answers held steps stays =
+    refused_line T line t was now fault tests (λ c. told c (Err fault)) (left fault) answers held steps
+
+-- two things that are true of what was done
+pub both_done : (T : Type 0) (k : Keeping) (made : Result T DeskFault) (P Q : T → Collection → Type 0)
+    → IfOk made (λ value. WhereHeld k (P value)) → IfOk made (λ value. WhereHeld k (Q value)) → IfOk made (λ value. WhereHeld k (λ c. P value c × Q value c))
+both_done T k (Ok value) P Q one other = where_held-both k (P value) (Q value) (λ c. P value c × Q value c) (λ c p q. (p, q)) one other
+both_done T k (Err fault) P Q one other = tt
+
+-- what is true of an acceptance that gives nothing
+pub done_by : (k : Keeping) (P : Collection → Type 0) (made : Result (Unit {0}) DeskFault) → OnOk made (WhereHeld k P) → IfOk made (λ _. WhereHeld k P)
+done_by k P (Ok value) done = done
+done_by k P (Err fault) done = tt
+
+-- a line that does an edit and tells no more
+pub edit_line : (line : DeskLine) (t : Turn) (was now : Place) (rule : Collection → Edit) (tests : Collection → Refusal) (made : Result (Unit {0}) DeskFault)
+    → ((c : Collection) → Edits t.at rule c was now → Does line t c was now answers.Done)
+    → ((c : Collection) (result : Result DeskAnswer DeskFault) → AnswersBy (tests c) result → AnswersLine line t c was now result)
+    → ((fault : DeskFault) → now ≡ was → IsLeft line t fault was now)
+    → KeepsIfReading line was now → HasAnswerForm line answers.Done
+    → EndsEdit t.at rule tests was.keeping now.keeping was.steps now.steps made → EndsLine line t was now (answer_with done_answer made)
+edit_line line t was now rule tests made does told left reads form ended =
+    call_line (Unit {0}) line t was now made done_answer (λ _ c. Edits t.at rule c was now) tests (λ _ c. does c) told left
+    reads (λ _. form)
+    (done_by was.keeping (λ c. Edits t.at rule c was now) made ended.done) ended.answers ended.same ended.kept ended.stays

@@ -1,0 +1,2 @@
+pub mod AskedQueues
+pub mod EndedLines

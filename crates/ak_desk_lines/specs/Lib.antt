@@ -1,0 +1,4 @@
+pub mod Accepted
+pub mod Places
+pub mod Refused
+pub mod LineEnds

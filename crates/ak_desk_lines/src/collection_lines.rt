@@ -1,0 +1,40 @@
+ghost use Rattle.std.specs.Prelude.{◌≡◌};
+ghost use Rattle.ak_desk.specs.Desks.{IsIdle};
+ghost use Rattle.ak_desk_lines.specs.LineEnds.{EndsAt};
+ghost use Rattle.ak_edit.specs.Refusals.{DeskCause};
+ghost use Rattle.ak_lines.specs.declared.desk_lines.DeskLine.TheVariants as lines;
+
+use crate::answers::finished;
+use crate::turns::Turn;
+use ak_desk::Desk;
+use ak_edit::DeskFault;
+use ak_keep::Keeper;
+use ak_texts::DeskAnswer;
+
+/// `undo`: undoes the latest step.
+pub(crate) fn undo_latest<K: Keeper>(
+    desk: &mut Desk<K>,
+    turn: Turn,
+) -> Result<DeskAnswer, DeskFault>
+    requires idle { IsIdle (K.keeping desk.old.keeper.now) }
+    ensures ends { EndsAt K.Lookup lines.Undo turn desk.old desk.new result }
+    ensures cause { DeskCause (K.health desk.old.keeper.now) (K.health desk.new.keeper.now) result }
+    ensures lent { (desk.new.keeper.ghost_name ≡ desk.old.keeper.ghost_name)
+        × (desk.new.undo.ghost_name ≡ desk.old.undo.ghost_name) }
+{
+    finished(desk.undo(turn.at))
+}
+
+/// `check`: gives the first fault of the collection.
+pub(crate) fn check_all<K: Keeper>(desk: &mut Desk<K>, turn: Turn) -> Result<DeskAnswer, DeskFault>
+    requires idle { IsIdle (K.keeping desk.old.keeper.now) }
+    ensures ends { EndsAt K.Lookup lines.Check turn desk.old desk.new result }
+    ensures cause { DeskCause (K.health desk.old.keeper.now) (K.health desk.new.keeper.now) result }
+    ensures lent { (desk.new.keeper.ghost_name ≡ desk.old.keeper.ghost_name)
+        × (desk.new.undo.ghost_name ≡ desk.old.undo.ghost_name) }
+{
+    match desk.check() {
+        Ok(fault) => Ok(DeskAnswer::Checked(fault)),
+        Err(fault) => Err(fault),
+    }
+}

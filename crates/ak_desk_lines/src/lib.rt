@@ -1,0 +1,17 @@
+// What a line does at the desk: it is obeyed, or refused.
+#![tactic(auto)]
+
+mod answers;
+mod asking_lines;
+mod card_lines;
+mod collection_lines;
+mod deck_lines;
+mod note_lines;
+mod obeying;
+mod option_lines;
+mod read_lines;
+mod turns;
+mod type_lines;
+
+pub use obeying::{counted, obey};
+pub use turns::Turn;
