@@ -37,11 +37,11 @@ held_at k P w head told is held =
     (told_at k (λ h. IfSome (collection_of h) P) w told held)
 
 -- an acceptance tells the same of another answer
-other_answer : (T U : Type 0) (tests : Refusal) (value : T) (answer : U) → AnswersBy tests (Ok value) → AnswersBy tests (Ok answer)
+pub other_answer : (T U : Type 0) (tests : Refusal) (value : T) (answer : U) → AnswersBy tests (Ok value) → AnswersBy tests (Ok answer)
 other_answer T U tests value answer by = record { accepted = by.accepted; refused = tt }
 
 -- a refusal tells the same of answers of another kind
-other_kind : (T U : Type 0) (tests : Refusal) (fault : DeskFault) → AnswersBy {T = T} tests (Err fault) → AnswersBy {T = U} tests (Err fault)
+pub other_kind : (T U : Type 0) (tests : Refusal) (fault : DeskFault) → AnswersBy {T = T} tests (Err fault) → AnswersBy {T = U} tests (Err fault)
 other_kind T U tests fault by = record { accepted = tt; refused = by.refused }
 
 -- a line whose call was accepted

@@ -2,5 +2,6 @@ pub mod AskedQueues
 pub mod ChangedNotes
 pub mod EndedLines
 pub mod FoundDays
+pub mod ObeyedLines
 pub mod ShownPages
 pub mod StartedDecks
