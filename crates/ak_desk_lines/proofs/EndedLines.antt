@@ -12,8 +12,9 @@ use Rattle.ak_desk_lines.specs.Refused.{MayRefuse, RefusesNever}
 use Rattle.ak_desk_lines.specs.declared.turns.Turn.{Turn}
 use Rattle.ak_edit.proofs.Finishing.{told_at, where_held}
 use Rattle.ak_edit.specs.Ends.{IsFinished}
-use Rattle.ak_edit.specs.Refusals.{AnswersBy, IsFromOutside, Refusal}
+use Rattle.ak_edit.specs.Refusals.{AnswersBy, DeskCause, IsFromOutside, Refusal}
 use Rattle.ak_edit.specs.declared.desk_faults.DeskFault.{DeskFault}
+use Rattle.ak_faults.specs.Causes.{Health}
 use Rattle.ak_keep.specs.Collections.{Collection, Holding, collection_of}
 use Rattle.ak_keep.specs.Keepers.{Keeping, WhereHeld, WhereTold}
 use Rattle.ak_keep.specs.Marks.{WithMark}
@@ -117,6 +118,11 @@ edit_line line t was now rule tests made does told left reads form listed ended 
     call_line (Unit {0}) line t was now made done_answer (λ _ c. Edits t.at rule c was now) tests (λ _ c. does c) told left
     reads (λ _. form) listed
     (done_by was.keeping (λ c. Edits t.at rule c was now) made ended.done) ended.answers ended.same ended.kept ended.stays
+
+-- a line is refused for the cause of its call
+pub answered_cause : {T : Type 0} (answer : T → DeskAnswer) (made : Result T DeskFault) (before now : Health) → DeskCause before now made → DeskCause before now (answer_with answer made)
+answered_cause answer (Ok value) before now cause = record { goes = cause.goes; failed = cause.failed; unfailed = cause.unfailed }
+answered_cause answer (Err fault) before now cause = record { goes = cause.goes; failed = cause.failed; unfailed = cause.unfailed }
 
 -- ---- lines that only read
 -- what is true anyway is true of a refusal

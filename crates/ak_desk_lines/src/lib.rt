@@ -6,6 +6,7 @@ mod asking_lines;
 mod card_lines;
 mod collection_lines;
 mod deck_lines;
+mod line_laws;
 mod note_lines;
 mod obeying;
 mod option_lines;
@@ -13,5 +14,6 @@ mod read_lines;
 mod turns;
 mod type_lines;
 
+pub use line_laws::{lines_are_single_steps, undo_lists_suit_after_lines};
 pub use obeying::{counted, obey};
 pub use turns::Turn;

@@ -13,7 +13,7 @@ returns g c =
         kept = c.in_ok-head.ensures.reads.kept;
         same = c.in_ok-head.ensures.reads.same;
         cause = cause-ok _ c.in_ok-head.ensures.reads.cause.goes;
-        told = day_told (g.K.Lookup.keeping c.args.keeper.now) c.args.at c.in_ok-head.field-0 c.in-Some.head c.of-day.result c.in-Some.is c.in_ok-head.ensures.reads.told
-            (rw (to_z-of_z w64 c.in-Some.head.crt crt, to_z-of_z w64 c.args.at at) at c.of-day.ensures.day);
+        told = day_told (g.K.Lookup.keeping c.args.keeper.now) c.args.at c.in_ok-head.field-0 c.in-Some.head c.of.result c.in-Some.is c.in_ok-head.ensures.reads.told
+            (rw (to_z-of_z w64 c.in-Some.head.crt crt, to_z-of_z w64 c.args.at at) at c.of.ensures.day);
       };
     }
