@@ -12,8 +12,8 @@ ghost use Rattle.ak_texts.specs.declared.answers.DeskAnswer.{DeskAnswer};
 
 use ak_deck_paths::{deck_additions_are_admitted, deck_renames_are_admitted};
 
-/// A line, accepted or refused, leaves all as it was, or does one edit that is admitted, or undoes the latest step. So what
-/// `ak_edit` says of a finished edit and of an undo holds of every line: names, graves, links with servers.
+/// A line, accepted or refused, leaves all as it was, or does one edit that is admitted, or undoes the latest step. So
+/// what `ak_edit` says of a finished edit and of an undo holds of every line: names, graves, links with servers.
 pub fn lines_are_single_steps()
     ensures { (line : DeskLine) (t : Turn) (was now : DeskState) (result : Result DeskAnswer DeskFault)
         → EndsLine line t was now result → WhereHeld was.keeping (λ c. IsOneStep t.at c was now) }

@@ -1,7 +1,7 @@
 use Rattle.std.proofs.Common.{rules, w64, SFits}
 use Rattle.std.proofs.lemmas.Int.{to_z-of_z}
 use Rattle.ak_desk_lines.proofs.FoundDays.{found_on}
-use Rattle.ak_desk_lines.proofs.read_lines.found_at.Goals as goal
+use Rattle.ak_desk_lines.proofs.view_lines.found_at.Goals as goal
 
 pub returns-clause-told : goal.returns-clause-told
 returns-clause-told g c =
