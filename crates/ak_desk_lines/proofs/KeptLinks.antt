@@ -1,6 +1,6 @@
 -- What a line keeps of links with servers.
 use Rattle.std.specs.List.{All}
-use Rattle.std.specs.Prelude.{◌≡◌, ◌<ℤ◌, ℤ, Bool, if◌then◌else◌, List, ◌∷◌, Option, Some, Result}
+use Rattle.std.specs.Prelude.{◌≡◌, ◌<ℤ◌, ℤ, Bool, if◌then◌else◌, List, ◌∷◌, Some, Result}
 use Rattle.std.proofs.Common.{inl, inr, refl, sym, ap, subst, ◌∙◌, arith}
 use Rattle.std.proofs.lemmas.Int.{ints}
 use Rattle.std.proofs.lemmas.List.Elements.{All-cons, All-head, All-tail, All-take, All-weaker}
