@@ -28,7 +28,7 @@ pub(crate) fn undo_latest<K: Keeper>(
     finished(desk.undo(turn.at))
 }
 
-/// `check`: gives the first fault of the collection.
+/// `check`: gives the first fault of the collection. The turn is for the clause alone.
 pub(crate) fn check_all<K: Keeper>(desk: &mut Desk<K>, turn: Turn) -> Result<DeskAnswer, DeskFault>
     requires idle { IsIdle (K.keeping desk.old.keeper.now) }
     ensures ends { EndsAt K.Lookup lines.Check turn desk.old desk.new result }

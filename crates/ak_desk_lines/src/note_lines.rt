@@ -73,14 +73,14 @@ pub(crate) fn set_fields<K: Keeper>(
         × (desk.new.undo.ghost_name ≡ desk.old.undo.ghost_name) }
 {
     let alloc = desk.undo.allocator();
-    match with_fields(alloc, desk.keeper, note, fields) {
+    match fields_edit(alloc, desk.keeper, note, fields) {
         Ok(given) => finished(desk.edit_note(&given, turn.at)),
         Err(fault) => Err(fault),
     }
 }
 
 /// The edit that gives a note other fields.
-fn with_fields<K: Keeper>(
+fn fields_edit<K: Keeper>(
     alloc: Global,
     keeper: &mut K,
     note: i64,
@@ -119,14 +119,14 @@ pub(crate) fn set_tags<K: Keeper>(
         × (desk.new.undo.ghost_name ≡ desk.old.undo.ghost_name) }
 {
     let alloc = desk.undo.allocator();
-    match with_tags(alloc, desk.keeper, note, tags) {
+    match tags_edit(alloc, desk.keeper, note, tags) {
         Ok(given) => finished(desk.edit_note(&given, turn.at)),
         Err(fault) => Err(fault),
     }
 }
 
 /// The edit that gives a note other tags.
-fn with_tags<K: Keeper>(
+fn tags_edit<K: Keeper>(
     alloc: Global,
     keeper: &mut K,
     note: i64,

@@ -67,7 +67,7 @@ fn found_at<K: Keeper>(
     Ok(found)
 }
 
-/// `page`: gives the page of a side of a card, through the filters.
+/// `page`: gives the page of a side of a card, through the filters. The turn is for the clause alone.
 pub(crate) fn show_page<K: Keeper>(
     desk: &mut Desk<K>,
     card: i64,
