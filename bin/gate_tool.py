@@ -1,7 +1,7 @@
 """What bin/try-edits and bin/gate-seconds share: the toolchain's command `rt`, read as a Python module, and a copy of this repository.
 
 Needs Python 3.8 or later and the toolchain, whose command `rt` is a Python program on the PATH. From it are used the
-functions edits_alone, read_edit, must_fail, copy_crates, where_disk_lasts and share_work, and the crates of its rtlib.
+functions edits_alone, read_edit, must_fail, checked, linked, copy_crates, where_disk_lasts and share_work, and its crates.
 """
 import importlib.machinery
 import importlib.util
@@ -78,3 +78,9 @@ def copied(rt):
 def measure():
     """From now on the commands that this program starts are measured."""
     subprocess.Popen = Measured
+
+
+def spent():
+    """Returns the user seconds that this thread's commands took since it was last asked."""
+    seconds, SPENT.seconds = getattr(SPENT, "seconds", 0.0), 0.0
+    return seconds
