@@ -1,5 +1,5 @@
 -- Why a line does not go.
-use Rattle.std.specs.Prelude.{◌≡◌, ◌≢◌, ◌⊎◌, ⊤, ⊥, ℕ, List, Option, Some, None, Result, Ok, Err}
+use Rattle.std.specs.Prelude.{◌≡◌, ◌≢◌, ◌⊎◌, ⊤, ℕ, List, Option, Some, None, Result, Ok, Err}
 use Rattle.ak_desk_lines.specs.declared.turns.Turn.{Turn}
 use Rattle.ak_desk_runs.specs.LineOutcomes.{Accepted, EndsAs, EndsAtDesk, Failed, OutOfMemory, Passed, Refused, SaysNoLine}
 use Rattle.ak_desk_runs.specs.Sittings.{Bench, Sitting}

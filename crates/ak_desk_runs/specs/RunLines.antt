@@ -1,5 +1,5 @@
 -- What a step of a run does: one line, with what is written for it.
-use Rattle.std.specs.Prelude.{◌≡◌, ◌≢◌, ⊤, ⊥, ℕ, ◌+◌, Bool, true, false, List, [], ◌++◌, length, Option, Some, None, Result, Ok, Err, IfSome}
+use Rattle.std.specs.Prelude.{◌≡◌, ◌≢◌, ⊤, ℕ, ◌+◌, Bool, true, false, List, [], ◌++◌, length, Option, Some, None, Result, Ok, Err, IfSome}
 use Rattle.std.specs.Io.KnownBytes.{Appends, Keeps}
 use Rattle.ak_desk_runs.specs.DeskRuns.{AllGo, AreLines, Goes, IsPart, Stops, answer_bytes, refusal_bytes}
 use Rattle.ak_desk_runs.specs.LineOutcomes.{EndsAs}
