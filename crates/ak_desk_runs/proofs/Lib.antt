@@ -1,0 +1,6 @@
+mod Going
+mod LineStopping
+mod Opened
+mod OpeningHeads
+mod OpeningRows
+mod Stopping
