@@ -1,4 +1,4 @@
 pub mod Accepted
-pub mod Places
+pub mod DeskStates
 pub mod Refused
 pub mod LineEnds

@@ -1,22 +1,22 @@
-ghost use Rattle.std.specs.Prelude.{◌≡◌, true, IfOk, IfSome};
-ghost use Rattle.ak_base.specs.Days.{IsDay, IsDayOf};
-ghost use Rattle.ak_base.specs.declared.names.Table.TheVariants as tables;
+ghost use Rattle.std.specs.Prelude.{◌≡◌, true, IfErr, IfOk, IfSome, OnErr, OnOk};
+ghost use Rattle.ak_base.specs.Days.{IsDayOf};
 ghost use Rattle.ak_desk.specs.Desks.{IsIdle};
-ghost use Rattle.ak_desk_lines.specs.Accepted.{answer_with, card_answer};
-ghost use Rattle.ak_desk_lines.specs.Refused.{of_queue_fault};
+ghost use Rattle.ak_desk_lines.specs.Accepted.{IsOnDay, answer_with, card_answer, counts_answer, of_queue, of_queue_fault};
 ghost use Rattle.ak_desk_lines.specs.LineEnds.{EndsAt};
-ghost use Rattle.ak_edit.specs.Refusals.{DeskCause};
+ghost use Rattle.ak_edit.specs.Refusals.{AnswersBy, DeskCause, IsEndFault};
+ghost use Rattle.ak_keep.specs.Keepers.{WhereHeld};
 ghost use Rattle.ak_keep.specs.Readings.{ReadsBy};
 ghost use Rattle.ak_lines.specs.declared.desk_lines.DeskLine.TheVariants as lines;
 ghost use Rattle.ak_study.specs.Answers.{IsButton};
-ghost use Rattle.ak_study.specs.DayStarts.{IsInDay};
+ghost use Rattle.ak_study.specs.DayStarts.{IsInDay, RefusesStart, StartsDay};
+ghost use Rattle.ak_texts.specs.declared.answers.DeskAnswer.TheVariants as answers;
 
 use crate::turns::Turn;
 use ak_base::{Card, Day, Name, Table};
 use ak_desk::Desk;
 use ak_edit::DeskFault;
 use ak_keep::{KeepFault, Keeper};
-use ak_queue::{Progress, QueueFault, counts, next};
+use ak_queue::{Counts, Progress, QueueFault, counts, next};
 use ak_study::CardAnswer;
 use ak_texts::DeskAnswer;
 
@@ -73,13 +73,22 @@ pub(crate) fn ask_next<K: Keeper>(
         × (desk.new.undo.ghost_name ≡ desk.old.undo.ghost_name) }
 {
     let alloc = desk.undo.allocator();
-    let day = day_of(desk.keeper, turn.at)?;
-    desk.start_day(turn.at)?;
+    let day = match start_on(desk, turn.at) {
+        Ok(day) => day,
+        Err(fault) => return Err(fault),
+    };
     let progress = Progress {
         day,
         done: turn.done,
     };
-    match next(alloc, desk.keeper, deck, progress) {
+    next_card(next(alloc, desk.keeper, deck, progress))
+}
+
+/// The answer for the next card of a queue.
+fn next_card(asked: Result<Option<i64>, QueueFault>) -> Result<DeskAnswer, DeskFault>
+    ensures { result ≡ answer_with answers.Next (of_queue asked) }
+{
+    match asked {
         Ok(card) => Ok(DeskAnswer::Next(card)),
         Err(fault) => Err(desk_fault(fault)),
     }
@@ -99,9 +108,18 @@ pub(crate) fn ask_counts<K: Keeper>(
         × (desk.new.undo.ghost_name ≡ desk.old.undo.ghost_name) }
 {
     let alloc = desk.undo.allocator();
-    let day = day_of(desk.keeper, turn.at)?;
-    desk.start_day(turn.at)?;
-    match counts(alloc, desk.keeper, deck, day) {
+    let day = match start_on(desk, turn.at) {
+        Ok(day) => day,
+        Err(fault) => return Err(fault),
+    };
+    asked_counts(counts(alloc, desk.keeper, deck, day))
+}
+
+/// The answer for the counts of a queue.
+fn asked_counts(asked: Result<Counts, QueueFault>) -> Result<DeskAnswer, DeskFault>
+    ensures { result ≡ answer_with counts_answer (of_queue asked) }
+{
+    match asked {
         Ok(counts) => Ok(DeskAnswer::Counts {
             new_cards: counts.new_cards,
             learning: counts.learning,
@@ -111,13 +129,38 @@ pub(crate) fn ask_counts<K: Keeper>(
     }
 }
 
+/// Starts the day of a moment in milliseconds, and gives it.
+fn start_on<K: Keeper>(desk: &mut Desk<K>, at: i64) -> Result<Day, DeskFault>
+    requires idle { IsIdle (K.keeping desk.old.keeper.now) }
+    requires moment { IsInDay at }
+    ensures day { IfOk result (λ day. IsOnDay at (K.keeping desk.old.keeper.now) day) }
+    ensures ok { OnOk result (StartsDay at (K.keeping desk.old.keeper.now) (K.keeping desk.new.keeper.now)
+        desk.old.undo.now desk.new.undo.now) }
+    ensures err { OnErr result (K.keeping desk.new.keeper.now ≡ K.keeping desk.old.keeper.now) }
+    ensures kept { OnErr result (desk.new.undo.now ≡ desk.old.undo.now) }
+    ensures stays { (K.keeping desk.new.keeper.now).headed ≡ (K.keeping desk.old.keeper.now).headed }
+    ensures refused { WhereHeld (K.keeping desk.old.keeper.now) (λ c. AnswersBy (RefusesStart at c) result) }
+    ensures listed { IfErr result IsEndFault }
+    ensures cause { DeskCause (K.health desk.old.keeper.now) (K.health desk.new.keeper.now) result }
+    ensures lent { (desk.new.keeper.ghost_name ≡ desk.old.keeper.ghost_name)
+        × (desk.new.undo.ghost_name ≡ desk.old.undo.ghost_name) }
+{
+    let day = match day_of(desk.keeper, at) {
+        Ok(day) => day,
+        Err(fault) => return Err(DeskFault::from(fault)),
+    };
+    match desk.start_day(at) {
+        Ok(()) => Ok(day),
+        Err(fault) => Err(fault),
+    }
+}
+
 /// The day of a moment in milliseconds, for the collection that is held.
 pub(crate) fn day_of<K: Keeper>(keeper: &mut K, at: i64) -> Result<Day, KeepFault>
     requires held { (K.keeping keeper.old).headed.current ≡ true }
     requires moment { IsInDay at }
     ensures reads { ReadsBy K.Lookup keeper.old keeper.new result
         (λ h day. IfSome h.head (λ head. IsDayOf head.crt at day)) }
-    ensures day { IfOk result IsDay }
 {
     // For the proof alone: it says that what the keeper gives is in range.
     let _checks = keeper.marked();

@@ -1,14 +1,17 @@
 ghost use Rattle.std.specs.Prelude.{◌≡◌};
 ghost use Rattle.ak_desk.specs.Desks.{IsIdle};
+ghost use Rattle.ak_desk_lines.specs.Accepted.{answer_with};
 ghost use Rattle.ak_desk_lines.specs.LineEnds.{EndsAt};
 ghost use Rattle.ak_edit.specs.Refusals.{DeskCause};
 ghost use Rattle.ak_lines.specs.declared.desk_lines.DeskLine.TheVariants as lines;
+ghost use Rattle.ak_texts.specs.declared.answers.DeskAnswer.TheVariants as answers;
 
 use crate::answers::finished;
 use crate::turns::Turn;
 use ak_desk::Desk;
 use ak_edit::DeskFault;
 use ak_keep::Keeper;
+use ak_merge::CheckFault;
 use ak_texts::DeskAnswer;
 
 /// `undo`: undoes the latest step.
@@ -33,7 +36,14 @@ pub(crate) fn check_all<K: Keeper>(desk: &mut Desk<K>, turn: Turn) -> Result<Des
     ensures lent { (desk.new.keeper.ghost_name ≡ desk.old.keeper.ghost_name)
         × (desk.new.undo.ghost_name ≡ desk.old.undo.ghost_name) }
 {
-    match desk.check() {
+    checked(desk.check())
+}
+
+/// The answer for a collection that was checked.
+fn checked(made: Result<Option<CheckFault>, DeskFault>) -> Result<DeskAnswer, DeskFault>
+    ensures { result ≡ answer_with answers.Checked made }
+{
+    match made {
         Ok(fault) => Ok(DeskAnswer::Checked(fault)),
         Err(fault) => Err(fault),
     }

@@ -1,6 +1,6 @@
 ghost use Rattle.std.specs.Prelude.{◌≡◌, map, IfOk};
 ghost use Rattle.ak_desk.specs.Desks.{IsIdle};
-ghost use Rattle.ak_desk_lines.specs.Accepted.{answer_with, note_answer};
+ghost use Rattle.ak_desk_lines.specs.Accepted.{IsChangeOf, answer_with, note_answer, other_fields, other_tags};
 ghost use Rattle.ak_desk_lines.specs.LineEnds.{EndsAt};
 ghost use Rattle.ak_edit.specs.Refusals.{DeskCause};
 ghost use Rattle.ak_base.specs.NoteTexts.{fields_in, tags_in};
@@ -73,15 +73,35 @@ pub(crate) fn set_fields<K: Keeper>(
         × (desk.new.undo.ghost_name ≡ desk.old.undo.ghost_name) }
 {
     let alloc = desk.undo.allocator();
-    let held = held_note(desk.keeper, note)?;
+    match with_fields(alloc, desk.keeper, note, fields) {
+        Ok(given) => finished(desk.edit_note(&given, turn.at)),
+        Err(fault) => Err(fault),
+    }
+}
+
+/// The edit that gives a note other fields.
+fn with_fields<K: Keeper>(
+    alloc: Global,
+    keeper: &mut K,
+    note: i64,
+    fields: List<Text>,
+) -> Result<NoteEdit, DeskFault>
+    ensures same { K.keeping keeper.new ≡ K.keeping keeper.old }
+    ensures made { IfOk result (λ given. IsChangeOf (K.keeping keeper.old) note (λ held. other_fields held fields) given) }
+    ensures note { IfOk result (λ given. given.note ≡ note) }
+    ensures missing { MissesIn K.Lookup keeper.old result (λ rows. note_at rows note) (name_in tables.Note note) }
+    ensures cause { DeskCause (K.health keeper.old) (K.health keeper.new) result }
+{
+    let held = match held_note(keeper, note) {
+        Ok(held) => held,
+        Err(fault) => return Err(fault),
+    };
     let tags = tags_of(alloc, &held)?;
-    let given = NoteEdit {
+    Ok(NoteEdit {
         note: held.id,
         fields,
         tags,
-    };
-    desk.edit_note(&given, turn.at)?;
-    Ok(DeskAnswer::Done)
+    })
 }
 
 /// `tags`: gives a note other tags. It keeps its fields.
@@ -98,15 +118,35 @@ pub(crate) fn set_tags<K: Keeper>(
         × (desk.new.undo.ghost_name ≡ desk.old.undo.ghost_name) }
 {
     let alloc = desk.undo.allocator();
-    let held = held_note(desk.keeper, note)?;
+    match with_tags(alloc, desk.keeper, note, tags) {
+        Ok(given) => finished(desk.edit_note(&given, turn.at)),
+        Err(fault) => Err(fault),
+    }
+}
+
+/// The edit that gives a note other tags.
+fn with_tags<K: Keeper>(
+    alloc: Global,
+    keeper: &mut K,
+    note: i64,
+    tags: List<Text>,
+) -> Result<NoteEdit, DeskFault>
+    ensures same { K.keeping keeper.new ≡ K.keeping keeper.old }
+    ensures made { IfOk result (λ given. IsChangeOf (K.keeping keeper.old) note (λ held. other_tags held tags) given) }
+    ensures note { IfOk result (λ given. given.note ≡ note) }
+    ensures missing { MissesIn K.Lookup keeper.old result (λ rows. note_at rows note) (name_in tables.Note note) }
+    ensures cause { DeskCause (K.health keeper.old) (K.health keeper.new) result }
+{
+    let held = match held_note(keeper, note) {
+        Ok(held) => held,
+        Err(fault) => return Err(fault),
+    };
     let fields = fields_of(alloc, &held)?;
-    let given = NoteEdit {
+    Ok(NoteEdit {
         note: held.id,
         fields,
         tags,
-    };
-    desk.edit_note(&given, turn.at)?;
-    Ok(DeskAnswer::Done)
+    })
 }
 
 /// `delete`: deletes notes with their cards.
@@ -127,12 +167,12 @@ pub(crate) fn delete_notes<K: Keeper>(
 /// The note of this id, refused if it is not held.
 fn held_note<K: Keeper>(keeper: &mut K, id: i64) -> Result<Note, DeskFault>
     ensures same { K.keeping keeper.new ≡ K.keeping keeper.old }
+    ensures named { IfOk result (λ note. note.id ≡ id) }
     ensures found { IfOk result (λ note. WhereTold (K.keeping keeper.old) (λ h. note_at h.rows id ≡ Some note)) }
     ensures missing { MissesIn K.Lookup keeper.old result (λ rows. note_at rows id) (name_in tables.Note id) }
     ensures cause { DeskCause (K.health keeper.old) (K.health keeper.new) result }
 {
-    let found = note_at(keeper, id)?;
-    match found {
+    match note_at(keeper, id)? {
         Some(note) => Ok(note),
         None => Err(DeskFault::NoSuch(Name {
             table: Table::Note,

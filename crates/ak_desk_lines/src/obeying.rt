@@ -22,8 +22,8 @@ use ak_lines::DeskLine;
 use ak_texts::DeskAnswer;
 use ak_types::TypeEdit;
 
-/// Does what a line says at a desk, and gives its answer. A line that is refused leaves all as it was, but that `next` and
-/// `counts` may have started the day.
+/// Does what a line says at a desk, and gives its answer. A line that is refused leaves the collection and the undo list as
+/// they were, but that `next` and `counts` may have started the day; a page leaves the filters with the turns that they took.
 pub fn obey<K: Keeper>(
     desk: &mut Desk<K>,
     line: DeskLine,
@@ -96,12 +96,12 @@ pub fn obey<K: Keeper>(
     }
 }
 
-/// How many answers were accepted once this line is, if it was `done` before. It is asked before the line is obeyed.
-pub fn counted(line: &DeskLine, done: u64) -> u64
-    ensures { result ≡ counted line.now done }
+/// How many answers were accepted in a run after this answer to a line, if it was `done` before.
+pub fn counted(answer: &DeskAnswer, done: u64) -> u64
+    ensures { result ≡ counted answer.now done }
 {
-    match line {
-        DeskLine::Answer { .. } => done.saturating_add(1),
+    match answer {
+        DeskAnswer::Answered { .. } => done.saturating_add(1),
         _ => done,
     }
 }

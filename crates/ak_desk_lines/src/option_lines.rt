@@ -54,7 +54,14 @@ pub(crate) fn set_options<K: Keeper>(
         × (desk.new.undo.ghost_name ≡ desk.old.undo.ghost_name) }
 {
     let id = options.id;
-    match desk.set_options(options, turn.at) {
+    put_options(id, desk.set_options(options, turn.at))
+}
+
+/// The answer for a group that was put in place of the one of its id.
+fn put_options(id: i64, made: Result<(), DeskFault>) -> Result<DeskAnswer, DeskFault>
+    ensures { result ≡ answer_with (λ _. answers.PutOptions id) made }
+{
+    match made {
         Ok(()) => Ok(DeskAnswer::PutOptions(id)),
         Err(fault) => Err(fault),
     }

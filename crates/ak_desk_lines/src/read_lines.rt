@@ -1,12 +1,16 @@
-ghost use Rattle.std.specs.Prelude.{◌≡◌, map};
+ghost use Rattle.std.specs.Prelude.{◌≡◌, true, map, IfErr, IfOk, IfSome};
 ghost use Rattle.ak_desk.specs.Desks.{IsIdle};
+ghost use Rattle.ak_desk_lines.specs.Accepted.{AreFound, answer_with};
 ghost use Rattle.ak_desk_lines.specs.LineEnds.{EndsAt, EndsPage};
-ghost use Rattle.ak_edit.specs.Refusals.{DeskCause};
+ghost use Rattle.ak_edit.specs.Refusals.{DeskCause, IsFromOutside};
+ghost use Rattle.ak_keep.specs.Keepers.{WhereTold};
 ghost use Rattle.ak_lines.specs.declared.desk_lines.DeskLine.TheVariants as lines;
 ghost use Rattle.ak_study.specs.DayStarts.{IsInDay};
+ghost use Rattle.ak_texts.specs.declared.answers.DeskAnswer.TheVariants as answers;
 
 use crate::asking_lines::day_of;
 use crate::turns::Turn;
+use ak_base::{List, Text};
 use ak_desk::Desk;
 use ak_edit::DeskFault;
 use ak_filters::FieldFilter;
@@ -14,6 +18,7 @@ use ak_keep::Keeper;
 use ak_pages::card_page;
 use ak_search::{Expr, find};
 use ak_texts::DeskAnswer;
+use std::alloc::Global;
 
 /// `find`: gives the cards that meet a search on the day of the moment. It starts no day.
 pub(crate) fn find_cards<K: Keeper>(
@@ -29,9 +34,37 @@ pub(crate) fn find_cards<K: Keeper>(
         × (desk.new.undo.ghost_name ≡ desk.old.undo.ghost_name) }
 {
     let alloc = desk.undo.allocator();
-    let day = day_of(desk.keeper, turn.at)?;
-    let found = find(alloc, search, desk.keeper, day)?;
-    Ok(DeskAnswer::Found(found))
+    found(found_at(alloc, desk.keeper, search, turn.at))
+}
+
+/// The answer for cards that were searched.
+fn found(made: Result<List<i64>, DeskFault>) -> Result<DeskAnswer, DeskFault>
+    ensures { result ≡ answer_with answers.Found made }
+{
+    match made {
+        Ok(cards) => Ok(DeskAnswer::Found(cards)),
+        Err(fault) => Err(fault),
+    }
+}
+
+/// The cards that meet a search on the day of a moment in milliseconds.
+fn found_at<K: Keeper>(
+    alloc: Global,
+    keeper: &mut K,
+    search: &Expr,
+    at: i64,
+) -> Result<List<i64>, DeskFault>
+    requires held { (K.keeping keeper.old).headed.current ≡ true }
+    requires moment { IsInDay at }
+    ensures told { IfOk result (λ ids. WhereTold (K.keeping keeper.old)
+        (λ h. IfSome h.head (λ head. AreFound at search.now h.rows head ids))) }
+    ensures same { K.keeping keeper.new ≡ K.keeping keeper.old }
+    ensures listed { IfErr result IsFromOutside }
+    ensures cause { DeskCause (K.health keeper.old) (K.health keeper.new) result }
+{
+    let day = day_of(keeper, at)?;
+    let found = find(alloc, search, keeper, day)?;
+    Ok(found)
 }
 
 /// `page`: gives the page of a side of a card, through the filters.
@@ -50,7 +83,14 @@ pub(crate) fn show_page<K: Keeper>(
     ensures lent { (desk.new.keeper.ghost_name ≡ desk.old.keeper.ghost_name)
         × (desk.new.undo.ghost_name ≡ desk.old.undo.ghost_name) }
 {
-    match card_page(desk.keeper, card, back, filters) {
+    shown(card_page(desk.keeper, card, back, filters))
+}
+
+/// The answer for a page.
+fn shown(made: Result<Text, DeskFault>) -> Result<DeskAnswer, DeskFault>
+    ensures { result ≡ answer_with answers.Page made }
+{
+    match made {
         Ok(text) => Ok(DeskAnswer::Page(text)),
         Err(fault) => Err(fault),
     }

@@ -2,7 +2,7 @@ use Rattle.std.proofs.Common.{rules, refl, w64, SFits}
 use Rattle.std.proofs.lemmas.Int.{to_z-of_z}
 use Rattle.ak_decks.specs.DeckOptions.{RefusesUse, options_use}
 use Rattle.ak_desk_lines.proofs.EndedLines.{edit_line}
-use Rattle.ak_desk_lines.specs.Places.{place_of}
+use Rattle.ak_desk_lines.specs.DeskStates.{state_of}
 use Rattle.ak_lines.specs.declared.desk_lines.DeskLine.TheVariants as lines
 use Rattle.ak_desk_lines.proofs.deck_lines.use_options.Goals as goal
 
@@ -11,9 +11,9 @@ returns-clause-ends g c =
     let deck : SFits w64 c.args.deck = c.ranges.deck in
     let options : SFits w64 c.args.options = c.ranges.options in
     let at : SFits w64 c.args.turn.at = search rules in
-    let was = place_of g.K.Lookup c.args.desk.now in
-    let now = place_of g.K.Lookup c.use_options.new.self in
+    let was = state_of g.K.Lookup c.args.desk.now in
+    let now = state_of g.K.Lookup c.use_options.new.self in
     rw (c.finished.ensures)
     (edit_line (lines.UseOptions c.args.deck c.args.options) c.args.turn was now (options_use c.args.options c.args.deck) (RefusesUse c.args.turn.at c.args.options c.args.deck) c.use_options.result
-    (λ d is. (is, refl)) (λ d result by. by) (λ fault same. same) tt refl
+    (λ d is. (is, refl)) (λ d result by. by) (λ fault same. same) tt refl c.use_options.ensures.listed
     (rw (to_z-of_z w64 c.args.deck deck, to_z-of_z w64 c.args.options options, to_z-of_z w64 c.args.turn.at at) at c.use_options.ensures.edits))

@@ -1,4 +1,4 @@
--- A desk between two lines, and when a line comes.
+-- The state of a desk between two lines.
 use Rattle.std.specs.Prelude.{◌≡◌, ℤ, List}
 use Rattle.ak_desk.specs.declared.desks.Desk.{Desk}
 use Rattle.ak_edit.specs.Ends.{IsFinished}
@@ -9,14 +9,14 @@ use Rattle.ak_merge.specs.Edits.{Edit}
 use Rattle.ak_undo.specs.declared.steps.Step.{Step}
 
 -- what is known of the keeper of a desk, and its undo list
-pub record Place : Type 0 where
+pub record DeskState : Type 0 where
   pub keeping : Keeping
   pub steps : List Step
 
--- the place of a desk
-abbrev pub place_of : {K : Type 0} → Ghosts K → Desk K → Place
-place_of K desk = record { keeping = K.keeping desk.keeper.now; steps = desk.undo.now }
+-- the state of a desk
+abbrev pub state_of : {K : Type 0} → Ghosts K → Desk K → DeskState
+state_of K desk = record { keeping = K.keeping desk.keeper.now; steps = desk.undo.now }
 
 -- at this moment the edit of the collection that was held was done
-abbrev pub Edits : ℤ → (Collection → Edit) → Collection → Place → Place → Type 0
+abbrev pub Edits : ℤ → (Collection → Edit) → Collection → DeskState → DeskState → Type 0
 Edits at rule c before after = IsFinished at c (rule c) before.keeping after.keeping before.steps after.steps
