@@ -11,23 +11,23 @@ use Rattle.ak_faults.specs.Causes.{Health}
 use Rattle.ak_io.specs.declared.endings.ScriptEnd.{ScriptEnd}
 use Rattle.ak_io.specs.declared.endings.ScriptEnd.TheVariants as ends
 
+-- the words are this one word
+abbrev pub is_only : List ℕ → List (String Global) → Bool
+is_only name [] = false
+is_only name (word ∷ []) = same_text (string_bytes word) name
+is_only name (word ∷ other ∷ others) = false
+
 -- the words are the one word `lab`
 abbrev pub is_lab : List (String Global) → Bool
-is_lab [] = false
-is_lab (word ∷ []) = same_text (string_bytes word) (codes "lab")
-is_lab (word ∷ other ∷ others) = false
+is_lab words = is_only (codes "lab") words
 
 -- the words are the one word `init`
 abbrev pub is_init : List (String Global) → Bool
-is_init [] = false
-is_init (word ∷ []) = same_text (string_bytes word) (codes "init")
-is_init (word ∷ other ∷ others) = false
+is_init words = is_only (codes "init") words
 
 -- the words are the one word `desk`
 abbrev pub is_desk : List (String Global) → Bool
-is_desk [] = false
-is_desk (word ∷ []) = same_text (string_bytes word) (codes "desk")
-is_desk (word ∷ other ∷ others) = false
+is_desk words = is_only (codes "desk") words
 
 -- the words are those of no command
 pub record AreOthers (words : List (String Global)) : Type 0 where

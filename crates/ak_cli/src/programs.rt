@@ -1,13 +1,13 @@
 ghost use Rattle.std.specs.Prelude.{◌≡◌, ◌⊎◌, ◌<◌, ◌≤◌, ℤ, map, true, false, IfSome};
 ghost use Rattle.std.specs.Io.KnownBytes.{Appends, IsAtEnd};
 ghost use Rattle.ak_cli.specs.LabRun.{lab_run};
-ghost use Rattle.ak_cli.specs.Programs.{is_desk, is_init, is_lab, usage_line, AreOthers, Prints, Tells};
+ghost use Rattle.ak_cli.specs.Programs.{is_desk, is_init, is_lab, is_only, usage_line, AreOthers, Prints, Tells};
 ghost use Rattle.ak_desk_runs.specs.DeskRuns.{EndsDesk, input_lines};
 ghost use Rattle.ak_desk_runs.specs.Inits.{EndsInit};
 ghost use Rattle.ak_desk_runs.specs.Sittings.{outside_of};
 ghost use Rattle.ak_desk_runs.specs.declared.command_ends.CommandEnd.{CommandEnd as End};
 ghost use Rattle.ak_faults.specs.Causes.{GoesOn, Rose};
-ghost use Rattle.ak_io.specs.Arrivals.{GivesNext};
+ghost use Rattle.ak_io.specs.Arrivals.{GivesNext, IsClockMoment};
 ghost use Rattle.ak_io.specs.Scripts.{AppendsPart};
 ghost use Rattle.ak_keep.specs.Keepers.{is_marked};
 
@@ -35,15 +35,18 @@ pub fn run<I: Source, O: Sink, K: Keeper, C: Clock, R: Chance>(
 
     // Which words there are: with others `usage` is printed, unless the output fails.
     ensures usage { result ≡ 2 → AreOthers words.now × Appends (O.written out.old) (O.written out.new) usage_line }
-    ensures only_usage { AreOthers words.now → (result ≡ 2) ⊎ (result ≡ 5) × AppendsPart (O.written out.old) (O.written out.new) usage_line }
+    ensures only_usage { AreOthers words.now → (result ≡ 2)
+        ⊎ (result ≡ 5) × AppendsPart (O.written out.old) (O.written out.new) usage_line }
 
     // `lab`: what is printed for the script that the input tells, and where it is refused.
-    ensures printed { is_lab words.now ≡ true → IfSome (I.left input.old) (λ script. Prints result (lab_run script) (O.written out.old) (O.written out.new)) }
-    ensures statuses { is_lab words.now ≡ true → (result ≡ 0) ⊎ (result ≡ 3) ⊎ (result ≡ 4) ⊎ (result ≡ 5) ⊎ (result ≡ 8) }
+    ensures printed { is_lab words.now ≡ true → IfSome (I.left input.old)
+        (λ script. Prints result (lab_run script) (O.written out.old) (O.written out.new)) }
+    ensures statuses { is_lab words.now ≡ true
+        → (result ≡ 0) ⊎ (result ≡ 3) ⊎ (result ≡ 4) ⊎ (result ≡ 5) ⊎ (result ≡ 8) }
 
     // `init`: the collection that is held after it, and what is printed.
     ensures inits { is_init words.now ≡ true → (at : ℤ) × (end : End)
-        × GivesNext (C.to_come clock.old) (C.to_come clock.new) at
+        × IsClockMoment at × GivesNext (C.to_come clock.old) (C.to_come clock.new) at
         × EndsInit at end (K.keeping keeper.old) (K.keeping keeper.new) (O.written out.old) (O.written out.new)
         × Tells end (O.health out.old) (O.health out.new) result }
 
@@ -57,15 +60,24 @@ pub fn run<I: Source, O: Sink, K: Keeper, C: Clock, R: Chance>(
         (O.written out.old) (O.written out.new)
         × Tells end (O.health out.old) (O.health out.new) result }
 
-    // Other words leave the collection as it was, and none leaves it marked.
-    ensures others { is_init words.now ≡ false → is_desk words.now ≡ false → K.keeping keeper.new ≡ K.keeping keeper.old }
+    // Other words leave the collection as it was, and none leaves it marked. They take no moment; words of chance and filters
+    // serve `desk` alone, and only it and `lab` read the input.
+    ensures others { is_init words.now ≡ false → is_desk words.now ≡ false
+        → K.keeping keeper.new ≡ K.keeping keeper.old }
     ensures unmarked { is_marked (K.keeping keeper.new) ≡ false }
+    ensures timeless { is_init words.now ≡ false → is_desk words.now ≡ false
+        → C.to_come clock.new ≡ C.to_come clock.old }
+    ensures spared { is_desk words.now ≡ false → (R.to_come chance.new ≡ R.to_come chance.old)
+        × (map (λ b. meaning b) filters.new.items ≡ map (λ b. meaning b) filters.old.items) }
+    ensures unread { is_lab words.now ≡ false → is_desk words.now ≡ false
+        → I.left input.new ≡ I.left input.old }
     ensures ended { result ≡ 0 → is_init words.now ≡ false → IsAtEnd (I.left input.new) }
 
     // Why it ends with the other statuses. Out of memory alone has no cause.
     ensures read { result ≡ 4 → Rose (I.health input.old) (I.health input.new) }
     ensures write { result ≡ 5 → Rose (O.health out.old) (O.health out.new) }
     ensures keep { result ≡ 6 → Rose (K.health keeper.old) (K.health keeper.new) }
+    ensures keeps { GoesOn (K.health keeper.old) (K.health keeper.new) }
 
     // A fault of the output is told, also one that only a flush met.
     ensures faulted { (O.health out.old).faults < (O.health out.new).faults → result ≡ 5 }
@@ -100,11 +112,14 @@ fn run_words<I: Source, O: Sink, K: Keeper, C: Clock, R: Chance>(
 ) -> u8
     requires unmarked { is_marked (K.keeping keeper.old) ≡ false }
     ensures usage { result ≡ 2 → AreOthers words.now × Appends (O.written out.old) (O.written out.new) usage_line }
-    ensures only_usage { AreOthers words.now → (result ≡ 2) ⊎ (result ≡ 5) × AppendsPart (O.written out.old) (O.written out.new) usage_line }
-    ensures printed { is_lab words.now ≡ true → IfSome (I.left input.old) (λ script. Prints result (lab_run script) (O.written out.old) (O.written out.new)) }
-    ensures statuses { is_lab words.now ≡ true → (result ≡ 0) ⊎ (result ≡ 3) ⊎ (result ≡ 4) ⊎ (result ≡ 5) ⊎ (result ≡ 8) }
+    ensures only_usage { AreOthers words.now → (result ≡ 2)
+        ⊎ (result ≡ 5) × AppendsPart (O.written out.old) (O.written out.new) usage_line }
+    ensures printed { is_lab words.now ≡ true → IfSome (I.left input.old)
+        (λ script. Prints result (lab_run script) (O.written out.old) (O.written out.new)) }
+    ensures statuses { is_lab words.now ≡ true
+        → (result ≡ 0) ⊎ (result ≡ 3) ⊎ (result ≡ 4) ⊎ (result ≡ 5) ⊎ (result ≡ 8) }
     ensures inits { is_init words.now ≡ true → (at : ℤ) × (end : End)
-        × GivesNext (C.to_come clock.old) (C.to_come clock.new) at
+        × IsClockMoment at × GivesNext (C.to_come clock.old) (C.to_come clock.new) at
         × EndsInit at end (K.keeping keeper.old) (K.keeping keeper.new) (O.written out.old) (O.written out.new)
         × Tells end (O.health out.old) (O.health out.new) result }
     ensures desks { is_desk words.now ≡ true → (end : End)
@@ -115,53 +130,41 @@ fn run_words<I: Source, O: Sink, K: Keeper, C: Clock, R: Chance>(
         (C.to_come clock.new) (R.to_come chance.new))
         (O.written out.old) (O.written out.new)
         × Tells end (O.health out.old) (O.health out.new) result }
-    ensures others { is_init words.now ≡ false → is_desk words.now ≡ false → K.keeping keeper.new ≡ K.keeping keeper.old }
+    ensures others { is_init words.now ≡ false → is_desk words.now ≡ false
+        → K.keeping keeper.new ≡ K.keeping keeper.old }
     ensures unmarked { is_marked (K.keeping keeper.new) ≡ false }
+    ensures timeless { is_init words.now ≡ false → is_desk words.now ≡ false
+        → C.to_come clock.new ≡ C.to_come clock.old }
+    ensures spared { is_desk words.now ≡ false → (R.to_come chance.new ≡ R.to_come chance.old)
+        × (map (λ b. meaning b) filters.new.items ≡ map (λ b. meaning b) filters.old.items) }
+    ensures unread { is_lab words.now ≡ false → is_desk words.now ≡ false
+        → I.left input.new ≡ I.left input.old }
     ensures ended { result ≡ 0 → is_init words.now ≡ false → IsAtEnd (I.left input.new) }
     ensures read { result ≡ 4 → Rose (I.health input.old) (I.health input.new) }
     ensures write { result ≡ 5 → Rose (O.health out.old) (O.health out.new) }
     ensures keep { result ≡ 6 → Rose (K.health keeper.old) (K.health keeper.new) }
+    ensures keeps { GoesOn (K.health keeper.old) (K.health keeper.new) }
     ensures goes { GoesOn (O.health out.old) (O.health out.new) }
 {
-    if is_lab(words) {
+    if is_only(words, "lab") {
         return status_of(run_script(alloc, input, out));
     }
-    if is_init(words) {
+    if is_only(words, "init") {
         return command_status(init_collection(alloc, keeper, clock, out));
     }
-    if is_desk(words) {
+    if is_only(words, "desk") {
         let end = run_desk(alloc, keeper, clock, chance, filters, input, out);
         return command_status(end);
     }
     print_usage(out)
 }
 
-/// Whether the words are the one word `lab`.
-fn is_lab(words: &[String]) -> bool
-    ensures { result ≡ is_lab words.now }
+/// Whether the words are this one word.
+fn is_only(words: &[String], name: &str) -> bool
+    ensures { result ≡ is_only name.now words.now }
 {
     match words.split_first() {
-        Some((word, others)) => others.is_empty() && word.as_str() == "lab",
-        None => false,
-    }
-}
-
-/// Whether the words are the one word `init`.
-fn is_init(words: &[String]) -> bool
-    ensures { result ≡ is_init words.now }
-{
-    match words.split_first() {
-        Some((word, others)) => others.is_empty() && word.as_str() == "init",
-        None => false,
-    }
-}
-
-/// Whether the words are the one word `desk`.
-fn is_desk(words: &[String]) -> bool
-    ensures { result ≡ is_desk words.now }
-{
-    match words.split_first() {
-        Some((word, others)) => others.is_empty() && word.as_str() == "desk",
+        Some((word, others)) => others.is_empty() && word.as_str() == name,
         None => false,
     }
 }

@@ -4,3 +4,4 @@ mod Opened
 mod OpeningHeads
 mod OpeningRows
 mod Stopping
+mod Texts

@@ -128,9 +128,14 @@ stamp_passes second low high = grind (arith, ints)
 five_pass : (second : ℤ) (b c r : NoteType) (d : Deck) (o : Options) → IsWithin (pos 0) last_stamp second → AreFive second (negsuc 0) b c r d o
     → AllByRecursion IsChecked (five_rows b c r d o)
 five_pass second b c r d o within five =
-    let passes = stamp_passes second within.low within.high in
-    (basic_passes second b passes five.is_basic, cloze_passes second c passes five.is_cloze, reversed_passes second r passes five.is_reversed,
-    deck_passes second d passes five.is_deck, options_pass second o within five.are_options, tt)
+    let passes = stamp_passes second within.low within.high in (
+      basic_passes second b passes five.is_basic,
+      cloze_passes second c passes five.is_cloze,
+      reversed_passes second r passes five.is_reversed,
+      deck_passes second d passes five.is_deck,
+      options_pass second o within five.are_options,
+      tt,
+    )
 
 -- their names
 five_names : (second number : ℤ) (b c r : NoteType) (d : Deck) (o : Options) → AreFive second number b c r d o

@@ -36,7 +36,7 @@ IsNext (Some (first ∷ more)) line = first ≡ line
 abbrev pub NextEnds : Option (List Line) → Sitting → Sitting → Outcome → Type 0
 NextEnds left s t outcome = (line : Line) × IsNext left line × EndsAs line s t outcome
 
--- the line with the text of its answer, or with the number and text of its refusal, is written whole, or a front of it
+-- these bytes are a front of those
 abbrev pub IsPart : List ℕ → List ℕ → Type 0
 IsPart part whole = (rest : List ℕ) × (whole ≡ part ++ rest)
 

@@ -1,10 +1,10 @@
 -- How a line of a run ends: a line of the input, by what the run was before it and is after it.
-use Rattle.std.specs.Prelude.{◌≡◌, ◌≢◌, ◌⊎◌, ℕ, ℤ, Bool, true, false, ◌==◌, ◌&&◌, ◌||◌, if◌then◌else◌, List, Option, Some, None, Result, Ok, Err, codes}
+use Rattle.std.specs.Prelude.{◌≡◌, ◌≢◌, ◌⊎◌, ℕ, ℤ, Bool, true, false, ◌==◌, ◌||◌, if◌then◌else◌, List, Option, Some, None, Result, Ok, Err, codes}
 use Rattle.std.specs.List.{starts_with}
 use Rattle.std.specs.Str.{is_utf8}
 use Rattle.ak_desk_lines.specs.LineEnds.{AppliesFilters, EndsLine, counted}
 use Rattle.ak_desk_lines.specs.declared.turns.Turn.{Turn}
-use Rattle.ak_desk_runs.specs.Sittings.{Bench, Sitting, place_in}
+use Rattle.ak_desk_runs.specs.Sittings.{Bench, Sitting, state_in}
 use Rattle.ak_edit.specs.declared.desk_faults.DeskFault.{DeskFault}
 use Rattle.ak_edit.specs.declared.desk_faults.DeskFault.TheVariants as desks
 use Rattle.ak_io.specs.Arrivals.{GivesNext, IsClockMoment}
@@ -32,11 +32,14 @@ text_in (Whole bytes) = if is_utf8 bytes then Some bytes else None
 text_in TooLong = None
 text_in PastInput = None
 
--- whether a line is passed over: its text is empty or begins with `#`
+-- whether a text is passed over, if there is one: it is empty or begins with `#`
+abbrev pub passes : Option (List ℕ) → Bool
+passes None = false
+passes (Some text) = is_skipped text
+
+-- whether a line is passed over
 abbrev pub is_passed : Line → Bool
-is_passed (Whole bytes) = is_utf8 bytes && is_skipped bytes
-is_passed TooLong = false
-is_passed PastInput = false
+is_passed line = passes (text_in line)
 
 -- whether a line takes a word of chance: it begins with `note` or `answer`
 abbrev pub takes_word : Line → Bool
@@ -64,16 +67,16 @@ pub record TakesTurn (line : Line) (s t : Sitting) (turn : Turn) : Type 0 where
   pub done : turn.done ≡ s.bench.done
 
 -- ---- what a line does
--- how many answers were accepted once this line of the desk ended so, if it was that many before
-abbrev pub done_after : DeskLine → Result DeskAnswer DeskFault → ℕ → ℕ
-done_after said (Ok answer) done = counted said done
-done_after said (Err fault) done = done
+-- how many answers were accepted once a line of the desk ended so, if it was that many before
+abbrev pub done_after : Result DeskAnswer DeskFault → ℕ → ℕ
+done_after (Ok answer) done = counted answer done
+done_after (Err fault) done = done
 
 -- this line of the desk ended so there
 pub record EndsAtDesk (said : DeskLine) (turn : Turn) (s t : Bench) (result : Result DeskAnswer DeskFault) : Type 0 where
-  pub ends : EndsLine said turn (place_in s) (place_in t) result
+  pub ends : EndsLine said turn (state_in s) (state_in t) result
   pub filters : AppliesFilters said s.keeping s.filters t.filters result
-  pub done : t.done ≡ done_after said result s.done
+  pub done : t.done ≡ done_after result s.done
 
 -- the line has a text that says a line of the desk, which ended so there
 abbrev pub AtDesk : Line → Turn → Bench → Bench → Result DeskAnswer DeskFault → Type 0

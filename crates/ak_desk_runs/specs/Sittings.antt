@@ -1,6 +1,6 @@
 -- A run of desk lines between two of them.
 use Rattle.std.specs.Prelude.{ℕ, ℤ, List, [], Option}
-use Rattle.ak_desk_lines.specs.Places.{Place}
+use Rattle.ak_desk_lines.specs.DeskStates.{DeskState}
 use Rattle.ak_desk_runs.specs.declared.seats.Seat.{Seat}
 use Rattle.ak_filters.specs.Meanings.{Meaning}
 use Rattle.ak_keep.specs.Keepers.{Keeping}
@@ -39,9 +39,9 @@ abbrev pub outside_in : Sitting → Outside
 outside_in s =
     record { keeping = s.bench.keeping; filters = s.bench.filters; moments = s.moments; words = s.words }
 
--- the place of the desk
-abbrev pub place_in : Bench → Place
-place_in b = record { keeping = b.keeping; steps = b.steps }
+-- the state of the desk
+abbrev pub state_in : Bench → DeskState
+state_in b = record { keeping = b.keeping; steps = b.steps }
 
 -- what a run is given, by its parts
 abbrev pub outside_of : Keeping → List Meaning → Option (List ℤ) → Option (List ℕ) → Outside

@@ -6,6 +6,7 @@ mod command_ends;
 mod desk_runs;
 mod inits;
 mod line_stops;
+mod line_texts;
 mod obeyed_lines;
 mod seats;
 mod turn_takings;

@@ -1,5 +1,4 @@
-ghost use Rattle.std.specs.Prelude.{◌≡◌, map, IfErr, IfOk, None, Some};
-ghost use Rattle.ak_desk_runs.specs.LineOutcomes.{text_in, textless};
+ghost use Rattle.std.specs.Prelude.{◌≡◌, map};
 ghost use Rattle.ak_desk.specs.Desks.{IsIdle};
 ghost use Rattle.ak_desk_lines.specs.LineEnds.{AppliesFilters, EndsLine};
 ghost use Rattle.ak_desk_runs.specs.LineStops.{ComesOut, SaidComesOut, StopCause, TextComesOut};
@@ -9,8 +8,9 @@ ghost use Rattle.ak_lines.specs.DeskLines.{IsInRange};
 ghost use Rattle.ak_study.specs.DayStarts.{IsInDay};
 
 use crate::line_stops::{LineStop, desk_stop, line_stop, stop_by};
+use crate::line_texts::{is_passed, text_of};
 use crate::seats::Seat;
-use crate::turn_takings::{is_passed, take_turn};
+use crate::turn_takings::take_turn;
 use ak_desk::Desk;
 use ak_desk_lines::{Turn, counted, obey};
 use ak_edit::DeskFault;
@@ -20,7 +20,6 @@ use ak_keep::Keeper;
 use ak_lines::{DeskLine, read_line};
 use ak_texts::DeskAnswer;
 use ak_undo::UndoList;
-use std::str;
 
 /// Does what a line of the input says, and gives its answer; none if the line is passed over.
 pub(crate) fn obey_line<K: Keeper, C: Clock, R: Chance>(
@@ -51,21 +50,6 @@ pub(crate) fn obey_line<K: Keeper, C: Clock, R: Chance>(
     match obey_text(seat, text, turn, keeper, filters) {
         Ok(answer) => Ok(Some(answer)),
         Err(stop) => Err(stop),
-    }
-}
-
-/// The text of a line, or why it is refused if it has none.
-fn text_of(line: &Line) -> Result<&str, &'static str>
-    ensures ok { IfOk result (λ text. text_in line.now ≡ Some text.now) }
-    ensures err { IfErr result (λ why. (text_in line.now ≡ None) × (why.now ≡ textless line.now)) }
-{
-    match line {
-        Line::PastInput => Err("long input"),
-        Line::TooLong => Err("bad line"),
-        Line::Whole(bytes) => match str::from_utf8(bytes.as_slice()) {
-            Ok(text) => Ok(text),
-            Err(_) => Err("bad line"),
-        },
     }
 }
 
@@ -108,10 +92,9 @@ fn obey_said<K: Keeper>(
     ensures stays { (K.keeping keeper.new).headed ≡ (K.keeping keeper.old).headed }
     ensures cause { StopCause (K.health keeper.old) (K.health keeper.new) result }
 {
-    let done = counted(&said, seat.done);
     match obey_at(keeper, &mut seat.undo, said, turn, filters) {
         Ok(answer) => {
-            seat.done = done;
+            seat.done = counted(&answer, seat.done);
             Ok(answer)
         }
         Err(fault) => Err(desk_stop(seat.alloc, &fault)),

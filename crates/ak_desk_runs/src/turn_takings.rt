@@ -1,11 +1,9 @@
 ghost use Rattle.std.specs.Prelude.{◌≡◌};
-ghost use Rattle.ak_desk_runs.specs.LineOutcomes.{GivesWord, is_passed, takes_word};
+ghost use Rattle.ak_desk_runs.specs.LineOutcomes.{GivesWord, takes_word};
 ghost use Rattle.ak_io.specs.Arrivals.{GivesNext, IsClockMoment};
 
 use ak_desk_lines::Turn;
 use ak_io::{Chance, Clock, Line};
-use ak_lines::is_skipped;
-use std::str;
 
 /// Takes what a line takes: a moment, and a word of chance if it begins with `note` or `answer`.
 pub(crate) fn take_turn<C: Clock, R: Chance>(
@@ -32,19 +30,6 @@ fn takes_word(line: &Line) -> bool
         Line::Whole(bytes) => {
             let bytes = bytes.as_slice();
             bytes.starts_with(b"note") || bytes.starts_with(b"answer")
-        }
-        Line::TooLong | Line::PastInput => false,
-    }
-}
-
-/// Whether a line is passed over. One that is too long, or no text, is not, whatever it begins with.
-pub(crate) fn is_passed(line: &Line) -> bool
-    ensures { result ≡ is_passed line.now }
-{
-    match line {
-        Line::Whole(bytes) => {
-            let bytes = bytes.as_slice();
-            str::from_utf8(bytes).is_ok() && is_skipped(bytes)
         }
         Line::TooLong | Line::PastInput => false,
     }
