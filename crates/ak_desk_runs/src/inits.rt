@@ -22,6 +22,7 @@ pub fn init_collection<K: Keeper, C: Clock, O: Sink>(
     // It takes one moment, and leaves the collection of that moment, or all as it was.
     ensures ends { (at : ℤ) × IsClockMoment at × GivesNext (C.to_come clock.old) (C.to_come clock.new) at
         × EndsInit at result (K.keeping keeper.old) (K.keeping keeper.new) (O.written out.old) (O.written out.new) }
+    ensures unmarked { is_marked (K.keeping keeper.new) ≡ false }
     ensures kept { IsKeeperCaused (K.health keeper.old) (K.health keeper.new) result }
     ensures written { IsEndCaused (O.health out.old) (O.health out.new) result }
 {
