@@ -25,7 +25,7 @@ all_go-more (first ∷ lines) line s m t a b (mid, printed, others, one, rest, i
 -- the line past the input's limit doesn't go
 past_stops : (s t : Sitting) (printed : List (List ℕ)) → Goes PastInput s t printed → ⊥
 past_stops s t [] (passed, same) = cc
-past_stops s t (text ∷ []) (unpassed, turn, takes, answer, (words, said, is, says, ends), answered) = cc
+past_stops s t (text ∷ []) (unpassed, turn, takes, (answer, (words, said, is, says, ends), answered)) = cc
 past_stops s t (text ∷ other ∷ more) goes = goes
 
 -- one of the lines that were left went

@@ -1,7 +1,7 @@
 -- How a line ends, from how its text or what it says ended.
 use Rattle.std.proofs.Common.{◌≡◌, ℕ, true, false, List, Option, Some, None, Result, Ok, Err, refl, sym, subst, ◌∙◌, inl, inr}
 use Rattle.ak_desk_lines.specs.declared.turns.Turn.{Turn}
-use Rattle.ak_desk_runs.specs.LineOutcomes.{SaysNoLine, TakesTurn, is_passed, text_in, textless}
+use Rattle.ak_desk_runs.specs.LineOutcomes.{SaysNoLine, TakesTurn, is_skipped_line, text_in, textless}
 use Rattle.ak_desk_runs.specs.LineStops.{ComesOut, IsLineStop, IsStopBy, IsUnsaid, SaidComesOut, TextComesOut}
 use Rattle.ak_desk_runs.specs.Sittings.{Bench, Sitting}
 use Rattle.ak_desk_runs.specs.declared.line_stops.LineStop.{LineStop}
@@ -15,7 +15,7 @@ use Rattle.ak_texts.specs.declared.answers.DeskAnswer.{DeskAnswer}
 
 -- a line without a text stops
 pub textless_stops : (line : Line) (turn : Turn) (s t : Sitting) (why : List ℕ) (stop : LineStop)
-    → is_passed line ≡ false → TakesTurn line s t turn → text_in line ≡ None → why ≡ textless line → t.bench ≡ s.bench → IsStopBy why stop
+    → is_skipped_line line ≡ false → TakesTurn line s t turn → text_in line ≡ None → why ≡ textless line → t.bench ≡ s.bench → IsStopBy why stop
     → ComesOut line s t (Err stop)
 textless_stops line turn s t why (stops.Refused text) unpassed takes none is same stopped =
     (unpassed, turn, takes, inl (same, inl (none, stopped ∙ is)))
@@ -24,15 +24,15 @@ textless_stops line turn s t why stops.Memory unpassed takes none is same stoppe
 
 -- a text is accepted
 pub text_accepted : (line : Line) (turn : Turn) (s t : Sitting) (text : List ℕ) (answer : DeskAnswer)
-    → is_passed line ≡ false → TakesTurn line s t turn → text_in line ≡ Some text → TextComesOut text turn s.bench t.bench (Ok answer)
+    → is_skipped_line line ≡ false → TakesTurn line s t turn → text_in line ≡ Some text → TextComesOut text turn s.bench t.bench (Ok answer)
     → ComesOut line s t (Ok (Some answer))
 text_accepted line turn s t text answer unpassed takes is (inl (said, says, ended)) =
-    (unpassed, turn, takes, answer, (text, said, is, says, ended), refl)
+    (unpassed, turn, takes, (answer, (text, said, is, says, ended), refl))
 text_accepted line turn s t text answer unpassed takes is (inr (same, unsaid)) = absurd unsaid
 
 -- a text stops
 pub text_stops : (line : Line) (turn : Turn) (s t : Sitting) (text : List ℕ) (stop : LineStop)
-    → is_passed line ≡ false → TakesTurn line s t turn → text_in line ≡ Some text → TextComesOut text turn s.bench t.bench (Err stop)
+    → is_skipped_line line ≡ false → TakesTurn line s t turn → text_in line ≡ Some text → TextComesOut text turn s.bench t.bench (Err stop)
     → ComesOut line s t (Err stop)
 text_stops line turn s t text (stops.Refused why) unpassed takes is (inl (said, says, (fault, ended, told))) =
     (unpassed, turn, takes, inr (fault, (text, said, is, says, ended), told))

@@ -1,5 +1,5 @@
 -- A run stops at a line that was taken.
-use Rattle.std.proofs.Common.{◌≡◌, ◌≢◌, ℕ, ◌+◌, List, [], ◌∷◌, ◌++◌, Option, Some, None, Result, Ok, Err, Unit, refl, sym, ap, ◌∙◌, subst, inl, inr}
+use Rattle.std.proofs.Common.{◌≡◌, ◌≢◌, ℕ, ◌+◌, List, [], ◌∷◌, ◌++◌, Option, Some, None, Result, Ok, Err, refl, sym, ap, ◌∙◌, subst, inl, inr}
 use Rattle.std.proofs.KnownBytes.{Appends-nil, Appends-kept}
 use Rattle.std.specs.Io.KnownBytes.{Appends, Keeps}
 use Rattle.ak_desk_runs.specs.DeskRuns.{IsNext, NextEnds, refusal_bytes}
@@ -50,7 +50,7 @@ stops_in_answer ends.WriteFailed left left' number line s t text w w' takes ende
     (more, (text, inl ((line, taken_is_next left left' line takes, ended), part)), written)
 stops_in_answer ends.KeeperFailed left left' number line s t text w w' takes ended printed = absurd printed
 stops_in_answer ends.Memory left left' number line s t text w w' takes ended kept =
-    ([], (refl, inr (inr (text, line, taken_is_next left left' line takes, ended))), kept_nothing w w' kept)
+    ([], (refl, inr (inr (text, (line, taken_is_next left left' line takes, ended)))), kept_nothing w w' kept)
 
 -- a line is refused, and that was written, or a part of it, or nothing
 pub stops_refused : (end : CommandEnd) (left left' : Option (List Line)) (number : ℕ) (line : Line) (s t : Sitting) (why : List ℕ) (w w' : Option (List ℕ))

@@ -1,11 +1,11 @@
 -- The text of a line.
-use Rattle.std.proofs.Common.{◌≡◌, ℕ, Bool, true, false, List, Option, Some, None, refl, sym, ap, ◌∙◌, subst, codes}
+use Rattle.std.proofs.Common.{◌≡◌, ℕ, Bool, true, false, List, Some, None, refl, sym, ap, ◌∙◌, subst, codes}
 use Rattle.std.proofs.lemmas.Str.{IsUtf8-from_is_utf8, is_utf8-from_IsUtf8}
 use Rattle.std.specs.Prelude.{if◌then◌else◌}
 use Rattle.std.specs.Str.{IsUtf8, is_utf8}
-use Rattle.ak_desk_runs.specs.LineOutcomes.{is_passed, passes, text_in, textless}
+use Rattle.ak_desk_runs.specs.LineOutcomes.{text_in, textless}
 use Rattle.ak_io.specs.declared.lines.Line.{Line}
-use Rattle.ak_io.specs.declared.lines.Line.TheVariants.{Whole, TooLong, PastInput}
+use Rattle.ak_io.specs.declared.lines.Line.TheVariants.{Whole}
 
 never : (b : Bool) → (b ≡ true → ⊥) → b ≡ false
 never true h = absurd (h refl)
@@ -22,11 +22,3 @@ pub no_text : (line : Line) (bytes given : List ℕ) → line ≡ Whole bytes �
 no_text line bytes given is same other =
     let off : is_utf8 bytes ≡ false = never (is_utf8 bytes) (λ e. other (subst IsUtf8 (sym same) (IsUtf8-from_is_utf8 bytes e))) in
     (ap text_in is ∙ ap (λ b. if b then Some bytes else None) off, sym (ap textless is))
-
--- whether a line with a text is passed over
-pub passed_by_text : (line : Line) (text : List ℕ) (passed : Bool) → text_in line ≡ Some text → passed ≡ passes (Some text) → passed ≡ is_passed line
-passed_by_text line text passed is tested = tested ∙ sym (ap passes is)
-
--- a line without one is not
-pub unpassed_without : (line : Line) → text_in line ≡ None → false ≡ is_passed line
-unpassed_without line none = sym (ap passes none)

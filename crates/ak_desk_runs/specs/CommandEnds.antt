@@ -7,17 +7,17 @@ use Rattle.ak_faults.specs.Causes.{Health, HasCauseOf}
 use Rattle.ak_io.specs.Scripts.{AppendsPart}
 
 -- the command was refused by this text: it is written as a line, or a front of it is if the output failed
-abbrev pub IsToldOff : List ℕ → CommandEnd → Option (List ℕ) → Option (List ℕ) → Type 0
-IsToldOff text ends.Done old new = ⊥
-IsToldOff text ends.Refused old new = Appends old new (text ++ 10 ∷ [])
-IsToldOff text ends.ReadFailed old new = ⊥
-IsToldOff text ends.WriteFailed old new = AppendsPart old new (text ++ 10 ∷ [])
-IsToldOff text ends.KeeperFailed old new = ⊥
-IsToldOff text ends.Memory old new = ⊥
+abbrev pub IsRefusedWith : List ℕ → CommandEnd → Option (List ℕ) → Option (List ℕ) → Type 0
+IsRefusedWith text ends.Done old new = ⊥
+IsRefusedWith text ends.Refused old new = Appends old new (text ++ 10 ∷ [])
+IsRefusedWith text ends.ReadFailed old new = ⊥
+IsRefusedWith text ends.WriteFailed old new = AppendsPart old new (text ++ 10 ∷ [])
+IsRefusedWith text ends.KeeperFailed old new = ⊥
+IsRefusedWith text ends.Memory old new = ⊥
 
 -- a command ends with a failed output only if the output counted a fault, and never with a calm one
-abbrev pub IsEndCaused : Health → Health → CommandEnd → Type 0
-IsEndCaused before now end = HasCauseOf {T = Unit {0}} ends.WriteFailed before now (Err end)
+abbrev pub IsOutputCaused : Health → Health → CommandEnd → Type 0
+IsOutputCaused before now end = HasCauseOf {T = Unit {0}} ends.WriteFailed before now (Err end)
 
 -- the same of a keeper
 abbrev pub IsKeeperCaused : Health → Health → CommandEnd → Type 0

@@ -2,8 +2,8 @@
 use Rattle.std.specs.Prelude.{◌≡◌, ◌⊎◌, ⊤, ℕ, ◌+◌, Bool, true, false, List, [], ◌∷◌, ◌++◌, length, Option, Some, None, IfSome, codes}
 use Rattle.std.specs.Io.KnownBytes.{Appends}
 use Rattle.std.specs.Option.{option_map}
-use Rattle.ak_desk_runs.specs.CommandEnds.{IsToldOff}
-use Rattle.ak_desk_runs.specs.LineOutcomes.{Accepted, EndsAs, Failed, OutOfMemory, Outcome, Passed, Refused}
+use Rattle.ak_desk_runs.specs.CommandEnds.{IsRefusedWith}
+use Rattle.ak_desk_runs.specs.LineOutcomes.{Accepted, EndsAs, Failed, OutOfMemory, Outcome, Skipped, Refused}
 use Rattle.ak_desk_runs.specs.Sittings.{Outside, Sitting, begun, outside_in}
 use Rattle.ak_desk_runs.specs.declared.command_ends.CommandEnd.{CommandEnd}
 use Rattle.ak_desk_runs.specs.declared.command_ends.CommandEnd.TheVariants as ends
@@ -12,9 +12,9 @@ use Rattle.ak_io.specs.Scripts.{refusal_line, written_lines}
 use Rattle.ak_io.specs.declared.lines.Line.{Line}
 
 -- ---- lines that go
--- a line goes: it is passed over and prints nothing, or it is accepted and prints its answer
+-- a line goes: it is skipped and prints nothing, or it is accepted and prints its answer
 abbrev pub Goes : Line → Sitting → Sitting → List (List ℕ) → Type 0
-Goes line s t [] = EndsAs line s t Passed
+Goes line s t [] = EndsAs line s t Skipped
 Goes line s t (text ∷ []) = EndsAs line s t (Accepted text)
 Goes line s t (text ∷ other ∷ more) = ⊥
 
@@ -99,7 +99,7 @@ input_lines left = option_map (lines_within 1_073_741_824) left
 -- how `desk` ends, by whether a collection is held
 abbrev pub EndsDeskOn : Bool → CommandEnd → Option (List Line) → Outside → Outside → Option (List ℕ) → Option (List ℕ) → Type 0
 EndsDeskOn true end all before after old new = IsDeskRun end all before after old new
-EndsDeskOn false end all before after old new = (after ≡ before) × IsToldOff (codes "no collection") end old new
+EndsDeskOn false end all before after old new = (after ≡ before) × IsRefusedWith (codes "no collection") end old new
 
 -- how `desk` ends over these lines
 abbrev pub EndsDesk : CommandEnd → Option (List Line) → Outside → Outside → Option (List ℕ) → Option (List ℕ) → Type 0

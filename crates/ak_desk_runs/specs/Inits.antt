@@ -2,7 +2,7 @@
 use Rattle.std.specs.Prelude.{◌≡◌, ℕ, ℤ, Bool, true, false, List, Option, None, codes}
 use Rattle.std.specs.Io.KnownBytes.{Keeps}
 use Rattle.std.specs.Option.{option_map}
-use Rattle.ak_desk_runs.specs.CommandEnds.{IsToldOff}
+use Rattle.ak_desk_runs.specs.CommandEnds.{IsRefusedWith}
 use Rattle.ak_desk_runs.specs.declared.command_ends.CommandEnd.{CommandEnd}
 use Rattle.ak_desk_runs.specs.declared.command_ends.CommandEnd.TheVariants as ends
 use Rattle.ak_keep.specs.Collections.{made_of}
@@ -32,7 +32,7 @@ Opens at ends.Memory before after = after ≡ before
 
 -- the same, and what is printed, by whether a collection is held
 abbrev pub EndsInitOn : Bool → ℤ → CommandEnd → Keeping → Keeping → Option (List ℕ) → Option (List ℕ) → Type 0
-EndsInitOn true at end before after old new = (after ≡ before) × IsToldOff (codes "collection held") end old new
+EndsInitOn true at end before after old new = (after ≡ before) × IsRefusedWith (codes "collection held") end old new
 EndsInitOn false at end before after old new = Opens at end before after × Keeps old new
 
 -- how `init` ends at this moment

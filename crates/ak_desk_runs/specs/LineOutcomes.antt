@@ -17,9 +17,9 @@ use Rattle.ak_texts.specs.AnswerTexts.{answer_text}
 use Rattle.ak_texts.specs.FaultTexts.{desk_fault_text, line_fault_text}
 use Rattle.ak_texts.specs.declared.answers.DeskAnswer.{DeskAnswer}
 
--- how a line ends: it is passed over, accepted and answered by this text, or refused by this one; or the keeper failed, or memory ran out
+-- how a line ends: it is skipped, accepted and answered by this text, or refused by this one; or the keeper failed, or memory ran out
 pub data Outcome : Type 0 where
-  Passed : Outcome
+  Skipped : Outcome
   Accepted : List ℕ → Outcome
   Refused : List ℕ → Outcome
   Failed : Outcome
@@ -32,14 +32,14 @@ text_in (Whole bytes) = if is_utf8 bytes then Some bytes else None
 text_in TooLong = None
 text_in PastInput = None
 
--- whether a text is passed over, if there is one: it is empty or begins with `#`
-abbrev pub passes : Option (List ℕ) → Bool
-passes None = false
-passes (Some text) = is_skipped text
+-- whether a text is skipped, if there is one: it is empty or begins with `#`
+abbrev pub skips : Option (List ℕ) → Bool
+skips None = false
+skips (Some text) = is_skipped text
 
--- whether a line is passed over
-abbrev pub is_passed : Line → Bool
-is_passed line = passes (text_in line)
+-- whether a line is skipped
+abbrev pub is_skipped_line : Line → Bool
+is_skipped_line line = skips (text_in line)
 
 -- whether a line takes a word of chance: it begins with `note` or `answer`
 abbrev pub takes_word : Line → Bool
@@ -92,9 +92,9 @@ abbrev pub SaysNothing : Line → List ℕ → Type 0
 SaysNothing line why =
     (text_in line ≡ None) × (why ≡ textless line) ⊎ (text : List ℕ) × (text_in line ≡ Some text) × SaysNoLine text why
 
--- what a line that is not passed over comes to in its turn. What says nothing leaves all as it was
+-- what a line that is not skipped comes to in its turn. What says nothing leaves all as it was
 abbrev pub ComesTo : Line → Turn → Bench → Bench → Outcome → Type 0
-ComesTo line turn s t Passed = ⊥
+ComesTo line turn s t Skipped = ⊥
 ComesTo line turn s t (Accepted text) = (answer : DeskAnswer) × AtDesk line turn s t (Ok answer) × (text ≡ answer_text answer)
 ComesTo line turn s t (Refused why) =
     (t ≡ s) × SaysNothing line why ⊎ (fault : DeskFault) × AtDesk line turn s t (Err fault) × (desk_fault_text fault ≡ Some why)
@@ -102,8 +102,8 @@ ComesTo line turn s t Failed = AtDesk line turn s t (Err desks.Failed)
 -- memory runs out before the desk is reached, at it, or for the text of its refusal
 ComesTo line turn s t OutOfMemory = (t ≡ s) ⊎ (fault : DeskFault) × (fault ≢ desks.Failed) × AtDesk line turn s t (Err fault)
 
--- how a line ends: one that is passed over changes nothing, and any other has its turn
+-- how a line ends: one that is skipped changes nothing, and any other has its turn
 abbrev pub EndsAs : Line → Sitting → Sitting → Outcome → Type 0
-EndsAs line s t Passed = (is_passed line ≡ true) × (t ≡ s)
+EndsAs line s t Skipped = (is_skipped_line line ≡ true) × (t ≡ s)
 EndsAs line s t outcome =
-    (is_passed line ≡ false) × (turn : Turn) × TakesTurn line s t turn × ComesTo line turn s.bench t.bench outcome
+    (is_skipped_line line ≡ false) × (turn : Turn) × TakesTurn line s t turn × ComesTo line turn s.bench t.bench outcome

@@ -1,7 +1,7 @@
 -- Why a line does not go.
 use Rattle.std.specs.Prelude.{◌≡◌, ◌≢◌, ◌⊎◌, ⊤, ℕ, List, Option, Some, None, Result, Ok, Err}
 use Rattle.ak_desk_lines.specs.declared.turns.Turn.{Turn}
-use Rattle.ak_desk_runs.specs.LineOutcomes.{Accepted, EndsAs, EndsAtDesk, Failed, OutOfMemory, Passed, Refused, SaysNoLine}
+use Rattle.ak_desk_runs.specs.LineOutcomes.{Accepted, EndsAs, EndsAtDesk, Failed, OutOfMemory, Skipped, Refused, SaysNoLine}
 use Rattle.ak_desk_runs.specs.Sittings.{Bench, Sitting}
 use Rattle.ak_desk_runs.specs.declared.line_stops.LineStop.{LineStop}
 use Rattle.ak_desk_runs.specs.declared.line_stops.LineStop.TheVariants as stops
@@ -56,9 +56,9 @@ TextComesOut text turn s t result =
     ((said : DeskLine) × SaysLine text said × SaidComesOut said turn s t result)
     ⊎ (t ≡ s) × IsUnsaid text result
 
--- a line of the input is passed over, is accepted with this answer, or stops so
+-- a line of the input is skipped, is accepted with this answer, or stops so
 abbrev pub ComesOut : Line → Sitting → Sitting → Result (Option DeskAnswer) LineStop → Type 0
-ComesOut line s t (Ok None) = EndsAs line s t Passed
+ComesOut line s t (Ok None) = EndsAs line s t Skipped
 ComesOut line s t (Ok (Some answer)) = EndsAs line s t (Accepted (answer_text answer))
 ComesOut line s t (Err (stops.Refused why)) = EndsAs line s t (Refused why)
 ComesOut line s t (Err stops.Failed) = EndsAs line s t Failed

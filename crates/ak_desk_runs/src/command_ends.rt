@@ -1,5 +1,5 @@
 ghost use Rattle.std.specs.Prelude.{◌++◌, ◌∷◌, []};
-ghost use Rattle.ak_desk_runs.specs.CommandEnds.{IsEndCaused, IsToldOff};
+ghost use Rattle.ak_desk_runs.specs.CommandEnds.{IsOutputCaused, IsRefusedWith};
 
 use ak_io::{Failed, Sink, print_line};
 
@@ -21,9 +21,9 @@ pub enum CommandEnd {
 }
 
 /// Prints the text as a line, which is all that a refused command prints.
-pub(crate) fn tell_off<O: Sink>(out: &mut O, text: &str) -> CommandEnd
-    ensures told { IsToldOff text.now result (O.written out.old) (O.written out.new) }
-    ensures cause { IsEndCaused (O.health out.old) (O.health out.new) result }
+pub(crate) fn refuse_command<O: Sink>(out: &mut O, text: &str) -> CommandEnd
+    ensures told { IsRefusedWith text.now result (O.written out.old) (O.written out.new) }
+    ensures cause { IsOutputCaused (O.health out.old) (O.health out.new) result }
 {
     match print_line(out, text.as_bytes()) {
         Ok(()) => CommandEnd::Refused,

@@ -1,7 +1,7 @@
 ghost use Rattle.std.specs.Prelude.{◌≡◌, ◌+◌, ◌<◌, ◌≤◌, map, true, false, Ok};
 ghost use Rattle.std.specs.Io.KnownBytes.{IsAtEnd};
 ghost use Rattle.ak_desk.specs.Desks.{IsIdle};
-ghost use Rattle.ak_desk_runs.specs.CommandEnds.{IsEndCaused, IsInputCaused, IsKeeperCaused};
+ghost use Rattle.ak_desk_runs.specs.CommandEnds.{IsOutputCaused, IsInputCaused, IsKeeperCaused};
 ghost use Rattle.ak_desk_runs.specs.DeskRuns.{EndsDesk, IsDeskRun, input_lines};
 ghost use Rattle.ak_desk_runs.specs.RunLines.{IsPrinted, IsRefusalPrinted, StepCause, Steps};
 ghost use Rattle.ak_desk_runs.specs.Sittings.{outside_of, seated};
@@ -11,7 +11,7 @@ ghost use Rattle.ak_io.specs.Lines.{lines_left};
 ghost use Rattle.ak_keep.specs.Keepers.{is_marked};
 ghost use Rattle.ak_texts.specs.AnswerTexts.{answer_text};
 
-use crate::command_ends::{CommandEnd, tell_off};
+use crate::command_ends::{CommandEnd, refuse_command};
 use crate::line_stops::LineStop;
 use crate::obeyed_lines::obey_line;
 use crate::seats::Seat;
@@ -52,10 +52,10 @@ pub fn run_desk<K: Keeper, C: Clock, R: Chance, I: Source, O: Sink>(
     // Why it ends with a failure.
     ensures kept { IsKeeperCaused (K.health keeper.old) (K.health keeper.new) result }
     ensures read { IsInputCaused (I.health input.old) (I.health input.new) result }
-    ensures written { IsEndCaused (O.health out.old) (O.health out.new) result }
+    ensures written { IsOutputCaused (O.health out.old) (O.health out.new) result }
 {
     if !keeper.held() {
-        return tell_off(out, "no collection");
+        return refuse_command(out, "no collection");
     }
     run_lines(alloc, keeper, clock, chance, filters, input, out)
 }
@@ -81,7 +81,7 @@ fn run_lines<K: Keeper, C: Clock, R: Chance, I: Source, O: Sink>(
     ensures stays { (K.keeping keeper.new).headed ≡ (K.keeping keeper.old).headed }
     ensures kept { IsKeeperCaused (K.health keeper.old) (K.health keeper.new) result }
     ensures read { IsInputCaused (I.health input.old) (I.health input.new) result }
-    ensures written { IsEndCaused (O.health out.old) (O.health out.new) result }
+    ensures written { IsOutputCaused (O.health out.old) (O.health out.new) result }
 {
     let undo = match UndoList::new(alloc) {
         Ok(undo) => undo,
@@ -177,7 +177,7 @@ fn print_answer<O: Sink>(alloc: Global, answer: &DeskAnswer, out: &mut O) -> Res
 /// Prints why the line of this number is refused: the last line of a run that is refused.
 fn print_refused<O: Sink>(alloc: Global, number: u64, why: &Text, out: &mut O) -> CommandEnd
     ensures printed { IsRefusalPrinted number why.now result (O.written out.old) (O.written out.new) }
-    ensures cause { IsEndCaused (O.health out.old) (O.health out.new) result }
+    ensures cause { IsOutputCaused (O.health out.old) (O.health out.new) result }
 {
     match print_refusal(alloc, number, why, out) {
         ScriptEnd::Refused => CommandEnd::Refused,

@@ -1,10 +1,10 @@
 ghost use Rattle.std.specs.Prelude.{◌≡◌, false, codes, OnErr, OnOk};
-ghost use Rattle.ak_desk_runs.specs.CommandEnds.{IsEndCaused, IsKeeperCaused};
+ghost use Rattle.ak_desk_runs.specs.CommandEnds.{IsOutputCaused, IsKeeperCaused};
 ghost use Rattle.ak_desk_runs.specs.Inits.{EndsInit, IsOpened};
 ghost use Rattle.ak_io.specs.Arrivals.{GivesNext, IsClockMoment};
 ghost use Rattle.ak_keep.specs.Keepers.{KeepCause, is_marked};
 
-use crate::command_ends::{CommandEnd, tell_off};
+use crate::command_ends::{CommandEnd, refuse_command};
 use ak_io::{Clock, Sink};
 use ak_keep::{KeepFault, Keeper, keep_or_back};
 use ak_openings::opening;
@@ -24,11 +24,11 @@ pub fn init_collection<K: Keeper, C: Clock, O: Sink>(
         × EndsInit at result (K.keeping keeper.old) (K.keeping keeper.new) (O.written out.old) (O.written out.new) }
     ensures unmarked { is_marked (K.keeping keeper.new) ≡ false }
     ensures kept { IsKeeperCaused (K.health keeper.old) (K.health keeper.new) result }
-    ensures written { IsEndCaused (O.health out.old) (O.health out.new) result }
+    ensures written { IsOutputCaused (O.health out.old) (O.health out.new) result }
 {
     let at = clock.now();
     if keeper.held() {
-        return tell_off(out, "collection held");
+        return refuse_command(out, "collection held");
     }
     match put_opening(alloc, keeper, at) {
         Ok(()) => CommandEnd::Done,

@@ -1,13 +1,13 @@
 ghost use Rattle.std.specs.Prelude.{◌≡◌, IfErr, IfOk, None, Some};
-ghost use Rattle.ak_desk_runs.specs.LineOutcomes.{is_passed, text_in, textless};
+ghost use Rattle.ak_desk_runs.specs.LineOutcomes.{is_skipped_line, text_in, textless};
 
 use ak_io::Line;
 use ak_lines::is_skipped;
 use std::str;
 
-/// Whether a line is passed over. One that is too long, or no text, is not, whatever it begins with.
-pub(crate) fn is_passed(line: &Line) -> bool
-    ensures { result ≡ is_passed line.now }
+/// Whether a line is skipped. One that is too long, or no text, is not, whatever it begins with.
+pub(crate) fn is_skipped_line(line: &Line) -> bool
+    ensures { result ≡ is_skipped_line line.now }
 {
     match text_of(line) {
         Ok(text) => is_skipped(text.as_bytes()),

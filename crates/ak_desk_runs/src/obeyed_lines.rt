@@ -8,7 +8,7 @@ ghost use Rattle.ak_lines.specs.DeskLines.{IsInRange};
 ghost use Rattle.ak_study.specs.DayStarts.{IsInDay};
 
 use crate::line_stops::{LineStop, desk_stop, line_stop, stop_by};
-use crate::line_texts::{is_passed, text_of};
+use crate::line_texts::{is_skipped_line, text_of};
 use crate::seats::Seat;
 use crate::turn_takings::take_turn;
 use ak_desk::Desk;
@@ -21,7 +21,7 @@ use ak_lines::{DeskLine, read_line};
 use ak_texts::DeskAnswer;
 use ak_undo::UndoList;
 
-/// Does what a line of the input says, and gives its answer; none if the line is passed over.
+/// Does what a line of the input says, and gives its answer; none if the line is skipped.
 pub(crate) fn obey_line<K: Keeper, C: Clock, R: Chance>(
     seat: &mut Seat,
     line: &Line,
@@ -39,7 +39,7 @@ pub(crate) fn obey_line<K: Keeper, C: Clock, R: Chance>(
     ensures stays { (K.keeping keeper.new).headed ≡ (K.keeping keeper.old).headed }
     ensures cause { StopCause (K.health keeper.old) (K.health keeper.new) result }
 {
-    if is_passed(line) {
+    if is_skipped_line(line) {
         return Ok(None);
     }
     let turn = take_turn(line, seat.done, clock, chance);
