@@ -12,13 +12,15 @@ use Rattle.ak_desk_lines.specs.Refused.{MayRefuse, RefusesNever}
 use Rattle.ak_desk_lines.specs.declared.turns.Turn.{Turn}
 use Rattle.ak_edit.proofs.Finishing.{told_at, where_held}
 use Rattle.ak_edit.specs.Ends.{IsFinished}
-use Rattle.ak_edit.specs.Refusals.{AnswersBy, IsFromOutside, Refusal}
+use Rattle.ak_edit.specs.Refusals.{AnswersBy, DeskCause, IsFromOutside, Refusal}
 use Rattle.ak_edit.specs.declared.desk_faults.DeskFault.{DeskFault}
+use Rattle.ak_faults.specs.Causes.{Health}
 use Rattle.ak_keep.specs.Collections.{Collection, Holding, collection_of}
 use Rattle.ak_keep.specs.Keepers.{Keeping, WhereHeld, WhereTold}
 use Rattle.ak_keep.specs.Marks.{WithMark}
 use Rattle.ak_lines.specs.declared.desk_lines.DeskLine.{DeskLine}
 use Rattle.ak_merge.specs.Edits.{Edit}
+use Rattle.ak_options.proofs.Taking.{cause_too, err_too, ok_too}
 use Rattle.ak_texts.specs.declared.answers.DeskAnswer.{DeskAnswer}
 use Rattle.ak_texts.specs.declared.answers.DeskAnswer.TheVariants as answers
 use Rattle.ak_undo.specs.declared.steps.Step.{Step}
@@ -36,14 +38,6 @@ held_at k P w head told is held =
     subst (λ (o : Option Head). IfSome (option_map (λ (head : Head). record { rows = w.current.rows; head = head }) o) P) is
     (told_at k (λ h. IfSome (collection_of h) P) w told held)
 
--- an acceptance tells the same of another answer
-other_answer : (T U : Type 0) (tests : Refusal) (value : T) (answer : U) → AnswersBy tests (Ok value) → AnswersBy tests (Ok answer)
-other_answer T U tests value answer by = record { accepted = by.accepted; refused = tt }
-
--- a refusal tells the same of answers of another kind
-other_kind : (T U : Type 0) (tests : Refusal) (fault : DeskFault) → AnswersBy {T = T} tests (Err fault) → AnswersBy {T = U} tests (Err fault)
-other_kind T U tests fault by = record { accepted = tt; refused = by.refused }
-
 -- a line whose call was accepted
 pub accepted_line : (T : Type 0) (line : DeskLine) (t : Turn) (was now : DeskState) (value : T) (answer : DeskAnswer) (IsDone : Collection → Type 0) (tests : Collection → Refusal)
     → ((c : Collection) → IsDone c → Does line t c was now answer)
@@ -55,7 +49,7 @@ accepted_line T line t was now value answer IsDone tests does told reads form do
   does = where_held-map was.keeping IsDone (λ c. Does line t c was now answer) does done;
   answers =
       where_held-map was.keeping (λ c. AnswersBy (tests c) (Ok value)) (λ c. AnswersLine line t c was.steps (Ok answer))
-      (λ c by. told c (other_answer T DeskAnswer (tests c) value answer by)) answers;
+      (λ c by. told c (ok_too (tests c) value answer by)) answers;
   left = tt;
   listed = tt;
   reads = reads;
@@ -73,7 +67,7 @@ refused_line T line t was now fault tests told left listed answers held steps = 
   does = tt;
   answers =
       where_held-map was.keeping (λ c. AnswersBy {T = T} (tests c) (Err fault)) (λ c. AnswersLine line t c was.steps (Err fault))
-      (λ c by. told c (other_kind T DeskAnswer (tests c) fault by)) answers;
+      (λ c by. told c (err_too (tests c) fault by)) answers;
   left = left (same_state was now held steps);
   listed = listed;
   reads = tt;
@@ -117,6 +111,11 @@ edit_line line t was now rule tests made does told left reads form listed ended 
     call_line (Unit {0}) line t was now made done_answer (λ _ c. Edits t.at rule c was now) tests (λ _ c. does c) told left
     reads (λ _. form) listed
     (done_by was.keeping (λ c. Edits t.at rule c was now) made ended.done) ended.answers ended.same ended.kept ended.stays
+
+-- a line is refused for the cause of its call
+pub answered_cause : {T : Type 0} (answer : T → DeskAnswer) (made : Result T DeskFault) (before now : Health) → DeskCause before now made → DeskCause before now (answer_with answer made)
+answered_cause answer (Ok value) before now cause = record { goes = cause.goes; failed = λ is. cc; unfailed = λ _ is. cc }
+answered_cause answer (Err fault) before now cause = cause_too before now fault cause
 
 -- ---- lines that only read
 -- what is true anyway is true of a refusal

@@ -65,7 +65,8 @@ abbrev pub new_note : Turn → ℤ → ℤ → List (List ℕ) → NewNote
 new_note turn note_type deck fields =
     record { note_type = note_type; deck = deck; guid = None; fields = fields; tags = []; chance = turn.chance }
 
--- other fields for a note, which is given its own tags again: they are tested as given ones, and stored anew, each once and in order
+-- other fields for a note, which is given its own tags again: they are tested as given ones, and stored anew, each once and in
+-- order
 abbrev pub other_fields : Note → List (List ℕ) → NoteEdit
 other_fields note fields = record { note = note.id; fields = fields; tags = tags_in note.tags }
 
@@ -84,7 +85,8 @@ type_edit allow note_type fields templates =
 
 -- where it is told what is held, the note of this id is, and this is the change of it
 abbrev pub IsChangeOf : Keeping → ℤ → (Note → NoteEdit) → NoteEdit → Type 0
-IsChangeOf k note change given = WhereTold k (λ h. (held : Note) × (note_at h.rows note ≡ Some held) × (given ≡ change held))
+IsChangeOf k note change given =
+    WhereTold k (λ h. (held : Note) × (note_at h.rows note ≡ Some held) × (given ≡ change held))
 
 -- ---- how a call is answered
 -- the answer of a call with this one for what it gives; its refusal is that of the line
@@ -135,7 +137,8 @@ AddsNote at new c before after answer =
 -- a deck of this path was added, and its id is answered
 abbrev pub AddsDeck : ℤ → List ℕ → Collection → DeskState → DeskState → DeskAnswer → Type 0
 AddsDeck at path c before after answer =
-    (id : ℤ) × IsAddedDeck at path c before.keeping after.keeping before.steps after.steps id × (answer ≡ answers.AddedDeck id)
+    (id : ℤ) × IsAddedDeck at path c before.keeping after.keeping before.steps after.steps id
+    × (answer ≡ answers.AddedDeck id)
 
 -- the deck of this id got this path, and its subtree with it
 abbrev pub RenamesDeck : ℤ → ℤ → List ℕ → Collection → DeskState → DeskState → Type 0
@@ -145,12 +148,14 @@ RenamesDeck at deck path c before after =
 -- a group of options was added, and its id is answered
 abbrev pub AddsOptions : ℤ → Options → Collection → DeskState → DeskState → DeskAnswer → Type 0
 AddsOptions at options c before after answer =
-    (id : ℤ) × IsNewGroup at id c × Edits at (options_addition options id) c before after × (answer ≡ answers.PutOptions id)
+    (id : ℤ) × IsNewGroup at id c × Edits at (options_addition options id) c before after
+    × (answer ≡ answers.PutOptions id)
 
 -- a note type was added, and its id is answered
 abbrev pub AddsType : ℤ → NoteType → Collection → DeskState → DeskState → DeskAnswer → Type 0
 AddsType at note_type c before after answer =
-    (id : ℤ) × IsNewType at id c × Edits at (given_addition note_type id) c before after × (answer ≡ answers.AddedType id)
+    (id : ℤ) × IsNewType at id c × Edits at (given_addition note_type id) c before after
+    × (answer ≡ answers.AddedType id)
 
 -- the note type of its id became this one
 abbrev pub EditsType : ℤ → TypeEdit → Collection → DeskState → DeskState → Type 0
@@ -176,7 +181,8 @@ abbrev pub IsOnDay : ℤ → Keeping → Day → Type 0
 IsOnDay at k day = WhereTold k (λ h. IfSome h.head (λ head. IsDayOf head.crt at day))
 
 -- the day of the moment started, and this is true of what is held then on that day, and of the answer
-abbrev pub AsksOnDay : ℤ → Collection → DeskState → DeskState → DeskAnswer → (Holding → Day → DeskAnswer → Type 0) → Type 0
+abbrev pub AsksOnDay : ℤ → Collection → DeskState → DeskState → DeskAnswer
+    → (Holding → Day → DeskAnswer → Type 0) → Type 0
 AsksOnDay at c before after answer Tells =
     Starts at c before after
     × WhereTold after.keeping (λ h. (day : Day) × IsDayOf c.head.crt at day × Tells h day answer)
@@ -192,7 +198,7 @@ TellsCounts deck h day answer =
     (counts : Counts) × (counts_in h day deck ≡ Some counts)
     × (answer ≡ counts_answer counts)
 
--- these are the cards that meet a search on the day of the moment: those of its tree, and a search that was read has one
+-- these are the cards that meet a search on the day of the moment: those of its tree. A search that was read has one
 abbrev pub AreFound : ℤ → Expr → Rows → Head → List ℤ → Type 0
 AreFound at search held head ids =
     (day : Day) × IsDayOf head.crt at day
@@ -203,7 +209,8 @@ abbrev pub TellsFound : ℤ → Expr → Collection → DeskAnswer → Type 0
 TellsFound at search c answer = (ids : List ℤ) × AreFound at search c.rows c.head ids × (answer ≡ answers.Found ids)
 
 -- ---- all lines
--- what a line does, and what it is answered. That a line which only reads changes nothing, and what a page shows, is said apart
+-- what a line does, and what it is answered. That a line which only reads changes nothing, and what a page shows, is said
+-- apart
 abbrev pub Does : DeskLine → Turn → Collection → DeskState → DeskState → DeskAnswer → Type 0
 Does (lines.AddNote note_type deck fields) t c before after answer =
     AddsNote t.at (new_note t note_type deck fields) c before after answer
@@ -213,7 +220,8 @@ Does (lines.SetTags note tags) t c before after answer =
     ChangesNote t.at note (λ held. other_tags held tags) c before after × (answer ≡ answers.Done)
 Does (lines.DeleteNotes notes) t c before after answer = FinishesEdit t.at (deletion notes) c before after answer
 Does (lines.DeleteDeck deck) t c before after answer = FinishesEdit t.at (deck_deletion deck) c before after answer
-Does (lines.RenameDeck deck name) t c before after answer = RenamesDeck t.at deck name c before after × (answer ≡ answers.Done)
+Does (lines.RenameDeck deck name) t c before after answer =
+    RenamesDeck t.at deck name c before after × (answer ≡ answers.Done)
 Does (lines.MoveCards deck cards) t c before after answer = FinishesEdit t.at (moving deck cards) c before after answer
 Does (lines.UseOptions deck options) t c before after answer =
     FinishesEdit t.at (options_use options deck) c before after answer

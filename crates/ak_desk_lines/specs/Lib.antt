@@ -1,4 +1,5 @@
 pub mod Accepted
 pub mod DeskStates
-pub mod Refused
 pub mod LineEnds
+pub mod LineSteps
+pub mod Refused

@@ -23,16 +23,18 @@ use Rattle.ak_texts.specs.declared.answers.DeskAnswer.{DeskAnswer}
 use Rattle.ak_texts.specs.declared.answers.DeskAnswer.TheVariants as answers
 use Rattle.ak_undo.specs.declared.steps.Step.{Step}
 
--- how many answers were accepted after this answer to a line, if it was that many before: at its last value the number stays
+-- how many answers were accepted after this answer to a line, if it was that many before: at its last value the number
+-- stays
 abbrev pub counted : DeskAnswer → ℕ → ℕ
 counted (answers.Answered queue due interval) done = min (done + 1) (2 ^ 64 - 1)
 counted answer done = done
 
--- what a line that asks for the queue of a deck leaves if it is refused with this fault: all as it was if the day's start is refused,
--- the day started if the deck is not held, and one of the two if the fault comes from outside
+-- what a line that asks for the queue of a deck leaves if it is refused with this fault: all as it was if the day's start is
+-- refused, the day started if the deck is not held, and one of the two if the fault comes from outside
 pub record IsLeftAsking (t : Turn) (deck : ℤ) (fault : DeskFault) (before after : DeskState) : Type 0 where
   pub unstarted : fault ≡ faults.StampEnd → after ≡ before
-  pub started : fault ≡ faults.NoSuch (name_in tables.Deck deck) → WhereHeld before.keeping (λ c. Starts t.at c before after)
+  pub started : fault ≡ faults.NoSuch (name_in tables.Deck deck)
+      → WhereHeld before.keeping (λ c. Starts t.at c before after)
   pub either : IsFromOutside fault → (after ≡ before) ⊎ WhereHeld before.keeping (λ c. Starts t.at c before after)
 
 -- what a line leaves at the desk that is refused with this fault: all as it was, but for the start of the day
@@ -41,8 +43,8 @@ IsLeft (lines.Next deck) t fault before after = IsLeftAsking t deck fault before
 IsLeft (lines.Counts deck) t fault before after = IsLeftAsking t deck fault before after
 IsLeft line t fault before after = after ≡ before
 
--- a line is accepted if none of its tests refuses it, and else the first one that does is told, but for what comes from outside.
--- Why a page is refused is said apart
+-- a line is accepted if none of its tests refuses it, and else the first one that does is told, but for what comes from
+-- outside. Why a page is refused is said apart
 abbrev pub AnswersLine : DeskLine → Turn → Collection → List Step → Result DeskAnswer DeskFault → Type 0
 AnswersLine (lines.Page card back) t c steps result = ⊤
 AnswersLine line t c steps result = AnswersBy (Refuses line t c steps) result
@@ -73,7 +75,8 @@ HasAnswerForm lines.Check answer = (fault : Option CheckFault) × (answer ≡ an
 HasAnswerForm line answer = answer ≡ answers.Done
 
 -- how a line ended at a desk, by its state before and after it. A page also has an end of its own, with the filters
-pub record EndsLine (line : DeskLine) (t : Turn) (before after : DeskState) (result : Result DeskAnswer DeskFault) : Type 0 where
+pub record EndsLine (line : DeskLine) (t : Turn) (before after : DeskState)
+    (result : Result DeskAnswer DeskFault) : Type 0 where
   pub does : IfOk result (λ answer. WhereHeld before.keeping (λ c. Does line t c before after answer))
   pub answers : WhereHeld before.keeping (λ c. AnswersLine line t c before.steps result)
   -- the rest is so also where it is not told what is held, but that nothing is known then of the start of a day
@@ -93,11 +96,13 @@ EndsAt K line t was now result = EndsLine line t (state_of K was) (state_of K no
 -- the page of this side of a card is answered, where it is told what is held, and the filters are as it leaves them
 abbrev pub ShowsPage : Keeping → ℤ → Bool → List Meaning → List Meaning → DeskAnswer → Type 0
 ShowsPage held card back filters turned answer =
-    (text : List ℕ) × (answer ≡ answers.Page text) × WhereTold held (λ h. ShowsCard h.rows card back filters turned text)
+    (text : List ℕ) × (answer ≡ answers.Page text)
+    × WhereTold held (λ h. ShowsCard h.rows card back filters turned text)
 
 -- the page is refused for its first fault, where it is told what is held, and the filters are as far as it came
 abbrev pub RefusesPage : Keeping → ℤ → Bool → List Meaning → List Meaning → DeskFault → Type 0
-RefusesPage held card back filters turned fault = WhereTold held (λ h. RefusesCard h.rows card back filters turned fault)
+RefusesPage held card back filters turned fault =
+    WhereTold held (λ h. RefusesCard h.rows card back filters turned fault)
 
 -- how a page ended: the filters are the same, in the same order
 pub record EndsPage (held : Keeping) (card : ℤ) (back : Bool) (filters turned : List Meaning)

@@ -57,8 +57,8 @@ RefusesNoDeck deck c fault = (deck_at c.rows deck ≡ None) × (fault ≡ faults
 abbrev pub RefusesAsking : ℤ → ℤ → Collection → Refusal
 RefusesAsking at deck c = OrElse (RefusesStart at c) (RefusesNoDeck deck c)
 
--- the tests of a line, by the collection that was held and the undo list. A page is not among these: RefusesPage says its tests, with
--- the filters, and what stands here for it is never asked
+-- the tests of a line, by the collection that was held and the undo list. A page is not among these: RefusesPage says its
+-- tests, with the filters, and what stands here for it is never asked
 abbrev pub Refuses : DeskLine → Turn → Collection → List Step → Refusal
 Refuses (lines.AddNote note_type deck fields) t c steps = RefusesNewNote t.at (new_note t note_type deck fields) c
 Refuses (lines.SetFields note fields) t c steps = RefusesChangedNote t.at note (λ held. other_fields held fields) c
@@ -92,7 +92,8 @@ Refuses lines.Check t c steps = RefusesNever
 -- ---- what a line may be refused by
 -- the note of this id is not held, a note type is not, or a fault of the note that is made
 abbrev pub IsChangeFaultOf : ℤ → DeskFault → Type 0
-IsChangeFaultOf note fault = (fault ≡ faults.NoSuch (name_in tables.Note note)) ⊎ IsMissingFault tables.NoteType fault ⊎ IsMakingFault fault
+IsChangeFaultOf note fault =
+    (fault ≡ faults.NoSuch (name_in tables.Note note)) ⊎ IsMissingFault tables.NoteType fault ⊎ IsMakingFault fault
 
 -- the deck of this id is not held, or a fault of the end of an edit
 abbrev pub IsAskingFault : ℤ → DeskFault → Type 0

@@ -6,12 +6,14 @@ mod asking_lines;
 mod card_lines;
 mod collection_lines;
 mod deck_lines;
+mod line_laws;
 mod note_lines;
 mod obeying;
 mod option_lines;
-mod read_lines;
 mod turns;
 mod type_lines;
+mod view_lines;
 
+pub use line_laws::{lines_are_single_steps, undo_lists_suit_after_lines};
 pub use obeying::{counted, obey};
 pub use turns::Turn;

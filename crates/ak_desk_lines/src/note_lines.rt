@@ -87,7 +87,8 @@ fn with_fields<K: Keeper>(
     fields: List<Text>,
 ) -> Result<NoteEdit, DeskFault>
     ensures same { K.keeping keeper.new ≡ K.keeping keeper.old }
-    ensures made { IfOk result (λ given. IsChangeOf (K.keeping keeper.old) note (λ held. other_fields held fields) given) }
+    ensures made { IfOk result
+        (IsChangeOf (K.keeping keeper.old) note (λ held. other_fields held fields)) }
     ensures note { IfOk result (λ given. given.note ≡ note) }
     ensures missing { MissesIn K.Lookup keeper.old result (λ rows. note_at rows note) (name_in tables.Note note) }
     ensures cause { DeskCause (K.health keeper.old) (K.health keeper.new) result }
@@ -132,7 +133,7 @@ fn with_tags<K: Keeper>(
     tags: List<Text>,
 ) -> Result<NoteEdit, DeskFault>
     ensures same { K.keeping keeper.new ≡ K.keeping keeper.old }
-    ensures made { IfOk result (λ given. IsChangeOf (K.keeping keeper.old) note (λ held. other_tags held tags) given) }
+    ensures made { IfOk result (IsChangeOf (K.keeping keeper.old) note (λ held. other_tags held tags)) }
     ensures note { IfOk result (λ given. given.note ≡ note) }
     ensures missing { MissesIn K.Lookup keeper.old result (λ rows. note_at rows note) (name_in tables.Note note) }
     ensures cause { DeskCause (K.health keeper.old) (K.health keeper.new) result }

@@ -11,9 +11,9 @@ use crate::collection_lines::{check_all, undo_latest};
 use crate::deck_lines::{add_deck, delete_deck, move_cards, rename_deck, use_options};
 use crate::note_lines::{add_note, delete_notes, set_fields, set_tags};
 use crate::option_lines::{add_options, delete_options, set_options, set_spread};
-use crate::read_lines::{find_cards, show_page};
 use crate::turns::Turn;
 use crate::type_lines::{add_type, delete_type, edit_type};
+use crate::view_lines::{find_cards, show_page};
 use ak_desk::Desk;
 use ak_edit::DeskFault;
 use ak_filters::FieldFilter;
@@ -22,8 +22,9 @@ use ak_lines::DeskLine;
 use ak_texts::DeskAnswer;
 use ak_types::TypeEdit;
 
-/// Does what a line says at a desk, and gives its answer. A line that is refused leaves the collection and the undo list as
-/// they were, but that `next` and `counts` may have started the day; a page leaves the filters with the turns that they took.
+/// Does what a line says at a desk, and gives its answer. A line that is refused leaves the collection and the undo list
+/// as they were, but that `next` and `counts` may have started the day; a page leaves the filters with the turns that
+/// they took.
 pub fn obey<K: Keeper>(
     desk: &mut Desk<K>,
     line: DeskLine,

@@ -5,10 +5,9 @@ use Rattle.std.specs.Io.KnownBytes.{Appends}
 use Rattle.std.specs.Option.{option_map}
 use Rattle.ak_desk_runs.specs.DeskRuns.{AllGo, AreLines, Goes, IsDeskRun, Stops, input_lines}
 use Rattle.ak_desk_runs.specs.RunLines.{IsSoFar, StopsThere, TakesAndGoes}
-use Rattle.ak_desk_runs.specs.Sittings.{Outside, Sitting, begun, outside_in, seated}
+use Rattle.ak_desk_runs.specs.Sittings.{Outside, Sitting, begun, outside_in}
 use Rattle.ak_desk_runs.specs.declared.command_ends.CommandEnd.{CommandEnd}
 use Rattle.ak_desk_runs.specs.declared.command_ends.CommandEnd.TheVariants as ends
-use Rattle.ak_desk_runs.specs.declared.seats.Seat.{Seat}
 use Rattle.ak_io.proofs.Scripts.{written_lines_append}
 use Rattle.ak_io.specs.Lines.{Reading, Takes, lines_left}
 use Rattle.ak_io.specs.Scripts.{written_lines}
@@ -78,15 +77,15 @@ none_gone None = tt
 none_gone (Some all) = refl
 
 -- at the start all lines are left
-pub begins_run : (input : Option (List ℕ)) (reading : Reading) (before : Outside) (seat : Seat) (w : Option (List ℕ))
-    → reading ≡ record { ahead = []; room = 1_073_741_824; number = 0 } → seat.undo ≡ [] → seat.done ≡ 0
-    → IsSoFar (input_lines input) (lines_left reading input) 0 before (seated before seat) w w
-begins_run input reading before seat w starts steps none = rw starts (record {
+pub begins_run : (input : Option (List ℕ)) (reading : Reading) (before : Outside) (s : Sitting) (w : Option (List ℕ))
+    → reading ≡ record { ahead = []; room = 1_073_741_824; number = 0 } → s ≡ begun before
+    → IsSoFar (input_lines input) (lines_left reading input) reading.number before s w w
+begins_run input reading before s w starts same = rw starts (record {
   gone = [];
   printed = [];
   number = refl;
   lines = none_gone (input_lines input);
-  goes = (rw (steps, none) refl, refl);
+  goes = (same, refl);
   written = Appends-nil w;
 })
 

@@ -1,7 +1,9 @@
 -- A run stops at a line that was taken.
-use Rattle.std.proofs.Common.{◌≡◌, ◌≢◌, ℕ, ◌+◌, List, [], ◌∷◌, ◌++◌, Option, Some, None, Result, Ok, Err, refl, sym, ap, ◌∙◌, subst, inl, inr}
+use Rattle.std.proofs.Common.{◌≡◌, ◌≢◌, ℕ, ◌+◌, Bool, List, [], ◌∷◌, ◌++◌, Option, Some, None, Result, Ok, Err, refl, sym, ap, ◌∙◌, subst, inl, inr}
 use Rattle.std.proofs.KnownBytes.{Appends-nil, Appends-kept}
 use Rattle.std.specs.Io.KnownBytes.{Appends, Keeps}
+use Rattle.std.specs.Prelude.{is_some}
+use Rattle.ak_desk.specs.Desks.{IsIdle}
 use Rattle.ak_desk_runs.specs.DeskRuns.{IsNext, NextEnds, refusal_bytes}
 use Rattle.ak_desk_runs.specs.LineOutcomes.{Accepted, ComesTo, EndsAs, Failed, OutOfMemory, Refused}
 use Rattle.ak_desk_runs.specs.RunLines.{IsPrinted, IsRefusalPrinted, StopsThere}
@@ -13,6 +15,7 @@ use Rattle.ak_edit.specs.declared.desk_faults.DeskFault.TheVariants as desks
 use Rattle.ak_io.proofs.Readings.{takes_first}
 use Rattle.ak_io.specs.Lines.{Takes}
 use Rattle.ak_io.specs.declared.lines.Line.{Line}
+use Rattle.ak_keep.specs.Keepers.{Keeping}
 use Rattle.ak_texts.specs.FaultTexts.{desk_fault_text}
 
 -- nothing is written
@@ -75,3 +78,27 @@ pub stops_out : (left left' : Option (List Line)) (number : ℕ) (line : Line) (
     → Takes left left' (Some line) → EndsAs line s t OutOfMemory → StopsThere ends.Memory left number s t w w
 stops_out left left' number line s t w takes ended =
     ([], (refl, inr (inl (line, taken_is_next left left' line takes, ended))), Appends-nil w)
+
+-- a text of an answer, or of a refusal, that is not written whole is no end of the input
+pub answer_not_done : (end : CommandEnd) (text : List ℕ) (w w' : Option (List ℕ)) → IsPrinted text (Err end) w w' → Err {T = Bool} end ≢ Err ends.Done
+answer_not_done ends.Done text w w' printed is = printed
+answer_not_done ends.Refused text w w' printed is = printed
+answer_not_done ends.ReadFailed text w w' printed is = printed
+answer_not_done ends.WriteFailed text w w' printed is = cc
+answer_not_done ends.KeeperFailed text w w' printed is = printed
+answer_not_done ends.Memory text w w' printed is = cc
+
+pub refusal_not_done : (end : CommandEnd) (number : ℕ) (why : List ℕ) (w w' : Option (List ℕ)) → IsRefusalPrinted number why end w w' → Err {T = Bool} end ≢ Err ends.Done
+refusal_not_done ends.Done number why w w' printed is = printed
+refusal_not_done ends.Refused number why w w' printed is = cc
+refusal_not_done ends.ReadFailed number why w w' printed is = printed
+refusal_not_done ends.WriteFailed number why w w' printed is = cc
+refusal_not_done ends.KeeperFailed number why w w' printed is = printed
+refusal_not_done ends.Memory number why w w' printed is = cc
+
+-- a keeper whose marks and heads are as they were is idle still
+pub idle_still : (k now : Keeping) → now.headed ≡ k.headed → IsIdle k → IsIdle now
+idle_still k now same idle = record {
+  unmarked = ap (λ h. is_some h.mark) same ∙ idle.unmarked;
+  held = ap (λ h. h.current) same ∙ idle.held;
+}

@@ -1,4 +1,4 @@
-ghost use Rattle.std.specs.Prelude.{◌≡◌, ◌+◌, ◌<◌, ◌≤◌, map, true, false, Ok};
+ghost use Rattle.std.specs.Prelude.{◌≡◌, ◌≢◌, ◌+◌, ◌<◌, ◌≤◌, map, true, false, Ok, Err};
 ghost use Rattle.std.specs.Io.KnownBytes.{IsAtEnd};
 ghost use Rattle.ak_desk.specs.Desks.{IsIdle};
 ghost use Rattle.ak_desk_runs.specs.CommandEnds.{IsOutputCaused, IsInputCaused, IsKeeperCaused};
@@ -137,6 +137,7 @@ fn run_line<K: Keeper, C: Clock, R: Chance, I: Source, O: Sink>(
     ensures counts { result ≡ Ok true → (reader.new.number ≡ reader.old.number + 1)
         × (reader.new.number ≤ 1_073_741_824) × (reader.new.room < reader.old.room) }
     ensures ended { result ≡ Ok false → IsAtEnd (I.left input.new) }
+    ensures not_done { result ≢ Err ends.Done }
     ensures stays { (K.keeping keeper.new).headed ≡ (K.keeping keeper.old).headed }
     ensures cause { StepCause result (K.health keeper.old) (K.health keeper.new)
         (I.health input.old) (I.health input.new) (O.health out.old) (O.health out.new) }

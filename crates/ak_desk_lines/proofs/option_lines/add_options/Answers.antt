@@ -3,7 +3,7 @@ use Rattle.std.proofs.lemmas.Int.{to_z-of_z}
 use Rattle.ak_desk_lines.specs.DeskStates.{Edits, state_of}
 use Rattle.ak_lines.specs.declared.desk_lines.DeskLine.TheVariants as lines
 use Rattle.ak_texts.specs.declared.answers.DeskAnswer.TheVariants as answers
-use Rattle.ak_desk_lines.proofs.EndedLines.{both_done, call_line}
+use Rattle.ak_desk_lines.proofs.EndedLines.{answered_cause, both_done, call_line}
 use Rattle.ak_options.specs.OptionGroups.{EndsAddition, IsNewGroup, RefusesAddition, options_addition}
 use Rattle.ak_desk_lines.proofs.option_lines.add_options.Goals as goal
 
@@ -20,3 +20,6 @@ returns-clause-ends g c =
     (λ id d is. (id, is.0, is.1, refl)) (λ d result by. by) (λ fault same. same) tt (λ id. (id, refl)) c.add_options.ensures.listed
     (both_done _ was.keeping c.add_options.result (IsNewGroup c.args.turn.at) (λ id d. Edits c.args.turn.at (options_addition c.args.options id) d was now) ended.id ended.done)
     ended.answers ended.same ended.kept ended.stays)
+
+pub returns-clause-cause : goal.returns-clause-cause
+returns-clause-cause g c = rw (c.added_options.ensures) (answered_cause answers.PutOptions c.add_options.result _ _ c.add_options.ensures.cause)

@@ -1,6 +1,6 @@
 use Rattle.std.proofs.Common.{◌≡◌, ◌+◌, [], ◌∷◌, sym, ◌∙◌}
 use Rattle.std.proofs.KnownBytes.{Appends-nil}
-use Rattle.ak_desk_runs.proofs.Stopping.{stops_in_answer, stops_out, stops_refused}
+use Rattle.ak_desk_runs.proofs.Stopping.{answer_not_done, refusal_not_done, stops_in_answer, stops_out, stops_refused}
 use Rattle.ak_io.proofs.Readings.{counted}
 use Rattle.ak_texts.specs.AnswerTexts.{answer_text}
 use Rattle.ak_desk_runs.proofs.desk_runs.run_line.Goals as goal
@@ -44,3 +44,9 @@ returns-clause-steps g c =
     stops_out _ _ (c.args.reader.now.number + 1) c.in-Ok-Some.line _ _ _
     (rw c.in-Ok-Some.field-0-is at c.in-Ok-Some.ensures.told)
     (rw c.in-Err-Memory-obey_line.field-0-is at c.in-Err-Memory-obey_line.ensures.ends)
+
+pub returns-in-Ok-Some-obey_line-clause-not_done : goal.returns-in-Ok-Some-obey_line-clause-not_done
+returns-in-Ok-Some-obey_line-clause-not_done g c = answer_not_done c.in-Err.end _ _ _ c.in-Err.ensures.printed
+
+pub returns-in-Err-Refused-clause-not_done : goal.returns-in-Err-Refused-clause-not_done
+returns-in-Err-Refused-clause-not_done g c = refusal_not_done _ _ _ _ _ c.print_refused.ensures.printed

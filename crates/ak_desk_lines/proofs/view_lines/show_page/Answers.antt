@@ -2,7 +2,7 @@ use Rattle.std.proofs.Common.{refl, rules, w64, SFits}
 use Rattle.std.proofs.lemmas.Int.{to_z-of_z}
 use Rattle.ak_desk_lines.proofs.ShownPages.{page_ends, page_line}
 use Rattle.ak_desk_lines.specs.DeskStates.{state_of}
-use Rattle.ak_desk_lines.proofs.read_lines.show_page.Goals as goal
+use Rattle.ak_desk_lines.proofs.view_lines.show_page.Goals as goal
 
 pub returns-clause-ends : goal.returns-clause-ends
 returns-clause-ends g c =

@@ -7,7 +7,7 @@ use Rattle.ak_desk_lines.specs.DeskStates.{state_of}
 use Rattle.ak_lines.specs.declared.desk_lines.DeskLine.TheVariants as lines
 use Rattle.ak_texts.specs.declared.answers.DeskAnswer.TheVariants as answers
 use Rattle.std.specs.Prelude.{IfSome}
-use Rattle.ak_desk_lines.proofs.read_lines.find_cards.Goals as goal
+use Rattle.ak_desk_lines.proofs.view_lines.find_cards.Goals as goal
 
 pub returns-clause-ends : goal.returns-clause-ends
 returns-clause-ends g c =
