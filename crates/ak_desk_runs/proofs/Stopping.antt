@@ -80,7 +80,7 @@ stops_out left left' number line s t w takes ended =
     ([], (refl, inr (inl (line, taken_is_next left left' line takes, ended))), Appends-nil w)
 
 -- a text of an answer, or of a refusal, that is not written whole is no end of the input
-pub answer_not_done : (end : CommandEnd) (text : List ℕ) (w w' : Option (List ℕ)) → IsPrinted text (Err end) w w' → Err {T = Bool} end ≢ Err ends.Done
+pub answer_not_done : (end : CommandEnd) (text : List ℕ) (w w' : Option (List ℕ)) → IsPrinted text (Err end) w w' → ◌≢◌ {A = Result Bool CommandEnd} (Err end) (Err ends.Done)
 answer_not_done ends.Done text w w' printed is = printed
 answer_not_done ends.Refused text w w' printed is = printed
 answer_not_done ends.ReadFailed text w w' printed is = printed
@@ -88,7 +88,7 @@ answer_not_done ends.WriteFailed text w w' printed is = cc
 answer_not_done ends.KeeperFailed text w w' printed is = printed
 answer_not_done ends.Memory text w w' printed is = cc
 
-pub refusal_not_done : (end : CommandEnd) (number : ℕ) (why : List ℕ) (w w' : Option (List ℕ)) → IsRefusalPrinted number why end w w' → Err {T = Bool} end ≢ Err ends.Done
+pub refusal_not_done : (end : CommandEnd) (number : ℕ) (why : List ℕ) (w w' : Option (List ℕ)) → IsRefusalPrinted number why end w w' → ◌≢◌ {A = Result Bool CommandEnd} (Err end) (Err ends.Done)
 refusal_not_done ends.Done number why w w' printed is = printed
 refusal_not_done ends.Refused number why w w' printed is = cc
 refusal_not_done ends.ReadFailed number why w w' printed is = printed

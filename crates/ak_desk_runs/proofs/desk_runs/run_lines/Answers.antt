@@ -14,7 +14,7 @@ pub lines-init : goal.lines-init
 lines-init g c = record {
   so_far = begins_run _ _ _ _ _ c.in-Ok-new.ensures (rw c.in-Ok.ensures refl);
   number = rw c.in-Ok-new.ensures (omega arith);
-  idle = c.requires;
+  idle = c.requires.idle;
   stays = refl;
   keeps_on = goes_nowhere _;
   reads_on = goes_nowhere _;
@@ -26,7 +26,7 @@ lines-preserved g c =
     let counts = c.in-Ok-true.ensures.counts (ap Ok c.in-Ok-true.field-0-test) in
     record {
       so_far = goes_on _ _ _ _ _ _ _ _ _ _ _ c.lines.invariant.so_far counts.0 (rw c.in-Ok-true.field-0-test at c.in-Ok-true.ensures.steps);
-      number = counts.1.0;
+      number = counts.1;
       idle = idle_still _ _ c.in-Ok-true.ensures.stays c.lines.invariant.idle;
       stays = c.in-Ok-true.ensures.stays ∙ c.lines.invariant.stays;
       keeps_on = goes_further c.lines.invariant.keeps_on c.in-Ok-true.ensures.cause.kept.goes;
