@@ -1,7 +1,7 @@
 -- How a line ends that starts the day and asks for the queue of a deck.
 use Rattle.std.specs.Prelude.{◌≡◌, ◌⊎◌, ℤ, Bool, true, false, Option, Some, None, IfSome, Result, Ok, Err, IfErr, IfOk}
 use Rattle.std.specs.Option.{option_map}
-use Rattle.std.proofs.Common.{inl, inr, refl, sym, ap, subst, ◌∙◌}
+use Rattle.std.proofs.Common.{inl, inr, sym, ap, subst, ◌∙◌}
 use Rattle.std.proofs.lemmas.Bool.{false≢true}
 use Rattle.std.proofs.lemmas.Option.{none-some}
 use Rattle.ak_base.specs.Days.{IsDayOf}
@@ -11,7 +11,7 @@ use Rattle.ak_base.specs.declared.heads.Head.{Head}
 use Rattle.ak_base.specs.declared.names.Name.{Name}
 use Rattle.ak_base.specs.declared.names.Table.TheVariants as tables
 use Rattle.ak_calls.proofs.Answering.{refused_first}
-use Rattle.ak_calls.proofs.Telling.{where_held-both, where_held-map}
+use Rattle.ak_calls.proofs.Telling.{where_held-map}
 use Rattle.ak_desk_lines.proofs.EndedLines.{held_at, same_state}
 use Rattle.ak_desk_lines.proofs.StartedDecks.{started_deck}
 use Rattle.ak_desk_lines.specs.Accepted.{AsksOnDay, Does, IsOnDay, answer_with, of_queue, of_queue_fault}
@@ -23,7 +23,7 @@ use Rattle.ak_edit.proofs.Finishing.{told_at, where_held}
 use Rattle.ak_edit.specs.Refusals.{AnswersBy, IsEndFault, IsFromOutside, Refusal}
 use Rattle.ak_edit.specs.declared.desk_faults.DeskFault.{DeskFault}
 use Rattle.ak_edit.specs.declared.desk_faults.DeskFault.TheVariants as faults
-use Rattle.ak_keep.specs.Collections.{Collection, Holding, collection_of}
+use Rattle.ak_keep.specs.Collections.{Collection, Holding}
 use Rattle.ak_keep.proofs.Told.{where_told-map}
 use Rattle.ak_keep.specs.Keepers.{Keeping, WhereHeld, WhereTold, changed}
 use Rattle.ak_keep.specs.Lookups.{deck_at}

@@ -1,7 +1,6 @@
 -- How a line ends that edits the note that is held.
-use Rattle.std.specs.Prelude.{◌≡◌, ◌⊎◌, ℤ, List, Option, Some, None, Result, Ok, Err, IfErr, IfOk, OnErr, OnOk}
+use Rattle.std.specs.Prelude.{◌≡◌, ◌⊎◌, ℤ, Option, Some, None, Result, Ok, Err, IfErr, OnErr, OnOk}
 use Rattle.std.proofs.Common.{inl, inr, sym, subst}
-use Rattle.ak_base.specs.declared.heads.Head.{Head}
 use Rattle.ak_base.specs.declared.names.Table.TheVariants as tables
 use Rattle.ak_base.specs.declared.notes.Note.{Note}
 use Rattle.ak_calls.specs.Calls.{IsMissingFault}
@@ -16,8 +15,8 @@ use Rattle.ak_edit.proofs.Finishing.{told_at, where_held}
 use Rattle.ak_edit.specs.Refusals.{AnswersBy}
 use Rattle.ak_edit.specs.declared.desk_faults.DeskFault.{DeskFault}
 use Rattle.ak_edit.specs.declared.desk_faults.DeskFault.TheVariants as faults
-use Rattle.ak_keep.specs.Collections.{Collection, Rows}
-use Rattle.ak_keep.specs.Keepers.{Keeping, WhereHeld, WhereTold}
+use Rattle.ak_keep.specs.Collections.{Collection}
+use Rattle.ak_keep.specs.Keepers.{Keeping, WhereHeld}
 use Rattle.ak_keep.specs.Lookups.{note_at}
 use Rattle.ak_lines.specs.declared.desk_lines.DeskLine.{DeskLine}
 use Rattle.ak_merge.specs.Holdings.{name_in}
@@ -26,7 +25,6 @@ use Rattle.ak_notes.specs.NoteEdits.{DoesEditNote, IsNoteEditFault, IsNoteEdited
 use Rattle.ak_notes.specs.declared.note_edits.NoteEdit.{NoteEdit}
 use Rattle.ak_texts.specs.declared.answers.DeskAnswer.{DeskAnswer}
 use Rattle.ak_texts.specs.declared.answers.DeskAnswer.TheVariants as answers
-use Rattle.ak_undo.specs.declared.steps.Step.{Step}
 
 -- a note that is not held is a refusal by the tests of the line
 pub missing_note : (at note : ℤ) (change : Note → NoteEdit) (k : Keeping) (fault : DeskFault)

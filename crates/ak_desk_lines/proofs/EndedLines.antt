@@ -1,7 +1,7 @@
 -- How a line ends by the call that it makes.
-use Rattle.std.specs.Prelude.{◌≡◌, ◌⊎◌, ⊤, ℤ, Option, Some, IfSome, Result, Ok, Err, IfErr, IfOk, OnOk, OnErr, List}
+use Rattle.std.specs.Prelude.{◌≡◌, Option, Some, IfSome, Result, Ok, Err, IfErr, IfOk, OnOk, OnErr, List}
 use Rattle.std.specs.Option.{option_map}
-use Rattle.std.proofs.Common.{inl, inr, refl, ap, subst, ◌∙◌}
+use Rattle.std.proofs.Common.{inl, ap, subst, ◌∙◌}
 use Rattle.ak_base.specs.declared.heads.Head.{Head}
 use Rattle.ak_calls.proofs.Telling.{where_held-both, where_held-map}
 use Rattle.ak_calls.specs.Calls.{EndsEdit}
@@ -11,7 +11,6 @@ use Rattle.ak_desk_lines.specs.LineEnds.{AnswersLine, EndsLine, HasAnswerForm, I
 use Rattle.ak_desk_lines.specs.Refused.{MayRefuse, RefusesNever}
 use Rattle.ak_desk_lines.specs.declared.turns.Turn.{Turn}
 use Rattle.ak_edit.proofs.Finishing.{told_at, where_held}
-use Rattle.ak_edit.specs.Ends.{IsFinished}
 use Rattle.ak_edit.specs.Refusals.{AnswersBy, DeskCause, IsFromOutside, Refusal}
 use Rattle.ak_edit.specs.declared.desk_faults.DeskFault.{DeskFault}
 use Rattle.ak_faults.specs.Causes.{Health}

@@ -2,6 +2,7 @@ pub mod AskedQueues
 pub mod ChangedNotes
 pub mod EndedLines
 pub mod FoundDays
+pub mod KeptLinks
 pub mod LineStepping
 pub mod ObeyedLines
 pub mod ShownPages

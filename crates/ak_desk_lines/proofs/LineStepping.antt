@@ -1,7 +1,7 @@
 -- Each line is one step: nothing, one admitted edit, or one undo.
 use Rattle.std.specs.Prelude.{◌≡◌, ◌⊎◌, ℕ, ℤ, List, [], Option, Some, None, IfSome, Result, Ok, Err}
 use Rattle.std.specs.Option.{option_map}
-use Rattle.std.proofs.Common.{inl, inr, refl, sym, ap, subst}
+use Rattle.std.proofs.Common.{inl, inr, sym, subst}
 use Rattle.ak_base.specs.declared.decks.Deck.{Deck}
 use Rattle.ak_base.specs.declared.heads.Head.{Head}
 use Rattle.ak_calls.specs.CardEdits.{card_edit}
@@ -26,7 +26,7 @@ use Rattle.ak_edit.proofs.UndoneLists.{undo_keeps_all}
 use Rattle.ak_edit.specs.Ends.{IsFinished, holding_now}
 use Rattle.ak_edit.specs.Refusals.{IsFromOutside}
 use Rattle.ak_edit.specs.Steps.{reversals_in}
-use Rattle.ak_edit.specs.Undos.{IsLatestUndone, SuitsNow}
+use Rattle.ak_edit.specs.Undos.{SuitsNow}
 use Rattle.ak_edit.specs.declared.desk_faults.DeskFault.{DeskFault}
 use Rattle.ak_keep.specs.Collections.{Collection, Holding, collection_of}
 use Rattle.ak_keep.specs.Keepers.{Keeping, WhereHeld}
@@ -55,7 +55,6 @@ use Rattle.ak_types.proofs.AdmittedEdits.{additions_are_admitted as type_additio
 use Rattle.ak_types.specs.TypeAdditions.{given_addition}
 use Rattle.ak_types.specs.TypeDeletions.{type_deletion}
 use Rattle.ak_types.specs.TypeEdits.{retyping}
-use Rattle.ak_undo.specs.declared.steps.Step.{Step}
 
 -- the laws on the paths of decks
 abbrev AddsAreAdmitted : Type 0
@@ -194,10 +193,10 @@ told_now : (told : Option (WithMark Holding)) (d : Collection) (P : Collection �
 told_now None d P is = tt
 told_now (Some w) d P is = is
 
-holds_now : (d : Collection) (before now : Keeping) (P : Collection → Type 0) → now ≡ holding_now d before → P d → WhereHeld now P
+pub holds_now : (d : Collection) (before now : Keeping) (P : Collection → Type 0) → now ≡ holding_now d before → P d → WhereHeld now P
 holds_now d before now P held is = subst (λ (k : Keeping). WhereHeld k P) (sym held) (told_now before.told d P is)
 
-held_here : (k : Keeping) (P : Collection → Type 0) (w : WithMark Holding) (head : Head) → k.told ≡ Some w → w.current.head ≡ Some head
+pub held_here : (k : Keeping) (P : Collection → Type 0) (w : WithMark Holding) (head : Head) → k.told ≡ Some w → w.current.head ≡ Some head
     → P (record { rows = w.current.rows; head = head }) → WhereHeld k P
 held_here k P w head told is_head is =
     subst (λ (o : Option (WithMark Holding)). IfSome o (λ w. IfSome (collection_of w.current) P)) (sym told)

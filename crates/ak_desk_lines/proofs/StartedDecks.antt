@@ -1,11 +1,10 @@
 -- The start of a day leaves the decks as they are.
-use Rattle.std.specs.Prelude.{◌≡◌, ℤ, Bool, true, false, if◌then◌else◌, IsTrue, List, Option, Some, None, option_and_then}
+use Rattle.std.specs.Prelude.{◌≡◌, ℤ, Bool, true, false, if◌then◌else◌, List, Option, Some, None, option_and_then}
 use Rattle.std.specs.Option.{option_map}
 use Rattle.std.proofs.Common.{refl, ap, ◌∙◌}
 use Rattle.ak_base.specs.Contents.{same_but_stamp_and_usn}
 use Rattle.ak_base.specs.Rows.{stamp_of}
 use Rattle.ak_base.specs.declared.days.Day.{Day}
-use Rattle.ak_base.specs.declared.decks.Deck.{Deck}
 use Rattle.ak_base.specs.declared.names.Table.TheVariants as tables
 use Rattle.ak_base.specs.declared.rows.Row.{Row}
 use Rattle.ak_base.specs.declared.rows.Row.TheVariants as rows
@@ -17,7 +16,7 @@ use Rattle.ak_merge.specs.EditBuilding.{unedited, with_conf, with_rows_mapped}
 use Rattle.ak_merge.specs.Edits.{Edit, advanced, edited, edited_row, second_of}
 use Rattle.ak_merge.specs.Holdings.{name_in, row_under}
 use Rattle.ak_study.specs.CardPlaces.{unburied}
-use Rattle.ak_study.specs.DayStarts.{HasStarted, begun_on, day_start, is_new_day, unburied_row}
+use Rattle.ak_study.specs.DayStarts.{HasStarted, begun_on, is_new_day, unburied_row}
 use Rattle.ak_undo.specs.declared.steps.Step.{Step}
 
 -- a row that is put as it is stays

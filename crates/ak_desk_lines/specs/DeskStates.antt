@@ -1,5 +1,5 @@
 -- The state of a desk between two lines.
-use Rattle.std.specs.Prelude.{◌≡◌, ℤ, List}
+use Rattle.std.specs.Prelude.{ℤ, List}
 use Rattle.ak_desk.specs.declared.desks.Desk.{Desk}
 use Rattle.ak_edit.specs.Ends.{IsFinished}
 use Rattle.ak_keep.specs.Collections.{Collection}

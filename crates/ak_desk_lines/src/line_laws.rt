@@ -2,7 +2,7 @@
 ghost use Rattle.std.specs.Prelude.{Result};
 ghost use Rattle.ak_desk_lines.specs.DeskStates.{DeskState};
 ghost use Rattle.ak_desk_lines.specs.LineEnds.{EndsLine};
-ghost use Rattle.ak_desk_lines.specs.LineSteps.{IsOneStep};
+ghost use Rattle.ak_desk_lines.specs.LineSteps.{IsOneStep, KeepsLinks};
 ghost use Rattle.ak_desk_lines.specs.declared.turns.Turn.{Turn};
 ghost use Rattle.ak_edit.specs.Undos.{SuitsNow};
 ghost use Rattle.ak_edit.specs.declared.desk_faults.DeskFault.{DeskFault};
@@ -28,6 +28,17 @@ pub fn undo_lists_suit_after_lines()
     ensures { (line : DeskLine) (t : Turn) (was now : DeskState) (result : Result DeskAnswer DeskFault)
         → EndsLine line t was now result
         → WhereHeld was.keeping (λ c. SuitsNow was.steps c → WhereHeld now.keeping (SuitsNow now.steps)) }
+{
+    // For the proof alone.
+    lines_are_single_steps();
+}
+
+/// A collection that is linked with one of a server stays so after a line, and the steps of its undo list go on to fit that,
+/// unless the line changes the schema.
+pub fn lines_keep_links()
+    ensures { (line : DeskLine) (t : Turn) (was now : DeskState) (result : Result DeskAnswer DeskFault)
+        → EndsLine line t was now result
+        → WhereHeld was.keeping (λ c. SuitsNow was.steps c → KeepsLinks c was now) }
 {
     // For the proof alone.
     lines_are_single_steps();

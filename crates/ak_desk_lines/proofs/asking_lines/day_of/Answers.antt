@@ -1,4 +1,4 @@
-use Rattle.std.proofs.Common.{◌∙◌, rules, w64, SFits}
+use Rattle.std.proofs.Common.{rules, w64, SFits}
 use Rattle.std.proofs.lemmas.Int.{to_z-of_z}
 use Rattle.ak_desk_lines.proofs.FoundDays.{day_told}
 use Rattle.ak_keep.proofs.Causing.{cause-ok}

@@ -1,4 +1,4 @@
-use Rattle.std.proofs.Common.{rules, w64, SFits}
+use Rattle.std.proofs.Common.{w64, SFits}
 use Rattle.std.proofs.lemmas.Int.{to_z-of_z}
 use Rattle.ak_desk_lines.proofs.FoundDays.{found_on}
 use Rattle.ak_desk_lines.proofs.view_lines.found_at.Goals as goal

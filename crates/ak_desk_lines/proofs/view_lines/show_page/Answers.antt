@@ -1,4 +1,4 @@
-use Rattle.std.proofs.Common.{refl, rules, w64, SFits}
+use Rattle.std.proofs.Common.{refl, w64, SFits}
 use Rattle.std.proofs.lemmas.Int.{to_z-of_z}
 use Rattle.ak_desk_lines.proofs.ShownPages.{page_ends, page_line}
 use Rattle.ak_desk_lines.specs.DeskStates.{state_of}
