@@ -1,11 +1,11 @@
 -- A keeper in which all was replaced between a mark and its commit.
-use Rattle.std.proofs.Common.{◌≡◌, true, List, Option, Some, None, refl, ap}
-use Rattle.ak_base.specs.declared.heads.Head.{Head}
-use Rattle.ak_base.specs.declared.rows.Row.{Row}
-use Rattle.ak_desk_runs.specs.Inits.{holding_only}
-use Rattle.ak_keep.specs.Collections.{Holding, made_of}
+use Rattle.std.proofs.Common.{◌≡◌, true, ℤ, Option, Some, None, Result, Ok, Err, OnOk, IfOk, refl, ap, ◌∙◌, subst}
+use Rattle.ak_desk_runs.specs.Inits.{IsOpened, holding_only}
+use Rattle.ak_keep.specs.Collections.{Holding}
 use Rattle.ak_keep.specs.Keepers.{Keeping, committed, marked_here, replaced}
 use Rattle.ak_keep.specs.Marks.{WithMark}
+use Rattle.ak_keep.specs.declared.keepers.KeepFault.{KeepFault}
+use Rattle.ak_openings.specs.Openings.{IsOpening}
 use Rattle.ak_openings.specs.declared.whole_collections.Opening.{Opening}
 
 -- what is told, whatever was
@@ -18,3 +18,12 @@ told_only made k (Some w) = refl
 pub replaced_only : (made : Opening) (k : Keeping) → committed (replaced made.rows made.head (marked_here k)) ≡ holding_only made k
 replaced_only made k =
     ap (λ t. record { headed = record { current = true; mark = None }; told = t }) (told_only made k k.told)
+
+-- a keeper that was marked, in which all was replaced, and which was committed if that was done
+pub opened : (result put : Result (Unit {0}) KeepFault) (at : ℤ) (made : Opening) (k k1 k2 k3 : Keeping) → IsOpening at true made → k1 ≡ marked_here k
+    → OnOk put (k2 ≡ replaced made.rows made.head k1) → OnOk result (k3 ≡ committed k2) → IfOk result (λ (value : Unit {0}). put ≡ Ok value)
+    → OnOk result (IsOpened at k k3)
+opened (Ok value) put at made k k1 k2 k3 is marked replaces commits done =
+    let replaced_all : k2 ≡ replaced made.rows made.head k1 = subst (λ (r : Result (Unit {0}) KeepFault). OnOk r (k2 ≡ replaced made.rows made.head k1)) done replaces in
+    (made, is, commits ∙ ap committed (replaced_all ∙ ap (replaced made.rows made.head) marked) ∙ replaced_only made k)
+opened (Err fault) put at made k k1 k2 k3 is marked replaces commits done = tt

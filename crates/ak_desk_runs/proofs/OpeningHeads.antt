@@ -3,6 +3,7 @@ use Rattle.std.proofs.Common.{◌≡◌, ℕ, ◌+◌, ◌*◌, ◌/◌, ◌<◌
 use Rattle.std.proofs.lemmas.Int.{ints}
 use Rattle.std.proofs.lemmas.List.Elements.{All-nil}
 use Rattle.std.specs.Prelude.{int_div, ◌*ℤ◌}
+use Rattle.std.specs.List.Sorted.{IsStrictlySortedBy}
 use Rattle.ak_base.specs.Heads.{IsConfInRange, IsHeadInRange, IsTagInRange, IsWithin}
 use Rattle.ak_base.specs.Limits.{last_stamp}
 use Rattle.ak_base.specs.declared.heads.Conf.{Conf}
@@ -31,6 +32,7 @@ conf_within conf is = record {
 
 -- the head
 pub head_within : (ms : ℤ) (head : Head) → IsClockMoment ms → IsOpeningHead ms true head → IsHeadInRange head
+unfolding IsStrictlySortedBy
 head_within ms head within is = record {
   crt = subst (λ x. IsWithin (pos 0) last_stamp x) (sym is.crt) (day_within ms within);
   moment = rw is.moment (record { low = within.low; high = grind (arith, ints, within.high) });

@@ -1,4 +1,4 @@
-ghost use Rattle.std.specs.Prelude.{◌≡◌, false, codes, OnErr, OnOk};
+ghost use Rattle.std.specs.Prelude.{◌≡◌, ℤ, false, OnErr, OnOk};
 ghost use Rattle.ak_desk_runs.specs.CommandEnds.{IsOutputCaused, IsKeeperCaused};
 ghost use Rattle.ak_desk_runs.specs.Inits.{EndsInit, IsOpened};
 ghost use Rattle.ak_io.specs.Arrivals.{GivesNext, IsClockMoment};
