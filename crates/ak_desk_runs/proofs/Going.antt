@@ -1,8 +1,7 @@
 -- Lines that went, and one more.
-use Rattle.std.proofs.Common.{◌≡◌, ℕ, ◌+◌, true, false, List, [], ◌∷◌, ◌++◌, length, Option, Some, None, refl, sym, ap, ◌∙◌, subst, append_assoc, append-nil, arith, inl}
+use Rattle.std.proofs.Common.{◌≡◌, ℕ, ◌+◌, List, [], ◌∷◌, ◌++◌, length, Option, Some, None, refl, sym, ap, ◌∙◌, subst, append_assoc, append-nil, arith, inl}
 use Rattle.std.proofs.KnownBytes.{Appends-nil, Appends-trans}
 use Rattle.std.specs.Io.KnownBytes.{Appends}
-use Rattle.std.specs.Option.{option_map}
 use Rattle.ak_desk_runs.specs.DeskRuns.{AllGo, AreLines, Goes, IsDeskRun, Stops, input_lines}
 use Rattle.ak_desk_runs.specs.RunLines.{IsSoFar, StopsThere, TakesAndGoes}
 use Rattle.ak_desk_runs.specs.Sittings.{Outside, Sitting, begun, outside_in}

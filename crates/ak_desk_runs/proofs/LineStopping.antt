@@ -1,16 +1,14 @@
 -- How a line ends, from how its text or what it says ended.
-use Rattle.std.proofs.Common.{◌≡◌, ℕ, true, false, List, Option, Some, None, Result, Ok, Err, refl, sym, subst, ◌∙◌, inl, inr}
+use Rattle.std.proofs.Common.{◌≡◌, ℕ, false, List, Some, None, Ok, Err, refl, ◌∙◌, inl, inr}
 use Rattle.ak_desk_lines.specs.declared.turns.Turn.{Turn}
-use Rattle.ak_desk_runs.specs.LineOutcomes.{SaysNoLine, TakesTurn, is_skipped_line, text_in, textless}
-use Rattle.ak_desk_runs.specs.LineStops.{ComesOut, IsLineStop, IsStopBy, IsUnsaid, SaidComesOut, TextComesOut}
-use Rattle.ak_desk_runs.specs.Sittings.{Bench, Sitting}
+use Rattle.ak_desk_runs.specs.LineOutcomes.{TakesTurn, is_skipped_line, text_in, textless}
+use Rattle.ak_desk_runs.specs.LineStops.{ComesOut, IsLineStop, IsStopBy, IsUnsaid, TextComesOut}
+use Rattle.ak_desk_runs.specs.Sittings.{Sitting}
 use Rattle.ak_desk_runs.specs.declared.line_stops.LineStop.{LineStop}
 use Rattle.ak_desk_runs.specs.declared.line_stops.LineStop.TheVariants as stops
 use Rattle.ak_io.specs.declared.lines.Line.{Line}
-use Rattle.ak_lines.specs.DeskLines.{RefusesLine, SaysLine}
-use Rattle.ak_lines.specs.declared.desk_lines.DeskLine.{DeskLine}
+use Rattle.ak_lines.specs.DeskLines.{RefusesLine}
 use Rattle.ak_lines.specs.declared.line_faults.LineFault.{LineFault}
-use Rattle.ak_texts.specs.AnswerTexts.{answer_text}
 use Rattle.ak_texts.specs.declared.answers.DeskAnswer.{DeskAnswer}
 
 -- a line without a text stops

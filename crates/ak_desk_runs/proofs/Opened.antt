@@ -1,6 +1,8 @@
 -- A keeper in which all was replaced between a mark and its commit.
-use Rattle.std.proofs.Common.{◌≡◌, true, ℤ, Option, Some, None, Result, Ok, Err, OnOk, IfOk, refl, ap, ◌∙◌, subst}
-use Rattle.ak_desk_runs.specs.Inits.{IsOpened, holding_only}
+use Rattle.std.proofs.Common.{◌≡◌, ℕ, true, false, ℤ, List, Option, Some, None, Result, Ok, Err, OnOk, IfOk, refl, ap, ◌∙◌, sym, subst}
+use Rattle.std.specs.Io.KnownBytes.{Keeps}
+use Rattle.ak_desk_runs.specs.Inits.{EndsInit, EndsInitOn, IsOpened, holding_only}
+use Rattle.ak_desk_runs.specs.declared.command_ends.CommandEnd.TheVariants as ends
 use Rattle.ak_keep.specs.Collections.{Holding}
 use Rattle.ak_keep.specs.Keepers.{Keeping, committed, marked_here, replaced}
 use Rattle.ak_keep.specs.Marks.{WithMark}
@@ -27,3 +29,12 @@ opened (Ok value) put at made k k1 k2 k3 is marked replaces commits done =
     let replaced_all : k2 ≡ replaced made.rows made.head k1 = subst (λ (r : Result (Unit {0}) KeepFault). OnOk r (k2 ≡ replaced made.rows made.head k1)) done replaces in
     (made, is, commits ∙ ap committed (replaced_all ∙ ap (replaced made.rows made.head) marked) ∙ replaced_only made k)
 opened (Err fault) put at made k k1 k2 k3 is marked replaces commits done = tt
+
+-- nothing is written
+keeps_same : (w : Option (List ℕ)) → Keeps w w
+keeps_same None = tt
+keeps_same (Some bytes) = refl
+
+-- `init` is done where no head was held
+pub init_done : (at : ℤ) (before after : Keeping) (w : Option (List ℕ)) → before.headed.current ≡ false → IsOpened at before after → EndsInit at ends.Done before after w w
+init_done at before after w none opened = subst (λ b. EndsInitOn b at ends.Done before after w w) (sym none) (opened, keeps_same w)

@@ -1,5 +1,5 @@
 -- The head of an opening collection is in its ranges.
-use Rattle.std.proofs.Common.{◌≡◌, ℕ, ◌+◌, ◌*◌, ◌/◌, ◌<◌, ◌≤◌, ℤ, pos, negsuc, ◌≤ℤ◌, true, List, [], length, refl, sym, subst, arith, codes}
+use Rattle.std.proofs.Common.{ℤ, pos, true, sym, subst, arith}
 use Rattle.std.proofs.lemmas.Int.{ints}
 use Rattle.std.proofs.lemmas.List.Elements.{All-nil}
 use Rattle.std.specs.Prelude.{int_div, ◌*ℤ◌}

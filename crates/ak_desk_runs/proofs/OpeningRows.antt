@@ -1,5 +1,5 @@
 -- The rows of an opening collection pass their check, and have names of their own.
-use Rattle.std.proofs.Common.{◌≡◌, ℕ, ℤ, pos, negsuc, ◌≤ℤ◌, true, false, List, [], ◌∷◌, ◌++◌, length, map, Option, Some, None, Ok, refl, sym, ap, ◌∙◌, subst, arith, codes}
+use Rattle.std.proofs.Common.{◌≡◌, ℕ, ℤ, pos, negsuc, ◌≤ℤ◌, List, [], ◌∷◌, length, map, Option, None, Ok, refl, sym, ap, ◌∙◌, subst, arith, codes}
 use Rattle.std.proofs.lemmas.Int.{ints}
 use Rattle.std.proofs.lemmas.List.{length-map}
 use Rattle.std.proofs.lemmas.List.Elements.{All-from_recursion}
@@ -25,13 +25,13 @@ use Rattle.ak_base.specs.declared.note_types.NoteType.{NoteType}
 use Rattle.ak_base.specs.declared.option_groups.Options.{Options}
 use Rattle.ak_base.specs.declared.rows.Row.{Row}
 use Rattle.ak_base.specs.declared.rows.Row.TheVariants as rows
-use Rattle.ak_openings.specs.Openings.{AreDefaultOptions, AreFive, AreOpeningRows, IsBasic, IsCloze, IsDefaultDeck, IsReversed, IsType, five_rows, field_texts, template_texts}
+use Rattle.ak_openings.specs.Openings.{AreDefaultOptions, AreFive, AreOpeningRows, IsBasic, IsCloze, IsDefaultDeck, IsReversed, five_rows, field_texts, template_texts}
 
 -- ---- fields and templates by their texts
-field_fault_of : List ℕ × List ℕ → Option RowFault
+abbrev field_fault_of : List ℕ × List ℕ → Option RowFault
 field_fault_of texts = option_or (long_fault 6 (length texts.0) 512) (long_fault 6 (length texts.1) 262_144)
 
-bad_field_of : List (List ℕ × List ℕ) → Option RowFault
+abbrev bad_field_of : List (List ℕ × List ℕ) → Option RowFault
 bad_field_of [] = None
 bad_field_of (f ∷ fs) = option_or (field_fault_of f) (bad_field_of fs)
 
@@ -39,14 +39,14 @@ fields_by_texts : (fs : List FieldDef) → bad_field fs ≡ bad_field_of (map fi
 fields_by_texts [] = refl
 fields_by_texts (f ∷ fs) = ap (λ o. option_or (field_fault f) o) (fields_by_texts fs)
 
-template_fault_of : List ℕ × List ℕ × List ℕ × List ℕ → Option RowFault
+abbrev template_fault_of : List ℕ × List ℕ × List ℕ × List ℕ → Option RowFault
 template_fault_of (name, front, back, rest) =
     option_or (long_fault 7 (length name) 512)
     (option_or (long_fault 7 (length front) 65_536)
     (option_or (long_fault 7 (length back) 65_536)
     (long_fault 7 (length rest) 262_144)))
 
-bad_template_of : List (List ℕ × List ℕ × List ℕ × List ℕ) → Option RowFault
+abbrev bad_template_of : List (List ℕ × List ℕ × List ℕ × List ℕ) → Option RowFault
 bad_template_of [] = None
 bad_template_of (t ∷ ts) = option_or (template_fault_of t) (bad_template_of ts)
 
@@ -72,10 +72,10 @@ title_passes : (t : NoteType) (second : ℤ) → id_fault t.id ≡ None → stam
 unfolding title_faults code_fault
 title_passes t second id stamp usn name = rw (id, stamp, usn, name) refl
 
-form_passes : (t : NoteType) (n : ℕ) → length t.fields ≡ suc n → t.sortf ≡ pos 0 → fields_fault t.fields ≡ None → templates_fault t.templates ≡ None → t.rest.text ≡ codes "{}"
+form_passes : (t : NoteType) → length t.fields ≡ 2 → t.sortf ≡ pos 0 → fields_fault t.fields ≡ None → templates_fault t.templates ≡ None → t.rest.text ≡ codes "{}"
     → first_fault (form_faults t) ≡ Ok tt
 unfolding form_faults place_fault code_fault long_fault
-form_passes t n size sortf fields templates rest = rw (size, sortf, fields, templates, rest) refl
+form_passes t size sortf fields templates rest = rw (fields, templates, size, sortf, rest) refl
 
 type_passes : (t : NoteType) → first_fault (title_faults t) ≡ Ok tt → first_fault (form_faults t) ≡ Ok tt → IsCheckedNoteType t
 type_passes t title form = fault_behind (title_faults t) (form_faults t) tt title ∙ form
@@ -88,21 +88,21 @@ unfolding id_fault long_fault entries_fault
 basic_passes second t passes is =
     type_passes t
     (title_passes t second (rw is.id_is refl) (rw is.stamp passes) is.usn (rw is.name_is refl))
-    (form_passes t 1 (two_fields t _ _ is.fields_are) is.sortf (fields_pass t.fields _ is.fields_are refl) (templates_pass t.templates _ is.templates_are refl) is.rest)
+    (form_passes t (two_fields t _ _ is.fields_are) is.sortf (fields_pass t.fields _ is.fields_are refl) (templates_pass t.templates _ is.templates_are refl) is.rest)
 
 cloze_passes : (second : ℤ) (t : NoteType) → stamp_fault second ≡ None → IsCloze second (negsuc 0) t → IsCheckedNoteType t
 unfolding id_fault long_fault entries_fault
 cloze_passes second t passes is =
     type_passes t
     (title_passes t second (rw is.id_is refl) (rw is.stamp passes) is.usn (rw is.name_is refl))
-    (form_passes t 1 (two_fields t _ _ is.fields_are) is.sortf (fields_pass t.fields _ is.fields_are refl) (templates_pass t.templates _ is.templates_are refl) is.rest)
+    (form_passes t (two_fields t _ _ is.fields_are) is.sortf (fields_pass t.fields _ is.fields_are refl) (templates_pass t.templates _ is.templates_are refl) is.rest)
 
 reversed_passes : (second : ℤ) (t : NoteType) → stamp_fault second ≡ None → IsReversed second (negsuc 0) t → IsCheckedNoteType t
 unfolding id_fault long_fault entries_fault
 reversed_passes second t passes is =
     type_passes t
     (title_passes t second (rw is.id_is refl) (rw is.stamp passes) is.usn (rw is.name_is refl))
-    (form_passes t 1 (two_fields t _ _ is.fields_are) is.sortf (fields_pass t.fields _ is.fields_are refl) (templates_pass t.templates _ is.templates_are refl) is.rest)
+    (form_passes t (two_fields t _ _ is.fields_are) is.sortf (fields_pass t.fields _ is.fields_are refl) (templates_pass t.templates _ is.templates_are refl) is.rest)
 
 -- ---- the deck and the options
 deck_title_passes : (second : ℤ) (d : Deck) → stamp_fault second ≡ None → IsDefaultDeck second (negsuc 0) d → first_fault (deck_title_faults d) ≡ Ok tt
@@ -128,22 +128,17 @@ stamp_passes second low high = grind (arith, ints)
 five_pass : (second : ℤ) (b c r : NoteType) (d : Deck) (o : Options) → IsWithin (pos 0) last_stamp second → AreFive second (negsuc 0) b c r d o
     → AllByRecursion IsChecked (five_rows b c r d o)
 five_pass second b c r d o within five =
-    let passes = stamp_passes second within.low within.high in (
-      basic_passes second b passes five.is_basic,
-      cloze_passes second c passes five.is_cloze,
-      reversed_passes second r passes five.is_reversed,
-      deck_passes second d passes five.is_deck,
-      options_pass second o within five.are_options,
-      tt,
-    )
+    let passes = stamp_passes second within.low within.high in
+    let last : AllByRecursion IsChecked (rows.Deck d ∷ rows.Options o ∷ []) = (deck_passes second d passes five.is_deck, (options_pass second o within five.are_options, tt)) in
+    (basic_passes second b passes five.is_basic, (cloze_passes second c passes five.is_cloze, (reversed_passes second r passes five.is_reversed, last)))
 
 -- their names
 five_names : (second number : ℤ) (b c r : NoteType) (d : Deck) (o : Options) → AreFive second number b c r d o
     → IsDistinct (eq_by_cmp name_cmp) (map name_of (five_rows b c r d o))
 unfolding IsDistinct
 five_names second number b c r d o five =
-    rw (five.is_basic.id_is, five.is_cloze.id_is, five.is_reversed.id_is, five.is_deck.id, five.are_options.opening.id)
-    ((refl, refl, refl, refl, tt), (refl, refl, refl, tt), (refl, refl, tt), (refl, tt), tt, tt)
+    rw (five.is_basic.id_is, five.is_cloze.id_is, five.is_reversed.id_is)
+    ((refl, (refl, (refl, (refl, tt)))), ((refl, (refl, (refl, tt))), ((refl, (refl, tt)), ((refl, tt), (tt, tt)))))
 
 -- each passes its check
 pub rows_pass : (second : ℤ) (made : List Row) → IsWithin (pos 0) last_stamp second → AreOpeningRows second (negsuc 0) made → All IsChecked made

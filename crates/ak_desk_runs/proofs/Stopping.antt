@@ -1,11 +1,11 @@
 -- A run stops at a line that was taken.
-use Rattle.std.proofs.Common.{◌≡◌, ◌≢◌, ℕ, ◌+◌, Bool, List, [], ◌∷◌, ◌++◌, Option, Some, None, Result, Ok, Err, refl, sym, ap, ◌∙◌, subst, inl, inr}
+use Rattle.std.proofs.Common.{◌≡◌, ◌≢◌, ℕ, Bool, List, [], Option, Some, None, Result, Err, refl, sym, ap, ◌∙◌, subst, inl, inr}
 use Rattle.std.proofs.KnownBytes.{Appends-nil, Appends-kept}
 use Rattle.std.specs.Io.KnownBytes.{Appends, Keeps}
 use Rattle.std.specs.Prelude.{is_some}
 use Rattle.ak_desk.specs.Desks.{IsIdle}
-use Rattle.ak_desk_runs.specs.DeskRuns.{IsNext, NextEnds, refusal_bytes}
-use Rattle.ak_desk_runs.specs.LineOutcomes.{Accepted, ComesTo, EndsAs, Failed, OutOfMemory, Refused}
+use Rattle.ak_desk_runs.specs.DeskRuns.{IsNext, refusal_bytes}
+use Rattle.ak_desk_runs.specs.LineOutcomes.{Accepted, EndsAs, Failed, OutOfMemory, Refused}
 use Rattle.ak_desk_runs.specs.RunLines.{IsPrinted, IsRefusalPrinted, StopsThere}
 use Rattle.ak_desk_runs.specs.Sittings.{Sitting}
 use Rattle.ak_desk_runs.specs.declared.command_ends.CommandEnd.{CommandEnd}

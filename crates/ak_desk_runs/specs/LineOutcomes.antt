@@ -1,5 +1,5 @@
 -- How a line of a run ends: a line of the input, by what the run was before it and is after it.
-use Rattle.std.specs.Prelude.{◌≡◌, ◌≢◌, ◌⊎◌, ℕ, ℤ, Bool, true, false, ◌==◌, ◌||◌, if◌then◌else◌, List, Option, Some, None, Result, Ok, Err, codes}
+use Rattle.std.specs.Prelude.{◌≡◌, ◌≢◌, ◌⊎◌, ℕ, Bool, true, false, ◌==◌, ◌||◌, if◌then◌else◌, List, Option, Some, None, Result, Ok, Err, codes}
 use Rattle.std.specs.List.{starts_with}
 use Rattle.std.specs.Str.{is_utf8}
 use Rattle.ak_desk_lines.specs.LineEnds.{AppliesFilters, EndsLine, counted}

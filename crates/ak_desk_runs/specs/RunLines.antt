@@ -1,8 +1,7 @@
 -- What a step of a run does: one line, with what is written for it.
-use Rattle.std.specs.Prelude.{◌≡◌, ◌≢◌, ⊤, ℕ, ◌+◌, Bool, true, false, List, [], ◌++◌, length, Option, Some, None, Result, Ok, Err, IfSome}
+use Rattle.std.specs.Prelude.{◌≡◌, ℕ, Bool, true, false, List, length, Option, Some, Result, Ok, Err}
 use Rattle.std.specs.Io.KnownBytes.{Appends, Keeps}
 use Rattle.ak_desk_runs.specs.DeskRuns.{AllGo, AreLines, Goes, IsPart, Stops, answer_bytes, refusal_bytes}
-use Rattle.ak_desk_runs.specs.LineOutcomes.{EndsAs}
 use Rattle.ak_desk_runs.specs.Sittings.{Outside, Sitting, begun}
 use Rattle.ak_desk_runs.specs.declared.command_ends.CommandEnd.{CommandEnd}
 use Rattle.ak_desk_runs.specs.declared.command_ends.CommandEnd.TheVariants as ends

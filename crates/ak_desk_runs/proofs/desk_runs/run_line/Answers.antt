@@ -1,4 +1,4 @@
-use Rattle.std.proofs.Common.{◌≡◌, ◌+◌, [], ◌∷◌, sym, ◌∙◌}
+use Rattle.std.proofs.Common.{◌≡◌, ◌+◌, [], ◌∷◌, ◌∙◌}
 use Rattle.std.proofs.KnownBytes.{Appends-nil}
 use Rattle.ak_desk_runs.proofs.Stopping.{answer_not_done, refusal_not_done, stops_in_answer, stops_out, stops_refused}
 use Rattle.ak_io.proofs.Readings.{counted}

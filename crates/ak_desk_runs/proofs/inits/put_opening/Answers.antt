@@ -25,4 +25,5 @@ pub returns-clause-ok : goal.returns-clause-ok
 returns-clause-ok g c =
     let at : SFits w64 c.args.at = search rules in
     let made : IsOpening c.args.at true c.in_ok-made.made = rw (to_z-of_z w64 c.args.at at) at c.in_ok-made.ensures in
-    opened _ _ c.args.at c.in_ok-made.made _ _ _ _ made c.in_ok-mark.ensures.ok c.replace_all-put.ensures.ok c.keep_or_back.ensures.ok c.keep_or_back.ensures.made
+    opened _ _ c.args.at c.in_ok-made.made (g.K.Lookup.keeping c.args.keeper.now) (g.K.Lookup.keeping c.mark.new.self) (g.K.Lookup.keeping c.replace_all-put.new.self)
+    (g.K.Lookup.keeping c.keep_or_back.new.keeper) made c.in_ok-mark.ensures.ok c.replace_all-put.ensures.ok c.keep_or_back.ensures.ok c.keep_or_back.ensures.made
