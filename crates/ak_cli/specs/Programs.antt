@@ -1,18 +1,39 @@
 -- What the program `anki` prints, and the statuses with which it ends.
-use Rattle.std.specs.Prelude.{◌≡◌, ℕ, Bool, false, List, [], ◌∷◌, ◌++◌, Option, None, IsSome, codes, ◌⊎◌}
+use Rattle.std.specs.Prelude.{◌≡◌, ◌<◌, ℕ, Bool, false, List, [], ◌∷◌, ◌++◌, Option, None, IsSome, codes, ◌⊎◌}
 use Rattle.std.specs.Io.KnownBytes.{Appends}
 use Rattle.std.specs.Prelude.{String, string_bytes}
 use Rattle.std.specs.declared.alloc.Global.{Global}
 use Rattle.ak_io.specs.Scripts.{Run, output_of, AppendsPart}
 use Rattle.ak_cli.specs.Commands.{same_text}
+use Rattle.ak_desk_runs.specs.declared.command_ends.CommandEnd.{CommandEnd}
+use Rattle.ak_desk_runs.specs.declared.command_ends.CommandEnd.TheVariants as commands
+use Rattle.ak_faults.specs.Causes.{Health}
 use Rattle.ak_io.specs.declared.endings.ScriptEnd.{ScriptEnd}
 use Rattle.ak_io.specs.declared.endings.ScriptEnd.TheVariants as ends
 
+-- the words are this one word
+abbrev pub is_only : List ℕ → List (String Global) → Bool
+is_only name [] = false
+is_only name (word ∷ []) = same_text (string_bytes word) name
+is_only name (word ∷ other ∷ others) = false
+
 -- the words are the one word `lab`
 abbrev pub is_lab : List (String Global) → Bool
-is_lab [] = false
-is_lab (word ∷ []) = same_text (string_bytes word) (codes "lab")
-is_lab (word ∷ other ∷ others) = false
+is_lab words = is_only (codes "lab") words
+
+-- the words are the one word `init`
+abbrev pub is_init : List (String Global) → Bool
+is_init words = is_only (codes "init") words
+
+-- the words are the one word `desk`
+abbrev pub is_desk : List (String Global) → Bool
+is_desk words = is_only (codes "desk") words
+
+-- the words are those of no command
+pub record AreOthers (words : List (String Global)) : Type 0 where
+  pub no_lab : is_lab words ≡ false
+  pub no_init : is_init words ≡ false
+  pub no_desk : is_desk words ≡ false
 
 -- `usage` and a line feed
 abbrev pub usage_line : List ℕ
@@ -37,3 +58,16 @@ pub record Prints (status : ℕ) (run : Run) (old new : Option (List ℕ)) : Typ
   pub refused : status ≡ 3 → IsSome run.refusal × Appends old new (output_of run)
   -- a run that is refused ends so, unless the input or the output failed or memory was wanting before the text was written
   pub only_refused : IsSome run.refusal → (status ≡ 3) ⊎ (status ≡ 4) ⊎ (status ≡ 5) ⊎ (status ≡ 8)
+
+-- the status of the end of `init` or `desk`: as that of a script, and 6 where the keeper failed
+abbrev pub command_status : CommandEnd → ℕ
+command_status commands.Done = 0
+command_status commands.Refused = 3
+command_status commands.ReadFailed = 4
+command_status commands.WriteFailed = 5
+command_status commands.KeeperFailed = 6
+command_status commands.Memory = 8
+
+-- the status tells this end; it is 5, whatever the end, if the output counted a fault meanwhile
+abbrev pub Tells : CommandEnd → Health → Health → ℕ → Type 0
+Tells end before now status = (status ≡ command_status end) ⊎ (status ≡ 5) × (before.faults < now.faults)

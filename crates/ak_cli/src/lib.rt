@@ -7,4 +7,4 @@ mod statuses;
 
 pub use lab::laws::{a_finished_sync_joins, new_ids_are_the_least};
 pub use programs::{print_usage, run};
-pub use statuses::{DONE, NO_MEMORY, READ_FAILED, REFUSED, USAGE, WRITE_FAILED};
+pub use statuses::{DONE, KEEPER_FAILED, NO_MEMORY, READ_FAILED, REFUSED, USAGE, WRITE_FAILED};

@@ -1,6 +1,7 @@
 ghost use Rattle.std.specs.Prelude.{◌≡◌};
-ghost use Rattle.ak_cli.specs.Programs.{status_of};
+ghost use Rattle.ak_cli.specs.Programs.{command_status, status_of};
 
+use ak_desk_runs::CommandEnd;
 use ak_io::ScriptEnd;
 
 /// The work is done: the input was read to its end.
@@ -18,6 +19,9 @@ pub const READ_FAILED: u8 = 4;
 /// The output failed.
 pub const WRITE_FAILED: u8 = 5;
 
+/// The keeper of the collection failed.
+pub const KEEPER_FAILED: u8 = 6;
+
 /// Memory was wanting.
 pub const NO_MEMORY: u8 = 8;
 
@@ -30,5 +34,18 @@ pub(crate) fn status_of(end: ScriptEnd) -> u8
         ScriptEnd::ReadFailed => READ_FAILED,
         ScriptEnd::WriteFailed => WRITE_FAILED,
         ScriptEnd::Memory => NO_MEMORY,
+    }
+}
+
+pub(crate) fn command_status(end: CommandEnd) -> u8
+    ensures { result ≡ command_status end }
+{
+    match end {
+        CommandEnd::Done => DONE,
+        CommandEnd::Refused => REFUSED,
+        CommandEnd::ReadFailed => READ_FAILED,
+        CommandEnd::WriteFailed => WRITE_FAILED,
+        CommandEnd::KeeperFailed => KEEPER_FAILED,
+        CommandEnd::Memory => NO_MEMORY,
     }
 }

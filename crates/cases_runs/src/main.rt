@@ -2,6 +2,7 @@
 #![tactic(auto)]
 
 mod runs;
+mod times;
 
 use crate::runs::Runs;
 use ak_io::{StdSink, StdSource};

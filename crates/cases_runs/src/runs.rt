@@ -1,6 +1,9 @@
+use crate::times::{chance_at, clock_at};
 use ak_base::List;
 use ak_cli::run;
+use ak_filters::{FieldFilter, HintFilter, TextFilter};
 use ak_io::{End, MemorySink, MemorySource, Sink, Source};
+use ak_keep::{Keeper, Lookup, MemoryKeeper};
 use cases_lines::{Answers, Unread, list_at, natural_at, quoted, text_at};
 use serde_json::Value;
 use std::alloc::Global;
@@ -9,26 +12,61 @@ use std::str;
 /// The most bytes that the output of a run may have room for.
 const MOST_ROOM: u64 = 100_000_000;
 
-/// Nothing is kept from one run to the next.
+/// Nothing is kept from one line to the next.
 #[derive(Drop)]
 pub struct Runs;
 
 impl Answers for Runs {
     fn answer(&mut self, alloc: Global, word: &str, rest: &str) -> Result<String, Unread> {
         match (word, Value::from_str(alloc, rest)) {
-            ("run", Ok(arguments)) => ran(alloc, &arguments),
+            ("run", Ok(arguments)) => {
+                let mut keeper = MemoryKeeper::new(alloc);
+                ran(alloc, &mut keeper, &arguments)
+            }
+            ("runs", Ok(arguments)) => ran_all(alloc, &arguments),
             _ => Err(Unread::Bad),
         }
     }
 }
 
-/// `run [WORDS, INPUT, FAILING-READS, ROOM, FAILING-WRITES]`: the status, the faults of the input and of the output, and
-/// what was written.
-fn ran(alloc: Global, arguments: &Value) -> Result<String, Unread> {
+/// `runs [FAILING-CALLS, RUN, ..]`: what each run over one keeper is told as, and the faults of the keeper.
+fn ran_all(alloc: Global, arguments: &Value) -> Result<String, Unread> {
+    let mut keeper = MemoryKeeper::new(alloc);
+    keeper.fail_at(numbers_at(alloc, arguments, 0)?);
+    let mut told = String::new(alloc);
+    for run in list_at(arguments, 1)? {
+        let one = ran(alloc, &mut keeper, run)?;
+        told.push_str(one.as_str())?;
+        told.push_str(" / ")?;
+    }
+    let faults = keeper.faults();
+    Ok(format!(in alloc; "{told}keeper {faults}")?)
+}
+
+/// `run [WORDS, INPUT, FAILING-READS, ROOM, FAILING-WRITES, MOMENTS, CHANCE]`: the status, the faults of the input and of the
+/// output, and what was written. Without moments the clock stands at 1700000000000, and without words of chance each is 0.
+fn ran(alloc: Global, keeper: &mut MemoryKeeper, arguments: &Value) -> Result<String, Unread> {
+    if keeper.marked() {
+        return Err(Unread::Bad);
+    }
     let words = words_at(alloc, arguments)?;
     let mut input = input_at(alloc, arguments)?;
     let mut out = output_at(alloc, arguments)?;
-    let status = run(alloc, words.as_slice(), &mut input, &mut out);
+    let mut clock = clock_at(alloc, arguments, 5)?;
+    let mut chance = chance_at(alloc, arguments, 6)?;
+    let mut filters: Vec<Box<dyn FieldFilter>> = Vec::new(alloc);
+    filters.push(Box::new(alloc, TextFilter::new(alloc))?)?;
+    filters.push(Box::new(alloc, HintFilter::new(alloc))?)?;
+    let status = run(
+        alloc,
+        words.as_slice(),
+        &mut input,
+        &mut out,
+        keeper,
+        &mut clock,
+        &mut chance,
+        &mut filters,
+    );
     told(alloc, status, &input, &out)
 }
 

@@ -1,0 +1,7 @@
+mod Going
+mod LineStopping
+mod Opened
+mod OpeningHeads
+mod OpeningRows
+mod Stopping
+mod Texts

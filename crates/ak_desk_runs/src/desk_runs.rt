@@ -1,0 +1,189 @@
+ghost use Rattle.std.specs.Prelude.{◌≡◌, ◌≢◌, ◌+◌, ◌<◌, ◌≤◌, map, true, false, Ok, Err};
+ghost use Rattle.std.specs.Io.KnownBytes.{IsAtEnd};
+ghost use Rattle.ak_desk.specs.Desks.{IsIdle};
+ghost use Rattle.ak_desk_runs.specs.CommandEnds.{IsOutputCaused, IsInputCaused, IsKeeperCaused};
+ghost use Rattle.ak_desk_runs.specs.DeskRuns.{EndsDesk, IsDeskRun, input_lines};
+ghost use Rattle.ak_desk_runs.specs.RunLines.{IsPrinted, IsRefusalPrinted, StepCause, Steps};
+ghost use Rattle.ak_desk_runs.specs.Sittings.{outside_of, seated};
+ghost use Rattle.ak_desk_runs.specs.declared.command_ends.CommandEnd.TheVariants as ends;
+ghost use Rattle.ak_faults.specs.Causes.{HasCauseOf};
+ghost use Rattle.ak_io.specs.Lines.{lines_left};
+ghost use Rattle.ak_keep.specs.Keepers.{is_marked};
+ghost use Rattle.ak_texts.specs.AnswerTexts.{answer_text};
+
+use crate::command_ends::{CommandEnd, refuse_command};
+use crate::line_stops::LineStop;
+use crate::obeyed_lines::obey_line;
+use crate::seats::Seat;
+use ak_base::{Memory, Text};
+use ak_filters::FieldFilter;
+use ak_io::{
+    Chance, Clock, Failed, LineReader, ReadFault, ScriptEnd, Sink, Source, print_line,
+    print_refusal,
+};
+use ak_keep::Keeper;
+use ak_texts::{DeskAnswer, write_answer};
+use ak_undo::UndoList;
+use std::alloc::Global;
+
+/// Runs the desk lines of the input one by one over the collection that is held, until the input ends or a line is refused, and
+/// prints the answer of each. The steps that `undo` goes back to are those of this run.
+pub fn run_desk<K: Keeper, C: Clock, R: Chance, I: Source, O: Sink>(
+    alloc: Global,
+    keeper: &mut K,
+    clock: &mut C,
+    chance: &mut R,
+    filters: &mut Vec<Box<dyn FieldFilter>>,
+    input: &mut I,
+    out: &mut O,
+) -> CommandEnd
+    requires unmarked { is_marked (K.keeping keeper.old) ≡ false }
+
+    // What the lines leave, and what is written for them.
+    ensures ends { EndsDesk result (input_lines (I.left input.old))
+        (outside_of (K.keeping keeper.old) (map (λ b. meaning b) filters.old.items)
+        (C.to_come clock.old) (R.to_come chance.old))
+        (outside_of (K.keeping keeper.new) (map (λ b. meaning b) filters.new.items)
+        (C.to_come clock.new) (R.to_come chance.new))
+        (O.written out.old) (O.written out.new) }
+    ensures ended { result ≡ ends.Done → IsAtEnd (I.left input.new) }
+    ensures stays { (K.keeping keeper.new).headed ≡ (K.keeping keeper.old).headed }
+
+    // Why it ends with a failure.
+    ensures kept { IsKeeperCaused (K.health keeper.old) (K.health keeper.new) result }
+    ensures read { IsInputCaused (I.health input.old) (I.health input.new) result }
+    ensures written { IsOutputCaused (O.health out.old) (O.health out.new) result }
+{
+    if !keeper.held() {
+        return refuse_command(out, "no collection");
+    }
+    run_lines(alloc, keeper, clock, chance, filters, input, out)
+}
+
+/// The same over a keeper that holds a collection.
+fn run_lines<K: Keeper, C: Clock, R: Chance, I: Source, O: Sink>(
+    alloc: Global,
+    keeper: &mut K,
+    clock: &mut C,
+    chance: &mut R,
+    filters: &mut Vec<Box<dyn FieldFilter>>,
+    input: &mut I,
+    out: &mut O,
+) -> CommandEnd
+    requires idle { IsIdle (K.keeping keeper.old) }
+    ensures ends { IsDeskRun result (input_lines (I.left input.old))
+        (outside_of (K.keeping keeper.old) (map (λ b. meaning b) filters.old.items)
+        (C.to_come clock.old) (R.to_come chance.old))
+        (outside_of (K.keeping keeper.new) (map (λ b. meaning b) filters.new.items)
+        (C.to_come clock.new) (R.to_come chance.new))
+        (O.written out.old) (O.written out.new) }
+    ensures ended { result ≡ ends.Done → IsAtEnd (I.left input.new) }
+    ensures stays { (K.keeping keeper.new).headed ≡ (K.keeping keeper.old).headed }
+    ensures kept { IsKeeperCaused (K.health keeper.old) (K.health keeper.new) result }
+    ensures read { IsInputCaused (I.health input.old) (I.health input.new) result }
+    ensures written { IsOutputCaused (O.health out.old) (O.health out.new) result }
+{
+    let undo = match UndoList::new(alloc) {
+        Ok(undo) => undo,
+        Err(Memory) => return CommandEnd::Memory,
+    };
+    let mut reader = match LineReader::new(alloc) {
+        Ok(reader) => reader,
+        Err(Memory) => return CommandEnd::Memory,
+    };
+    let mut seat = Seat {
+        alloc,
+        undo,
+        done: 0,
+    };
+    'lines: loop {
+        match run_line(
+            &mut seat,
+            &mut reader,
+            keeper,
+            clock,
+            chance,
+            filters,
+            input,
+            out,
+        ) {
+            Ok(true) => {}
+            Ok(false) => return CommandEnd::Done,
+            Err(end) => return end,
+        }
+    }
+}
+
+/// Runs the next line. False if there is none, and the input was read to its end.
+fn run_line<K: Keeper, C: Clock, R: Chance, I: Source, O: Sink>(
+    seat: &mut Seat,
+    reader: &mut LineReader,
+    keeper: &mut K,
+    clock: &mut C,
+    chance: &mut R,
+    filters: &mut Vec<Box<dyn FieldFilter>>,
+    input: &mut I,
+    out: &mut O,
+) -> Result<bool, CommandEnd>
+    requires idle { IsIdle (K.keeping keeper.old) }
+    requires number { reader.old.number ≤ 1_073_741_824 }
+    ensures steps { Steps (lines_left reader.old (I.left input.old)) (lines_left reader.new (I.left input.new))
+        (reader.old.number + 1)
+        (seated (outside_of (K.keeping keeper.old) (map (λ b. meaning b) filters.old.items)
+        (C.to_come clock.old) (R.to_come chance.old)) seat.old)
+        (seated (outside_of (K.keeping keeper.new) (map (λ b. meaning b) filters.new.items)
+        (C.to_come clock.new) (R.to_come chance.new)) seat.new)
+        (O.written out.old) (O.written out.new) result }
+    ensures counts { result ≡ Ok true → (reader.new.number ≡ reader.old.number + 1)
+        × (reader.new.number ≤ 1_073_741_824) × (reader.new.room < reader.old.room) }
+    ensures ended { result ≡ Ok false → IsAtEnd (I.left input.new) }
+    ensures not_done { result ≢ Err ends.Done }
+    ensures stays { (K.keeping keeper.new).headed ≡ (K.keeping keeper.old).headed }
+    ensures cause { StepCause result (K.health keeper.old) (K.health keeper.new)
+        (I.health input.old) (I.health input.new) (O.health out.old) (O.health out.new) }
+{
+    let line = match reader.next(input) {
+        Ok(Some(line)) => line,
+        Ok(None) => return Ok(false),
+        Err(ReadFault::Failed) => return Err(CommandEnd::ReadFailed),
+        Err(ReadFault::Memory) => return Err(CommandEnd::Memory),
+    };
+    match obey_line(seat, &line, keeper, clock, chance, filters) {
+        Ok(None) => Ok(true),
+        Ok(Some(answer)) => match print_answer(seat.alloc, &answer, out) {
+            Ok(()) => Ok(true),
+            Err(end) => Err(end),
+        },
+        Err(LineStop::Refused(why)) => Err(print_refused(seat.alloc, reader.number(), &why, out)),
+        Err(LineStop::Failed) => Err(CommandEnd::KeeperFailed),
+        Err(LineStop::Memory) => Err(CommandEnd::Memory),
+    }
+}
+
+/// Prints the text of an answer.
+fn print_answer<O: Sink>(alloc: Global, answer: &DeskAnswer, out: &mut O) -> Result<(), CommandEnd>
+    ensures printed { IsPrinted (answer_text answer.now) result (O.written out.old) (O.written out.new) }
+    ensures cause { HasCauseOf ends.WriteFailed (O.health out.old) (O.health out.new) result }
+{
+    let text = match write_answer(alloc, answer) {
+        Ok(text) => text,
+        Err(Memory) => return Err(CommandEnd::Memory),
+    };
+    match print_line(out, text.as_str().as_bytes()) {
+        Ok(()) => Ok(()),
+        Err(Failed) => Err(CommandEnd::WriteFailed),
+    }
+}
+
+/// Prints why the line of this number is refused: the last line of a run that is refused.
+fn print_refused<O: Sink>(alloc: Global, number: u64, why: &Text, out: &mut O) -> CommandEnd
+    ensures printed { IsRefusalPrinted number why.now result (O.written out.old) (O.written out.new) }
+    ensures cause { IsOutputCaused (O.health out.old) (O.health out.new) result }
+{
+    match print_refusal(alloc, number, why, out) {
+        ScriptEnd::Refused => CommandEnd::Refused,
+        ScriptEnd::WriteFailed => CommandEnd::WriteFailed,
+        // A refusal that is not printed: for the text of a refused line there are no other ends.
+        ScriptEnd::Done | ScriptEnd::ReadFailed | ScriptEnd::Memory => CommandEnd::Memory,
+    }
+}

@@ -1,0 +1,16 @@
+// The commands `init` and `desk`, over any keeper, clock, chance, filters, input and output: how each ends, what it leaves and what it
+// writes. Nothing here knows of the program's words.
+#![tactic(auto)]
+
+mod command_ends;
+mod desk_runs;
+mod inits;
+mod line_stops;
+mod line_texts;
+mod obeyed_lines;
+mod seats;
+mod turn_takings;
+
+pub use command_ends::CommandEnd;
+pub use desk_runs::run_desk;
+pub use inits::init_collection;

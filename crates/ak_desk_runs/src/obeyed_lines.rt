@@ -1,0 +1,125 @@
+ghost use Rattle.std.specs.Prelude.{◌≡◌, map};
+ghost use Rattle.ak_desk.specs.Desks.{IsIdle};
+ghost use Rattle.ak_desk_lines.specs.LineEnds.{AppliesFilters, EndsLine};
+ghost use Rattle.ak_desk_runs.specs.LineStops.{ComesOut, SaidComesOut, StopCause, TextComesOut};
+ghost use Rattle.ak_desk_runs.specs.Sittings.{bench_of, outside_of, seated};
+ghost use Rattle.ak_edit.specs.Refusals.{DeskCause};
+ghost use Rattle.ak_lines.specs.DeskLines.{IsInRange};
+ghost use Rattle.ak_study.specs.DayStarts.{IsInDay};
+
+use crate::line_stops::{LineStop, desk_stop, line_stop, stop_by};
+use crate::line_texts::{is_skipped_line, text_of};
+use crate::seats::Seat;
+use crate::turn_takings::take_turn;
+use ak_desk::Desk;
+use ak_desk_lines::{Turn, counted, obey};
+use ak_edit::DeskFault;
+use ak_filters::FieldFilter;
+use ak_io::{Chance, Clock, Line};
+use ak_keep::Keeper;
+use ak_lines::{DeskLine, read_line};
+use ak_texts::DeskAnswer;
+use ak_undo::UndoList;
+
+/// Does what a line of the input says, and gives its answer; none if the line is skipped.
+pub(crate) fn obey_line<K: Keeper, C: Clock, R: Chance>(
+    seat: &mut Seat,
+    line: &Line,
+    keeper: &mut K,
+    clock: &mut C,
+    chance: &mut R,
+    filters: &mut Vec<Box<dyn FieldFilter>>,
+) -> Result<Option<DeskAnswer>, LineStop>
+    requires idle { IsIdle (K.keeping keeper.old) }
+    ensures ends { ComesOut line.now
+        (seated (outside_of (K.keeping keeper.old) (map (λ b. meaning b) filters.old.items)
+        (C.to_come clock.old) (R.to_come chance.old)) seat.old)
+        (seated (outside_of (K.keeping keeper.new) (map (λ b. meaning b) filters.new.items)
+        (C.to_come clock.new) (R.to_come chance.new)) seat.new) result }
+    ensures stays { (K.keeping keeper.new).headed ≡ (K.keeping keeper.old).headed }
+    ensures cause { StopCause (K.health keeper.old) (K.health keeper.new) result }
+{
+    if is_skipped_line(line) {
+        return Ok(None);
+    }
+    let turn = take_turn(line, seat.done, clock, chance);
+    let text = match text_of(line) {
+        Ok(text) => text,
+        Err(why) => return Err(stop_by(seat.alloc, why)),
+    };
+    match obey_text(seat, text, turn, keeper, filters) {
+        Ok(answer) => Ok(Some(answer)),
+        Err(stop) => Err(stop),
+    }
+}
+
+/// Does what a text says, in its turn.
+fn obey_text<K: Keeper>(
+    seat: &mut Seat,
+    text: &str,
+    turn: Turn,
+    keeper: &mut K,
+    filters: &mut Vec<Box<dyn FieldFilter>>,
+) -> Result<DeskAnswer, LineStop>
+    requires idle { IsIdle (K.keeping keeper.old) }
+    requires moment { IsInDay turn.at }
+    ensures ends { TextComesOut text.now turn
+        (bench_of (K.keeping keeper.old) (map (λ b. meaning b) filters.old.items) seat.old)
+        (bench_of (K.keeping keeper.new) (map (λ b. meaning b) filters.new.items) seat.new) result }
+    ensures stays { (K.keeping keeper.new).headed ≡ (K.keeping keeper.old).headed }
+    ensures cause { StopCause (K.health keeper.old) (K.health keeper.new) result }
+{
+    match read_line(seat.alloc, text) {
+        Ok(said) => obey_said(seat, said, turn, keeper, filters),
+        Err(fault) => Err(line_stop(seat.alloc, &fault)),
+    }
+}
+
+/// Does a line of the desk in its turn, and counts it if it is an answer that is accepted.
+fn obey_said<K: Keeper>(
+    seat: &mut Seat,
+    said: DeskLine,
+    turn: Turn,
+    keeper: &mut K,
+    filters: &mut Vec<Box<dyn FieldFilter>>,
+) -> Result<DeskAnswer, LineStop>
+    requires idle { IsIdle (K.keeping keeper.old) }
+    requires moment { IsInDay turn.at }
+    requires range { IsInRange said }
+    ensures ends { SaidComesOut said turn
+        (bench_of (K.keeping keeper.old) (map (λ b. meaning b) filters.old.items) seat.old)
+        (bench_of (K.keeping keeper.new) (map (λ b. meaning b) filters.new.items) seat.new) result }
+    ensures stays { (K.keeping keeper.new).headed ≡ (K.keeping keeper.old).headed }
+    ensures cause { StopCause (K.health keeper.old) (K.health keeper.new) result }
+{
+    match obey_at(keeper, &mut seat.undo, said, turn, filters) {
+        Ok(answer) => {
+            seat.done = counted(&answer, seat.done);
+            Ok(answer)
+        }
+        Err(fault) => Err(desk_stop(seat.alloc, &fault)),
+    }
+}
+
+/// Does a line at a desk over the keeper and the list.
+fn obey_at<K: Keeper>(
+    keeper: &mut K,
+    undo: &mut UndoList,
+    said: DeskLine,
+    turn: Turn,
+    filters: &mut Vec<Box<dyn FieldFilter>>,
+) -> Result<DeskAnswer, DeskFault>
+    requires idle { IsIdle (K.keeping keeper.old) }
+    requires moment { IsInDay turn.at }
+    requires range { IsInRange said }
+    ensures ends { EndsLine said turn
+        (record { keeping = K.keeping keeper.old; steps = undo.old })
+        (record { keeping = K.keeping keeper.new; steps = undo.new }) result }
+    ensures filters { AppliesFilters said (K.keeping keeper.old)
+        (map (λ b. meaning b) filters.old.items) (map (λ b. meaning b) filters.new.items) result }
+    ensures stays { (K.keeping keeper.new).headed ≡ (K.keeping keeper.old).headed }
+    ensures cause { DeskCause (K.health keeper.old) (K.health keeper.new) result }
+{
+    let mut desk = Desk::over(keeper, undo);
+    obey(&mut desk, said, turn, filters)
+}
