@@ -1,8 +1,7 @@
 -- What a request of a sync makes of the log of its wire, and what its answer tells.
 use Rattle.std.specs.Prelude.{◌≡◌, ℕ, ◌+◌, ℤ, ◌==◌, Bool, true, false, if◌then◌else◌, List, [], ◌∷◌, ◌++◌, length, Option, Some, None, Result, Ok, Err, IfOk, ok_or}
 use Rattle.std.proofs.Common.{refl, sym, ap, subst, ◌∙◌, inl, inr, arith}
-use Rattle.ak_exchange.proofs.Replying.{request_at}
-use Rattle.ak_exchange.specs.Phases.{IsReached}
+use Rattle.ak_exchange.specs.Asked.{request_at}
 use Rattle.ak_faults.specs.Causes.{Health}
 use Rattle.ak_keep.specs.Collections.{Collection}
 use Rattle.ak_messages.specs.declared.replies.Give.{Give}
@@ -27,6 +26,10 @@ use Rattle.ak_wires.specs.declared.asks.Unanswered.TheVariants as unanswered
 use Rattle.ak_wires.specs.declared.wires.WireEnd.{WireEnd}
 use Rattle.ak_wires.specs.declared.wires.WireEnd.TheVariants as ends
 
+-- a wire tells a log in which the sync of this asker is under way, over this collection and with these requests
+abbrev pub IsShown : Asker → AccountState → Collection → List Request → Option Log → Type 0
+IsShown who account s asked told = (log : Log) × (told ≡ Some log) × IsUnderWay who.host.digits who.session.0 asked s account log
+
 same_status : (status : ℕ) → (status == 200) ≡ true → status ≡ 200
 same_status status is = grind (arith, is)
 
@@ -40,7 +43,7 @@ module _ (who : Asker) (account : AccountState) (s : Collection) (asked : List R
   abbrev Reached : List Request → Log → Type 0
   Reached list log = IsUnderWay who.host.digits who.session.0 list s account log
 
-  is_asked : IsAsked plan s.head.moment request
+  abbrev is_asked : IsAsked plan s.head.moment request
   is_asked = record { before = asked; after = []; place = refl; step = refl; base_is = refl }
 
   -- the log after the call
@@ -51,7 +54,7 @@ module _ (who : Asker) (account : AccountState) (s : Collection) (asked : List R
       (syncs_ask_more who.host.digits who.session.0 asked (request ∷ []) s account old under) (inr is_asked))
 
   -- what a granted reply tells
-  told : (old new : Log) (reply : Reply) → is_meta ask ≡ false → Reached asked old → Grows old new request (Ok reply) → reply.status ≡ 200
+  told : (old new : Log) (reply : Reply) → is_meta ask ≡ false → Reached asked old → Grows {E = WireEnd} old new request (Ok reply) → reply.status ≡ 200
       → (committed : Collection) × Tells who.session.0 plan s request is_asked committed (world_of who.host.digits account new).commits reply
   told old new reply later under grows ok = (
     (world_of who.host.digits account (with_growth old grows.reply.before)).state.committed,
@@ -94,8 +97,8 @@ module _ (who : Asker) (account : AccountState) (s : Collection) (asked : List R
   -- a request of a sync that does not commit: the sync is still under way, and what its reply gives is what the session answers
   pub plain_call : {T : Type 0} (before now : Health) (old new : WireState) (part : Give → Option T) (result : Result T Unanswered)
       → is_meta ask ≡ false → is_download ask ≡ false → asks_commit ask ≡ false
-      → IsReached who account s asked old.log → Answered before now old new request part result
-      → IsReached who account s plan new.log × IfOk result (λ (it : T). part (answer s asked request) ≡ Some it)
+      → IsShown who account s asked old.log → Answered before now old new request part result
+      → IsShown who account s plan new.log × IfOk result (λ (it : T). part (answer s asked request) ≡ Some it)
   plain_call {T} before now old new part result later reads commits reached call =
       let grown = carried call.answer old.log new.log call.tried.carries reached.0 reached.1 in (
         (grown.0, grown.1, still reached.0 grown.0 call.answer reached.2 grown.2),
@@ -144,8 +147,8 @@ module _ (who : Asker) (account : AccountState) (s : Collection) (asked : List R
   -- a request of a sync that commits: if it is granted, the session committed once, and the reply tells the new moment
   pub commit_call : {T : Type 0} (before now : Health) (old new : WireState) (part : Give → Option T) (result : Result T Unanswered)
       → is_meta ask ≡ false → asks_commit ask ≡ true
-      → IsReached who account s asked old.log → Answered before now old new request part result
-      → IsReached who account s plan new.log
+      → IsShown who account s asked old.log → Answered before now old new request part result
+      → IsShown who account s plan new.log
       × IfOk result (λ (it : T). (log : Log) × (new.log ≡ Some log) × ((moment : ℤ) × (after : Collection) × HasCommitted log moment after
       × (part (commit_reply ask after.head).give ≡ Some it)))
   commit_call {T} before now old new part result later commits reached call =

@@ -1,6 +1,9 @@
 pub mod Asking
 pub mod Chunking
 pub mod Granted
+pub mod Held
 pub mod Passing
+pub mod Places
 pub mod Replying
 pub mod Stepping
+pub mod Tried

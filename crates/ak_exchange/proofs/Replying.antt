@@ -1,6 +1,7 @@
 -- What the replies to one request more bring, and what the requests of one ask more are.
 use Rattle.std.specs.Prelude.{◌≡◌, ℕ, suc, ◌+◌, ℤ, List, [], ◌∷◌, ◌++◌, length}
 use Rattle.std.proofs.Common.{refl, sym, ap, ◌∙◌, append_assoc, append-nil, arith}
+use Rattle.ak_exchange.specs.Asked.{request_at}
 use Rattle.ak_keep.specs.Collections.{Collection}
 use Rattle.ak_merge.specs.Commits.{Received}
 use Rattle.ak_messages.specs.declared.requests.Ask.{Ask}
@@ -11,7 +12,7 @@ use Rattle.ak_session.specs.Asks.{and_then, asks_of}
 use Rattle.ak_session.specs.Plans.{Asker, requests_from}
 use Rattle.ak_session.specs.Replies.{replied, replied_after, all_replied}
 
-replied_append : (s : Collection) (before xs ys : List Ask)
+pub replied_append : (s : Collection) (before xs ys : List Ask)
     → replied_after s before (xs ++ ys) ≡ and_then (replied_after s before xs) (replied_after s (before ++ xs) ys)
 replied_append s before [] ys =
     sym (nothing_first (replied_after s (before ++ []) ys) ∙ ap (λ (l : List Ask). replied_after s l ys) (append-nil before))
@@ -24,10 +25,6 @@ replied_append s before (ask ∷ more) ys =
 pub replies_go_on : (s : Collection) (asked : List Ask) (ask : Ask)
     → all_replied s (asked ++ ask ∷ []) ≡ and_then (all_replied s asked) (replied (answer_to s asked ask))
 replies_go_on s asked ask = replied_append s [] asked (ask ∷ []) ∙ ap (and_then (all_replied s asked)) (nothing_last (replied (answer_to s asked ask)))
-
--- the request of an ask at a step
-abbrev pub request_at : Asker → ℤ → ℕ → Ask → Request
-request_at who base step ask = record { host = who.host; session = who.session; step = step; base = base; ask = ask }
 
 next_step : (step n : ℕ) → step + suc n ≡ step + 1 + n
 next_step step n = omega arith

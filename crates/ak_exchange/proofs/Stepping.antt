@@ -2,8 +2,9 @@
 use Rattle.std.specs.List.{AllByRecursion}
 use Rattle.std.specs.Prelude.{◌≡◌, ℕ, ◌+◌, ℤ, false, List, [], ◌∷◌, ◌++◌, length, Option, Some, Result, IfOk}
 use Rattle.std.proofs.Common.{refl, sym, ap, subst, ◌∙◌, arith}
-use Rattle.ak_exchange.proofs.Asking.{plain_call}
-use Rattle.ak_exchange.proofs.Replying.{asks_are, request_at, requests_count, requests_go_on}
+use Rattle.ak_exchange.proofs.Asking.{IsShown, plain_call}
+use Rattle.ak_exchange.proofs.Replying.{asks_are, requests_count, requests_go_on}
+use Rattle.ak_exchange.specs.Asked.{request_at}
 use Rattle.ak_exchange.specs.Phases.{IsReached}
 use Rattle.ak_faults.specs.Causes.{Health}
 use Rattle.ak_keep.specs.Collections.{Collection}
@@ -41,13 +42,13 @@ module _ (who : Asker) (account : AccountState) (s : Collection) (asks : List As
 
   pub asks_one : {T : Type 0} (before now : Health) (old new : WireState) (part : Give → Option T) (step : ℕ) (result : Result T Unanswered)
       → is_meta ask ≡ false → is_download ask ≡ false → asks_commit ask ≡ false → step ≡ length asks + 1
-      → IsReached who account s asked old.log → Answered before now old new (request_at who s.head.moment step ask) part result
-      → IsReached who account s (requests_from who s.head.moment 1 (asks ++ ask ∷ [])) new.log
+      → IsReached who account s asks old.log → Answered before now old new (request_at who s.head.moment step ask) part result
+      → IsReached who account s (asks ++ ask ∷ []) new.log
       × IfOk result (λ (it : T). part (answer_to s asks ask) ≡ Some it)
   asks_one {T} before now old new part step result later reads commits is reached call =
       let made = plain_call who account s asked ask before now old new part result later reads commits reached
       (subst (λ (r : Request). Answered before now old new r part result) (step_is step is) call) in (
-        subst (λ (l : List Request). IsReached who account s l new.log) one_more made.0,
+        subst (λ (l : List Request). IsShown who account s l new.log) one_more made.0,
         subst (λ (give : Give). IfOk result (λ (it : T). part give ≡ Some it))
             (answered_by s asked (request_at who s.head.moment (length asked + 1) ask) asks (asks_are who s.head.moment 1 asks)) made.1,
       )
