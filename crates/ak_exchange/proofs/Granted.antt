@@ -2,8 +2,9 @@
 use Rattle.std.specs.List.{list_all}
 use Rattle.std.specs.Prelude.{◌≡◌, ◌==◌, ◌&&◌, ◌||◌, nat_le, nat_lt, Bool, true, false, if◌then◌else◌, ◌++◌, Option, Some, None, Result, Ok, Err, IfOk, ok_or}
 use Rattle.std.specs.Cmp.{first_so, second_so}
-use Rattle.std.proofs.Common.{refl, sym, ap, ◌∙◌}
+use Rattle.std.proofs.Common.{refl, sym, ap, subst, ◌∙◌}
 use Rattle.std.proofs.lemmas.Option.{none-some, same_Some}
+use Rattle.ak_faults.specs.Causes.{Health}
 use Rattle.ak_messages.specs.MessageForms.{chunk_entries}
 use Rattle.ak_messages.specs.declared.replies.Give.{Give}
 use Rattle.ak_messages.specs.declared.replies.Give.TheVariants as gives
@@ -11,13 +12,15 @@ use Rattle.ak_messages.specs.declared.replies.Reply.{Reply}
 use Rattle.ak_messages.specs.declared.requests.Changes.{Changes}
 use Rattle.ak_messages.specs.declared.requests.Chunk.{Chunk}
 use Rattle.ak_messages.specs.declared.requests.GraveIds.{GraveIds}
+use Rattle.ak_messages.specs.declared.requests.Request.{Request}
 use Rattle.ak_parts.proofs.InRange.{changes_may, chunk_may, graves_may}
 use Rattle.ak_parts.specs.Takes.{MayBeTaken}
 use Rattle.ak_session.specs.Messages.{chunk_rows}
 use Rattle.ak_session.specs.Refusals.{are_changes_in_range, is_checked, is_id}
 use Rattle.ak_session.specs.Replies.{replied}
 use Rattle.ak_wires.specs.Forms.{changes_in, chunk_in, graves_in, is_chunk_in_form}
-use Rattle.ak_wires.specs.Tries.{granted_by, granted_in, in_form}
+use Rattle.ak_wires.specs.Tries.{Answered, granted_by, granted_in, in_form}
+use Rattle.ak_wires.specs.Wires.{WireState}
 use Rattle.ak_wires.specs.declared.asks.Unanswered.{Unanswered}
 use Rattle.ak_wires.specs.declared.asks.Unanswered.TheVariants as unanswered
 use Rattle.ak_wires.specs.declared.wires.WireEnd.{WireEnd}
@@ -40,6 +43,12 @@ given_in_form part (Ok reply) = given_by part reply (reply.status == 200)
 given_in_form part (Err ends.Failed) = tt
 given_in_form part (Err ends.BadReply) = tt
 given_in_form part (Err ends.Memory) = tt
+
+-- what was granted in its form is the part of some give
+pub granted_give : {T : Type 0} (before now : Health) (old new : WireState) (request : Request) (part : Give → Option T) (result : Result T Unanswered) (it : T)
+    → Answered before now old new request part result → result ≡ Ok it → (g : Give) × (part g ≡ Some it)
+granted_give {T} before now old new request part result it call was =
+    subst (λ (r : Result T Unanswered). IfOk r (λ (x : T). (g : Give) × (part g ≡ Some x))) (sym call.came ∙ was) (given_in_form part call.answer)
 
 -- ---- graves
 one_of : {X : Type 0} (b : Bool) (x y : X) → (if b then Some x else None) ≡ Some y → (x ≡ y) × (b ≡ true)

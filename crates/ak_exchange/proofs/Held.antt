@@ -1,13 +1,14 @@
 -- What the device holds at a place of its plan, if its keeper tells it.
 use Rattle.std.specs.Option.{option_map}
-use Rattle.std.specs.Prelude.{◌≡◌, ℕ, ℤ, List, [], ◌∷◌, ◌++◌, map, Option, Some, None, IfSome}
+use Rattle.std.specs.Prelude.{◌≡◌, ℕ, ℤ, true, List, [], ◌∷◌, ◌++◌, map, Option, Some, None, IfSome}
 use Rattle.std.proofs.Common.{refl, sym, ap, subst, ◌∙◌}
 use Rattle.ak_base.specs.declared.heads.Head.{Head}
 use Rattle.ak_base.specs.declared.rows.Row.{Row}
+use Rattle.ak_device.proofs.Receiving.{received_nothing, received_then}
 use Rattle.ak_device.specs.Devices.{changes_from, changes_to_send, head_with, received}
 use Rattle.ak_exchange.proofs.Replying.{replied_append}
 use Rattle.ak_exchange.specs.Asked.{Talk}
-use Rattle.ak_exchange.specs.Phases.{HasAsked, IsAt, IsMet, Place, held_by, marked_at}
+use Rattle.ak_exchange.specs.Phases.{HasAsked, HasReceived, IsAt, IsMet, Place, held_by, marked_at}
 use Rattle.ak_exchange.specs.declared.envelopes.Met.{Met}
 use Rattle.ak_keep.specs.Collections.{Collection, Holding, Rows}
 use Rattle.ak_keep.specs.Keepers.{Keeping, WhereTold, changed}
@@ -77,3 +78,15 @@ changes_at c s account asked place keeping talk changes at may is ahead told =
     (same_settings s asked ∙ ap (λ (l : List Ask). (all_given s l).settings) is ∙ ap (λ (r : Received). r.settings) (given_graves c s may)))
     ∙ ap (λ (rows : Rows). changes_to_send s.head.moment rows c.head) (rows_at c s asked may ahead)
     ∙ ap (λ (l : List Ask). changes_to_send s.head.moment (device_rows c s l) c.head) is
+
+-- ---- what came in turns
+pub received_once : (usn : ℤ) (k : Keeping) → HasReceived usn k k
+received_once usn k = (nothing, received_nothing usn k)
+
+pub received_more : (usn : ℤ) (k0 k1 k2 : Keeping) → HasReceived usn k0 k1 → HasReceived usn k1 k2 → HasReceived usn k0 k2
+received_more usn k0 k1 k2 one two =
+    (and_then one.0 two.0, two.1 ∙ ap (changed (received usn two.0)) one.1 ∙ received_then usn one.0 two.0 k0)
+
+-- whether a head is held stays
+pub received_held : (usn : ℤ) (k0 k1 : Keeping) → HasReceived usn k0 k1 → k0.headed.current ≡ true → k1.headed.current ≡ true
+received_held usn k0 k1 took held = ap (λ (k : Keeping). k.headed.current) took.1 ∙ held

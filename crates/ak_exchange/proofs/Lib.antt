@@ -2,6 +2,7 @@ pub mod Asking
 pub mod Chunking
 pub mod Granted
 pub mod Held
+pub mod Parts
 pub mod Passing
 pub mod Places
 pub mod Replying

@@ -1,9 +1,9 @@
 -- How far a sync came: what it asked, what the log of its wire shows of it, and what the device took.
 use Rattle.std.specs.Int.{div_ceil}
 use Rattle.std.specs.List.{AllByRecursion}
-use Rattle.std.specs.Prelude.{◌≡◌, ℕ, ℤ, ◌+◌, ◌≤◌, false, true, List, [], ◌∷◌, ◌++◌, length, Option, Some, None, Result, OnOk, IfOk, IfErr}
+use Rattle.std.specs.Prelude.{◌≡◌, ℕ, ℤ, ◌+◌, ◌≤◌, false, true, List, [], ◌∷◌, ◌++◌, length, Option, Some, None, Result, Err, OnOk, IfOk, IfErr}
 use Rattle.ak_exchange.specs.Asked.{AreAsked, AreFew, Talk, asker, request_at}
-use Rattle.ak_exchange.specs.Stops.{comes_before_finish}
+use Rattle.ak_exchange.specs.Stops.{comes_before_finish, shows_bad_check, verdict_of}
 use Rattle.ak_exchange.specs.declared.envelopes.Met.{Met}
 use Rattle.ak_exchange.specs.declared.stops.Stop.{Stop}
 use Rattle.ak_device.specs.Devices.{Settles, received}
@@ -12,8 +12,10 @@ use Rattle.ak_keep.specs.Keepers.{Keeping, WhereTold, all_known, changed}
 use Rattle.ak_keep.specs.declared.keepers.Wanted.TheVariants.{Unsent}
 use Rattle.ak_merge.specs.Commits.{Received}
 use Rattle.ak_messages.specs.declared.requests.Ask.{Ask}
-use Rattle.ak_messages.specs.declared.requests.Ask.TheVariants.{Finish}
+use Rattle.ak_messages.specs.declared.requests.Ask.TheVariants.{Finish, SanityCheck2}
+use Rattle.ak_messages.specs.declared.replies.SanityReply.{SanityReply}
 use Rattle.ak_messages.specs.declared.requests.Request.{Request}
+use Rattle.ak_messages.specs.declared.requests.SanityCounts.{SanityCounts}
 use Rattle.ak_protocol.specs.Accounts.{AccountState}
 use Rattle.ak_protocol.specs.Logs.{Log, commits_of}
 use Rattle.ak_protocol.specs.Syncs.{IsUnderWay, world_of}
@@ -23,6 +25,8 @@ use Rattle.ak_session.specs.Replies.{all_replied}
 use Rattle.ak_session.specs.Requests.{asks_commit}
 use Rattle.ak_session.specs.Sessions.{MaySync}
 use Rattle.ak_session.specs.Slices.{wanted_graves}
+use Rattle.ak_wires.specs.Wires.{WireState}
+use Rattle.ak_wires.specs.declared.wires.Said.{Said}
 
 -- ---- the device
 -- what a keeper holds if it holds this collection
@@ -83,6 +87,21 @@ pub record IsLeft (c s : Collection) (account : AccountState) (who : Asker) (ask
   pub front : MaySync c s → (rest : List Ask) × (asked ++ rest ≡ planned c s)
 
 -- ---- parts
+-- the last that was asked is a sanity check, and this is what its reply showed
+pub record IsCheckedLast (asks : List Ask) (stop : Stop) (wire : WireState) : Type 0 where
+  pub before : List Ask
+  pub counts : SanityCounts
+  pub last : asks ≡ before ++ SanityCheck2 counts ∷ []
+  pub said : Said
+  pub is : wire.said ≡ Some said
+  pub reply : SanityReply
+  pub found : said.sanity ≡ Some reply
+  pub verdict : verdict_of reply ≡ Err stop
+
+-- a part that stops at a bad sanity check asked one, and its reply showed it
+abbrev pub IsChecked : {T : Type 0} → List Ask → Talk → Result T Stop → Type 0
+IsChecked asks now result = IfErr result (λ stop. shows_bad_check stop ≡ true → IsCheckedLast asks stop now.wire)
+
 -- a part of a sync: what it asked, and that nothing of it commits; and where keeper and wire tell what they hold, that it leads from one
 -- place of the plan to another. If it is refused, the sync is left where it is
 pub record Advances {T : Type 0} (pulled pushed others : ℕ) (from to : Place) (met : Met) (before after : Keeping) (was now : Talk)
@@ -91,6 +110,7 @@ pub record Advances {T : Type 0} (pulled pushed others : ℕ) (from to : Place) 
   pub asked : AreAsked asks was now
   pub few : AreFew pulled pushed others asks
   pub plain : AllByRecursion (λ (ask : Ask). asks_commit ask ≡ false) asks
+  pub checked : IsChecked asks now result
   pub leads : (c s : Collection) (account : AccountState) (earlier : List Ask) → IsMet c s met → IsAt c s account earlier from before was
       → IsLeft c s account (asker was.envelopes.ids) (earlier ++ asks) now × OnOk result (IsAt c s account (earlier ++ asks) to after now)
 
@@ -109,6 +129,7 @@ pub record Exchanges (met : Met) (before after : Keeping) (was now : Talk) (resu
   pub graves_most : AreGraveRequests before graves
   pub few : AreFew 40_000 39_999 (4 + graves) asks
   pub plain : AllByRecursion (λ (ask : Ask). asks_commit ask ≡ false) asks
+  pub checked : IsChecked asks now result
   pub leads : (c s : Collection) (account : AccountState) → IsMet c s met → IsAt c s account [] at_meta before was
       → IsLeft c s account (asker was.envelopes.ids) asks now
       × OnOk result (HasAsked c s account asks (at_end_of planned_check) now

@@ -53,3 +53,9 @@ check_stop (Some fault) client server = stops.BadRow fault
 -- what a sanity check found
 abbrev pub verdict_of : SanityReply → Result (Unit {0}) Stop
 verdict_of reply = if reply.good then Ok tt else Err (check_stop reply.fault reply.client reply.server)
+
+-- whether a sync stops at a bad sanity check
+abbrev pub shows_bad_check : Stop → Bool
+shows_bad_check (stops.BadRow fault) = true
+shows_bad_check (stops.BadCounts client server) = true
+shows_bad_check stop = false

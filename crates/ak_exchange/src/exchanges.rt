@@ -49,7 +49,7 @@ pub fn exchange<K: Keeper, W: Wire>(
     ensures held { OnOk result ((K.keeping keeper.new).headed.current ≡ true) }
     ensures keeper { GoesOn (K.health keeper.old) (K.health keeper.new) }
 {
-    open(alloc, keeper, wire, envelopes, met)?;
+    exchange_first(alloc, keeper, wire, envelopes, met)?;
     exchange_chunks(alloc, keeper, wire, envelopes, met)?;
     compare(keeper, wire, envelopes, met)?;
     settle(keeper, met.meta.usn)?;
@@ -57,7 +57,7 @@ pub fn exchange<K: Keeper, W: Wire>(
 }
 
 /// The start, the graves and the changes.
-fn open<K: Keeper, W: Wire>(
+fn exchange_first<K: Keeper, W: Wire>(
     alloc: Global,
     keeper: &mut K,
     wire: &mut W,

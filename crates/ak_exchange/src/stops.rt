@@ -1,4 +1,6 @@
 // Why a sync ends before it is finished.
+ghost use Rattle.std.specs.Prelude.{◌≡◌};
+
 use ak_base::Memory;
 use ak_keep::KeepFault;
 use ak_merge::CheckFault;
