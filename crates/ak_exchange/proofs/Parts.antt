@@ -347,9 +347,11 @@ module _ (met : Met) (keeping : Keeping) (was now : Talk) (given : Result Sanity
 
   check_next : (c s : Collection) (account : AccountState) (asked : List Ask) → IsMet c s met → IsAt c s account asked (at_end_of planned_pushes) keeping was
       → MaySync c s → (rest : List Ask) × (asked ++ asks.SanityCheck2 counts ∷ rest ≡ planned c s)
-  check_next c s account asked met_is place may =
-      (asks.Finish ∷ [], check_end c s account asked (asks.Finish ∷ []) place may
-      ∙ sym (append_assoc (planned_pushes c s) (asks.SanityCheck2 (counts_of (device_rows c s (planned_pushes c s))) ∷ []) (asks.Finish ∷ [])))
+  check_next c s account asked met_is place may = (
+    asks.Finish ∷ [],
+    check_end c s account asked (asks.Finish ∷ []) place may
+        ∙ sym (append_assoc (planned_pushes c s) (asks.SanityCheck2 (counts_of (device_rows c s (planned_pushes c s))) ∷ []) (asks.Finish ∷ [])),
+  )
 
   pub check_refused : {T : Type 0} (to : Place) (result : Result T Stop) → IsRefused result
       → Advances 0 0 1 (at_end_of planned_pushes) to met keeping keeping was now result

@@ -27,15 +27,15 @@ unfolding answer
 answered_by s accepted request asks is = ap (λ (l : List Ask). answer_to s l request.ask) is
 
 module _ (who : Asker) (account : AccountState) (s : Collection) (asks : List Ask) (ask : Ask) where
-  abbrev asked : List Request
+  abbrev pub asked : List Request
   asked = requests_from who s.head.moment 1 asks
 
   -- its step is the number of those before it, the meta counted
-  step_is : (step : ℕ) → step ≡ length asks + 1 → request_at who s.head.moment step ask ≡ request_at who s.head.moment (length asked + 1) ask
+  pub step_is : (step : ℕ) → step ≡ length asks + 1 → request_at who s.head.moment step ask ≡ request_at who s.head.moment (length asked + 1) ask
   step_is step is = ap (λ (n : ℕ). request_at who s.head.moment n ask)
       (is ∙ ap (λ (n : ℕ). n + 1) (sym (requests_count who s.head.moment 1 asks)))
 
-  one_more : asked ++ request_at who s.head.moment (length asked + 1) ask ∷ [] ≡ requests_from who s.head.moment 1 (asks ++ ask ∷ [])
+  pub one_more : asked ++ request_at who s.head.moment (length asked + 1) ask ∷ [] ≡ requests_from who s.head.moment 1 (asks ++ ask ∷ [])
   one_more =
       let same : length asked + 1 ≡ 1 + length asks = ap (λ (n : ℕ). n + 1) (requests_count who s.head.moment 1 asks) ∙ omega arith in
       ap (λ (n : ℕ). asked ++ request_at who s.head.moment n ask ∷ []) same ∙ sym (requests_go_on who s.head.moment 1 asks ask)

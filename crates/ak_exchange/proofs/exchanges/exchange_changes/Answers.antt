@@ -55,6 +55,8 @@ returns-clause-leads g c =
 
 pub returns-clause-took : goal.returns-clause-took
 returns-clause-took g c =
-    let usn : SFits w64 c.args.met.now.meta.usn = search rules in
-    (replied (gives.Changes c.in_ok-came.came), (rw (to_z-of_z w64 c.args.met.now.meta.usn usn) at c.in_ok-take_changes.ensures.ok)
-    ∙ ap (changed (received c.args.met.now.meta.usn (replied (gives.Changes c.in_ok-came.came)))) c.in_ok-changes.ensures.reads.same)
+    let usn : SFits w64 c.args.met.now.meta.usn = search rules in (
+      replied (gives.Changes c.in_ok-came.came),
+      (rw (to_z-of_z w64 c.args.met.now.meta.usn usn) at c.in_ok-take_changes.ensures.ok)
+          ∙ ap (changed (received c.args.met.now.meta.usn (replied (gives.Changes c.in_ok-came.came)))) c.in_ok-changes.ensures.reads.same,
+    )
