@@ -1,0 +1,11 @@
+pub mod Asking
+pub mod Chunking
+pub mod Finishing
+pub mod Granted
+pub mod Held
+pub mod Parts
+pub mod Passing
+pub mod Places
+pub mod Replying
+pub mod Stepping
+pub mod Tried
