@@ -27,12 +27,7 @@ impl<B: Between> LoopWire<B> {
     ghost use Rattle.ak_loops.specs.LoopWires.{Delivers, nothing_counted};
 
     /// A wire to this server, whose clock stays at this moment, in milliseconds.
-    pub fn new(
-        server: LoggedServer,
-        now: i64,
-        mishaps: List<Mishap>,
-        between: B,
-    ) -> LoopWire<B>
+    pub fn new(server: LoggedServer, now: i64, mishaps: List<Mishap>, between: B) -> LoopWire<B>
         requires clock { IsClockMoment now }
         ensures server { result.server ≡ server }
         ensures now { result.now ≡ now }
