@@ -1,4 +1,4 @@
-ghost use Rattle.std.specs.Prelude.{◌≡◌};
+ghost use Rattle.std.specs.Prelude.{◌≡◌, ◌≤◌};
 ghost use Rattle.ak_loops.specs.LoopWires.{counted, nothing_counted};
 
 use ak_messages::{Reply, Request, SanityReply};
@@ -41,7 +41,8 @@ impl Counts {
 
     /// Counts a call that was answered so.
     pub(crate) fn note(&mut self, request: &Request, answer: &Result<Reply, WireEnd>)
-        ensures { self.new ≡ counted self.old request.now answer.now }
+        ensures counted { self.new ≡ counted self.old request.now answer.now }
+        ensures later { self.old.faults ≤ self.new.faults }
     {
         self.calls = self.calls.saturating_add(1);
         self.silent = match answer {

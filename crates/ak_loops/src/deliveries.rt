@@ -1,4 +1,4 @@
-ghost use Rattle.std.specs.Prelude.{◌≡◌, OnErr, IfOk};
+ghost use Rattle.std.specs.Prelude.{◌≡◌, ◌||◌, false, IfOk, OnErr};
 ghost use Rattle.ak_io.specs.Arrivals.{IsClockMoment};
 ghost use Rattle.ak_loops.specs.LoopWires.{Fares, ServesFewer, ServesInARow, times_of};
 ghost use Rattle.ak_loops.specs.Mishaps.{is_lost, servings};

@@ -24,12 +24,9 @@ pub enum What {
 pub(crate) fn happens(what: What, call: u64, mishaps: &[Mishap]) -> bool
     ensures { result ≡ happens what call mishaps.now }
 {
-    for mishap in mishaps {
-        if mishap.call == call && same_what(what, mishap.what) {
-            return true;
-        }
-    }
-    false
+    mishaps
+        .iter()
+        .any(|mishap| mishap.call == call && same_what(what, mishap.what))
 }
 
 /// Whether two mishaps are of one kind.
