@@ -1,6 +1,6 @@
 -- A request that is served twice in a row, and one whose reply is lost.
-use Rattle.std.specs.Prelude.{◌≡◌, ◌||◌, not, Bool, true, false, ℕ, ℤ, List, Result, Ok, Err, IfOk}
-use Rattle.std.proofs.Common.{refl, sym, ◌∙◌, inl, inr, subst, arith}
+use Rattle.std.specs.Prelude.{◌≡◌, ◌||◌, Bool, true, false, ℕ, ℤ, List, Result, Ok, Err, IfOk}
+use Rattle.std.proofs.Common.{refl, inl, inr, subst, arith}
 use Rattle.ak_base.specs.declared.errors.Memory.{Memory}
 use Rattle.ak_loops.specs.Betweens.{ComesBetween}
 use Rattle.ak_loops.specs.Entries.{LoggedState}
@@ -13,7 +13,7 @@ use Rattle.ak_messages.specs.declared.requests.Request.{Request}
 use Rattle.ak_wires.specs.declared.wires.WireEnd.{WireEnd}
 use Rattle.ak_wires.specs.declared.wires.WireEnd.TheVariants as ends
 
-pub twice_served : (old mid new : LoggedState) (request : Request) (now : ℤ) (first : Reply) (repeats : Bool) (result : Result Reply Memory) → not repeats ≡ false
+pub twice_served : (old mid new : LoggedState) (request : Request) (now : ℤ) (first : Reply) (repeats : Bool) (result : Result Reply Memory) → repeats ≡ true
     → IsServed old mid request now first → IfOk result (IsServed mid new request now) → IfOk result (ServesInARow (times_of false repeats) old new request now)
 twice_served old mid new request now first true (Ok reply) is one two = (mid, first, one, two)
 twice_served old mid new request now first true (Err end) is one two = tt
@@ -22,8 +22,8 @@ twice_served old mid new request now first false result is one two = absurd (gri
 pub reply_lost : (old new : LoggedState) (request : Request) (now : ℤ) (reply : Reply) (lost loses repeats : Bool) → lost ≡ false → loses ≡ true
     → ServesInARow (times_of false repeats) old new request now reply → (lost || loses ≡ true) × ServesUpTo (times_of lost repeats) old new request now
 reply_lost old new request now reply true loses repeats none is row = absurd (grind (arith, none))
-reply_lost old new request now reply false loses true none is row = (is, reply, row)
-reply_lost old new request now reply false loses false none is row = (is, reply, row)
+reply_lost old new request now reply false loses true none is row = (is, (reply, row))
+reply_lost old new request now reply false loses false none is row = (is, (reply, row))
 
 pub delivered : (call : ℕ) (mishaps : List Mishap) (old met new : LoggedState) (request : Request) (now : ℤ) (result : Result Reply WireEnd) (lost : Bool) (times : ℕ)
     → ComesBetween request.session.0 old met → lost ≡ is_lost call mishaps → times ≡ servings call mishaps → Fares lost times met new request now result

@@ -1,7 +1,7 @@
 mod Carrying
+mod Failing
 mod InARow
 mod Logging
 mod Losing
-mod Opening
 mod Served
 mod Troubles

@@ -83,10 +83,13 @@ reply_is_lawful : (host : List ℕ) (o : Option AccountState) → IfSome o (IsLa
 reply_is_lawful host None own = tt
 reply_is_lawful host (Some s) own = own.account.reply
 
+pub stays_lawful : (accounts : List (Account MemoryState)) (s : LoggedState) → IsLogged accounts s → IsLawful (server_in s)
+stays_lawful accounts s is =
+    servers_stay_lawful (server_opened s.host s.opening) (events_in s.host s.entries) is.timely (opened_is_lawful s.host s.opening is.lawful)
+
 replies_are_lawful : (accounts : List (Account MemoryState)) (s : LoggedState) → IsLogged accounts s → (host : List ℕ) → IfSome (server_in s host) HasLawfulReply
 replies_are_lawful accounts s is host =
-    reply_is_lawful host (server_in s host)
-    (servers_stay_lawful (server_opened s.host s.opening) (events_in s.host s.entries) is.timely (opened_is_lawful s.host s.opening is.lawful) host)
+    reply_is_lawful host (server_in s host) (stays_lawful accounts s is host)
 
 -- its account is there, and no other
 has_account : (s : LoggedState) → (a : AccountState) × (server_in s s.host ≡ Some a)

@@ -1,3 +1,4 @@
+ghost use Rattle.std.specs.Prelude.{◌≡◌, IsOk};
 ghost use Rattle.ak_loops.specs.Betweens.{ComesBetween};
 
 use crate::logged_servers::LoggedServer;
@@ -24,9 +25,13 @@ impl Between for NothingBetween {
     fn before(
         &mut self,
         _call: u64,
-        _session: SessionKey,
-        _server: &mut LoggedServer,
-    ) -> Result<(), Memory> {
+        session: SessionKey,
+        server: &mut LoggedServer,
+    ) -> Result<(), Memory>
+        ensures comes { ComesBetween session.0 server.old server.new }
+        ensures same { server.new ≡ server.old }
+        ensures ok { IsOk result }
+    {
         Ok(())
     }
 }

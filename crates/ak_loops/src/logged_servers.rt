@@ -43,7 +43,7 @@ impl Model for LoggedServer {
 }
 
 impl LoggedServer {
-    ghost use Rattle.std.specs.List.{All, IsDistinct};
+    ghost use Rattle.std.specs.List.{All, AllByRecursion, IsDistinct};
     ghost use Rattle.std.specs.Option.{option_map};
     ghost use Rattle.std.specs.Ordering.{eq_by_cmp};
     ghost use Rattle.std.specs.Prelude.{◌<◌, ◌≤◌, Some, length, map, IfOk, OnErr, OnOk};
@@ -53,10 +53,12 @@ impl LoggedServer {
     ghost use Rattle.ak_io.specs.Arrivals.{IsClockMoment};
     ghost use Rattle.ak_keep.specs.Collections.{AscendsPast};
     ghost use Rattle.ak_keep.specs.Keepers.{KeepCause};
-    ghost use Rattle.ak_loops.specs.Entries.{collection_in, health_in, server_in};
+    ghost use Rattle.ak_loops.specs.Entries.{collection_in, health_in, log_in, server_in};
     ghost use Rattle.ak_loops.specs.LoggedServers.{AddsView, IsServed, begins_with};
     ghost use Rattle.ak_merge.specs.Commits.{IsCommitted};
     ghost use Rattle.ak_protocol.specs.Accounts.{AccountState};
+    ghost use Rattle.ak_protocol.specs.LawfulServers.{IsLawful};
+    ghost use Rattle.ak_protocol.specs.Logs.{IsTimely};
     ghost use Rattle.ak_server.specs.Servers.{ViewsRows};
 
     /// A server with one account of this name and host key, which holds a copy of `opening`. Nothing came to it yet, and
@@ -145,6 +147,16 @@ impl LoggedServer {
             Some(head) => Ok(head),
             None => unreachable!(),
         }
+    }
+
+    /// For proofs alone: its account was opened with a collection that a server may hold, it may hold all that the
+    /// protocol made of that since, and each moment of its log is one that a clock may tell.
+    pub fn recall(&self)
+        ensures opening { IsCommitted (collection_in self.now.opening) }
+        ensures lawful { IsLawful (server_in self.now) }
+        ensures timely { AllByRecursion IsTimely (log_in self.now).events }
+    {
+        let _opening = &self.opening;
     }
 
     /// What came, the first of it first. It takes no memory.

@@ -1,5 +1,5 @@
 use Rattle.std.proofs.Common.{ap, ◌∙◌}
-use Rattle.ak_loops.proofs.Opening.{logged_failing, state_failing}
+use Rattle.ak_loops.proofs.Failing.{logged_failing, state_failing}
 use Rattle.ak_loops.proofs.Served.{is_held}
 use Rattle.ak_loops.specs.Entries.{LoggedState}
 use Rattle.ak_loops.proofs.logged_servers.LoggedServer.fail_at.Goals as goal

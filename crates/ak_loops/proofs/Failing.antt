@@ -1,22 +1,17 @@
--- A logged server as it begins, and with calls of its keeper that are to fail.
+-- A logged server with calls of its keeper that are to fail.
 use Rattle.std.specs.Option.{option_map, option_map_or}
-use Rattle.std.specs.Prelude.{◌≡◌, ℕ, if◌then◌else◌, Bool, true, false, List, [], ◌∷◌, ◌++◌, Option, Some, None}
+use Rattle.std.specs.Prelude.{◌≡◌, ℕ, true, false, List, [], Option, Some, None}
 use Rattle.std.proofs.Common.{refl, sym, ap, subst, ◌∙◌}
-use Rattle.ak_base.specs.declared.keys.HostKey.{HostKey}
-use Rattle.ak_keep.specs.Collections.{Holding}
-use Rattle.ak_keep.specs.Keepers.{all_known}
-use Rattle.ak_keep.specs.Marks.{WithMark}
 use Rattle.ak_keep.specs.MemoryKeepers.{MemoryState}
 use Rattle.ak_loops.proofs.Logging.{keeping}
-use Rattle.ak_loops.specs.Entries.{LoggedState, collection_in, server_in}
-use Rattle.ak_loops.specs.LoggedServers.{HoldsOpening, IsLogged, begins_with, state_of}
+use Rattle.ak_loops.specs.Entries.{LoggedState, server_in}
+use Rattle.ak_loops.specs.LoggedServers.{IsLogged, state_of}
 use Rattle.ak_loops.specs.declared.logs.Entry.{Entry}
-use Rattle.ak_merge.specs.Commits.{IsCommitted}
 use Rattle.ak_openings.specs.declared.whole_collections.Opening.{Opening}
-use Rattle.ak_protocol.proofs.Isolation.{host_is, same_as_itself}
+use Rattle.ak_protocol.proofs.Isolation.{host_is}
 use Rattle.ak_protocol.specs.Servers.{ServerState, same_host}
-use Rattle.ak_server.specs.Accounts.{StandsFor, account_at, account_seen, committed_in}
-use Rattle.ak_server.specs.Servers.{OthersStay, StandsWith, account_added, failing_at, no_accounts}
+use Rattle.ak_server.specs.Accounts.{StandsFor, account_at, account_seen}
+use Rattle.ak_server.specs.Servers.{OthersStay, failing_at}
 use Rattle.ak_server.specs.declared.accounts.Account.{Account}
 
 -- what is known of a logged server whose account is this one, if there is one
@@ -30,31 +25,6 @@ state_with host opening line entries o = record {
   faults = option_map_or (λ (a : Account MemoryState). a.keeper.faults) o 0;
 }
 
--- ---- as it begins
-module _ (none accounts : List (Account MemoryState)) (name : List ℕ) (host : HostKey) (opening : Opening) (keeper : MemoryState)
-    (holds : HoldsOpening opening keeper) where
-  pub logged_first : StandsFor keeping none no_accounts → StandsWith keeping none accounts host.digits keeper → IsCommitted (collection_in opening)
-      → IsLogged accounts (state_of accounts host.digits opening 0 [])
-  logged_first empty added lawful = record {
-    stands = added no_accounts (collection_in opening) empty (ap (λ (kept : WithMark Holding). committed_in (all_known kept)) holds.kept);
-    lawful = lawful;
-    timely = tt;
-  }
-
-  found_first : accounts ≡ [] ++ account_added name host keeper ∷ [] → account_at host.digits accounts ≡ Some (account_added name host keeper)
-  found_first made =
-      ap (account_at host.digits) made
-      ∙ ap (λ (b : Bool). if b then Some (account_added name host keeper) else None) (same_as_itself host.digits)
-
-  pub begins : none ≡ [] → accounts ≡ none ++ account_added name host keeper ∷ []
-      → state_of accounts host.digits opening 0 [] ≡ begins_with host.digits opening
-  begins empty made =
-      ap (state_with host.digits opening 0 [])
-      (found_first (made ∙ ap (λ (l : List (Account MemoryState)). l ++ account_added name host keeper ∷ []) empty))
-      ∙ ap (λ (fails : List ℕ). record (begins_with host.digits opening) { fails = fails; faults = keeper.faults }) holds.fails
-      ∙ ap (λ (faults : ℕ). record (begins_with host.digits opening) { faults = faults }) holds.faults
-
--- ---- calls that are to fail
 seen_failing : (calls : List ℕ) (o : Option (Account MemoryState))
     → option_map (account_seen keeping) (option_map (failing_at calls) o) ≡ option_map (account_seen keeping) o
 seen_failing calls None = refl
