@@ -1,40 +1,33 @@
 -- What a call of the wire makes of the log is what the protocol lets come while its request is under way.
 use Rattle.std.specs.List.{AllByRecursion}
-use Rattle.std.specs.Prelude.{◌≡◌, ◌≤◌, ◌<◌, ◌⊎◌, ℕ, zero, suc, ℤ, Bool, true, false, List, [], ◌∷◌, ◌++◌, Some, Result, Ok, Err, IfOk}
+use Rattle.std.specs.Prelude.{◌≡◌, ◌≤◌, ℕ, zero, suc, ℤ, Bool, true, List, [], ◌∷◌, ◌++◌, Result, Ok, Err, IfOk}
 use Rattle.std.specs.Result.{IsErrOf}
 use Rattle.std.proofs.Common.{refl, sym, ap, subst, ◌∙◌, inl, inr, arith, append_assoc}
 use Rattle.std.proofs.lemmas.List.{append-nil}
 use Rattle.ak_faults.proofs.Healths.{goes_nowhere}
-use Rattle.ak_faults.specs.Causes.{HasCauseOf}
 use Rattle.ak_io.specs.Arrivals.{IsClockMoment}
 use Rattle.ak_loops.proofs.Logging.{events_append}
 use Rattle.ak_loops.proofs.Losing.{not_lost}
 use Rattle.ak_loops.specs.Betweens.{ComesBetween, MayComeBetween}
-use Rattle.ak_loops.specs.Entries.{LoggedState, entry_of, events_in, log_in, server_opened, setback_of}
+use Rattle.ak_loops.specs.Entries.{LoggedState, entry_of, events_in, log_in, log_with, server_opened, setback_of}
 use Rattle.ak_loops.specs.LoggedServers.{IsServed}
-use Rattle.ak_loops.specs.LoopWires.{Delivers, Fares, FaresAt, ServesInARow, ServesUpTo, counted, faults_after, health_over, state_over}
+use Rattle.ak_loops.specs.LoopWires.{Fares, FaresAt, ServesInARow, ServesUpTo, counts_after, faults_after, health_over, state_over}
 use Rattle.ak_loops.specs.Mishaps.{is_lost, servings}
-use Rattle.ak_loops.specs.declared.counts.Counts.{Counts}
-use Rattle.ak_loops.specs.declared.logs.Entry.{Entry}
+use Rattle.ak_loops.specs.declared.call_counts.CallCounts.{CallCounts}
 use Rattle.ak_loops.specs.declared.logs.Logged.TheVariants as logged
 use Rattle.ak_loops.specs.declared.mishaps.Mishap.{Mishap}
 use Rattle.ak_messages.specs.declared.replies.Reply.{Reply}
 use Rattle.ak_messages.specs.declared.requests.Request.{Request}
-use Rattle.ak_openings.specs.declared.whole_collections.Opening.{Opening}
 use Rattle.ak_protocol.proofs.Syncs.{tries_are_one_growth, tries_reply}
 use Rattle.ak_protocol.specs.Logs.{Asked, Event, Grows, IsGrowth, IsReplyIn, Log, MayCome, View, server_after, with_growth}
 use Rattle.ak_protocol.specs.Servers.{server_served}
-use Rattle.ak_wires.specs.Wires.{Called, Carries}
+use Rattle.ak_wires.specs.Wires.{Called}
 use Rattle.ak_wires.specs.declared.wires.WireEnd.{WireEnd}
 use Rattle.ak_wires.specs.declared.wires.WireEnd.TheVariants as ends
 
 -- ---- growths
 abbrev Grown : Log → Log → Request → Result Reply WireEnd → Type 0
 Grown old new request result = Grows old new request result
-
--- a log with these events
-abbrev log_with : List ℕ → Opening → List Event → Log
-log_with host opening events = record { opening = server_opened host opening; events = events }
 
 grows_on : (old mid new : Log) (request : Request) (first result : Result Reply WireEnd) → Grown old mid request first → Grown mid new request result
     → Grown old new request result
@@ -79,12 +72,9 @@ all_come past request (event ∷ events) all = (may_come past request event all.
 before_grows : (old new : LoggedState) (request : Request) (end : WireEnd) → ComesBetween request.session.0 old new
     → Grown (log_in old) (log_in new) request (Err end)
 before_grows old new request end before = record {
-  growth = events_in old.host before.growth;
-  grown = ap (λ (host : List ℕ). log_with host new.opening (events_in host new.entries)) before.host
-      ∙ ap (λ (opening : Opening). log_with old.host opening (events_in old.host new.entries)) before.opening
-      ∙ ap (λ (entries : List Entry). log_with old.host old.opening (events_in old.host entries)) before.grown
-      ∙ ap (log_with old.host old.opening) (events_append old.host old.entries before.growth);
-  may = all_come (events_in old.host old.entries) request (events_in old.host before.growth) before.may;
+  growth = before.growth;
+  grown = before.grown;
+  may = all_come (log_in old).events request before.growth before.may;
   reply = tt;
 }
 
@@ -137,11 +127,11 @@ fares_at_grows call mishaps old new request now result clock (inr ended) =
     subst (λ (r : Result Reply WireEnd). Grown (log_in old) (log_in new) request r) (sym ended.0)
     (up_to_grows 0 old new request now ends.Memory clock ended.1)
 
-delivers_grows : (call : ℕ) (mishaps : List Mishap) (old new : LoggedState) (request : Request) (now : ℤ) (result : Result Reply WireEnd) → IsClockMoment now
-    → Delivers call mishaps old new request now result → Grown (log_in old) (log_in new) request result
-delivers_grows call mishaps old new request now result clock it =
-    grows_on (log_in old) (log_in it.met) (log_in new) request (Err ends.Memory) result (before_grows old it.met request ends.Memory it.before)
-    (fares_at_grows call mishaps it.met new request now result clock it.fares)
+both_grow : (call : ℕ) (mishaps : List Mishap) (old met new : LoggedState) (request : Request) (now : ℤ) (result : Result Reply WireEnd) → IsClockMoment now
+    → ComesBetween request.session.0 old met → FaresAt call mishaps met new request now result → Grown (log_in old) (log_in new) request result
+both_grow call mishaps old met new request now result clock before fares =
+    grows_on (log_in old) (log_in met) (log_in new) request (Err ends.Memory) result (before_grows old met request ends.Memory before)
+    (fares_at_grows call mishaps met new request now result clock fares)
 
 -- ---- causes
 failed_lost : (lost : Bool) (times : ℕ) (old new : LoggedState) (request : Request) (now : ℤ) (result : Result Reply WireEnd)
@@ -179,49 +169,49 @@ same_faults before (Err ends.Failed) never = absurd (never refl)
 same_faults before (Err ends.BadReply) never = refl
 same_faults before (Err ends.Memory) never = refl
 
-rose_if_failed : (c : Counts) (mishaps : List Mishap) (request : Request) (result : Result Reply WireEnd) → IsErrOf result ends.Failed
-    → faults_after c.faults (Err ends.Failed) ≤ (counted c request result).faults
+rose_if_failed : (c : CallCounts) (mishaps : List Mishap) (request : Request) (result : Result Reply WireEnd) → IsErrOf result ends.Failed
+    → faults_after c.faults (Err ends.Failed) ≤ (counts_after c request result).faults
 rose_if_failed c mishaps request result is =
     subst (λ (r : Result Reply WireEnd). faults_after c.faults (Err ends.Failed) ≤ faults_after c.faults r) (sym is) (omega arith)
 
--- a call that delivers its request so, and is counted, is one of a wire
-pub called_by : (c : Counts) (mishaps : List Mishap) (old new : LoggedState) (request : Request) (now : ℤ) (result : Result Reply WireEnd) → IsClockMoment now
-    → c.faults ≤ (counted c request result).faults → Delivers c.calls mishaps old new request now result
-    → Called (health_over c mishaps) (health_over (counted c request result) mishaps) (state_over old c) (state_over new (counted c request result))
-    request result
-called_by c mishaps old new request now result clock later it =
-    let lost : IsErrOf result ends.Failed → is_lost c.calls mishaps ≡ true = lost_at c.calls mishaps it.met new request now result it.fares in
-    let unread : IsErrOf result ends.BadReply → ⊥ = unread_at c.calls mishaps it.met new request now result it.fares in
-    record {
-      carries = (log_in new, refl, delivers_grows c.calls mishaps old new request now result clock it);
-      lost = record {
-        goes = record {
-          later = later;
-          calm = λ is. is;
-          faultless = λ is. same_faults c.faults result (λ failed. not_lost c.calls mishaps is (lost failed));
+-- a call before which this came, and whose request fared so, is one of a wire once it is counted
+module _ (c : CallCounts) (mishaps : List Mishap) (old met new : LoggedState) (request : Request) (now : ℤ) (result : Result Reply WireEnd)
+    (clock : IsClockMoment now) (before : ComesBetween request.session.0 old met) (fares : FaresAt c.calls mishaps met new request now result) where
+  called_by : c.faults ≤ (counts_after c request result).faults
+      → Called (health_over c mishaps) (health_over (counts_after c request result) mishaps) (state_over old c) (state_over new (counts_after c request result))
+      request result
+  called_by later =
+      let lost : IsErrOf result ends.Failed → is_lost c.calls mishaps ≡ true = lost_at c.calls mishaps met new request now result fares in
+      let unread : IsErrOf result ends.BadReply → ⊥ = unread_at c.calls mishaps met new request now result fares in
+      record {
+        carries = (log_in new, refl, both_grow c.calls mishaps old met new request now result clock before fares);
+        lost = record {
+          goes = record {
+            later = later;
+            calm = λ is. is;
+            faultless = λ is. same_faults c.faults result (λ failed. not_lost c.calls mishaps is (lost failed));
+          };
+          failed = rose_if_failed c mishaps request result;
+          unfailed = λ is failed. not_lost c.calls mishaps is (lost failed);
         };
-        failed = rose_if_failed c mishaps request result;
-        unfailed = λ is failed. not_lost c.calls mishaps is (lost failed);
-      };
-      unread = record {
-        goes = goes_nowhere (record { faults = 0; calm = true });
-        failed = λ is. absurd (unread is);
-        unfailed = λ _ is. unread is;
-      };
-      silence = refl;
-      said = refl;
-      calls = refl;
-    }
+        unread = record {
+          goes = goes_nowhere (record { faults = 0; calm = true });
+          failed = λ is. absurd (unread is);
+          unfailed = λ _ is. unread is;
+        };
+        silence = refl;
+        said = refl;
+        calls = refl;
+      }
 
--- the same, from what delivers it to what counts it
-pub called_from : (c mid after : Counts) (mishaps kept : List Mishap) (old new : LoggedState) (request : Request) (now : ℤ) (result : Result Reply WireEnd) → IsClockMoment now
-    → mid ≡ c → after ≡ counted mid request result → mid.faults ≤ after.faults → kept ≡ mishaps → Delivers c.calls mishaps old new request now result
-    → Called (health_over c mishaps) (health_over after kept) (state_over old c) (state_over new after) request result
-called_from c mid after mishaps kept old new request now result clock same is later stays it =
-    let counts : after ≡ counted c request result = is ∙ ap (λ (x : Counts). counted x request result) same in
-    let rises : c.faults ≤ (counted c request result).faults =
-    subst (λ (x : Counts). x.faults ≤ (counted c request result).faults) same
-    (subst (λ (x : Counts). mid.faults ≤ x.faults) counts later) in
-    subst (λ (x : Counts). Called (health_over c mishaps) (health_over x kept) (state_over old c) (state_over new x) request result) (sym counts)
-    (subst (λ (m : List Mishap). Called (health_over c mishaps) (health_over (counted c request result) m) (state_over old c) (state_over new (counted c request result)) request result) (sym stays)
-    (called_by c mishaps old new request now result clock rises it))
+  -- the same, from what delivers it to what counts it
+  pub called_from : (mid after : CallCounts) (kept : List Mishap) → mid ≡ c → after ≡ counts_after mid request result → mid.faults ≤ after.faults → kept ≡ mishaps
+      → Called (health_over c mishaps) (health_over after kept) (state_over old c) (state_over new after) request result
+  called_from mid after kept same is later stays =
+      let counts : after ≡ counts_after c request result = is ∙ ap (λ (x : CallCounts). counts_after x request result) same in
+      let rises : c.faults ≤ (counts_after c request result).faults =
+      subst (λ (x : CallCounts). x.faults ≤ (counts_after c request result).faults) same
+      (subst (λ (x : CallCounts). mid.faults ≤ x.faults) counts later) in
+      subst (λ (x : CallCounts). Called (health_over c mishaps) (health_over x kept) (state_over old c) (state_over new x) request result) (sym counts)
+      (subst (λ (m : List Mishap). Called (health_over c mishaps) (health_over (counts_after c request result) m) (state_over old c) (state_over new (counts_after c request result)) request result) (sym stays)
+      (called_by rises))

@@ -1,5 +1,6 @@
 mod Carrying
 mod Failing
+mod Growing
 mod InARow
 mod Logging
 mod Losing

@@ -11,10 +11,9 @@ use Rattle.ak_keep.specs.Keepers.{Keeping, all_known}
 use Rattle.ak_keep.specs.MemoryKeepers.{MemoryState, health_of}
 use Rattle.ak_loops.proofs.Troubles.{keeper_is, serves_as_told}
 use Rattle.ak_loops.specs.Entries.{LoggedState, account_opened, collection_in, entry_of, event_of, events_in, server_in, server_opened, setback_of, trouble_of}
-use Rattle.ak_loops.specs.LoggedServers.{IsLogged, faults_at, state_of}
+use Rattle.ak_loops.specs.LoggedServers.{IsLogged, state_of}
 use Rattle.ak_loops.specs.declared.logs.Entry.{Entry}
 use Rattle.ak_loops.specs.declared.logs.Logged.{Logged}
-use Rattle.ak_loops.specs.declared.logs.Logged.TheVariants as logged
 use Rattle.ak_loops.specs.declared.logs.Trouble.{Trouble}
 use Rattle.ak_loops.specs.declared.logs.Trouble.TheVariants as troubles
 use Rattle.ak_merge.specs.Commits.{IsCommitted}
@@ -30,10 +29,8 @@ use Rattle.ak_protocol.specs.Accounts.{AccountState}
 use Rattle.ak_protocol.specs.Kept.{HasLawfulReply}
 use Rattle.ak_protocol.specs.LawfulServers.{IsLawful, IsLawfulUnder}
 use Rattle.ak_protocol.specs.Logs.{Event, IsTimely, events_of, opened, server_after, server_next, world_after}
-use Rattle.ak_protocol.specs.Replies.{unknown_key}
 use Rattle.ak_protocol.specs.Servers.{ServerServed, ServerState, same_host, server_served}
-use Rattle.ak_protocol.specs.Serving.{Setback}
-use Rattle.ak_server.specs.Accounts.{IsSameAccount, StandsFor, account_at, account_seen}
+use Rattle.ak_server.specs.Accounts.{StandsFor, account_at, account_seen}
 use Rattle.ak_server.specs.Servers.{IsServedFor, ServeCause, Serves}
 use Rattle.ak_server.specs.declared.accounts.Account.{Account}
 
@@ -96,7 +93,7 @@ has_account : (s : LoggedState) → (a : AccountState) × (server_in s s.host �
 has_account s = (
   (world_after (opened (account_opened s.opening)) (events_of s.host (events_in s.host s.entries))).state,
   account_after s.host (server_opened s.host s.opening) (opened (account_opened s.opening)) (events_in s.host s.entries)
-  (ap (λ (b : Bool). if b then Some (account_opened s.opening) else None) (same_as_itself s.host)),
+      (ap (λ (b : Bool). if b then Some (account_opened s.opening) else None) (same_as_itself s.host)),
 )
 
 pub account_is_held : (accounts : List (Account MemoryState)) (s : LoggedState) → StandsFor keeping accounts (server_in s) → account_at s.host accounts ≡ None → ⊥

@@ -1,7 +1,7 @@
 -- A wire whose mishaps lose nothing loses no message.
 use Rattle.std.specs.List.{list_any}
 use Rattle.std.specs.Prelude.{◌≡◌, ℕ, ◌==◌, ◌&&◌, ◌||◌, not, Bool, true, false, List, [], ◌∷◌}
-use Rattle.std.proofs.Common.{refl, sym, ap, ◌∙◌, arith}
+use Rattle.std.proofs.Common.{refl, arith}
 use Rattle.ak_loops.specs.Mishaps.{happens, is_lost, loses_nothing, same_what}
 use Rattle.ak_loops.specs.declared.mishaps.Mishap.{Mishap}
 use Rattle.ak_loops.specs.declared.mishaps.What.{What}

@@ -5,14 +5,13 @@ use Rattle.std.proofs.Common.{refl, sym, ap, subst, ◌∙◌, arith}
 use Rattle.ak_base.specs.declared.heads.Head.{Head}
 use Rattle.ak_base.specs.declared.names.Table.{Table}
 use Rattle.ak_base.specs.declared.rows.Row.{Row}
-use Rattle.ak_faults.specs.Causes.{Health}
 use Rattle.ak_io.specs.Arrivals.{IsClockMoment}
 use Rattle.ak_keep.specs.Keepers.{KeepCause}
 use Rattle.ak_keep.specs.MemoryKeepers.{MemoryState, health_of}
 use Rattle.ak_keep.specs.declared.keepers.KeepFault.{KeepFault}
 use Rattle.ak_loops.proofs.Logging.{account_is_held, health_at, keeping, logged_next, served_cause, served_so}
 use Rattle.ak_loops.specs.Entries.{LoggedState, entry_of, health_in, server_in, trouble_of}
-use Rattle.ak_loops.specs.LoggedServers.{Adds, IsLogged, IsServed, faults_at, fails_at, state_of}
+use Rattle.ak_loops.specs.LoggedServers.{Adds, IsLogged, IsServed, state_of}
 use Rattle.ak_loops.specs.declared.logs.Entry.{Entry}
 use Rattle.ak_loops.specs.declared.logs.Logged.{Logged}
 use Rattle.ak_loops.specs.declared.logs.Logged.TheVariants as logged

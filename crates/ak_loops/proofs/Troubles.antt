@@ -1,7 +1,7 @@
 -- What the status of a reply tells of the setback of its serving.
 use Rattle.std.specs.Option.{unwrap_or}
 use Rattle.std.specs.Prelude.{◌≡◌, ℕ, ℤ, ◌==◌, if◌then◌else◌, Bool, true, false, Option, Some, None, IfSome}
-use Rattle.std.proofs.Common.{refl, sym, ap, subst, ◌∙◌, arith}
+use Rattle.std.proofs.Common.{refl, ap, subst, arith}
 use Rattle.std.proofs.lemmas.Bool.{eqb-true}
 use Rattle.ak_keep.specs.Collections.{Collection}
 use Rattle.ak_loops.specs.Entries.{setback_of, trouble_of}
@@ -11,10 +11,10 @@ use Rattle.ak_messages.specs.declared.replies.Reply.{Reply}
 use Rattle.ak_messages.specs.declared.requests.Request.{Request}
 use Rattle.ak_protocol.proofs.Cases.{by_quiet}
 use Rattle.ak_protocol.proofs.Replies.{commit_is_granted, reply_is_granted}
-use Rattle.ak_protocol.specs.Accounts.{AccountState, KeptReply, given_again}
+use Rattle.ak_protocol.specs.Accounts.{AccountState, KeptReply}
 use Rattle.ak_protocol.specs.Kept.{HasLawfulReply, IsLawfulReply}
 use Rattle.ak_protocol.specs.Replies.{Refusal, PastBase, NoSession, WrongStep, Objected, download_reply, objected, refused}
-use Rattle.ak_protocol.specs.Servers.{ServerServed, ServerState, by_account, server_served}
+use Rattle.ak_protocol.specs.Servers.{ServerState, by_account, server_served}
 use Rattle.ak_protocol.specs.Serving.{Setback, Undisturbed, KeeperFault, OutOfMemory, served}
 use Rattle.ak_session.specs.Contents.{closed}
 use Rattle.ak_session.specs.Objections.{Objection, MayNotCome, WrongUsn, NoNumber, TooManyRows, WrongRow, WrongNewer}

@@ -1,6 +1,5 @@
 -- What a logged server wrote down, and the log that it tells.
-use Rattle.std.specs.Prelude.{ℕ, ℤ, ◌==◌, if◌then◌else◌, List, map, Option, None}
-use Rattle.ak_base.specs.declared.heads.Head.{Head}
+use Rattle.std.specs.Prelude.{ℕ, ◌==◌, if◌then◌else◌, List, map, None}
 use Rattle.ak_faults.specs.Calls.{listed_health}
 use Rattle.ak_faults.specs.Causes.{Health}
 use Rattle.ak_keep.specs.Collections.{Collection, rows_of}
@@ -17,12 +16,12 @@ use Rattle.ak_protocol.specs.Serving.{Setback, Undisturbed, KeeperFault, OutOfMe
 use Rattle.ak_server.specs.Servers.{no_accounts}
 
 -- ---- entries
--- what came in between, by the status of the reply
+-- what came in between, by the status of the reply. No other reply of the protocol has one of these two: a kept one grants what was asked
 abbrev pub trouble_of : ℕ → Trouble
 trouble_of status =
     if status == 503 then troubles.Keeper else if status == 500 then troubles.Memory else troubles.Nothing
 
--- the protocol's setback of a trouble
+-- a trouble as the protocol calls it
 abbrev pub setback_of : Trouble → Setback
 setback_of troubles.Nothing = Undisturbed
 setback_of troubles.Keeper = KeeperFault
@@ -64,7 +63,8 @@ pub record LoggedState : Type 0 where
   pub line : ℕ
   -- what came
   pub entries : List Entry
-  -- the calls of its keeper that are to fail, and how many failed so far
+  -- the calls of its keeper that are to fail, and how many failed so far. Which of them are still to come after a request is not said, but
+  -- that a keeper of which none is to fail stays so
   pub fails : List ℕ
   pub faults : ℕ
 
@@ -72,9 +72,13 @@ pub record LoggedState : Type 0 where
 abbrev pub health_in : LoggedState → Health
 health_in s = listed_health s.faults s.fails
 
+-- a log of these events, from this opening on
+abbrev pub log_with : List ℕ → Opening → List Event → Log
+log_with host opening events = record { opening = server_opened host opening; events = events }
+
 -- the log that it tells: its opening, and what came since
 abbrev pub log_in : LoggedState → Log
-log_in s = record { opening = server_opened s.host s.opening; events = events_in s.host s.entries }
+log_in s = log_with s.host s.opening (events_in s.host s.entries)
 
 -- the protocol's server once all of a log came
 abbrev pub server_of : Log → ServerState

@@ -5,7 +5,7 @@ use Rattle.ak_loops.specs.Betweens.{ComesBetween}
 use Rattle.ak_loops.specs.Entries.{LoggedState, log_in}
 use Rattle.ak_loops.specs.LoggedServers.{IsServed}
 use Rattle.ak_loops.specs.Mishaps.{is_lost, loses_nothing, servings}
-use Rattle.ak_loops.specs.declared.counts.Counts.{Counts}
+use Rattle.ak_loops.specs.declared.call_counts.CallCounts.{CallCounts}
 use Rattle.ak_loops.specs.declared.mishaps.Mishap.{Mishap}
 use Rattle.ak_messages.specs.declared.replies.Reply.{Reply}
 use Rattle.ak_messages.specs.declared.requests.Request.{Request}
@@ -15,8 +15,8 @@ use Rattle.ak_wires.specs.declared.wires.WireEnd.TheVariants as ends
 
 -- ---- what it counts
 -- no call was made
-abbrev pub nothing_counted : Counts
-nothing_counted = record { calls = 0; faults = 0; silent = 0; said = None }
+abbrev pub no_calls : CallCounts
+no_calls = record { calls = 0; faults = 0; silent = 0; said = None }
 
 -- how many calls failed, once so many did before this call
 abbrev pub faults_after : ℕ → Result Reply WireEnd → ℕ
@@ -26,8 +26,8 @@ faults_after before (Err ends.Memory) = before
 faults_after before (Ok reply) = before
 
 -- the counts after a call that was answered so
-abbrev pub counted : Counts → Request → Result Reply WireEnd → Counts
-counted c request answer = record {
+abbrev pub counts_after : CallCounts → Request → Result Reply WireEnd → CallCounts
+counts_after c request answer = record {
   calls = one_more c.calls;
   faults = faults_after c.faults answer;
   silent = silence_after c.silent answer;
@@ -36,11 +36,11 @@ counted c request answer = record {
 
 -- ---- what it tells
 -- how many of its calls failed. It is known not to fail if no mishap loses a message
-abbrev pub health_over : Counts → List Mishap → Health
+abbrev pub health_over : CallCounts → List Mishap → Health
 health_over c mishaps = record { faults = c.faults; calm = loses_nothing mishaps }
 
 -- the log of its server, always; and each answer can be read
-abbrev pub state_over : LoggedState → Counts → WireState
+abbrev pub state_over : LoggedState → CallCounts → WireState
 state_over server c = record {
   log = Some (log_in server);
   reading = record { faults = 0; calm = true };
@@ -85,9 +85,14 @@ FaresAt call mishaps old new request now result =
     Fares (is_lost call mishaps) (servings call mishaps) old new request now result
     ⊎ ((result ≡ Err ends.Memory) × (new ≡ old))
 
--- a call of this number: what came between it and the one before, and then its request
-pub record Delivers (call : ℕ) (mishaps : List Mishap) (old new : LoggedState) (request : Request) (now : ℤ)
-    (result : Result Reply WireEnd) : Type 0 where
+-- what whoever acts between the calls makes of itself and of the server before the call of a number, whose request has a session key
+abbrev pub Acting : Type 0 → Type 1
+Acting B = (call session : ℕ) (was now : B) (old new : LoggedState) → Type 0
+
+-- a call of this number: whoever acts between the calls did so, and then its request fared as the mishaps of the call say
+pub record Delivers {B : Type 0} (acts : Acting B) (call : ℕ) (mishaps : List Mishap) (was became : B) (old new : LoggedState)
+    (request : Request) (now : ℤ) (result : Result Reply WireEnd) : Type 0 where
   pub met : LoggedState
+  pub acted : acts call request.session.0 was became old met
   pub before : ComesBetween request.session.0 old met
   pub fares : FaresAt call mishaps met new request now result

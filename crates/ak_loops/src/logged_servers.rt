@@ -84,6 +84,7 @@ impl LoggedServer {
                 line: 0,
                 entries: Vec::new(alloc),
             }),
+            // No other account holds the key, and the keeper holds a collection.
             Err(_) => Err(Memory),
         }
     }

@@ -1,7 +1,7 @@
 ghost use Rattle.ak_io.specs.Arrivals.{IsClockMoment};
 
 use crate::betweens::Between;
-use crate::counts::Counts;
+use crate::call_counts::CallCounts;
 use crate::deliveries::{fate_at, serve_by};
 use crate::logged_servers::LoggedServer;
 use crate::mishaps::Mishap;
@@ -16,32 +16,39 @@ use ak_wires::{Said, Wire, WireEnd};
 pub struct LoopWire<B> {
     server: LoggedServer,
     between: B,
-    now: i64,
+    moment: i64,
     mishaps: List<Mishap>,
-    counts: Counts,
-    ghost clock: { IsClockMoment now },
+    counts: CallCounts,
+    ghost clock: { IsClockMoment moment },
 }
 
 impl<B: Between> LoopWire<B> {
     ghost use Rattle.std.specs.Prelude.{◌≡◌};
-    ghost use Rattle.ak_loops.specs.LoopWires.{Delivers, nothing_counted};
+    ghost use Rattle.ak_loops.specs.LoopWires.{Delivers, no_calls};
 
     /// A wire to this server, whose clock stays at this moment, in milliseconds.
-    pub fn new(server: LoggedServer, now: i64, mishaps: List<Mishap>, between: B) -> LoopWire<B>
-        requires clock { IsClockMoment now }
+    pub fn new(server: LoggedServer, moment: i64, mishaps: List<Mishap>, between: B) -> LoopWire<B>
+        requires clock { IsClockMoment moment }
         ensures server { result.server ≡ server }
-        ensures now { result.now ≡ now }
+        ensures moment { result.moment ≡ moment }
         ensures mishaps { result.mishaps ≡ mishaps }
         ensures between { result.between ≡ between }
-        ensures counts { result.counts ≡ nothing_counted }
+        ensures counts { result.counts ≡ no_calls }
     {
         LoopWire {
             server,
             between,
-            now,
+            moment,
             mishaps,
-            counts: Counts::new(),
+            counts: CallCounts::new(),
         }
+    }
+
+    /// How many calls were made, tries too. At the last `u64` it stays. It takes no memory.
+    pub fn calls(&self) -> u64
+        ensures { result ≡ self.now.counts.calls }
+    {
+        self.counts.calls
     }
 
     /// Hands back the server, and what acted between the calls.
@@ -54,9 +61,9 @@ impl<B: Between> LoopWire<B> {
 
     /// Lets the others act, and serves the request as the mishaps of the call say.
     fn deliver(&mut self, request: &Request) -> Result<Reply, WireEnd>
-        ensures delivers { Delivers self.old.counts.calls self.old.mishaps self.old.server self.new.server
-            request.now self.old.now result }
-        ensures now { self.new.now ≡ self.old.now }
+        ensures delivers { Delivers B.acts self.old.counts.calls self.old.mishaps self.old.between self.new.between
+            self.old.server self.new.server request.now self.old.moment result }
+        ensures moment { self.new.moment ≡ self.old.moment }
         ensures mishaps { self.new.mishaps ≡ self.old.mishaps }
         ensures counts { self.new.counts ≡ self.old.counts }
     {
@@ -64,7 +71,7 @@ impl<B: Between> LoopWire<B> {
         match self.between.before(call, request.session, &mut self.server) {
             Ok(()) => {
                 let fate = fate_at(call, self.mishaps.as_slice());
-                serve_by(&mut self.server, request, self.now, fate)
+                serve_by(&mut self.server, request, self.moment, fate)
             }
             Err(Memory) => Err(WireEnd::Memory),
         }
@@ -83,7 +90,7 @@ impl<B: Between> End for LoopWire<B> {
 
 impl<B: Between> Wire for LoopWire<B> {
     ghost use Rattle.std.specs.Prelude.{◌≡◌};
-    ghost use Rattle.ak_loops.specs.LoopWires.{Delivers, health_over, state_over};
+    ghost use Rattle.ak_loops.specs.LoopWires.{Delivers, counts_after, health_over, state_over};
     ghost use Rattle.ak_wires.specs.Wires.{Called};
 
     ghost state = { λ wire. state_over wire.server wire.counts };
@@ -105,13 +112,14 @@ impl<B: Between> Wire for LoopWire<B> {
         ensures called { Called (health_over self.old.counts self.old.mishaps)
             (health_over self.new.counts self.new.mishaps) (state_over self.old.server self.old.counts)
             (state_over self.new.server self.new.counts) request.now result }
-        ensures delivers { Delivers self.old.counts.calls self.old.mishaps self.old.server self.new.server
-            request.now self.old.now result }
-        ensures now { self.new.now ≡ self.old.now }
+        ensures delivers { Delivers B.acts self.old.counts.calls self.old.mishaps self.old.between self.new.between
+            self.old.server self.new.server request.now self.old.moment result }
+        ensures counts { self.new.counts ≡ counts_after self.old.counts request.now result }
+        ensures moment { self.new.moment ≡ self.old.moment }
         ensures mishaps { self.new.mishaps ≡ self.old.mishaps }
     {
         let answer = self.deliver(request);
-        self.counts.note(request, &answer);
+        self.counts.count(request, &answer);
         answer
     }
 }

@@ -24,9 +24,7 @@ pub enum What {
 pub(crate) fn happens(what: What, call: u64, mishaps: &[Mishap]) -> bool
     ensures { result ≡ happens what call mishaps.now }
 {
-    mishaps
-        .iter()
-        .any(|mishap| mishap.call == call && same_what(what, mishap.what))
+    mishaps.iter().any(|mishap| mishap.call == call && same_what(what, mishap.what))
 }
 
 /// Whether two mishaps are of one kind.

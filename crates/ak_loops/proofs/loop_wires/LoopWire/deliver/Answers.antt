@@ -8,15 +8,16 @@ use Rattle.ak_loops.proofs.loop_wires.LoopWire.deliver.Goals as goal
 
 pub returns-in-Ok-clause-delivers : goal.returns-in-Ok-clause-delivers
 returns-in-Ok-clause-delivers g c =
-    let fits : SFits w64 c.args.self.now.now = search rules in
+    let fits : SFits w64 c.args.self.now.moment = search rules in
     let fate = c.fate_at-fate.result in
-    delivered c.args.self.now.counts.calls c.args.self.now.mishaps c.args.self.now.server c.before-2.new.server c.serve_by.new.server c.args.request.now
-    c.args.self.now.now c.serve_by.result (fate.loses_request || fate.loses_reply) (times_of fate.loses_request fate.repeats) c.before-2.ensures.comes
+    delivered g.B.Between.acts c.args.self.now.counts.calls c.args.self.now.mishaps c.args.self.now.between c.before-2.new.self c.args.self.now.server
+    c.before-2.new.server c.args.request.now c.args.self.now.moment c.before-2.ensures.acts c.before-2.ensures.comes c.serve_by.new.server c.serve_by.result
+    (fate.loses_request || fate.loses_reply) (times_of fate.loses_request fate.repeats)
     (c.fate_at-fate.ensures.lost ∙ ap (is_lost c.args.self.now.counts.calls) c.as_slice.ensures)
     (c.fate_at-fate.ensures.times ∙ ap (servings c.args.self.now.counts.calls) c.as_slice.ensures)
-    (rw (to_z-of_z w64 c.args.self.now.now fits) at c.serve_by.ensures)
+    (rw (to_z-of_z w64 c.args.self.now.moment fits) at c.serve_by.ensures)
 
 pub returns-in-Err-clause-delivers : goal.returns-in-Err-clause-delivers
 returns-in-Err-clause-delivers g c =
-    not_delivered c.args.self.now.counts.calls c.args.self.now.mishaps c.args.self.now.server c.before-2.new.server c.args.request.now c.args.self.now.now
-    c.before-2.ensures.comes
+    not_delivered g.B.Between.acts c.args.self.now.counts.calls c.args.self.now.mishaps c.args.self.now.between c.before-2.new.self c.args.self.now.server
+    c.before-2.new.server c.args.request.now c.args.self.now.moment c.before-2.ensures.acts c.before-2.ensures.comes

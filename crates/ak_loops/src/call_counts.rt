@@ -1,12 +1,12 @@
 ghost use Rattle.std.specs.Prelude.{◌≡◌, ◌≤◌};
-ghost use Rattle.ak_loops.specs.LoopWires.{counted, nothing_counted};
+ghost use Rattle.ak_loops.specs.LoopWires.{counts_after, no_calls};
 
 use ak_messages::{Reply, Request, SanityReply};
 use ak_wires::{Said, WireEnd, said_of};
 
 /// What a wire counts of its calls, and what the reply of the last one said. Each count stays at the last `u64`.
 #[derive(Drop)]
-pub(crate) struct Counts {
+pub(crate) struct CallCounts {
     /// The calls that were made.
     pub(crate) calls: u64,
     /// Those that failed.
@@ -16,12 +16,12 @@ pub(crate) struct Counts {
     pub(crate) said: Option<Said>,
 }
 
-impl Counts {
+impl CallCounts {
     /// No call was made.
-    pub(crate) fn new() -> Counts
-        ensures { result ≡ nothing_counted }
+    pub(crate) fn new() -> CallCounts
+        ensures { result ≡ no_calls }
     {
-        Counts {
+        CallCounts {
             calls: 0,
             faults: 0,
             silent: 0,
@@ -40,8 +40,8 @@ impl Counts {
     }
 
     /// Counts a call that was answered so.
-    pub(crate) fn note(&mut self, request: &Request, answer: &Result<Reply, WireEnd>)
-        ensures counted { self.new ≡ counted self.old request.now answer.now }
+    pub(crate) fn count(&mut self, request: &Request, answer: &Result<Reply, WireEnd>)
+        ensures counts { self.new ≡ counts_after self.old request.now answer.now }
         ensures later { self.old.faults ≤ self.new.faults }
     {
         self.calls = self.calls.saturating_add(1);
