@@ -3,19 +3,29 @@ functions judges each edit by what is told of its own. A check of the functions 
 anything else than functions is tried by itself, by a check of the whole crate."""
 import os
 import re
-import shutil
 import tempfile
 
 import gate_tool
 
 # What is said of a proof file that names what an edit took away, and of what cites that file.
-NAMES = re.compile(r"has no field|is not in scope|has no `|was not admitted")
+NAMES = re.compile(r"has no field|is not in scope|has no `|was not admitted|projects from a record")
 HEAD = r"(?:pub(?:\(\w+\))? )?"
 
 
 def text_of(path):
     with open(path, encoding="utf-8") as file:
         return file.read()
+
+
+def pairs_of(edit):
+    """Gives the edit's texts: a file, what stands in it, and what is put in its place."""
+    for line in text_of(edit).split("\n"):
+        if line.startswith("file: "):
+            file = line[len("file: ") :].strip()
+        elif line.startswith("old: "):
+            old = line[len("old: ") :]
+        elif line.startswith("new:"):
+            yield file, old, re.sub(r"\Anew: ?", "", line)
 
 
 def function_at(text, place, module):
@@ -32,45 +42,41 @@ def function_at(text, place, module):
 
 def functions_of(crate, edit):
     """Returns the functions that the edit changes; none, if it changes anything else."""
-    found, file = [], ""
-    for line in text_of(edit).split("\n"):
-        file = line[len("file: ") :].strip() if line.startswith("file: ") else file
-        if line.startswith("old: "):
-            text = text_of(f"{crate.folder}/{file}")
-            place = text.find(line[len("old: ") :])
+    found = []
+    for file, old, _ in pairs_of(edit):
+        place = text_of(f"{crate.folder}/{file}").find(old)
+        # (what an earlier pair put there stands in the same function)
+        if place >= 0:
             module = "::".join([crate.name, *(it for it in file[: -len(".rt")].split("/")[1:] if it not in ("lib", "main"))])
-            # (what an earlier pair put there stands in the same function)
-            if place >= 0:
-                found.append(function_at(text, place, module) if file.startswith("src/") else None)
+            found.append(function_at(text_of(f"{crate.folder}/{file}"), place, module) if file.startswith("src/") else None)
     return list(dict.fromkeys(found)) if all(found) else []
 
 
 def rounds_of(crate, edits):
     """Returns lists of edits with their functions, which are distinct within each; an edit of anything else is a list by itself."""
+
+    def fits(others, edit, functions):
+        is_apart = functions and all(mine and not {*functions} & {*mine} for _, mine in others)
+        return is_apart and planted(crate, [*(it for it, _ in others), edit])
+
     rounds = []
     for edit in edits:
         functions = functions_of(crate, edit)
-        fits = [it for it in rounds if functions and all(others and not {*functions} & {*others} for _, others in it)]
-        if fits:
-            fits[0].append((edit, functions))
-        else:
-            rounds.append([(edit, functions)])
+        others = next((it for it in rounds if fits(it, edit, functions)), None)
+        if others is None:
+            rounds.append([])
+        (rounds[-1] if others is None else others).append((edit, functions))
     return rounds
 
 
-def planted(rt, crate, edits):
-    """Returns the texts of the crate's files with all these edits in them, or None if one doesn't apply beside the others."""
+def planted(crate, edits):
+    """Returns the texts of the crate's files with all these edits in them; none, if one doesn't apply beside the others."""
     texts = {}
-    with tempfile.TemporaryDirectory(prefix="kuldraff-edits-") as room:
-        shutil.copytree(f"{crate.folder}/src", f"{room}/src")
-        for edit in edits:
-            changed = rt.read_edit(edit, room)[0]
-            if changed is None:
-                return None
-            for file, text in changed.items():
-                texts[file] = text
-                with open(f"{room}/{file}", "w", encoding="utf-8") as it:
-                    it.write(text)
+    for file, old, new in (pair for edit in edits for pair in pairs_of(edit)):
+        text = texts.get(file) or text_of(f"{crate.folder}/{file}")
+        if text.count(old) != 1:
+            return {}
+        texts[file] = text.replace(old, new)
     return texts
 
 
@@ -104,16 +110,21 @@ def judged(rt, crate, said, function):
 
 
 def try_round(rt, crate, edits, seed):
-    """Returns what each of these edits came to: by one check together, or by a check of the crate for one that this tells nothing of."""
+    """Returns what each of these edits came to: by one check together; for one of which it tells nothing by itself, at last by a check of the crate."""
     functions = [it for _, mine in edits for it in mine]
-    texts = planted(rt, crate, [edit for edit, _ in edits]) if functions else None
+    texts = planted(crate, [edit for edit, _ in edits]) if functions else {}
     said, results = check(rt, crate, texts, functions, seed).stdout if texts else "", []
     for edit, mine in edits:
         told = [judged(rt, crate, said, it) for it in mine]
         refused = next((it for it in told if it and it[0] != rt.MISSED), None)
         best = refused or (told[0] if told and all(told) else None)
         label = f"must-fail {crate.name}/{os.path.basename(edit)}"
-        results.append((best[0], f"{label}: {best[1]}") if best else rt.must_fail(crate, edit, ["--jobs", "1"], seed))
+        if best:
+            results.append((best[0], f"{label}: {best[1]}"))
+        elif len(edits) > 1:
+            results += try_round(rt, crate, [(edit, mine)], seed)
+        else:
+            results.append(rt.must_fail(crate, edit, ["--jobs", "1"], seed))
     return results
 
 
