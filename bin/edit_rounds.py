@@ -139,7 +139,7 @@ def try_together(rt, name, edits):
     with tempfile.TemporaryDirectory(prefix="kuldraff-edits-") as room:
         control = check(rt, crate, {}, functions, f"{room}/seed")
         if control.returncode:
-            return [f"{name}: NOT TRIED: it is not proved without edits:\n{control.stdout}"]
+            return [f"{name}: NOT TRIED: without edits its check ended with status {control.returncode}:\n{control.stdout}"]
         print(f"{gate_tool.spent():6.1f} s  {name}: {len(functions) or 'all'} functions are proved without edits", flush=True)
         for number, edits in enumerate(rounds):
             rt.linked(f"{room}/seed", f"{room}/{number}")
