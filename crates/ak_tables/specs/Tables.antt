@@ -1,0 +1,73 @@
+-- What tables store, what a change of it touched, and what a keeper over tables keeps.
+use Rattle.std.specs.Prelude.{◌≡◌, refl, ℕ, Bool, true, false, if◌then◌else◌, List, [], Option, None, map, IfSome}
+use Rattle.std.specs.BTreeMap.{is_at}
+use Rattle.std.specs.Coded.{Coded, code_by, coded×, coded_option, coded_ℕ}
+use Rattle.std.specs.FinMap.{get, empty}
+use Rattle.std.specs.List.{list_any}
+use Rattle.std.specs.Option.{option_or, unwrap_or}
+use Rattle.ak_base.specs.Names.{name_cmp}
+use Rattle.ak_base.specs.declared.names.Name.{Name}
+use Rattle.ak_base.specs.declared.rows.Row.{Row}
+use Rattle.ak_base.specs.Rows.{name_of}
+use Rattle.ak_faults.specs.Causes.{Health}
+use Rattle.ak_keep.specs.Collections.{Holding, Rows, rows_of}
+use Rattle.ak_keep.specs.Entries.{row_at}
+use Rattle.ak_keep.specs.Marks.{WithMark}
+use Rattle.ak_keep.specs.MemoryKeepers.{MemoryState}
+use Rattle.ak_tables.specs.declared.tables.StoredCollection.{StoredCollection}
+use Rattle.ak_tables.specs.declared.touched.Touched.{Touched}
+
+-- ---- what is stored
+-- the rows and the head that were read are those that are stored
+pub record IsReadAs (read : StoredCollection) (stored : Holding) : Type 0 where
+  pub rows : stored.rows ≡ rows_of read.rows
+  pub head : stored.head ≡ read.head
+
+-- the first row of this name
+abbrev pub row_named : List Row → Name → Option Row
+row_named rows name = row_at (map (λ row. (name_of row, row)) rows) name
+
+-- what was held, and under names that were not held these rows
+abbrev pub ArePutInto : Rows → List Row → Rows → Type 0
+ArePutInto was rows now = (name : Name) → get now name ≡ option_or (get was name) (row_named rows name)
+
+-- ---- what was touched
+-- whether the name is one of these
+abbrev pub is_among : List Name → Name → Bool
+is_among names name = list_any (λ (touched : Name). is_at (name_cmp name) touched) names
+
+-- the rows that were stored, none of them if all were replaced
+abbrev pub left_of : Touched → Holding → Rows
+left_of touched was = if touched.whole then empty else was.rows
+
+-- what is held differs from what was stored under the touched names alone, and in the head if that was touched
+pub record Covers (touched : Touched) (was now : Holding) : Type 0 where
+  pub rows : (name : Name) → is_among touched.names name ≡ false → get now.rows name ≡ get (left_of touched was) name
+  pub head : touched.head ≡ false → now.head ≡ was.head
+
+-- ---- the keeper
+-- what it keeps, what its tables store, if they tell it, and how many of its commits failed
+pub record TableState : Type 0 where
+  pub kept : WithMark Holding
+  pub stored : Option Holding
+  pub faults : ℕ
+
+-- how many commits failed; it is never known that none will
+abbrev pub health_of : TableState → Health
+health_of s = record { faults = s.faults; calm = false }
+
+-- what was kept last: at the mark if there is one
+abbrev pub last_kept : WithMark Holding → Holding
+last_kept w = unwrap_or w.mark w.current
+
+-- the keeper in memory is told no call to fail; the tables store what was kept last; and what was changed since was touched
+pub record IsConsistent (memory : MemoryState) (stored : Option Holding) (touched : Touched) : Type 0 where
+  pub obeys : memory.fails ≡ []
+  pub same : IfSome stored (λ holding. holding ≡ last_kept memory.kept)
+  pub covers : IfSome memory.kept.mark (λ marked. Covers touched marked memory.kept.current)
+
+-- the code by which its values are told apart
+abbrev pub state_code : Coded (WithMark Holding) → Coded Holding → Coded TableState
+state_code kept holding =
+    code_by (WithMark Holding × (Option Holding × ℕ)) (coded× kept (coded× (coded_option holding) coded_ℕ))
+    (λ s. (s.kept, (s.stored, s.faults))) (λ p. record { kept = p.0; stored = p.1.0; faults = p.1.1 }) (λ _. refl)

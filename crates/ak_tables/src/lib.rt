@@ -1,0 +1,11 @@
+// A keeper that stores its collection in tables: it keeps a copy in memory, and writes what was touched at each commit.
+#![tactic(auto)]
+
+mod keepers;
+mod loads;
+mod tables;
+mod touched;
+
+pub use keepers::TableKeeper;
+pub use tables::{StoredCollection, Tables};
+pub use touched::Touched;
