@@ -1,18 +1,16 @@
 -- What was touched covers what was changed.
-use Rattle.std.specs.Prelude.{◌≡◌, Bool, true, false, T, ◌||◌, Option, Some, None, List, [], ◌∷◌, ◌++◌, map, cond}
+use Rattle.std.specs.Prelude.{◌≡◌, ℤ, Bool, true, false, T, ◌||◌, Option, Some, None, List, [], ◌∷◌, ◌++◌, map, cond}
 use Rattle.std.proofs.Common.{refl, sym, ap, subst, ◌∙◌}
 use Rattle.std.proofs.lemmas.List.Folds.{list_any-append}
 use Rattle.std.specs.BTreeMap.{is_at}
-use Rattle.std.specs.FinMap.{get, get-empty, get-insert, get-remove, same_map}
-use Rattle.std.specs.Option.{option_or}
-use Rattle.ak_base.proofs.NameOrder.{names_exact}
+use Rattle.std.specs.FinMap.{get, get-empty, get-insert, get-remove}
 use Rattle.ak_base.specs.Names.{name_cmp, names_total}
 use Rattle.ak_base.specs.Rows.{name_of}
 use Rattle.ak_base.specs.declared.heads.Head.{Head}
 use Rattle.ak_base.specs.declared.names.Name.{Name}
 use Rattle.ak_base.specs.declared.rows.Row.{Row}
 use Rattle.ak_keep.proofs.RowsByName.{get-row_at}
-use Rattle.ak_keep.specs.Collections.{Holding, Rows, with_row, without, made_of}
+use Rattle.ak_keep.specs.Collections.{Holding, with_row, without, with_moments, made_of}
 use Rattle.ak_keep.specs.Entries.{row_at}
 use Rattle.ak_tables.specs.Tables.{Covers, is_among}
 use Rattle.ak_tables.specs.declared.touched.Touched.{Touched}
@@ -63,6 +61,10 @@ covers-removed touched name was now h = record {
 -- the head was set
 pub covers-head : (touched : Touched) (head : Option Head) (was now : Holding) → Covers touched was now → Covers (record touched { head = true }) was (record now { head = head })
 covers-head touched head was now h = record { rows = h.rows; head = λ free. absurd (subst T free tt) }
+
+-- the moments of the head were set
+pub covers-moments : (moment schema usn last_sync : ℤ) (touched : Touched) (was now : Holding) → Covers touched was now → Covers (record touched { head = true }) was (with_moments moment schema usn last_sync now)
+covers-moments moment schema usn last_sync touched was now h = record { rows = h.rows; head = λ free. absurd (subst T free tt) }
 
 none-among : (rows : List Row) (q : Name) → is_among (map name_of rows) q ≡ false → row_at (map (λ row. (name_of row, row)) rows) q ≡ None
 none-among [] q free = refl

@@ -1,5 +1,5 @@
 -- Rows put one after the other into rows that have none of their names.
-use Rattle.std.specs.Prelude.{◌≡◌, Bool, true, false, Option, Some, None, List, [], ◌∷◌, map, cond}
+use Rattle.std.specs.Prelude.{◌≡◌, true, false, Option, Some, None, List, ◌∷◌, map, cond}
 use Rattle.std.proofs.Common.{refl, sym, ap, ◌∙◌}
 use Rattle.std.specs.BTreeMap.{is_at}
 use Rattle.std.specs.FinMap.{get, insert, empty, get-empty, get-insert, same_map}
@@ -11,7 +11,6 @@ use Rattle.ak_base.specs.declared.names.Name.{Name}
 use Rattle.ak_base.specs.declared.rows.Row.{Row}
 use Rattle.ak_keep.proofs.RowsByName.{get-row_at, same_of_tied}
 use Rattle.ak_keep.specs.Collections.{Rows, rows_of}
-use Rattle.ak_keep.specs.Entries.{row_at}
 use Rattle.ak_tables.specs.Tables.{ArePutInto, row_named}
 
 pub or_none : (o : Option Row) → option_or o None ≡ o

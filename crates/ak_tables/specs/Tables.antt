@@ -1,5 +1,5 @@
 -- What tables store, what a change of it touched, and what a keeper over tables keeps.
-use Rattle.std.specs.Prelude.{◌≡◌, refl, ℕ, Bool, true, false, if◌then◌else◌, List, [], Option, None, map, IfSome}
+use Rattle.std.specs.Prelude.{◌≡◌, refl, ℕ, Bool, false, if◌then◌else◌, List, [], Option, map, IfSome}
 use Rattle.std.specs.BTreeMap.{is_at}
 use Rattle.std.specs.Coded.{Coded, code_by, coded×, coded_option, coded_ℕ}
 use Rattle.std.specs.FinMap.{get, empty}

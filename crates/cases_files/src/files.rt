@@ -3,7 +3,7 @@ ghost use Rattle.ak_keep.specs.Keepers.{is_marked};
 
 use crate::heads::{head_of, head_text};
 use crate::tables::{asked, ran, row_texts};
-use ak_base::{Name, Row, cut};
+use ak_base::{List, Name, Row, cut};
 use ak_keep::{Keeper, Lookup};
 use ak_sqlite::SqliteKeeper;
 use cases_keepers::{done, row_of};
@@ -105,6 +105,7 @@ fn change<K: Keeper>(
         "put" => put_row(alloc, keeper, row_of(alloc, rest)?),
         "remove" => done(alloc, keeper.remove(name_of(rest)?)),
         "set-head" => set_head(alloc, keeper, rest),
+        "replace" => replace_by_none(alloc, keeper, rest),
         "back" => {
             keeper.back();
             Ok(String::from_str(alloc, "ok")?)
@@ -131,6 +132,16 @@ fn set_head<K: Keeper>(alloc: Global, keeper: &mut K, rest: &str) -> Result<Stri
         return Err(Unread::Bad);
     }
     done(alloc, keeper.set_head(head))
+}
+
+fn replace_by_none<K: Keeper>(alloc: Global, keeper: &mut K, head: &str) -> Result<String, Unread>
+    requires { is_marked (K.keeping keeper.old) ≡ true }
+{
+    let head = head_of(alloc, head)?;
+    if !head.is_in_range() {
+        return Err(Unread::Bad);
+    }
+    done(alloc, keeper.replace_all(List::new(alloc), head))
 }
 
 fn mark<K: Keeper>(alloc: Global, keeper: &mut K) -> Result<String, Unread> {
