@@ -4,24 +4,29 @@ use Rattle.std.specs.BTreeMap.{is_at}
 use Rattle.std.specs.Coded.{Coded, code_by, coded×, coded_option, coded_ℕ}
 use Rattle.std.specs.FinMap.{get, empty}
 use Rattle.std.specs.List.{list_any}
-use Rattle.std.specs.Option.{option_or, unwrap_or}
+use Rattle.std.specs.Option.{option_map, option_or, unwrap_or}
 use Rattle.ak_base.specs.Names.{name_cmp}
+use Rattle.ak_base.specs.declared.heads.Head.{Head}
 use Rattle.ak_base.specs.declared.names.Name.{Name}
 use Rattle.ak_base.specs.declared.rows.Row.{Row}
 use Rattle.ak_base.specs.Rows.{name_of}
-use Rattle.ak_faults.specs.Causes.{Health}
+use Rattle.ak_faults.specs.Causes.{Health, one_more}
 use Rattle.ak_keep.specs.Collections.{Holding, Rows, rows_of}
 use Rattle.ak_keep.specs.Entries.{row_at}
+use Rattle.ak_keep.specs.Marks as marks
 use Rattle.ak_keep.specs.Marks.{WithMark}
 use Rattle.ak_keep.specs.MemoryKeepers.{MemoryState}
 use Rattle.ak_tables.specs.declared.tables.StoredCollection.{StoredCollection}
 use Rattle.ak_tables.specs.declared.touched.Touched.{Touched}
 
 -- ---- what is stored
--- the rows and the head that were read are those that are stored
-pub record IsReadAs (read : StoredCollection) (stored : Holding) : Type 0 where
-  pub rows : stored.rows ≡ rows_of read.rows
-  pub head : stored.head ≡ read.head
+-- rows and a head, as they are held
+abbrev pub holding : Rows → Option Head → Holding
+holding rows head = record { rows = rows; head = head }
+
+-- what was read, as it is held
+abbrev pub loaded : StoredCollection → Holding
+loaded read = holding (rows_of read.rows) read.head
 
 -- the first row of this name
 abbrev pub row_named : List Row → Name → Option Row
@@ -51,6 +56,18 @@ pub record TableState : Type 0 where
   pub kept : WithMark Holding
   pub stored : Option Holding
   pub faults : ℕ
+
+-- it keeps what the step makes of what it kept
+abbrev pub with_kept : (WithMark Holding → WithMark Holding) → TableState → TableState
+with_kept step s = record s { kept = step s.kept }
+
+-- what it held is stored, and it is no longer marked
+abbrev pub committed : TableState → TableState
+committed s = record s { kept = marks.committed s.kept; stored = option_map (λ _. s.kept.current) s.stored }
+
+-- back at the mark, with one fault more
+abbrev pub failed : TableState → TableState
+failed s = record s { kept = marks.back s.kept; faults = one_more s.faults }
 
 -- how many commits failed; it is never known that none will
 abbrev pub health_of : TableState → Health

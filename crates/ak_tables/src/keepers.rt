@@ -12,7 +12,7 @@ ghost use Rattle.ak_keep.specs.Collections.{AscendsPast, IsId, IsPageOf, with_ro
 ghost use Rattle.ak_keep.specs.Keepers.{IsRightlyKnown, KeepCause, all_known, is_marked};
 ghost use Rattle.ak_keep.specs.Marks as marks;
 ghost use Rattle.ak_keep.specs.declared.keepers.KeepFault.TheVariants.{Failed, Memory as WantOfMemory};
-ghost use Rattle.ak_tables.specs.Tables.{Covers, health_of};
+ghost use Rattle.ak_tables.specs.Tables.{Covers, committed, failed, health_of, with_kept};
 
 use crate::loads::memory_of;
 use crate::tables::Tables;
@@ -175,7 +175,7 @@ impl<T: Tables> Keeper for TableKeeper<T> {
     fn put(&mut self, row: Row) -> Result<(), KeepFault>
         requires marked { is_marked (all_known self.old.kept) ≡ true }
         requires checked { IsChecked row }
-        ensures ok { OnOk result (self.new ≡ record self.old { kept = marks.changed (with_row row) self.old.kept }) }
+        ensures ok { OnOk result (self.new ≡ with_kept (marks.changed (with_row row)) self.old) }
         ensures err { OnErr result (self.new ≡ self.old) }
         ensures unfailing { IsErrOf result Failed → ⊥ }
         ensures cause { KeepCause (health_of self.old) (health_of self.new) result }
@@ -186,7 +186,7 @@ impl<T: Tables> Keeper for TableKeeper<T> {
 
     fn remove(&mut self, name: Name) -> Result<(), KeepFault>
         requires marked { is_marked (all_known self.old.kept) ≡ true }
-        ensures ok { OnOk result (self.new ≡ record self.old { kept = marks.changed (without name) self.old.kept }) }
+        ensures ok { OnOk result (self.new ≡ with_kept (marks.changed (without name)) self.old) }
         ensures err { OnErr result (self.new ≡ self.old) }
         ensures unfailing { IsErrOf result Failed → ⊥ }
         ensures cause { KeepCause (health_of self.old) (health_of self.new) result }
@@ -219,7 +219,7 @@ impl<T: Tables> Keeper for TableKeeper<T> {
     fn set_head(&mut self, head: Head) -> Result<(), KeepFault>
         requires marked { is_marked (all_known self.old.kept) ≡ true }
         requires range { IsHeadInRange head }
-        ensures ok { OnOk result (self.new ≡ record self.old { kept = marks.changed (with_head head) self.old.kept }) }
+        ensures ok { OnOk result (self.new ≡ with_kept (marks.changed (with_head head)) self.old) }
         ensures err { OnErr result (self.new ≡ self.old) }
         ensures unfailing { IsErrOf result Failed → ⊥ }
         ensures cause { KeepCause (health_of self.old) (health_of self.new) result }
@@ -238,7 +238,7 @@ impl<T: Tables> Keeper for TableKeeper<T> {
         requires marked { is_marked (all_known self.old.kept) ≡ true }
         requires held { is_some self.old.kept.current.head ≡ true }
         requires range { AreMomentsInRange moment schema usn last_sync }
-        ensures ok { OnOk result (self.new ≡ record self.old { kept = marks.changed (with_moments moment schema usn last_sync) self.old.kept }) }
+        ensures ok { OnOk result (self.new ≡ with_kept (marks.changed (with_moments moment schema usn last_sync)) self.old) }
         ensures err { OnErr result (self.new ≡ self.old) }
         ensures unfailing { IsErrOf result Failed → ⊥ }
         ensures cause { KeepCause (health_of self.old) (health_of self.new) result }
@@ -252,7 +252,7 @@ impl<T: Tables> Keeper for TableKeeper<T> {
         requires checked { All IsChecked rows }
         requires distinct { IsDistinct (eq_by_cmp name_cmp) (map name_of rows) }
         requires range { IsHeadInRange head }
-        ensures ok { OnOk result (self.new ≡ record self.old { kept = marks.changed (λ _. made_of rows head) self.old.kept }) }
+        ensures ok { OnOk result (self.new ≡ with_kept (marks.changed (λ _. made_of rows head)) self.old) }
         ensures err { OnErr result (self.new ≡ self.old) }
         ensures unfailing { IsErrOf result Failed → ⊥ }
         ensures cause { KeepCause (health_of self.old) (health_of self.new) result }
@@ -269,7 +269,7 @@ impl<T: Tables> Keeper for TableKeeper<T> {
 
     fn mark(&mut self) -> Result<(), KeepFault>
         requires unmarked { is_marked (all_known self.old.kept) ≡ false }
-        ensures ok { OnOk result (self.new ≡ record self.old { kept = marks.marked_here self.old.kept }) }
+        ensures ok { OnOk result (self.new ≡ with_kept marks.marked_here self.old) }
         ensures err { OnErr result (self.new ≡ self.old) }
         ensures unfailing { IsErrOf result Failed → ⊥ }
         ensures cause { KeepCause (health_of self.old) (health_of self.new) result }
@@ -281,7 +281,7 @@ impl<T: Tables> Keeper for TableKeeper<T> {
 
     fn back(&mut self)
         requires marked { is_marked (all_known self.old.kept) ≡ true }
-        ensures { self.new ≡ record self.old { kept = marks.back self.old.kept } }
+        ensures { self.new ≡ with_kept marks.back self.old }
     {
         self.memory.back();
     }
@@ -289,9 +289,9 @@ impl<T: Tables> Keeper for TableKeeper<T> {
     // It stores what is held, where it is told what is stored.
     fn commit(&mut self) -> Result<(), KeepFault>
         requires marked { is_marked (all_known self.old.kept) ≡ true }
-        ensures ok { OnOk result (self.new ≡ record self.old { kept = marks.committed self.old.kept; stored = option_map (λ _. self.old.kept.current) self.old.stored }) }
-        ensures memory { result ≡ Err WantOfMemory → self.new ≡ record self.old { kept = marks.back self.old.kept } }
-        ensures failed { result ≡ Err Failed → self.new ≡ record self.old { kept = marks.back self.old.kept; faults = one_more self.old.faults } }
+        ensures ok { OnOk result (self.new ≡ committed self.old) }
+        ensures memory { result ≡ Err WantOfMemory → self.new ≡ with_kept marks.back self.old }
+        ensures failed { result ≡ Err Failed → self.new ≡ failed self.old }
         ensures err { OnErr result (self.new.kept ≡ marks.back self.old.kept) }
         ensures cause { KeepCause (health_of self.old) (health_of self.new) result }
     {

@@ -6,7 +6,7 @@ ghost use Rattle.ak_base.specs.Rows.{name_of};
 ghost use Rattle.ak_keep.specs.Collections.{rows_of, with_head, with_row};
 ghost use Rattle.ak_keep.specs.Keepers.{all_known, is_marked};
 ghost use Rattle.ak_keep.specs.Marks as marks;
-ghost use Rattle.ak_tables.specs.Tables.{ArePutInto};
+ghost use Rattle.ak_tables.specs.Tables.{ArePutInto, loaded};
 
 use crate::tables::StoredCollection;
 use ak_base::{Head, List, Name, Row};
@@ -16,7 +16,7 @@ use std::alloc::Global;
 /// A keeper in memory of what was read. It fails if a row or the head is out of its ranges, or if two rows have one
 /// name.
 pub(crate) fn memory_of(alloc: Global, read: StoredCollection) -> Result<MemoryKeeper, KeepFault>
-    ensures kept { IfOk result (λ keeper. keeper.kept ≡ record { current = record { rows = rows_of read.rows; head = read.head }; mark = None }) }
+    ensures kept { IfOk result (λ keeper. keeper.kept ≡ record { current = loaded read; mark = None }) }
     ensures obeys { IfOk result (λ keeper. keeper.fails ≡ []) }
 {
     let StoredCollection { rows, head } = read;

@@ -1,6 +1,6 @@
 ghost use Rattle.std.specs.Prelude.{◌≡◌, Option, option_map, IfOk, IfSome, OnOk, OnErr};
 ghost use Rattle.ak_keep.specs.Collections.{Holding};
-ghost use Rattle.ak_tables.specs.Tables.{Covers, IsReadAs};
+ghost use Rattle.ak_tables.specs.Tables.{Covers, holding, loaded};
 
 use crate::touched::Touched;
 use ak_base::{Head, List, Row};
@@ -21,7 +21,7 @@ pub trait Tables: Drop {
     /// anything else is stored.
     fn read(&mut self) -> Result<StoredCollection, KeepFault>
         ensures same { stored self.new ≡ stored self.old }
-        ensures told { IfOk result (λ read. IfSome (stored self.old) (IsReadAs read)) };
+        ensures told { IfOk result (λ read. IfSome (stored self.old) (λ was. was ≡ loaded read)) };
 
     /// Stores these rows and this head in place of what was stored, in one transaction. Only under the names and
     /// parts that were touched may they differ from it.
@@ -31,8 +31,8 @@ pub trait Tables: Drop {
         head: &Option<Head>,
         touched: &Touched,
     ) -> Result<(), KeepFault>
-        requires covers { IfSome (stored self.old) (λ was. Covers touched.now was (record { rows = rows.now; head = head.now })) }
-        ensures ok { OnOk result (stored self.new ≡ option_map (λ _. record { rows = rows.now; head = head.now }) (stored self.old)) }
+        requires covers { IfSome (stored self.old) (λ was. Covers touched.now was (holding rows.now head.now)) }
+        ensures ok { OnOk result (stored self.new ≡ option_map (λ _. holding rows.now head.now) (stored self.old)) }
         ensures err { OnErr result (stored self.new ≡ stored self.old) };
 }
 
