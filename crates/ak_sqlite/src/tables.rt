@@ -1,4 +1,4 @@
-ghost use Rattle.std.specs.Prelude.{◌≡◌, false, None, IfOk};
+ghost use Rattle.std.specs.Prelude.{◌≡◌, true, false, None, IfOk};
 
 use crate::faults::FileFault;
 use crate::layouts::make_tables;
@@ -30,6 +30,16 @@ impl Model for SqliteTables {
     ghost view = { λ tables. tables.conn.in_transaction };
 
     ghost invariant = { λ tables. tables.conn.in_transaction ≡ false };
+}
+
+impl SqliteTables {
+    /// Whether no transaction is open. None is between two calls.
+    pub fn is_idle(&self) -> bool
+        ensures idle { result ≡ true }
+        ensures closed { self.now ≡ false }
+    {
+        self.conn.is_autocommit()
+    }
 }
 
 impl Drop for SqliteTables {
@@ -89,8 +99,3 @@ fn opened(rt: &HostRuntime, path: &str) -> Result<Connection<FileStore<File>>, F
         Err(error) => Err(FileFault::from(error)),
     }
 }
-
-/// No transaction is open between two calls.
-pub fn no_transaction_is_open(tables: &SqliteTables)
-    ensures { tables.now ≡ false }
-{}
