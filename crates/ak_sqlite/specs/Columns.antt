@@ -1,5 +1,5 @@
 -- What the columns of each table hold, counted from 0 in the order of the table.
-use Rattle.std.specs.Prelude.{◌≡◌, pos}
+use Rattle.std.specs.Prelude.{◌≡◌, ℕ, pos, List, [], ◌∷◌}
 use Rattle.sqlite_value.specs.Order.{Row, column}
 use Rattle.sqlite_value.specs.declared.value.Value.TheVariants.{Int, Text}
 use Rattle.ak_base.specs.declared.notes.Note.{Note}
@@ -71,3 +71,7 @@ pub record HoldsHead (row : Row) (h : Head) : Type 0 where
   pub dirty : column row 5 ≡ Int (pos 0)
   pub usn : column row 6 ≡ Int h.usn
   pub last_sync : column row 7 ≡ Int h.last_sync
+
+-- what is written of a head into the columns `crt`, `mod`, `scm`, `usn`, `ls`, `conf` and `tags`, with the texts of the last two
+abbrev pub head_columns : Head → List ℕ → List ℕ → Row
+head_columns h conf tags = Int h.crt ∷ Int h.moment ∷ Int h.schema ∷ Int h.usn ∷ Int h.last_sync ∷ Text conf ∷ Text tags ∷ []

@@ -1,3 +1,5 @@
+ghost use Rattle.std.specs.Prelude.{◌≡◌};
+
 use ak_base::Memory;
 use ak_json::JsonFault;
 use ak_keep::KeepFault;
@@ -50,6 +52,10 @@ impl<T: Drop> From<AllocFailed<T>> for FileFault {
 }
 
 impl From<FileFault> for KeepFault {
+    ghost use Rattle.ak_sqlite.specs.Faults.{fault_of};
+
+    ghost from_gives = { λ fault given. given ≡ fault_of fault };
+
     fn from(fault: FileFault) -> KeepFault {
         match fault {
             FileFault::Failed => KeepFault::Failed,

@@ -1,8 +1,9 @@
 // The head of a collection, as the row of `col`.
-ghost use Rattle.std.specs.Prelude.{◌≡◌, IfOk, OnOk, pos};
+ghost use Rattle.std.specs.Prelude.{◌≡◌, map, IfOk, OnOk};
 ghost use Rattle.sqlite_value.specs.Order.{column};
 ghost use Rattle.sqlite_value.specs.declared.value.Value.TheVariants.{Int};
-ghost use Rattle.ak_sqlite.specs.Columns.{HoldsHead};
+ghost use Rattle.sqlite_value.specs.Value.{owned};
+ghost use Rattle.ak_sqlite.specs.Columns.{HoldsHead, head_columns};
 
 use crate::cells::text_cell;
 use crate::columns::{integer_at, text_at};
@@ -101,7 +102,9 @@ pub(crate) fn write_head<S: Alter>(
 }
 
 /// What is written of a head, with the texts of its settings and of its tags.
-fn head_cells<'a>(head: &Head, conf: &'a Text, tags: &'a Text) -> [ValueRef<'a>; 7] {
+fn head_cells<'a>(head: &Head, conf: &'a Text, tags: &'a Text) -> [ValueRef<'a>; 7]
+    ensures { map owned result ≡ head_columns head.now conf.now tags.now }
+{
     [
         ValueRef::Int(head.crt),
         ValueRef::Int(head.moment),

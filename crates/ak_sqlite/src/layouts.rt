@@ -3,9 +3,9 @@ ghost use Rattle.std.specs.Prelude.{◌≡◌, false};
 
 use crate::columns::text_at;
 use crate::faults::FileFault;
-use crate::statements::{MAKE_TABLES, READ_LAYOUT, TABLES};
+use crate::statements::{MAKE_TABLES, READ_LAYOUT};
 use crate::writes::{ended, run};
-use sqlite::{Alter, Connection, Row as SqlRow, Statement, Transaction};
+use sqlite::{Alter, Connection, Row as SqlRow, Transaction};
 
 /// Makes the tables if the file has none. It fails if the file has some of them, or anything else but indexes.
 pub(crate) fn make_tables<S: Alter>(conn: &mut Connection<S>) -> Result<(), FileFault>
@@ -13,7 +13,7 @@ pub(crate) fn make_tables<S: Alter>(conn: &mut Connection<S>) -> Result<(), File
     ensures { conn.new.in_transaction ≡ false }
 {
     let found = tables_in(conn)?;
-    if found == TABLES.len() {
+    if found == MAKE_TABLES.len() {
         return Ok(());
     }
     if found > 0 {
@@ -47,24 +47,28 @@ fn tables_in<S: Alter>(conn: &mut Connection<S>) -> Result<usize, FileFault>
     Ok(found)
 }
 
-/// Whether a row of the layout is one of the tables, and not an index or a table of SQLite's own. It fails for
-/// anything else.
+/// Whether a row of the layout is one of the tables. It is not, if it is an index or a table of SQLite's own. It fails for
+/// anything else, and for an index that would refuse rows.
 fn is_table(row: &SqlRow) -> Result<bool, FileFault> {
     let kind = text_at(row, 0)?;
     let name = text_at(row, 1)?;
-    if kind.as_str() == "index" || name.as_str().starts_with("sqlite_") {
+    if name.as_str().starts_with("sqlite_") {
         return Ok(false);
     }
-    if kind.as_str() == "table" && is_named(name.as_str()) {
+    let text = text_at(row, 2)?;
+    if kind.as_str() == "index" && !text.as_str().starts_with("CREATE UNIQUE") {
+        return Ok(false);
+    }
+    if kind.as_str() == "table" && makes_table(text.as_str()) {
         return Ok(true);
     }
     Err(FileFault::Failed)
 }
 
-/// Whether this is the name of one of the tables.
-fn is_named(name: &str) -> bool {
-    for table in &TABLES {
-        if *table == name {
+/// Whether this is the text by which one of the tables is made.
+fn makes_table(text: &str) -> bool {
+    for table in &MAKE_TABLES {
+        if *table == text {
             return true;
         }
     }
@@ -72,52 +76,16 @@ fn is_named(name: &str) -> bool {
 }
 
 /// All rows that a statement shows.
-fn all_rows<S: Alter>(conn: &mut Connection<S>, sql: &str) -> Result<Vec<SqlRow>, FileFault>
+pub(crate) fn all_rows<S: Alter>(
+    conn: &mut Connection<S>,
+    sql: &str,
+) -> Result<Vec<SqlRow>, FileFault>
     ensures { conn.old.in_transaction ≡ false → conn.new.in_transaction ≡ false }
 {
     match conn.query_all(sql, &[]) {
         Ok(rows) => Ok(rows),
         Err(error) => Err(FileFault::from(error)),
     }
-}
-
-/// All rows of a table, which must have these columns, in this order.
-pub(crate) fn rows_of<S: Alter>(
-    conn: &mut Connection<S>,
-    sql: &str,
-    columns: &[&str],
-) -> Result<Vec<SqlRow>, FileFault>
-    ensures { conn.old.in_transaction ≡ false → conn.new.in_transaction ≡ false }
-{
-    let statement = prepared(conn, sql)?;
-    if has_columns(&statement, columns) {
-        return all_rows(conn, sql);
-    }
-    Err(FileFault::Failed)
-}
-
-/// The statement of a text.
-fn prepared<S: Alter>(conn: &mut Connection<S>, sql: &str) -> Result<Statement, FileFault>
-    ensures { conn.old.in_transaction ≡ false → conn.new.in_transaction ≡ false }
-{
-    match conn.prepare(sql) {
-        Ok(statement) => Ok(statement),
-        Err(error) => Err(FileFault::from(error)),
-    }
-}
-
-/// Whether the statement shows columns of these names, in this order, and no others.
-fn has_columns(statement: &Statement, columns: &[&str]) -> bool {
-    let names = statement.column_names();
-    if names.len() != columns.len() {
-        return false;
-    }
-    for (name, column) in names.iter().zip(columns) {
-        if name.as_slice() != column.as_bytes() {
-            return false;
-        }
-    }
-    true
 }
 
 /// Runs the statements, up to the first that is refused.

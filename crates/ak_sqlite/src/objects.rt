@@ -21,12 +21,8 @@ pub(crate) fn read_object(alloc: Global, text: &Text) -> Result<Map<String, Valu
 }
 
 /// Adds the rows of a table that the object in this text has.
-pub(crate) fn add_rows(
-    alloc: Global,
-    table: Table,
-    text: &Text,
-    rows: &mut List<Row>,
-) -> Result<(), FileFault> {
+pub(crate) fn add_rows(table: Table, text: &Text, rows: &mut List<Row>) -> Result<(), FileFault> {
+    let alloc = rows.allocator();
     let members = read_object(alloc, text)?;
     for (key, value) in members.iter() {
         let row = keyed_row(alloc, table, key.as_str(), value)?;

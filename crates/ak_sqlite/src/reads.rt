@@ -4,12 +4,9 @@ ghost use Rattle.std.specs.Prelude.{◌≡◌, false};
 use crate::columns::{card_of, grave_of, note_of, review_of, text_at};
 use crate::faults::FileFault;
 use crate::heads::head_of;
-use crate::layouts::rows_of;
+use crate::layouts::all_rows;
 use crate::objects::add_rows;
-use crate::statements::{
-    CARD_COLUMNS, COL_COLUMNS, GRAVE_COLUMNS, NOTE_COLUMNS, READ_CARDS, READ_COL, READ_GRAVES,
-    READ_NOTES, READ_REVIEWS, REVIEW_COLUMNS,
-};
+use crate::statements::{READ_CARDS, READ_COL, READ_GRAVES, READ_NOTES, READ_REVIEWS};
 use ak_base::{Head, List, Row, Table};
 use ak_tables::StoredCollection;
 use sqlite::{Alter, Connection, Row as SqlRow};
@@ -24,16 +21,16 @@ pub(crate) fn read_all<S: Alter>(
     ensures { conn.new.in_transaction ≡ false }
 {
     let mut rows = List::new(alloc);
-    let notes = rows_of(conn, READ_NOTES, &NOTE_COLUMNS)?;
+    let notes = all_rows(conn, READ_NOTES)?;
     add_all(Table::Note, notes.as_slice(), &mut rows)?;
-    let cards = rows_of(conn, READ_CARDS, &CARD_COLUMNS)?;
+    let cards = all_rows(conn, READ_CARDS)?;
     add_all(Table::Card, cards.as_slice(), &mut rows)?;
-    let reviews = rows_of(conn, READ_REVIEWS, &REVIEW_COLUMNS)?;
+    let reviews = all_rows(conn, READ_REVIEWS)?;
     add_all(Table::Review, reviews.as_slice(), &mut rows)?;
-    let graves = rows_of(conn, READ_GRAVES, &GRAVE_COLUMNS)?;
+    let graves = all_rows(conn, READ_GRAVES)?;
     add_all(Table::NoteGrave, graves.as_slice(), &mut rows)?;
-    let col = rows_of(conn, READ_COL, &COL_COLUMNS)?;
-    let head = read_col(alloc, col.as_slice(), &mut rows)?;
+    let col = all_rows(conn, READ_COL)?;
+    let head = read_col(col.as_slice(), &mut rows)?;
     Ok(StoredCollection { rows, head })
 }
 
@@ -56,20 +53,16 @@ fn row_of(table: Table, row: &SqlRow) -> Result<Row, FileFault> {
     }
 }
 
-/// The head in the row of `col`, and adds its note types, decks and options. Without a row there is none of them, and more
-/// than one row is refused.
-fn read_col(
-    alloc: Global,
-    col: &[SqlRow],
-    rows: &mut List<Row>,
-) -> Result<Option<Head>, FileFault> {
+/// The head in the row of `col`, whose note types, decks and options are added to the rows. Without a row there is none of
+/// them, and more than one row is refused.
+fn read_col(col: &[SqlRow], rows: &mut List<Row>) -> Result<Option<Head>, FileFault> {
     match col {
         [] => Ok(None),
         [row] => {
-            let head = head_of(alloc, row)?;
-            add_column(alloc, Table::NoteType, row, 9, rows)?;
-            add_column(alloc, Table::Deck, row, 10, rows)?;
-            add_column(alloc, Table::Options, row, 11, rows)?;
+            let head = head_of(rows.allocator(), row)?;
+            add_column(Table::NoteType, row, 9, rows)?;
+            add_column(Table::Deck, row, 10, rows)?;
+            add_column(Table::Options, row, 11, rows)?;
             Ok(Some(head))
         }
         _ => Err(FileFault::Failed),
@@ -78,12 +71,11 @@ fn read_col(
 
 /// Adds the rows of a table that a column of `col` has.
 fn add_column(
-    alloc: Global,
     table: Table,
     row: &SqlRow,
     at: usize,
     rows: &mut List<Row>,
 ) -> Result<(), FileFault> {
     let text = text_at(row, at)?;
-    add_rows(alloc, table, &text, rows)
+    add_rows(table, &text, rows)
 }

@@ -1,7 +1,8 @@
 // The texts of all statements. Columns go in the order of the tables.
 
-/// The tables, made in a file that has none. The sort text is declared a text, since SQLite would turn one such as `007`
-/// into a number in a column of integers.
+/// The tables, made in a file that has none. A file with tables of other texts is refused, so that each column has its
+/// name, its place and its type. The sort text is declared a text, since SQLite would turn one such as `007` into a number in a
+/// column of integers.
 pub(crate) const MAKE_TABLES: [&str; 5] = [
     "CREATE TABLE col (id integer primary key, crt integer not null, mod integer not null, scm integer not null, ver integer not null, dty integer not null, usn integer not null, ls integer not null, conf text not null, models text not null, decks text not null, dconf text not null, tags text not null)",
     "CREATE TABLE notes (id integer primary key, guid text not null, mid integer not null, mod integer not null, usn integer not null, tags text not null, flds text not null, sfld text not null, csum integer not null, flags integer not null, data text not null)",
@@ -10,41 +11,18 @@ pub(crate) const MAKE_TABLES: [&str; 5] = [
     "CREATE TABLE graves (usn integer not null, oid integer not null, type integer not null, unique (oid, type))",
 ];
 
-/// What the file has besides rows: its tables, indexes, views and triggers.
-pub(crate) const READ_LAYOUT: &str = "SELECT type, name FROM sqlite_schema";
+/// What the file has besides rows: its tables, indexes, views and triggers, each with its text.
+pub(crate) const READ_LAYOUT: &str = "SELECT type, name, sql FROM sqlite_schema";
 
-/// The names of the tables.
-pub(crate) const TABLES: [&str; 5] = ["col", "notes", "cards", "revlog", "graves"];
+pub(crate) const READ_COL: &str = "SELECT * FROM col ORDER BY id";
 
-pub(crate) const READ_COL: &str = "SELECT * FROM col";
+pub(crate) const READ_NOTES: &str = "SELECT * FROM notes ORDER BY id";
 
-pub(crate) const READ_NOTES: &str = "SELECT * FROM notes";
+pub(crate) const READ_CARDS: &str = "SELECT * FROM cards ORDER BY id";
 
-pub(crate) const READ_CARDS: &str = "SELECT * FROM cards";
+pub(crate) const READ_REVIEWS: &str = "SELECT * FROM revlog ORDER BY id";
 
-pub(crate) const READ_REVIEWS: &str = "SELECT * FROM revlog";
-
-pub(crate) const READ_GRAVES: &str = "SELECT * FROM graves";
-
-pub(crate) const COL_COLUMNS: [&str; 13] = [
-    "id", "crt", "mod", "scm", "ver", "dty", "usn", "ls", "conf", "models", "decks", "dconf",
-    "tags",
-];
-
-pub(crate) const NOTE_COLUMNS: [&str; 11] = [
-    "id", "guid", "mid", "mod", "usn", "tags", "flds", "sfld", "csum", "flags", "data",
-];
-
-pub(crate) const CARD_COLUMNS: [&str; 18] = [
-    "id", "nid", "did", "ord", "mod", "usn", "type", "queue", "due", "ivl", "factor", "reps",
-    "lapses", "left", "odue", "odid", "flags", "data",
-];
-
-pub(crate) const REVIEW_COLUMNS: [&str; 9] = [
-    "id", "cid", "usn", "ease", "ivl", "lastIvl", "factor", "time", "type",
-];
-
-pub(crate) const GRAVE_COLUMNS: [&str; 3] = ["usn", "oid", "type"];
+pub(crate) const READ_GRAVES: &str = "SELECT * FROM graves ORDER BY oid";
 
 /// Empties all tables.
 pub(crate) const CLEAR: [&str; 5] = [

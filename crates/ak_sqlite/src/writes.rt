@@ -73,11 +73,10 @@ fn delete_row<S: Alter>(transaction: &mut Transaction<'_, S>, name: Name) -> Res
         Table::Note => run_once(transaction, DELETE_NOTE, &[id]),
         Table::Card => run_once(transaction, DELETE_CARD, &[id]),
         Table::Review => run_once(transaction, DELETE_REVIEW, &[id]),
-        Table::NoteType | Table::Deck | Table::Options => Ok(()),
-        Table::NoteGrave | Table::CardGrave | Table::DeckGrave => {
-            let code = name.table.stored_code().unwrap_or(0);
-            run_once(transaction, DELETE_GRAVE, &[id, ValueRef::Int(code)])
-        }
+        _ => match name.table.stored_code() {
+            Some(code) => run_once(transaction, DELETE_GRAVE, &[id, ValueRef::Int(code)]),
+            None => Ok(()),
+        },
     }
 }
 

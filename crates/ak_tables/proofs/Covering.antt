@@ -3,16 +3,17 @@ use Rattle.std.specs.Prelude.{◌≡◌, ℤ, Bool, true, false, T, ◌||◌, Op
 use Rattle.std.proofs.Common.{refl, sym, ap, subst, ◌∙◌}
 use Rattle.std.proofs.lemmas.List.Folds.{list_any-append}
 use Rattle.std.specs.BTreeMap.{is_at}
-use Rattle.std.specs.FinMap.{get, get-empty, get-insert, get-remove}
+use Rattle.std.specs.FinMap.{get, get-empty, get-insert, get-remove, same_map}
+use Rattle.ak_base.proofs.NameOrder.{names_exact}
 use Rattle.ak_base.specs.Names.{name_cmp, names_total}
 use Rattle.ak_base.specs.Rows.{name_of}
 use Rattle.ak_base.specs.declared.heads.Head.{Head}
 use Rattle.ak_base.specs.declared.names.Name.{Name}
 use Rattle.ak_base.specs.declared.rows.Row.{Row}
 use Rattle.ak_keep.proofs.RowsByName.{get-row_at}
-use Rattle.ak_keep.specs.Collections.{Holding, with_row, without, with_moments, made_of}
+use Rattle.ak_keep.specs.Collections.{Holding, Rows, with_row, without, with_moments, made_of}
 use Rattle.ak_keep.specs.Entries.{row_at}
-use Rattle.ak_tables.specs.Tables.{Covers, is_among}
+use Rattle.ak_tables.specs.Tables.{Covers, IsWrittenOver, is_among, left_of}
 use Rattle.ak_tables.specs.declared.touched.Touched.{Touched}
 
 pub or_left : (a b : Bool) → (a || b) ≡ false → a ≡ false
@@ -78,3 +79,12 @@ covers-made rows head was = record {
   rows = λ q free. get-row_at (map (λ row. (name_of row, row)) rows) q ∙ none-among rows q free ∙ sym (get-empty name_cmp q);
   head = λ free. absurd (subst T free tt);
 }
+
+-- what is written under the touched names alone
+pub touched_suffice : (touched : Touched) (was now : Holding) (made : Rows) → Covers touched was now → IsWrittenOver touched now.rows (left_of touched was) made → made ≡ now.rows
+touched_suffice touched was now made h written = same_map names_total names_exact _ _ (λ q.
+    written q
+    ∙ elim (is_among touched.names q) as (λ b. is_among touched.names q ≡ b → cond b (get now.rows q) (get (left_of touched was) q) ≡ get now.rows q) [
+      | true ↦ λ is. refl
+      | false ↦ λ is. sym (h.rows q is)
+    ] refl)

@@ -7,12 +7,11 @@ ghost use Rattle.std.specs.Result.{IsErrOf};
 ghost use Rattle.ak_base.specs.Heads.{AreMomentsInRange, IsHeadInRange};
 ghost use Rattle.ak_base.specs.Names.{name_cmp};
 ghost use Rattle.ak_base.specs.Rows.{IsChecked, name_of};
-ghost use Rattle.ak_faults.specs.Causes.{one_more};
 ghost use Rattle.ak_keep.specs.Collections.{AscendsPast, IsId, IsPageOf, with_row, without, with_head, with_moments, made_of, rows_past, wanted_past, row_count, cards_of, is_wanted};
 ghost use Rattle.ak_keep.specs.Keepers.{IsRightlyKnown, KeepCause, all_known, is_marked};
 ghost use Rattle.ak_keep.specs.Marks as marks;
 ghost use Rattle.ak_keep.specs.declared.keepers.KeepFault.TheVariants.{Failed, Memory as WantOfMemory};
-ghost use Rattle.ak_tables.specs.Tables.{Covers, committed, failed, health_of, with_kept};
+ghost use Rattle.ak_tables.specs.Tables.{Covers, committed, refused, with_kept};
 
 use crate::loads::memory_of;
 use crate::tables::Tables;
@@ -30,20 +29,19 @@ pub struct TableKeeper<T: Tables> {
     tables: T,
     memory: MemoryKeeper,
     touched: Touched,
-    faults: u64,
 }
 
 impl<T: Tables> Model for TableKeeper<T> {
     ghost use Rattle.std.specs.Coded.{codes};
     ghost use Rattle.std.specs.FinMap as map;
-    ghost use Rattle.ak_keep.specs.MemoryKeepers.{holding_code, kept_code};
+    ghost use Rattle.ak_keep.specs.MemoryKeepers.{holding_code};
     ghost use Rattle.ak_tables.specs.Tables.{IsConsistent, TableState, state_code};
 
     ghost Value = { TableState };
 
-    ghost coded = { state_code (kept_code (holding_code (map.code (Prim.hlevel codes) (Prim.hlevel codes)) (Prim.hlevel codes))) (holding_code (map.code (Prim.hlevel codes) (Prim.hlevel codes)) (Prim.hlevel codes)) };
+    ghost coded = { state_code (holding_code (map.code (Prim.hlevel codes) (Prim.hlevel codes)) (Prim.hlevel codes)) };
 
-    ghost view = { λ k. record { kept = k.memory.kept; stored = T.stored k.tables; faults = k.faults } };
+    ghost view = { λ k. record { kept = k.memory.kept; stored = T.stored k.tables; health = T.health k.tables } };
 
     ghost invariant = { λ k. IsConsistent k.memory (T.stored k.tables) k.touched };
 }
@@ -54,7 +52,7 @@ impl<T: Tables> TableKeeper<T> {
     pub fn over_file(rt: &HostRuntime, path: &str) -> Result<TableKeeper<T>, KeepFault>
         ensures tells { IfOk result (λ keeper. is_some (all_known keeper.kept).told ≡ true) }
         ensures unmarked { IfOk result (λ keeper. is_marked (all_known keeper.kept) ≡ false) }
-        ensures faultless { IfOk result (λ keeper. (health_of keeper).faults ≡ 0) }
+        ensures faultless { IfOk result (λ keeper. keeper.health.faults ≡ 0) }
         ensures range { IfOk result (λ keeper. IsRightlyKnown (all_known keeper.kept)) }
 
         // It keeps what is stored, where that is told.
@@ -69,7 +67,7 @@ impl<T: Tables> TableKeeper<T> {
     pub fn over(alloc: Global, tables: T) -> Result<TableKeeper<T>, KeepFault>
         ensures tells { IfOk result (λ keeper. is_some (all_known keeper.kept).told ≡ true) }
         ensures unmarked { IfOk result (λ keeper. is_marked (all_known keeper.kept) ≡ false) }
-        ensures faultless { IfOk result (λ keeper. (health_of keeper).faults ≡ 0) }
+        ensures health { IfOk result (λ keeper. keeper.health ≡ T.health tables) }
         ensures range { IfOk result (λ keeper. IsRightlyKnown (all_known keeper.kept)) }
         ensures tables { IfOk result (λ keeper. keeper.stored ≡ T.stored tables) }
         ensures stored { IfOk result (λ keeper. IfSome keeper.stored (λ stored. stored ≡ keeper.kept.current)) }
@@ -84,7 +82,6 @@ impl<T: Tables> TableKeeper<T> {
             tables,
             memory,
             touched: Touched::nothing(alloc),
-            faults: 0,
         })
     }
 }
@@ -92,14 +89,14 @@ impl<T: Tables> TableKeeper<T> {
 impl<T: Tables> Lookup for TableKeeper<T> {
     ghost keeping = { λ keeper. all_known keeper.kept };
 
-    ghost health = { health_of };
+    ghost health = { λ keeper. keeper.health };
 
     ghost checks = { true };
 
     ghost kept = { λ _. tt };
 
     fn faults(&self) -> u64 {
-        self.faults
+        self.tables.faults()
     }
 
     fn held(&self) -> bool {
@@ -112,7 +109,7 @@ impl<T: Tables> Lookup for TableKeeper<T> {
         ensures checked { IfOk result (λ row. IfSome row IsChecked) }
         ensures state { self.new ≡ self.old }
         ensures unfailing { IsErrOf result Failed → ⊥ }
-        ensures cause { KeepCause (health_of self.old) (health_of self.new) result }
+        ensures cause { KeepCause self.old.health self.new.health result }
     {
         self.memory.get(name)
     }
@@ -123,7 +120,7 @@ impl<T: Tables> Lookup for TableKeeper<T> {
         ensures range { IfOk result (λ ids. All IsId ids) }
         ensures state { self.new ≡ self.old }
         ensures unfailing { IsErrOf result Failed → ⊥ }
-        ensures cause { KeepCause (health_of self.old) (health_of self.new) result }
+        ensures cause { KeepCause self.old.health self.new.health result }
     {
         self.memory.cards_of(note)
     }
@@ -133,7 +130,7 @@ impl<T: Tables> Lookup for TableKeeper<T> {
         ensures range { IfOk result (λ head. IfSome head IsHeadInRange) }
         ensures state { self.new ≡ self.old }
         ensures unfailing { IsErrOf result Failed → ⊥ }
-        ensures cause { KeepCause (health_of self.old) (health_of self.new) result }
+        ensures cause { KeepCause self.old.health self.new.health result }
     {
         self.memory.head()
     }
@@ -149,7 +146,7 @@ impl<T: Tables> Readable for TableKeeper<T> {
         ensures checked { IfOk result (λ page. All IsChecked page) }
         ensures state { self.new ≡ self.old }
         ensures unfailing { IsErrOf result Failed → ⊥ }
-        ensures cause { KeepCause (health_of self.old) (health_of self.new) result }
+        ensures cause { KeepCause self.old.health self.new.health result }
     {
         self.memory.page(table, past, limit)
     }
@@ -159,7 +156,7 @@ impl<T: Tables> Readable for TableKeeper<T> {
         ensures small { IfOk result (λ count. count < 2 ^ 63) }
         ensures state { self.new ≡ self.old }
         ensures unfailing { IsErrOf result Failed → ⊥ }
-        ensures cause { KeepCause (health_of self.old) (health_of self.new) result }
+        ensures cause { KeepCause self.old.health self.new.health result }
     {
         self.memory.count(table)
     }
@@ -178,7 +175,7 @@ impl<T: Tables> Keeper for TableKeeper<T> {
         ensures ok { OnOk result (self.new ≡ with_kept (marks.changed (with_row row)) self.old) }
         ensures err { OnErr result (self.new ≡ self.old) }
         ensures unfailing { IsErrOf result Failed → ⊥ }
-        ensures cause { KeepCause (health_of self.old) (health_of self.new) result }
+        ensures cause { KeepCause self.old.health self.new.health result }
     {
         self.touched.add(row.name())?;
         self.memory.put(row)
@@ -189,7 +186,7 @@ impl<T: Tables> Keeper for TableKeeper<T> {
         ensures ok { OnOk result (self.new ≡ with_kept (marks.changed (without name)) self.old) }
         ensures err { OnErr result (self.new ≡ self.old) }
         ensures unfailing { IsErrOf result Failed → ⊥ }
-        ensures cause { KeepCause (health_of self.old) (health_of self.new) result }
+        ensures cause { KeepCause self.old.health self.new.health result }
     {
         self.touched.add(name)?;
         self.memory.remove(name)
@@ -211,7 +208,7 @@ impl<T: Tables> Keeper for TableKeeper<T> {
         ensures checked { IfOk result (λ page. All IsChecked page) }
         ensures state { self.new ≡ self.old }
         ensures unfailing { IsErrOf result Failed → ⊥ }
-        ensures cause { KeepCause (health_of self.old) (health_of self.new) result }
+        ensures cause { KeepCause self.old.health self.new.health result }
     {
         self.memory.pending(table, want, past, limit)
     }
@@ -222,7 +219,7 @@ impl<T: Tables> Keeper for TableKeeper<T> {
         ensures ok { OnOk result (self.new ≡ with_kept (marks.changed (with_head head)) self.old) }
         ensures err { OnErr result (self.new ≡ self.old) }
         ensures unfailing { IsErrOf result Failed → ⊥ }
-        ensures cause { KeepCause (health_of self.old) (health_of self.new) result }
+        ensures cause { KeepCause self.old.health self.new.health result }
     {
         self.touched.head = true;
         self.memory.set_head(head)
@@ -241,7 +238,7 @@ impl<T: Tables> Keeper for TableKeeper<T> {
         ensures ok { OnOk result (self.new ≡ with_kept (marks.changed (with_moments moment schema usn last_sync)) self.old) }
         ensures err { OnErr result (self.new ≡ self.old) }
         ensures unfailing { IsErrOf result Failed → ⊥ }
-        ensures cause { KeepCause (health_of self.old) (health_of self.new) result }
+        ensures cause { KeepCause self.old.health self.new.health result }
     {
         self.touched.head = true;
         self.memory.set_moments(moment, schema, usn, last_sync)
@@ -255,7 +252,7 @@ impl<T: Tables> Keeper for TableKeeper<T> {
         ensures ok { OnOk result (self.new ≡ with_kept (marks.changed (λ _. made_of rows head)) self.old) }
         ensures err { OnErr result (self.new ≡ self.old) }
         ensures unfailing { IsErrOf result Failed → ⊥ }
-        ensures cause { KeepCause (health_of self.old) (health_of self.new) result }
+        ensures cause { KeepCause self.old.health self.new.health result }
     {
         let names = names_of(rows.allocator(), rows.as_slice())?;
         self.memory.replace_all(rows, head)?;
@@ -272,7 +269,7 @@ impl<T: Tables> Keeper for TableKeeper<T> {
         ensures ok { OnOk result (self.new ≡ with_kept marks.marked_here self.old) }
         ensures err { OnErr result (self.new ≡ self.old) }
         ensures unfailing { IsErrOf result Failed → ⊥ }
-        ensures cause { KeepCause (health_of self.old) (health_of self.new) result }
+        ensures cause { KeepCause self.old.health self.new.health result }
     {
         self.memory.mark()?;
         self.touched = Touched::nothing(self.touched.names.allocator());
@@ -291,17 +288,15 @@ impl<T: Tables> Keeper for TableKeeper<T> {
         requires marked { is_marked (all_known self.old.kept) ≡ true }
         ensures ok { OnOk result (self.new ≡ committed self.old) }
         ensures memory { result ≡ Err WantOfMemory → self.new ≡ with_kept marks.back self.old }
-        ensures failed { result ≡ Err Failed → self.new ≡ failed self.old }
-        ensures err { OnErr result (self.new.kept ≡ marks.back self.old.kept) }
-        ensures cause { KeepCause (health_of self.old) (health_of self.new) result }
+        ensures err { OnErr result (self.new ≡ refused self.new.health self.old) }
+        ensures cause { KeepCause self.old.health self.new.health result }
     {
         match store(&mut self.tables, &mut self.memory, &self.touched) {
             // The keeper in memory is told no call to fail, so this is not refused.
-            Ok(()) => return self.memory.commit(),
+            Ok(()) => self.memory.commit(),
             Err(fault) => {
                 self.memory.back();
-                self.faults = faults_after(self.faults, fault);
-                return Err(fault);
+                Err(fault)
             }
         }
     }
@@ -317,22 +312,14 @@ fn store<T: Tables>(
     requires obeys { memory.old.fails ≡ [] }
     ensures ok { OnOk result (T.stored tables.new ≡ option_map (λ _. memory.old.kept.current) (T.stored tables.old)) }
     ensures err { OnErr result (T.stored tables.new ≡ T.stored tables.old) }
+    ensures cause { KeepCause (T.health tables.old) (T.health tables.new) result }
+    ensures calm { OnOk result (T.health tables.new ≡ T.health tables.old) }
+    ensures memory { result ≡ Err WantOfMemory → T.health tables.new ≡ T.health tables.old }
     ensures kept { memory.new.kept ≡ memory.old.kept }
     ensures obeys { memory.new.fails ≡ [] }
 {
     let head = memory.head()?;
     tables.write(memory.rows(), &head, touched)
-}
-
-/// The count of faults after a refusal.
-fn faults_after(faults: u64, fault: KeepFault) -> u64
-    ensures failed { fault ≡ Failed → result ≡ one_more faults }
-    ensures memory { fault ≡ WantOfMemory → result ≡ faults }
-{
-    match fault {
-        KeepFault::Failed => faults.saturating_add(1),
-        KeepFault::Memory => faults,
-    }
 }
 
 /// The names of the rows.

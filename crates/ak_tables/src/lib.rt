@@ -2,10 +2,12 @@
 #![tactic(auto)]
 
 mod keepers;
+mod laws;
 mod loads;
 mod tables;
 mod touched;
 
 pub use keepers::TableKeeper;
+pub use laws::touched_names_suffice;
 pub use tables::{StoredCollection, Tables};
 pub use touched::Touched;

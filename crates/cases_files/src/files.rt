@@ -6,7 +6,7 @@ use crate::tables::{asked, ran, row_texts};
 use ak_base::{List, Name, Row, cut};
 use ak_keep::{Keeper, Lookup};
 use ak_sqlite::SqliteKeeper;
-use cases_keepers::{done, row_of};
+use cases_keepers::{done, failed, row_of};
 use cases_lines::{Answers, Unread, table_of};
 use std::alloc::Global;
 use std::fs;
@@ -43,7 +43,15 @@ impl<'a> Files<'a> {
                 self.keeper = Some(keeper);
                 Ok(String::from_str(alloc, "ok")?)
             }
-            Err(fault) => done(alloc, Err(fault)),
+            Err(fault) => failed(alloc, fault),
+        }
+    }
+
+    /// Opens a keeper over this file beside the one that is open, and closes it again.
+    fn open_beside(&mut self, alloc: Global, path: &str) -> Result<String, Unread> {
+        match SqliteKeeper::over_file(self.rt, path) {
+            Ok(_) => Ok(String::from_str(alloc, "ok")?),
+            Err(fault) => failed(alloc, fault),
         }
     }
 
@@ -62,6 +70,7 @@ impl Answers for Files<'_> {
         match word {
             "new" => self.new_file(alloc),
             "open" => self.open(alloc),
+            "open-beside" => self.open_beside(alloc, rest),
             "sql" | "ask" => self.sql(alloc, word, rest),
             _ => match &mut self.keeper {
                 Some(keeper) => answer_of(alloc, keeper, word, rest),
