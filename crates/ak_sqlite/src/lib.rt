@@ -13,7 +13,7 @@ mod tables;
 mod writes;
 
 use ak_tables::TableKeeper;
-pub use tables::{SqliteTables, no_transaction_is_open};
+pub use tables::SqliteTables;
 
 /// A keeper whose collection stays in a SQLite file.
 pub type SqliteKeeper = TableKeeper<SqliteTables>;
