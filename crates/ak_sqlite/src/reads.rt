@@ -1,0 +1,81 @@
+// The whole collection, read from the tables.
+ghost use Rattle.std.specs.Prelude.{◌≡◌, false};
+
+use crate::columns::{card_of, grave_of, note_of, review_of, text_at};
+use crate::faults::FileFault;
+use crate::heads::head_of;
+use crate::layouts::all_rows;
+use crate::objects::add_rows;
+use crate::statements::{READ_CARDS, READ_COL, READ_GRAVES, READ_NOTES, READ_REVIEWS};
+use ak_base::{Head, List, Row, Table};
+use ak_tables::StoredCollection;
+use sqlite::{Alter, Connection, Row as SqlRow};
+use std::alloc::Global;
+
+/// All rows and the head.
+pub(crate) fn read_all<S: Alter>(
+    alloc: Global,
+    conn: &mut Connection<S>,
+) -> Result<StoredCollection, FileFault>
+    requires { conn.old.in_transaction ≡ false }
+    ensures { conn.new.in_transaction ≡ false }
+{
+    let mut rows = List::new(alloc);
+    let notes = all_rows(conn, READ_NOTES)?;
+    add_all(Table::Note, notes.as_slice(), &mut rows)?;
+    let cards = all_rows(conn, READ_CARDS)?;
+    add_all(Table::Card, cards.as_slice(), &mut rows)?;
+    let reviews = all_rows(conn, READ_REVIEWS)?;
+    add_all(Table::Review, reviews.as_slice(), &mut rows)?;
+    let graves = all_rows(conn, READ_GRAVES)?;
+    add_all(Table::NoteGrave, graves.as_slice(), &mut rows)?;
+    let col = all_rows(conn, READ_COL)?;
+    let head = read_col(col.as_slice(), &mut rows)?;
+    Ok(StoredCollection { rows, head })
+}
+
+/// Adds the rows of notes, cards or reviews, or else of graves.
+fn add_all(table: Table, found: &[SqlRow], rows: &mut List<Row>) -> Result<(), FileFault> {
+    for row in found {
+        let row = row_of(table, row)?;
+        rows.push(row)?;
+    }
+    Ok(())
+}
+
+/// The row of these columns.
+fn row_of(table: Table, row: &SqlRow) -> Result<Row, FileFault> {
+    match table {
+        Table::Note => Ok(Row::Note(note_of(row)?)),
+        Table::Card => Ok(Row::Card(card_of(row)?)),
+        Table::Review => Ok(Row::Review(review_of(row)?)),
+        _ => Ok(Row::Grave(grave_of(row)?)),
+    }
+}
+
+/// The head in the row of `col`, whose note types, decks and options are added to the rows. Without a row there is none of
+/// them, and more than one row is refused.
+fn read_col(col: &[SqlRow], rows: &mut List<Row>) -> Result<Option<Head>, FileFault> {
+    match col {
+        [] => Ok(None),
+        [row] => {
+            let head = head_of(rows.allocator(), row)?;
+            add_column(Table::NoteType, row, 9, rows)?;
+            add_column(Table::Deck, row, 10, rows)?;
+            add_column(Table::Options, row, 11, rows)?;
+            Ok(Some(head))
+        }
+        _ => Err(FileFault::Failed),
+    }
+}
+
+/// Adds the rows of a table that a column of `col` has.
+fn add_column(
+    table: Table,
+    row: &SqlRow,
+    at: usize,
+    rows: &mut List<Row>,
+) -> Result<(), FileFault> {
+    let text = text_at(row, at)?;
+    add_rows(table, &text, rows)
+}

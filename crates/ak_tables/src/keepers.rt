@@ -1,0 +1,334 @@
+ghost use Rattle.std.specs.Prelude.{◌≡◌, ◌<◌, ◌≤◌, ◌^◌, true, false, [], is_some, option_map, length, map, Err, IfOk, IfSome, OnOk, OnErr};
+ghost use Rattle.std.specs.FinMap as finite;
+ghost use Rattle.std.specs.List.{All, IsDistinct};
+ghost use Rattle.std.specs.List.Sorted.{IsStrictlySortedBy};
+ghost use Rattle.std.specs.Ordering.{eq_by_cmp, int_cmp};
+ghost use Rattle.std.specs.Result.{IsErrOf};
+ghost use Rattle.ak_base.specs.Heads.{AreMomentsInRange, IsHeadInRange};
+ghost use Rattle.ak_base.specs.Names.{name_cmp};
+ghost use Rattle.ak_base.specs.Rows.{IsChecked, name_of};
+ghost use Rattle.ak_keep.specs.Collections.{AscendsPast, IsId, IsPageOf, with_row, without, with_head, with_moments, made_of, rows_past, wanted_past, row_count, cards_of, is_wanted};
+ghost use Rattle.ak_keep.specs.Keepers.{IsRightlyKnown, KeepCause, all_known, is_marked};
+ghost use Rattle.ak_keep.specs.Marks as marks;
+ghost use Rattle.ak_keep.specs.declared.keepers.KeepFault.TheVariants.{Failed, Memory as WantOfMemory};
+ghost use Rattle.ak_tables.specs.Tables.{Covers, committed, refused, with_kept};
+
+use crate::loads::memory_of;
+use crate::tables::Tables;
+use crate::touched::Touched;
+use ak_base::{Head, List, Memory, Name, Row, Table};
+use ak_keep::{KeepFault, Keeper, Lookup, MemoryKeeper, Readable, Wanted};
+use std::alloc::Global;
+use std::marker::Model;
+use std::rt::HostRuntime;
+
+/// A keeper that stores its collection in tables. All of it is held in memory too, and is read from there; the
+/// tables are read once, when it is made, and written at each commit. So only `commit` can fail.
+#[derive(Drop)]
+pub struct TableKeeper<T: Tables> {
+    tables: T,
+    memory: MemoryKeeper,
+    touched: Touched,
+}
+
+impl<T: Tables> Model for TableKeeper<T> {
+    ghost use Rattle.std.specs.Coded.{codes};
+    ghost use Rattle.std.specs.FinMap as map;
+    ghost use Rattle.ak_keep.specs.MemoryKeepers.{holding_code};
+    ghost use Rattle.ak_tables.specs.Tables.{IsConsistent, TableState, state_code};
+
+    ghost Value = { TableState };
+
+    ghost coded = { state_code (holding_code (map.code (Prim.hlevel codes) (Prim.hlevel codes)) (Prim.hlevel codes)) };
+
+    ghost view = { λ k. record { kept = k.memory.kept; stored = T.stored k.tables; health = T.health k.tables } };
+
+    ghost invariant = { λ k. IsConsistent k.memory (T.stored k.tables) k.touched };
+}
+
+impl<T: Tables> TableKeeper<T> {
+    /// A keeper over the tables in the file at this path. If the file has none, or is not there, they are made. It
+    /// fails if anything else is stored there than rows and a head in their ranges, each row once.
+    pub fn over_file(rt: &HostRuntime, path: &str) -> Result<TableKeeper<T>, KeepFault>
+        ensures tells { IfOk result (λ keeper. is_some (all_known keeper.kept).told ≡ true) }
+        ensures unmarked { IfOk result (λ keeper. is_marked (all_known keeper.kept) ≡ false) }
+        ensures faultless { IfOk result (λ keeper. keeper.health.faults ≡ 0) }
+        ensures range { IfOk result (λ keeper. IsRightlyKnown (all_known keeper.kept)) }
+
+        // It keeps what is stored, where that is told.
+        ensures stored { IfOk result (λ keeper. IfSome keeper.stored (λ stored. stored ≡ keeper.kept.current)) }
+    {
+        let tables = T::open(rt, path)?;
+        TableKeeper::over(rt.alloc(), tables)
+    }
+
+    /// A keeper over these tables, of what they store. It fails if they store anything else than rows and a head in
+    /// their ranges, each row once.
+    pub fn over(alloc: Global, tables: T) -> Result<TableKeeper<T>, KeepFault>
+        ensures tells { IfOk result (λ keeper. is_some (all_known keeper.kept).told ≡ true) }
+        ensures unmarked { IfOk result (λ keeper. is_marked (all_known keeper.kept) ≡ false) }
+        ensures health { IfOk result (λ keeper. keeper.health ≡ T.health tables) }
+        ensures range { IfOk result (λ keeper. IsRightlyKnown (all_known keeper.kept)) }
+        ensures tables { IfOk result (λ keeper. keeper.stored ≡ T.stored tables) }
+        ensures stored { IfOk result (λ keeper. IfSome keeper.stored (λ stored. stored ≡ keeper.kept.current)) }
+    {
+        let mut tables = tables;
+        let read = tables.read()?;
+        let memory = memory_of(alloc, read)?;
+
+        // It says that what is held is in its ranges.
+        let _held = memory.held();
+        Ok(TableKeeper {
+            tables,
+            memory,
+            touched: Touched::nothing(alloc),
+        })
+    }
+}
+
+impl<T: Tables> Lookup for TableKeeper<T> {
+    ghost keeping = { λ keeper. all_known keeper.kept };
+
+    ghost health = { λ keeper. keeper.health };
+
+    ghost checks = { true };
+
+    ghost kept = { λ _. tt };
+
+    fn faults(&self) -> u64 {
+        self.tables.faults()
+    }
+
+    fn held(&self) -> bool {
+        self.memory.held()
+    }
+
+    fn get(&mut self, name: Name) -> Result<Option<Row>, KeepFault>
+        ensures row { IfOk result (λ row. row ≡ finite.get self.old.kept.current.rows name) }
+        ensures named { IfOk result (λ row. IfSome row (λ row. name_of row ≡ name)) }
+        ensures checked { IfOk result (λ row. IfSome row IsChecked) }
+        ensures state { self.new ≡ self.old }
+        ensures unfailing { IsErrOf result Failed → ⊥ }
+        ensures cause { KeepCause self.old.health self.new.health result }
+    {
+        self.memory.get(name)
+    }
+
+    fn cards_of(&mut self, note: i64) -> Result<List<i64>, KeepFault>
+        ensures cards { IfOk result (λ ids. ids ≡ cards_of note self.old.kept.current.rows) }
+        ensures ascend { IfOk result (λ ids. IsStrictlySortedBy int_cmp ids) }
+        ensures range { IfOk result (λ ids. All IsId ids) }
+        ensures state { self.new ≡ self.old }
+        ensures unfailing { IsErrOf result Failed → ⊥ }
+        ensures cause { KeepCause self.old.health self.new.health result }
+    {
+        self.memory.cards_of(note)
+    }
+
+    fn head(&mut self) -> Result<Option<Head>, KeepFault>
+        ensures head { IfOk result (λ head. head ≡ self.old.kept.current.head) }
+        ensures range { IfOk result (λ head. IfSome head IsHeadInRange) }
+        ensures state { self.new ≡ self.old }
+        ensures unfailing { IsErrOf result Failed → ⊥ }
+        ensures cause { KeepCause self.old.health self.new.health result }
+    {
+        self.memory.head()
+    }
+}
+
+impl<T: Tables> Readable for TableKeeper<T> {
+    fn page(&mut self, table: Table, past: i64, limit: usize) -> Result<List<Row>, KeepFault>
+        requires low { 0 < limit }
+        requires high { limit ≤ 1000 }
+        ensures page { IfOk result (λ page. IsPageOf (λ past. rows_past table past self.old.kept.current.rows) past limit page) }
+        ensures fits { IfOk result (λ page. length page ≤ limit) }
+        ensures ascends { IfOk result (λ page. AscendsPast table past page) }
+        ensures checked { IfOk result (λ page. All IsChecked page) }
+        ensures state { self.new ≡ self.old }
+        ensures unfailing { IsErrOf result Failed → ⊥ }
+        ensures cause { KeepCause self.old.health self.new.health result }
+    {
+        self.memory.page(table, past, limit)
+    }
+
+    fn count(&mut self, table: Table) -> Result<u64, KeepFault>
+        ensures count { IfOk result (λ count. count ≡ row_count table self.old.kept.current.rows) }
+        ensures small { IfOk result (λ count. count < 2 ^ 63) }
+        ensures state { self.new ≡ self.old }
+        ensures unfailing { IsErrOf result Failed → ⊥ }
+        ensures cause { KeepCause self.old.health self.new.health result }
+    {
+        self.memory.count(table)
+    }
+}
+
+impl<T: Tables> Keeper for TableKeeper<T> {
+    ghost spares_memory = { false };
+
+    fn marked(&self) -> bool {
+        self.memory.marked()
+    }
+
+    fn put(&mut self, row: Row) -> Result<(), KeepFault>
+        requires marked { is_marked (all_known self.old.kept) ≡ true }
+        requires checked { IsChecked row }
+        ensures ok { OnOk result (self.new ≡ with_kept (marks.changed (with_row row)) self.old) }
+        ensures err { OnErr result (self.new ≡ self.old) }
+        ensures unfailing { IsErrOf result Failed → ⊥ }
+        ensures cause { KeepCause self.old.health self.new.health result }
+    {
+        self.touched.add(row.name())?;
+        self.memory.put(row)
+    }
+
+    fn remove(&mut self, name: Name) -> Result<(), KeepFault>
+        requires marked { is_marked (all_known self.old.kept) ≡ true }
+        ensures ok { OnOk result (self.new ≡ with_kept (marks.changed (without name)) self.old) }
+        ensures err { OnErr result (self.new ≡ self.old) }
+        ensures unfailing { IsErrOf result Failed → ⊥ }
+        ensures cause { KeepCause self.old.health self.new.health result }
+    {
+        self.touched.add(name)?;
+        self.memory.remove(name)
+    }
+
+    fn pending(
+        &mut self,
+        table: Table,
+        want: Wanted,
+        past: i64,
+        limit: usize,
+    ) -> Result<List<Row>, KeepFault>
+        requires low { 0 < limit }
+        requires high { limit ≤ 1000 }
+        ensures page { IfOk result (λ page. IsPageOf (λ past. wanted_past table want past self.old.kept.current.rows) past limit page) }
+        ensures fits { IfOk result (λ page. length page ≤ limit) }
+        ensures ascends { IfOk result (λ page. AscendsPast table past page) }
+        ensures wanted { IfOk result (λ page. All (λ row. is_wanted want row ≡ true) page) }
+        ensures checked { IfOk result (λ page. All IsChecked page) }
+        ensures state { self.new ≡ self.old }
+        ensures unfailing { IsErrOf result Failed → ⊥ }
+        ensures cause { KeepCause self.old.health self.new.health result }
+    {
+        self.memory.pending(table, want, past, limit)
+    }
+
+    fn set_head(&mut self, head: Head) -> Result<(), KeepFault>
+        requires marked { is_marked (all_known self.old.kept) ≡ true }
+        requires range { IsHeadInRange head }
+        ensures ok { OnOk result (self.new ≡ with_kept (marks.changed (with_head head)) self.old) }
+        ensures err { OnErr result (self.new ≡ self.old) }
+        ensures unfailing { IsErrOf result Failed → ⊥ }
+        ensures cause { KeepCause self.old.health self.new.health result }
+    {
+        self.touched.head = true;
+        self.memory.set_head(head)
+    }
+
+    fn set_moments(
+        &mut self,
+        moment: i64,
+        schema: i64,
+        usn: i64,
+        last_sync: i64,
+    ) -> Result<(), KeepFault>
+        requires marked { is_marked (all_known self.old.kept) ≡ true }
+        requires held { is_some self.old.kept.current.head ≡ true }
+        requires range { AreMomentsInRange moment schema usn last_sync }
+        ensures ok { OnOk result (self.new ≡ with_kept (marks.changed (with_moments moment schema usn last_sync)) self.old) }
+        ensures err { OnErr result (self.new ≡ self.old) }
+        ensures unfailing { IsErrOf result Failed → ⊥ }
+        ensures cause { KeepCause self.old.health self.new.health result }
+    {
+        self.touched.head = true;
+        self.memory.set_moments(moment, schema, usn, last_sync)
+    }
+
+    fn replace_all(&mut self, rows: List<Row>, head: Head) -> Result<(), KeepFault>
+        requires marked { is_marked (all_known self.old.kept) ≡ true }
+        requires checked { All IsChecked rows }
+        requires distinct { IsDistinct (eq_by_cmp name_cmp) (map name_of rows) }
+        requires range { IsHeadInRange head }
+        ensures ok { OnOk result (self.new ≡ with_kept (marks.changed (λ _. made_of rows head)) self.old) }
+        ensures err { OnErr result (self.new ≡ self.old) }
+        ensures unfailing { IsErrOf result Failed → ⊥ }
+        ensures cause { KeepCause self.old.health self.new.health result }
+    {
+        let names = names_of(rows.allocator(), rows.as_slice())?;
+        self.memory.replace_all(rows, head)?;
+        self.touched = Touched {
+            names,
+            head: true,
+            whole: true,
+        };
+        Ok(())
+    }
+
+    fn mark(&mut self) -> Result<(), KeepFault>
+        requires unmarked { is_marked (all_known self.old.kept) ≡ false }
+        ensures ok { OnOk result (self.new ≡ with_kept marks.marked_here self.old) }
+        ensures err { OnErr result (self.new ≡ self.old) }
+        ensures unfailing { IsErrOf result Failed → ⊥ }
+        ensures cause { KeepCause self.old.health self.new.health result }
+    {
+        self.memory.mark()?;
+        self.touched = Touched::nothing(self.touched.names.allocator());
+        Ok(())
+    }
+
+    fn back(&mut self)
+        requires marked { is_marked (all_known self.old.kept) ≡ true }
+        ensures { self.new ≡ with_kept marks.back self.old }
+    {
+        self.memory.back();
+    }
+
+    // It stores what is held, where it is told what is stored.
+    fn commit(&mut self) -> Result<(), KeepFault>
+        requires marked { is_marked (all_known self.old.kept) ≡ true }
+        ensures ok { OnOk result (self.new ≡ committed self.old) }
+        ensures memory { result ≡ Err WantOfMemory → self.new ≡ with_kept marks.back self.old }
+        ensures err { OnErr result (self.new ≡ refused self.new.health self.old) }
+        ensures cause { KeepCause self.old.health self.new.health result }
+    {
+        match store(&mut self.tables, &mut self.memory, &self.touched) {
+            // The keeper in memory is told no call to fail, so this is not refused.
+            Ok(()) => self.memory.commit(),
+            Err(fault) => {
+                self.memory.back();
+                Err(fault)
+            }
+        }
+    }
+}
+
+/// Writes what is held to the tables.
+fn store<T: Tables>(
+    tables: &mut T,
+    memory: &mut MemoryKeeper,
+    touched: &Touched,
+) -> Result<(), KeepFault>
+    requires covers { IfSome (T.stored tables.old) (λ was. Covers touched.now was memory.old.kept.current) }
+    requires obeys { memory.old.fails ≡ [] }
+    ensures ok { OnOk result (T.stored tables.new ≡ option_map (λ _. memory.old.kept.current) (T.stored tables.old)) }
+    ensures err { OnErr result (T.stored tables.new ≡ T.stored tables.old) }
+    ensures cause { KeepCause (T.health tables.old) (T.health tables.new) result }
+    ensures calm { OnOk result (T.health tables.new ≡ T.health tables.old) }
+    ensures memory { result ≡ Err WantOfMemory → T.health tables.new ≡ T.health tables.old }
+    ensures kept { memory.new.kept ≡ memory.old.kept }
+    ensures obeys { memory.new.fails ≡ [] }
+{
+    let head = memory.head()?;
+    tables.write(memory.rows(), &head, touched)
+}
+
+/// The names of the rows.
+fn names_of(alloc: Global, rows: &[Row]) -> Result<List<Name>, Memory>
+    ensures { IfOk result (λ names. names ≡ map name_of rows.now) }
+{
+    let mut names = List::new(alloc);
+    for row in rows {
+        names.push(row.name())?;
+    }
+    Ok(names)
+}
