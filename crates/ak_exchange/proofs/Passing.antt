@@ -1,6 +1,5 @@
 -- A part of a sync leads from one place of its plan to another.
-use Rattle.std.specs.List.{AllByRecursion}
-use Rattle.std.specs.Prelude.{◌≡◌, ℕ, ◌+◌, ◌≤◌, ℤ, true, false, List, [], ◌∷◌, ◌++◌, length, Option, Some, Result, Ok, Err, IsErrAnd, IfOk, OnOk}
+use Rattle.std.specs.Prelude.{◌≡◌, ℕ, ◌+◌, ◌≤◌, ℤ, false, List, [], ◌∷◌, ◌++◌, Option, Some, Result, Ok, Err, IsErrAnd, IfOk, OnOk}
 use Rattle.std.proofs.Common.{refl, sym, ap, subst, ◌∙◌, append_assoc, append-nil, arith}
 use Rattle.std.proofs.lemmas.List.{length-append}
 use Rattle.ak_exchange.proofs.Replying.{replies_go_on}
@@ -25,10 +24,9 @@ use Rattle.ak_messages.specs.declared.requests.Ask.{Ask}
 use Rattle.ak_messages.specs.declared.requests.Ask.TheVariants as asks
 use Rattle.ak_messages.specs.declared.requests.Request.{Request}
 use Rattle.ak_protocol.specs.Accounts.{AccountState}
-use Rattle.ak_protocol.specs.Logs.{Log}
 use Rattle.ak_session.proofs.Ranges.{all_append}
 use Rattle.ak_session.specs.Answers.{answer_to}
-use Rattle.ak_session.specs.Plans.{Asker, planned, requests_from}
+use Rattle.ak_session.specs.Plans.{Asker, planned}
 use Rattle.ak_session.specs.Replies.{replied, all_replied}
 use Rattle.ak_session.specs.Requests.{asks_commit, is_download, is_meta}
 use Rattle.ak_session.specs.Sessions.{MaySync}

@@ -1,5 +1,4 @@
-use Rattle.std.proofs.Common.{◌≡◌, ◌+◌, refl, ap, sym, subst, ◌∙◌, arith, Result, Ok, Err, OnOk}
-use Rattle.ak_exchange.proofs.Held.{received_more}
+use Rattle.std.proofs.Common.{sym, subst, arith, Result, Ok, Err, OnOk}
 use Rattle.ak_exchange.proofs.Passing.{advances_more, advances_passed, advances_then}
 use Rattle.ak_exchange.specs.Phases.{HasReceived}
 use Rattle.ak_faults.proofs.Healths.{goes_further}

@@ -1,4 +1,4 @@
-use Rattle.std.proofs.Common.{◌≡◌, ◌+◌, ◌≤◌, Bool, true, false, refl, subst, arith, rules}
+use Rattle.std.proofs.Common.{◌+◌, ◌≤◌, Bool, refl, subst, arith, rules}
 use Rattle.ak_exchange.proofs.Held.{received_more, received_once}
 use Rattle.ak_exchange.proofs.Passing.{advances_left, advances_more, advances_passed, advances_to, advances_then, at_start}
 use Rattle.ak_exchange.proofs.Places.{after_changes, leads_on, none_pulled}

@@ -1,4 +1,4 @@
-use Rattle.std.proofs.Common.{◌≡◌, Ok}
+use Rattle.std.proofs.Common.{Ok}
 use Rattle.ak_exchange.specs.Loops.{HavePulled}
 use Rattle.ak_exchange.specs.Phases.{Advances, HasReceived, at_end_of}
 use Rattle.ak_faults.specs.Causes.{GoesOn}

@@ -1,4 +1,4 @@
-use Rattle.std.proofs.Common.{◌≡◌, ◌+◌, ◌≤◌, refl, ◌∙◌, arith, rules, Ok}
+use Rattle.std.proofs.Common.{◌+◌, ◌≤◌, refl, ◌∙◌, arith, rules, Ok}
 use Rattle.ak_exchange.proofs.Parts.{last_sent_most, pushed_end, pushed_on}
 use Rattle.ak_exchange.proofs.Passing.{advances_left, advances_more, advances_passed, advances_then, at_start}
 use Rattle.ak_exchange.proofs.Places.{after_chunks, leads_on, none_pushed}

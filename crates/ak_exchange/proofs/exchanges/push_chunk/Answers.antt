@@ -1,11 +1,10 @@
-use Rattle.std.proofs.Common.{◌≡◌, ◌≤◌, Bool, true, false, refl, sym, ap, subst, ◌∙◌, arith}
+use Rattle.std.proofs.Common.{◌≡◌, true, false, refl, sym, ap, subst, ◌∙◌, arith}
 use Rattle.ak_device.specs.Devices.{IsNextToSend}
 use Rattle.ak_keep.specs.Keepers.{WhereTold}
 use Rattle.ak_messages.specs.declared.requests.Chunk.{Chunk}
 use Rattle.ak_exchange.proofs.Parts.{push_refused, push_took, pushed_few, refused_sent}
 use Rattle.ak_exchange.proofs.Passing.{advances_kept, by_keeper, by_memory, by_wire, stays_here}
 use Rattle.ak_exchange.proofs.Places.{pushed_lead}
-use Rattle.ak_exchange.specs.Loops.{last_sent}
 use Rattle.ak_exchange.proofs.exchanges.push_chunk.Goals.{else-not-done-via-then-not-done+else-not-may_follow, else-not-done-via-else-not-done}
 use Rattle.ak_exchange.proofs.exchanges.push_chunk.Goals as goal
 
