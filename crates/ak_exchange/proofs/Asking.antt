@@ -1,6 +1,6 @@
 -- What a request of a sync makes of the log of its wire, and what its answer tells.
 use Rattle.std.specs.Prelude.{◌≡◌, ℕ, ◌+◌, ℤ, ◌==◌, Bool, true, false, if◌then◌else◌, List, [], ◌∷◌, ◌++◌, length, Option, Some, None, Result, Ok, Err, IfOk, ok_or}
-use Rattle.std.proofs.Common.{refl, sym, ap, subst, ◌∙◌, inl, inr, arith}
+use Rattle.std.proofs.Common.{refl, sym, ap, subst, ◌∙◌, inr, arith}
 use Rattle.ak_exchange.specs.Asked.{request_at}
 use Rattle.ak_faults.specs.Causes.{Health}
 use Rattle.ak_keep.specs.Collections.{Collection}
@@ -11,7 +11,7 @@ use Rattle.ak_messages.specs.declared.requests.Request.{Request}
 use Rattle.ak_protocol.proofs.Calls.{calls_tell, syncs_ask_more}
 use Rattle.ak_protocol.proofs.Syncs.{calls_keep_syncs}
 use Rattle.ak_protocol.specs.Accounts.{AccountState}
-use Rattle.ak_protocol.specs.Logs.{Event, Commit, Log, Grows, IsReplyIn, with_growth, commits_of}
+use Rattle.ak_protocol.specs.Logs.{Log, Grows, with_growth, commits_of}
 use Rattle.ak_protocol.specs.Replies.{granted}
 use Rattle.ak_protocol.specs.Serving.{commit_reply}
 use Rattle.ak_protocol.specs.Sessions.{IsAsked, Tells}

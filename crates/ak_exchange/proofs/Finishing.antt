@@ -1,5 +1,5 @@
 -- The finish: once it is granted, its session committed.
-use Rattle.std.specs.Prelude.{◌≡◌, ℕ, ◌+◌, ℤ, pos, Bool, true, false, if◌then◌else◌, List, [], ◌∷◌, ◌++◌, length, Option, Some, None, Result, Ok, Err, IsErrAnd, IfOk, IfErr}
+use Rattle.std.specs.Prelude.{◌≡◌, ℕ, ◌+◌, ℤ, pos, Bool, true, false, if◌then◌else◌, List, [], ◌∷◌, ◌++◌, length, Some, None, Result, Ok, Err, IsErrAnd, IfOk, IfErr}
 use Rattle.std.proofs.Common.{refl, sym, ap, subst, ◌∙◌, append-nil, arith}
 use Rattle.std.proofs.lemmas.Option.{none-some, same_Some}
 use Rattle.ak_base.specs.Heads.{IsMoment}
@@ -22,13 +22,11 @@ use Rattle.ak_messages.specs.declared.requests.Ask.{Ask}
 use Rattle.ak_messages.specs.declared.requests.Ask.TheVariants as asks
 use Rattle.ak_messages.specs.declared.requests.Request.{Request}
 use Rattle.ak_protocol.specs.Accounts.{AccountState}
-use Rattle.ak_protocol.specs.Logs.{Commit, Log, commits_of}
+use Rattle.ak_protocol.specs.Logs.{Log}
 use Rattle.ak_protocol.specs.Serving.{commit_reply}
-use Rattle.ak_protocol.specs.Syncs.{world_of}
 use Rattle.ak_session.proofs.Ranges.{within}
 use Rattle.ak_session.specs.Contents.{closed, refusal}
 use Rattle.ak_session.specs.Plans.{Asker, planned_check, requests_from}
-use Rattle.ak_session.specs.Sessions.{MaySync}
 use Rattle.ak_wires.specs.Forms.{is_moment, moment_in}
 use Rattle.ak_wires.specs.Tries.{Answered}
 use Rattle.ak_wires.specs.Wires.{WireState}

@@ -1,7 +1,6 @@
 -- One request more of a sync: what was asked is one more, and its reply is what the session answers.
-use Rattle.std.specs.List.{AllByRecursion}
-use Rattle.std.specs.Prelude.{◌≡◌, ℕ, ◌+◌, ℤ, false, List, [], ◌∷◌, ◌++◌, length, Option, Some, Result, IfOk}
-use Rattle.std.proofs.Common.{refl, sym, ap, subst, ◌∙◌, arith}
+use Rattle.std.specs.Prelude.{◌≡◌, ℕ, ◌+◌, false, List, [], ◌∷◌, ◌++◌, length, Option, Some, Result, IfOk}
+use Rattle.std.proofs.Common.{sym, ap, subst, ◌∙◌, arith}
 use Rattle.ak_exchange.proofs.Asking.{IsShown, plain_call}
 use Rattle.ak_exchange.proofs.Replying.{asks_are, requests_count, requests_go_on}
 use Rattle.ak_exchange.specs.Asked.{request_at}

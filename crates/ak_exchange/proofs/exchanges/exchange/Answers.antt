@@ -1,11 +1,10 @@
-use Rattle.std.proofs.Common.{◌≡◌, ◌+◌, true, refl, ap, sym, subst, ◌∙◌, rules, arith, w64, SFits}
+use Rattle.std.proofs.Common.{◌+◌, sym, subst, rules, arith, w64, SFits}
 use Rattle.std.proofs.lemmas.Int.{to_z-of_z}
-use Rattle.ak_exchange.proofs.Held.{received_held, received_more}
 use Rattle.ak_exchange.proofs.Parts.{exchanges_refused, exchanges_settled}
 use Rattle.ak_exchange.proofs.Passing.{advances_left, advances_more, advances_passed, advances_then, by_keeper}
-use Rattle.ak_exchange.specs.Phases.{HasReceived, at_meta}
+use Rattle.ak_exchange.specs.Phases.{at_meta}
 use Rattle.ak_faults.proofs.Healths.{goes_further}
-use Rattle.ak_keep.specs.Keepers.{IsMarkedAt, Keeping, back, is_marked}
+use Rattle.ak_keep.specs.Keepers.{IsMarkedAt, Keeping, back}
 use Rattle.ak_parts.proofs.Taking.{stays_marked}
 use Rattle.ak_exchange.proofs.exchanges.exchange.Goals as goal
 
