@@ -157,8 +157,11 @@ impl<'a, K: Keeper, W: Wire> Greeted<'a, K, W> {
             HasReceived next.met.meta.usn (marked_here (K.keeping self.entry.keeper.now)) (K.keeping next.keeper.now)) }
         ensures leads { IfOk result (λ next. LeadsTo 0 0 1 at_meta (at_end_of (λ c s. planned_start c)) next.met
             (marked_here (K.keeping self.entry.keeper.now)) (K.keeping next.keeper.now)
-            (record { health = W.health self.entry.wire.now; wire = W.state self.entry.wire.now;
-              envelopes = record { ids = self.entry.ids; base = self.entry.met.meta.moment; step = 0 } })
+            (record {
+              health = W.health self.entry.wire.now;
+              wire = W.state self.entry.wire.now;
+              envelopes = record { ids = self.entry.ids; base = self.entry.met.meta.moment; step = 0 };
+            })
             (record { health = W.health next.wire.now; wire = W.state next.wire.now; envelopes = next.envelopes })) }
     {
         let Greeted {
