@@ -90,8 +90,8 @@ fn sync_met<K: Keeper, W: Wire, C: Clock>(
     requires own { WhereTold (K.keeping keeper.old) (λ h. h.head ≡ Some met.now.head) }
     requires low { pos 0 ≤ℤ met.now.meta.usn }
     requires number { met.now.meta.usn <ℤ last_head_usn }
-    ensures ends { Ends ids met.now (K.keeping keeper.old) (K.keeping keeper.new) (W.health wire.old) (W.health wire.new)
-        (W.state wire.old) (W.state wire.new) (outcome_of result) }
+    ensures ends { Ends ids met.now (K.keeping keeper.old) (K.keeping keeper.new)
+        (W.health wire.old) (W.health wire.new) (W.state wire.old) (W.state wire.new) (outcome_of result) }
     ensures device { KeepsDevice 0 (K.keeping keeper.old) (K.keeping keeper.new)
         (C.to_come clock.old) (C.to_come clock.new) (outcome_of result) }
     ensures clock { TakesMoments 1 (C.to_come clock.old) (C.to_come clock.new) (outcome_of result) }
