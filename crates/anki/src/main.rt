@@ -1,25 +1,29 @@
 // The program `anki`: a collection's file, a server and a command, over the standard streams.
 #![tactic(auto)]
 
+ghost use Rattle.std.specs.Prelude.{◌≡◌, false};
+ghost use Rattle.ak_keep.specs.Keepers.{is_marked};
+
 use ak_base::Memory;
-use ak_cli::{NO_MEMORY, print_usage, run};
+use ak_cli::{KEEPER_FAILED, NO_MEMORY, print_usage, run};
 use ak_filters::{FieldFilter, HintFilter, TextFilter};
 use ak_io::{Clock, Sink, Source, StdChance, StdClock, StdSink, StdSource};
-use ak_keep::MemoryKeeper;
+use ak_keep::{KeepFault, Keeper, MemoryKeeper};
+use ak_sqlite::SqliteKeeper;
 use std::alloc::Global;
 use std::env::Env;
 use std::io::ErrorKind;
 use std::process::ExitCode;
-use std::{env, io, time};
+use std::{env, io};
 
-// Neither a collection's file nor a server can be named: both words are `-`.
+// No server can be named yet: its word is `-`. The file `-` is an empty collection in memory, which ends with the program.
 fn main(rt: HostRuntime) -> ExitCode {
     let mut input = StdSource::new(rt.stdin());
     let mut out = StdSink::new(rt.stdout());
     let status = match words_of(&rt) {
         Ok(words) => match words.as_slice() {
-            [file, server, rest @ ..] if file.as_str() == "-" && server.as_str() == "-" => {
-                run_in_memory(&rt, rest, &mut input, &mut out)
+            [file, server, rest @ ..] if server.as_str() == "-" => {
+                run_in(&rt, file.as_str(), rest, &mut input, &mut out)
             }
             _ => print_usage(&mut out),
         },
@@ -43,20 +47,45 @@ fn words_of(rt: &(impl Env + AllocGlobal)) -> io::Result<Vec<String>> {
     Ok(words)
 }
 
-/// Runs the command over an empty keeper in memory, and answers its status.
-fn run_in_memory<I: Source, O: Sink>(
-    rt: &(impl time::Clock + AllocGlobal),
+/// Runs the command over the collection in a file, and answers its status: 6 if the file can't be opened, or holds anything
+/// else than a collection.
+fn run_in<I: Source, O: Sink>(
+    rt: &HostRuntime,
+    file: &str,
     words: &[String],
     input: &mut I,
     out: &mut O,
 ) -> u8 {
+    if file == "-" {
+        let mut keeper = MemoryKeeper::new(rt.alloc());
+        return run_over(rt, &mut keeper, words, input, out);
+    }
+    match SqliteKeeper::over_file(rt, file) {
+        Ok(keeper) => {
+            let mut keeper = keeper;
+            run_over(rt, &mut keeper, words, input, out)
+        }
+        Err(KeepFault::Failed) => KEEPER_FAILED,
+        Err(KeepFault::Memory) => NO_MEMORY,
+    }
+}
+
+/// Runs the command over a keeper, and answers its status.
+fn run_over<K: Keeper, I: Source, O: Sink>(
+    rt: &HostRuntime,
+    keeper: &mut K,
+    words: &[String],
+    input: &mut I,
+    out: &mut O,
+) -> u8
+    requires unmarked { is_marked (K.keeping keeper.old) ≡ false }
+{
     let alloc = rt.alloc();
     let mut filters: Vec<Box<dyn FieldFilter>> = Vec::new(alloc);
     match add_filters(alloc, &mut filters) {
         Ok(()) => {}
         Err(Memory) => return NO_MEMORY,
     }
-    let mut keeper = MemoryKeeper::new(alloc);
     let mut clock = StdClock::new(rt);
     let mut chance = StdChance::new(clock.now() as u64);
     run(
@@ -64,7 +93,7 @@ fn run_in_memory<I: Source, O: Sink>(
         words,
         input,
         out,
-        &mut keeper,
+        keeper,
         &mut clock,
         &mut chance,
         &mut filters,
