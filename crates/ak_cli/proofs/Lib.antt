@@ -6,3 +6,4 @@ pub mod Printing
 pub mod Runs
 pub mod Stores
 pub mod Stops
+pub mod Telling
