@@ -6,4 +6,3 @@ pub mod Printing
 pub mod Runs
 pub mod Stores
 pub mod Stops
-pub mod Telling
