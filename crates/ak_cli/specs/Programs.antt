@@ -1,39 +1,31 @@
 -- What the program `anki` prints, and the statuses with which it ends.
-use Rattle.std.specs.Prelude.{◌≡◌, ◌<◌, ℕ, Bool, false, List, [], ◌∷◌, ◌++◌, Option, None, IsSome, codes, ◌⊎◌}
+use Rattle.std.specs.Prelude.{◌≡◌, ◌<◌, ℕ, if◌then◌else◌, List, [], ◌∷◌, ◌++◌, Option, Some, None, IsSome, codes, ◌⊎◌}
 use Rattle.std.specs.Io.KnownBytes.{Appends}
 use Rattle.std.specs.Prelude.{String, string_bytes}
 use Rattle.std.specs.declared.alloc.Global.{Global}
 use Rattle.ak_io.specs.Scripts.{Run, output_of, AppendsPart}
 use Rattle.ak_cli.specs.Commands.{same_text}
+use Rattle.ak_cli.specs.declared.program_commands.ProgramCommand.{ProgramCommand}
+use Rattle.ak_cli.specs.declared.program_commands.ProgramCommand.TheVariants as programs
 use Rattle.ak_desk_runs.specs.declared.command_ends.CommandEnd.{CommandEnd}
 use Rattle.ak_desk_runs.specs.declared.command_ends.CommandEnd.TheVariants as commands
 use Rattle.ak_faults.specs.Causes.{Health}
 use Rattle.ak_io.specs.declared.endings.ScriptEnd.{ScriptEnd}
 use Rattle.ak_io.specs.declared.endings.ScriptEnd.TheVariants as ends
 
--- the words are this one word
-abbrev pub is_only : List ℕ → List (String Global) → Bool
-is_only name [] = false
-is_only name (word ∷ []) = same_text (string_bytes word) name
-is_only name (word ∷ other ∷ others) = false
+-- the command of a word
+abbrev pub command_named : List ℕ → Option ProgramCommand
+command_named word =
+    if same_text word (codes "lab") then Some programs.Lab
+    else if same_text word (codes "init") then Some programs.Init
+    else if same_text word (codes "desk") then Some programs.Desk
+    else None
 
--- the words are the one word `lab`
-abbrev pub is_lab : List (String Global) → Bool
-is_lab words = is_only (codes "lab") words
-
--- the words are the one word `init`
-abbrev pub is_init : List (String Global) → Bool
-is_init words = is_only (codes "init") words
-
--- the words are the one word `desk`
-abbrev pub is_desk : List (String Global) → Bool
-is_desk words = is_only (codes "desk") words
-
--- the words are those of no command
-pub record AreOthers (words : List (String Global)) : Type 0 where
-  pub no_lab : is_lab words ≡ false
-  pub no_init : is_init words ≡ false
-  pub no_desk : is_desk words ≡ false
+-- the command that the words name, if they are one word
+abbrev pub command_of : List (String Global) → Option ProgramCommand
+command_of [] = None
+command_of (word ∷ []) = command_named (string_bytes word)
+command_of (word ∷ other ∷ others) = None
 
 -- `usage` and a line feed
 abbrev pub usage_line : List ℕ

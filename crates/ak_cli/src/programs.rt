@@ -1,7 +1,8 @@
-ghost use Rattle.std.specs.Prelude.{◌≡◌, ◌⊎◌, ◌<◌, ◌≤◌, ℤ, map, true, false, IfSome};
+ghost use Rattle.std.specs.Prelude.{◌≡◌, ◌≢◌, ◌⊎◌, ◌<◌, ◌≤◌, ℤ, map, false, IfSome, None, Some};
 ghost use Rattle.std.specs.Io.KnownBytes.{Appends, IsAtEnd};
 ghost use Rattle.ak_cli.specs.LabRun.{lab_run};
-ghost use Rattle.ak_cli.specs.Programs.{is_desk, is_init, is_lab, is_only, usage_line, AreOthers, Prints, Tells};
+ghost use Rattle.ak_cli.specs.Programs.{command_of, usage_line, Prints, Tells};
+ghost use Rattle.ak_cli.specs.declared.program_commands.ProgramCommand.TheVariants as commands;
 ghost use Rattle.ak_desk_runs.specs.DeskRuns.{EndsDesk, input_lines};
 ghost use Rattle.ak_desk_runs.specs.Inits.{EndsInit};
 ghost use Rattle.ak_desk_runs.specs.Sittings.{outside_of};
@@ -12,6 +13,7 @@ ghost use Rattle.ak_io.specs.Scripts.{AppendsPart};
 ghost use Rattle.ak_keep.specs.Keepers.{is_marked};
 
 use crate::lab::scripts::run_script;
+use crate::program_commands::{ProgramCommand, command_of};
 use crate::statuses::{USAGE, WRITE_FAILED, command_status, status_of};
 use ak_desk_runs::{init_collection, run_desk};
 use ak_filters::FieldFilter;
@@ -34,24 +36,24 @@ pub fn run<I: Source, O: Sink, K: Keeper, C: Clock, R: Chance>(
     requires unmarked { is_marked (K.keeping keeper.old) ≡ false }
 
     // Which words there are: with others `usage` is printed, unless the output fails.
-    ensures usage { result ≡ 2 → AreOthers words.now × Appends (O.written out.old) (O.written out.new) usage_line }
-    ensures only_usage { AreOthers words.now → (result ≡ 2)
+    ensures usage { result ≡ 2 → (command_of words.now ≡ None) × Appends (O.written out.old) (O.written out.new) usage_line }
+    ensures only_usage { (command_of words.now ≡ None) → (result ≡ 2)
         ⊎ (result ≡ 5) × AppendsPart (O.written out.old) (O.written out.new) usage_line }
 
     // `lab`: what is printed for the script that the input tells, and where it is refused.
-    ensures printed { is_lab words.now ≡ true → IfSome (I.left input.old)
+    ensures printed { command_of words.now ≡ Some commands.Lab → IfSome (I.left input.old)
         (λ script. Prints result (lab_run script) (O.written out.old) (O.written out.new)) }
-    ensures statuses { is_lab words.now ≡ true
+    ensures statuses { command_of words.now ≡ Some commands.Lab
         → (result ≡ 0) ⊎ (result ≡ 3) ⊎ (result ≡ 4) ⊎ (result ≡ 5) ⊎ (result ≡ 8) }
 
     // `init`: the collection that is held after it, and what is printed.
-    ensures inits { is_init words.now ≡ true → (at : ℤ) × (end : End)
+    ensures inits { command_of words.now ≡ Some commands.Init → (at : ℤ) × (end : End)
         × IsClockMoment at × GivesNext (C.to_come clock.old) (C.to_come clock.new) at
         × EndsInit at end (K.keeping keeper.old) (K.keeping keeper.new) (O.written out.old) (O.written out.new)
         × Tells end (O.health out.old) (O.health out.new) result }
 
     // `desk`: what the lines of the input leave, and what is printed for them.
-    ensures desks { is_desk words.now ≡ true → (end : End)
+    ensures desks { command_of words.now ≡ Some commands.Desk → (end : End)
         × EndsDesk end (input_lines (I.left input.old))
         (outside_of (K.keeping keeper.old) (map (λ b. meaning b) filters.old.items)
         (C.to_come clock.old) (R.to_come chance.old))
@@ -62,16 +64,16 @@ pub fn run<I: Source, O: Sink, K: Keeper, C: Clock, R: Chance>(
 
     // Other words leave the collection as it was, and none leaves it marked. They take no moment; words of chance and filters
     // serve `desk` alone, and only it and `lab` read the input.
-    ensures others { is_init words.now ≡ false → is_desk words.now ≡ false
+    ensures others { command_of words.now ≢ Some commands.Init → command_of words.now ≢ Some commands.Desk
         → K.keeping keeper.new ≡ K.keeping keeper.old }
     ensures unmarked { is_marked (K.keeping keeper.new) ≡ false }
-    ensures timeless { is_init words.now ≡ false → is_desk words.now ≡ false
+    ensures timeless { command_of words.now ≢ Some commands.Init → command_of words.now ≢ Some commands.Desk
         → C.to_come clock.new ≡ C.to_come clock.old }
-    ensures spared { is_desk words.now ≡ false → (R.to_come chance.new ≡ R.to_come chance.old)
+    ensures spared { command_of words.now ≢ Some commands.Desk → (R.to_come chance.new ≡ R.to_come chance.old)
         × (map (λ b. meaning b) filters.new.items ≡ map (λ b. meaning b) filters.old.items) }
-    ensures unread { is_lab words.now ≡ false → is_desk words.now ≡ false
+    ensures unread { command_of words.now ≢ Some commands.Lab → command_of words.now ≢ Some commands.Desk
         → I.left input.new ≡ I.left input.old }
-    ensures ended { result ≡ 0 → is_init words.now ≡ false → IsAtEnd (I.left input.new) }
+    ensures ended { result ≡ 0 → command_of words.now ≢ Some commands.Init → IsAtEnd (I.left input.new) }
 
     // Why it ends with the other statuses. Out of memory alone has no cause.
     ensures read { result ≡ 4 → Rose (I.health input.old) (I.health input.new) }
@@ -111,18 +113,18 @@ fn run_words<I: Source, O: Sink, K: Keeper, C: Clock, R: Chance>(
     filters: &mut Vec<Box<dyn FieldFilter>>,
 ) -> u8
     requires unmarked { is_marked (K.keeping keeper.old) ≡ false }
-    ensures usage { result ≡ 2 → AreOthers words.now × Appends (O.written out.old) (O.written out.new) usage_line }
-    ensures only_usage { AreOthers words.now → (result ≡ 2)
+    ensures usage { result ≡ 2 → (command_of words.now ≡ None) × Appends (O.written out.old) (O.written out.new) usage_line }
+    ensures only_usage { (command_of words.now ≡ None) → (result ≡ 2)
         ⊎ (result ≡ 5) × AppendsPart (O.written out.old) (O.written out.new) usage_line }
-    ensures printed { is_lab words.now ≡ true → IfSome (I.left input.old)
+    ensures printed { command_of words.now ≡ Some commands.Lab → IfSome (I.left input.old)
         (λ script. Prints result (lab_run script) (O.written out.old) (O.written out.new)) }
-    ensures statuses { is_lab words.now ≡ true
+    ensures statuses { command_of words.now ≡ Some commands.Lab
         → (result ≡ 0) ⊎ (result ≡ 3) ⊎ (result ≡ 4) ⊎ (result ≡ 5) ⊎ (result ≡ 8) }
-    ensures inits { is_init words.now ≡ true → (at : ℤ) × (end : End)
+    ensures inits { command_of words.now ≡ Some commands.Init → (at : ℤ) × (end : End)
         × IsClockMoment at × GivesNext (C.to_come clock.old) (C.to_come clock.new) at
         × EndsInit at end (K.keeping keeper.old) (K.keeping keeper.new) (O.written out.old) (O.written out.new)
         × Tells end (O.health out.old) (O.health out.new) result }
-    ensures desks { is_desk words.now ≡ true → (end : End)
+    ensures desks { command_of words.now ≡ Some commands.Desk → (end : End)
         × EndsDesk end (input_lines (I.left input.old))
         (outside_of (K.keeping keeper.old) (map (λ b. meaning b) filters.old.items)
         (C.to_come clock.old) (R.to_come chance.old))
@@ -130,42 +132,30 @@ fn run_words<I: Source, O: Sink, K: Keeper, C: Clock, R: Chance>(
         (C.to_come clock.new) (R.to_come chance.new))
         (O.written out.old) (O.written out.new)
         × Tells end (O.health out.old) (O.health out.new) result }
-    ensures others { is_init words.now ≡ false → is_desk words.now ≡ false
+    ensures others { command_of words.now ≢ Some commands.Init → command_of words.now ≢ Some commands.Desk
         → K.keeping keeper.new ≡ K.keeping keeper.old }
     ensures unmarked { is_marked (K.keeping keeper.new) ≡ false }
-    ensures timeless { is_init words.now ≡ false → is_desk words.now ≡ false
+    ensures timeless { command_of words.now ≢ Some commands.Init → command_of words.now ≢ Some commands.Desk
         → C.to_come clock.new ≡ C.to_come clock.old }
-    ensures spared { is_desk words.now ≡ false → (R.to_come chance.new ≡ R.to_come chance.old)
+    ensures spared { command_of words.now ≢ Some commands.Desk → (R.to_come chance.new ≡ R.to_come chance.old)
         × (map (λ b. meaning b) filters.new.items ≡ map (λ b. meaning b) filters.old.items) }
-    ensures unread { is_lab words.now ≡ false → is_desk words.now ≡ false
+    ensures unread { command_of words.now ≢ Some commands.Lab → command_of words.now ≢ Some commands.Desk
         → I.left input.new ≡ I.left input.old }
-    ensures ended { result ≡ 0 → is_init words.now ≡ false → IsAtEnd (I.left input.new) }
+    ensures ended { result ≡ 0 → command_of words.now ≢ Some commands.Init → IsAtEnd (I.left input.new) }
     ensures read { result ≡ 4 → Rose (I.health input.old) (I.health input.new) }
     ensures write { result ≡ 5 → Rose (O.health out.old) (O.health out.new) }
     ensures keep { result ≡ 6 → Rose (K.health keeper.old) (K.health keeper.new) }
     ensures keeps { GoesOn (K.health keeper.old) (K.health keeper.new) }
     ensures goes { GoesOn (O.health out.old) (O.health out.new) }
 {
-    if is_only(words, "lab") {
-        return status_of(run_script(alloc, input, out));
-    }
-    if is_only(words, "init") {
-        return command_status(init_collection(alloc, keeper, clock, out));
-    }
-    if is_only(words, "desk") {
-        let end = run_desk(alloc, keeper, clock, chance, filters, input, out);
-        return command_status(end);
-    }
-    print_usage(out)
-}
-
-/// Whether the words are this one word.
-fn is_only(words: &[String], name: &str) -> bool
-    ensures { result ≡ is_only name.now words.now }
-{
-    match words.split_first() {
-        Some((word, others)) => others.is_empty() && word.as_str() == name,
-        None => false,
+    match command_of(words) {
+        Some(ProgramCommand::Lab) => status_of(run_script(alloc, input, out)),
+        Some(ProgramCommand::Init) => command_status(init_collection(alloc, keeper, clock, out)),
+        Some(ProgramCommand::Desk) => {
+            let end = run_desk(alloc, keeper, clock, chance, filters, input, out);
+            command_status(end)
+        }
+        None => print_usage(out),
     }
 }
 

@@ -48,8 +48,8 @@ answer_bytes text = written_lines (text ∷ [])
 abbrev pub refusal_bytes : ℕ → List ℕ → List ℕ
 refusal_bytes number text = written_lines (refusal_line (number, text) ∷ [])
 
--- how a run stops, of which these lines are left and the next has this number: what it was before and is after it, and what it wrote of
--- the line at which it stopped
+-- how a run stops, of which these lines are left and the next has this number: what it was before and is after it, and
+-- what it wrote of the line at which it stopped
 abbrev pub Stops : CommandEnd → Option (List Line) → ℕ → Sitting → Sitting → List ℕ → Type 0
 -- no line is left
 Stops ends.Done left number s t more = IfSome left (λ lines. lines ≡ []) × (t ≡ s) × (more ≡ [])
@@ -76,8 +76,9 @@ AreLines None gone left = ⊤
 AreLines (Some all) gone None = ⊥
 AreLines (Some all) gone (Some left) = all ≡ gone ++ left
 
--- a run of lines that ends so, from what it worked with before to what that is after it, and what is written before and after it
-pub record IsDeskRun (end : CommandEnd) (all : Option (List Line)) (before after : Outside) (old new : Option (List ℕ)) : Type 0 where
+-- a run of lines that ends so, from what it was given to what that is after it, and what is written before and after it
+pub record IsDeskRun (end : CommandEnd) (all : Option (List Line)) (before after : Outside)
+    (old new : Option (List ℕ)) : Type 0 where
   -- the lines that went, those that were left, what the run was between them, and what was printed by then
   pub gone : List Line
   pub left : Option (List Line)
@@ -97,7 +98,8 @@ abbrev pub input_lines : Option (List ℕ) → Option (List Line)
 input_lines left = option_map (lines_within 1_073_741_824) left
 
 -- how `desk` ends, by whether a collection is held
-abbrev pub EndsDeskOn : Bool → CommandEnd → Option (List Line) → Outside → Outside → Option (List ℕ) → Option (List ℕ) → Type 0
+abbrev pub EndsDeskOn : Bool → CommandEnd → Option (List Line) → Outside → Outside → Option (List ℕ) → Option (List ℕ)
+    → Type 0
 EndsDeskOn true end all before after old new = IsDeskRun end all before after old new
 EndsDeskOn false end all before after old new = (after ≡ before) × IsRefusedWith (codes "no collection") end old new
 

@@ -17,7 +17,8 @@ use Rattle.ak_texts.specs.AnswerTexts.{answer_text}
 use Rattle.ak_texts.specs.FaultTexts.{desk_fault_text, line_fault_text}
 use Rattle.ak_texts.specs.declared.answers.DeskAnswer.{DeskAnswer}
 
--- how a line ends: it is skipped, accepted and answered by this text, or refused by this one; or the keeper failed, or memory ran out
+-- how a line ends: it is skipped, accepted and answered by this text, or refused by this one; or the keeper failed, or
+-- memory ran out
 pub data Outcome : Type 0 where
   Skipped : Outcome
   Accepted : List ℕ → Outcome
@@ -81,7 +82,8 @@ pub record EndsAtDesk (said : DeskLine) (turn : Turn) (s t : Bench) (result : Re
 -- the line has a text that says a line of the desk, which ended so there
 abbrev pub AtDesk : Line → Turn → Bench → Bench → Result DeskAnswer DeskFault → Type 0
 AtDesk line turn s t result =
-    (text : List ℕ) × (said : DeskLine) × (text_in line ≡ Some text) × SaysLine text said × EndsAtDesk said turn s t result
+    (text : List ℕ) × (said : DeskLine) × (text_in line ≡ Some text) × SaysLine text said
+    × EndsAtDesk said turn s t result
 
 -- the text says no line of the desk, and this is why
 abbrev pub SaysNoLine : List ℕ → List ℕ → Type 0
@@ -95,12 +97,15 @@ SaysNothing line why =
 -- what a line that is not skipped comes to in its turn. What says nothing leaves all as it was
 abbrev pub ComesTo : Line → Turn → Bench → Bench → Outcome → Type 0
 ComesTo line turn s t Skipped = ⊥
-ComesTo line turn s t (Accepted text) = (answer : DeskAnswer) × AtDesk line turn s t (Ok answer) × (text ≡ answer_text answer)
+ComesTo line turn s t (Accepted text) =
+    (answer : DeskAnswer) × AtDesk line turn s t (Ok answer) × (text ≡ answer_text answer)
 ComesTo line turn s t (Refused why) =
-    (t ≡ s) × SaysNothing line why ⊎ (fault : DeskFault) × AtDesk line turn s t (Err fault) × (desk_fault_text fault ≡ Some why)
+    (t ≡ s) × SaysNothing line why
+    ⊎ (fault : DeskFault) × AtDesk line turn s t (Err fault) × (desk_fault_text fault ≡ Some why)
 ComesTo line turn s t Failed = AtDesk line turn s t (Err desks.Failed)
 -- memory runs out before the desk is reached, at it, or for the text of its refusal
-ComesTo line turn s t OutOfMemory = (t ≡ s) ⊎ (fault : DeskFault) × (fault ≢ desks.Failed) × AtDesk line turn s t (Err fault)
+ComesTo line turn s t OutOfMemory =
+    (t ≡ s) ⊎ (fault : DeskFault) × (fault ≢ desks.Failed) × AtDesk line turn s t (Err fault)
 
 -- how a line ends: one that is skipped changes nothing, and any other has its turn
 abbrev pub EndsAs : Line → Sitting → Sitting → Outcome → Type 0

@@ -31,17 +31,20 @@ IsRefusalPrinted number why ends.ReadFailed old new = ⊥
 IsRefusalPrinted number why ends.KeeperFailed old new = ⊥
 
 -- a line was taken of those that were left, it went, and what it prints was written
-abbrev pub TakesAndGoes : Option (List Line) → Option (List Line) → Sitting → Sitting → Option (List ℕ) → Option (List ℕ) → Type 0
+abbrev pub TakesAndGoes : Option (List Line) → Option (List Line) → Sitting → Sitting
+    → Option (List ℕ) → Option (List ℕ) → Type 0
 TakesAndGoes left left' s t old new =
     (line : Line) × (printed : List (List ℕ)) × Takes left left' (Some line) × Goes line s t printed
     × Appends old new (written_lines printed)
 
 -- the run stopped at the next line, and what it wrote of it
-abbrev pub StopsThere : CommandEnd → Option (List Line) → ℕ → Sitting → Sitting → Option (List ℕ) → Option (List ℕ) → Type 0
+abbrev pub StopsThere : CommandEnd → Option (List Line) → ℕ → Sitting → Sitting
+    → Option (List ℕ) → Option (List ℕ) → Type 0
 StopsThere end left number s t old new = (more : List ℕ) × Stops end left number s t more × Appends old new more
 
 -- what a step of a run comes to: a line went, none is left, or the run stopped
-abbrev pub Steps : Option (List Line) → Option (List Line) → ℕ → Sitting → Sitting → Option (List ℕ) → Option (List ℕ) → Result Bool CommandEnd → Type 0
+abbrev pub Steps : Option (List Line) → Option (List Line) → ℕ → Sitting → Sitting
+    → Option (List ℕ) → Option (List ℕ) → Result Bool CommandEnd → Type 0
 Steps left left' number s t old new (Ok true) = TakesAndGoes left left' s t old new
 Steps left left' number s t old new (Ok false) = StopsThere ends.Done left number s t old new
 Steps left left' number s t old new (Err end) = StopsThere end left number s t old new

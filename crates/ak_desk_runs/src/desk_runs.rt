@@ -26,8 +26,8 @@ use ak_texts::{DeskAnswer, write_answer};
 use ak_undo::UndoList;
 use std::alloc::Global;
 
-/// Runs the desk lines of the input one by one over the collection that is held, until the input ends or a line is refused, and
-/// prints the answer of each. The steps that `undo` goes back to are those of this run.
+/// Runs the desk lines of the input one by one over the collection that is held, until the input ends or a line is
+/// refused, and prints the answer of each. The steps that `undo` goes back to are those of this run.
 pub fn run_desk<K: Keeper, C: Clock, R: Chance, I: Source, O: Sink>(
     alloc: Global,
     keeper: &mut K,

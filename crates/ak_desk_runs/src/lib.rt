@@ -1,5 +1,5 @@
-// The commands `init` and `desk`, over any keeper, clock, chance, filters, input and output: how each ends, what it leaves and what it
-// writes. Nothing here knows of the program's words.
+// The commands `init` and `desk`, over any keeper, clock, chance, filters, input and output: how each ends, what it
+// leaves and what it writes. Nothing here knows of the program's words.
 #![tactic(auto)]
 
 mod command_ends;

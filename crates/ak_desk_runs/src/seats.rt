@@ -1,8 +1,8 @@
 use ak_undo::UndoList;
 use std::alloc::Global;
 
-/// What a run of desk lines keeps between two of them. References to what it works with travel beside it, one by one: whoever
-/// consumes a struct that holds several can't tell what each ended as.
+/// What a run of desk lines keeps between two of them. References to what it works with travel beside it, one by one:
+/// whoever consumes a struct that holds several can't tell what each ended as.
 #[derive(Drop)]
 pub(crate) struct Seat {
     pub(crate) alloc: Global,
