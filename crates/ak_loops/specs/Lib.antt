@@ -1,0 +1,5 @@
+pub mod Betweens
+pub mod Entries
+pub mod LoggedServers
+pub mod LoopWires
+pub mod Mishaps

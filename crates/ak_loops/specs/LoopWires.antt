@@ -1,0 +1,98 @@
+-- What a wire in memory tells, and what its calls make of the server that it leads to.
+use Rattle.std.specs.Prelude.{◌≡◌, ◌<◌, ◌⊎◌, ℕ, zero, suc, ℤ, if◌then◌else◌, Bool, true, false, List, Some, None, Result, Ok, Err}
+use Rattle.ak_faults.specs.Causes.{Health, one_more}
+use Rattle.ak_loops.specs.Betweens.{ComesBetween}
+use Rattle.ak_loops.specs.Entries.{LoggedState, log_in}
+use Rattle.ak_loops.specs.LoggedServers.{IsServed}
+use Rattle.ak_loops.specs.Mishaps.{is_lost, loses_nothing, servings}
+use Rattle.ak_loops.specs.declared.call_counts.CallCounts.{CallCounts}
+use Rattle.ak_loops.specs.declared.mishaps.Mishap.{Mishap}
+use Rattle.ak_messages.specs.declared.replies.Reply.{Reply}
+use Rattle.ak_messages.specs.declared.requests.Request.{Request}
+use Rattle.ak_wires.specs.Wires.{WireState, said_after, silence_after}
+use Rattle.ak_wires.specs.declared.wires.WireEnd.{WireEnd}
+use Rattle.ak_wires.specs.declared.wires.WireEnd.TheVariants as ends
+
+-- ---- what it counts
+-- no call was made
+abbrev pub no_calls : CallCounts
+no_calls = record { calls = 0; faults = 0; silent = 0; said = None }
+
+-- how many calls failed, once so many did before this call
+abbrev pub faults_after : ℕ → Result Reply WireEnd → ℕ
+faults_after before (Err ends.Failed) = one_more before
+faults_after before (Err ends.BadReply) = before
+faults_after before (Err ends.Memory) = before
+faults_after before (Ok reply) = before
+
+-- the counts after a call that was answered so
+abbrev pub counts_after : CallCounts → Request → Result Reply WireEnd → CallCounts
+counts_after c request answer = record {
+  calls = one_more c.calls;
+  faults = faults_after c.faults answer;
+  silent = silence_after c.silent answer;
+  said = said_after request answer;
+}
+
+-- ---- what it tells
+-- how many of its calls failed. It is known not to fail if no mishap loses a message
+abbrev pub health_over : CallCounts → List Mishap → Health
+health_over c mishaps = record { faults = c.faults; calm = loses_nothing mishaps }
+
+-- the log of its server, always; and each answer can be read
+abbrev pub state_over : LoggedState → CallCounts → WireState
+state_over server c = record {
+  log = Some (log_in server);
+  reading = record { faults = 0; calm = true };
+  silence = c.silent;
+  said = c.said;
+  calls = c.calls;
+}
+
+-- ---- what a call does
+-- how often a request is served that is lost or not, and repeated or not
+abbrev pub times_of : Bool → Bool → ℕ
+times_of lost repeated = if lost then 0 else if repeated then 2 else 1
+
+-- a request was served so many times in a row at this moment, at least once, and this is the reply to the last serving
+abbrev pub ServesInARow : ℕ → LoggedState → LoggedState → Request → ℤ → Reply → Type 0
+ServesInARow zero old new request now reply = ⊥
+ServesInARow (suc zero) old new request now reply = IsServed old new request now reply
+ServesInARow (suc (suc n)) old new request now reply =
+    (mid : LoggedState) × (first : Reply) × IsServed old mid request now first
+    × ServesInARow (suc n) mid new request now reply
+
+-- the request was served so many times in a row, or not at all
+abbrev pub ServesUpTo : ℕ → LoggedState → LoggedState → Request → ℤ → Type 0
+ServesUpTo zero old new request now = new ≡ old
+ServesUpTo (suc n) old new request now = (reply : Reply) × ServesInARow (suc n) old new request now reply
+
+-- the request was served less often than so many times
+abbrev pub ServesFewer : ℕ → LoggedState → LoggedState → Request → ℤ → Type 0
+ServesFewer most old new request now = (times : ℕ) × (times < most) × ServesUpTo times old new request now
+
+-- how a request fared that is to be served so many times, lost or not: it was served so, and answered with the last reply unless that is
+-- lost. If memory ran out it was served less often
+abbrev pub Fares : Bool → ℕ → LoggedState → LoggedState → Request → ℤ → Result Reply WireEnd → Type 0
+Fares lost times old new request now (Ok reply) = (lost ≡ false) × ServesInARow times old new request now reply
+Fares lost times old new request now (Err ends.Failed) = (lost ≡ true) × ServesUpTo times old new request now
+Fares lost times old new request now (Err ends.BadReply) = ⊥
+Fares lost times old new request now (Err ends.Memory) = ServesFewer times old new request now
+
+-- after what came between, the request fared so, or memory ran out before it was served
+abbrev pub FaresAt : ℕ → List Mishap → LoggedState → LoggedState → Request → ℤ → Result Reply WireEnd → Type 0
+FaresAt call mishaps old new request now result =
+    Fares (is_lost call mishaps) (servings call mishaps) old new request now result
+    ⊎ ((result ≡ Err ends.Memory) × (new ≡ old))
+
+-- what whoever acts between the calls makes of itself and of the server before the call of a number, whose request has a session key
+abbrev pub Acting : Type 0 → Type 1
+Acting B = (call session : ℕ) (was now : B) (old new : LoggedState) → Type 0
+
+-- a call of this number: whoever acts between the calls did so, and then its request fared as the mishaps of the call say
+pub record Delivers {B : Type 0} (acts : Acting B) (call : ℕ) (mishaps : List Mishap) (was became : B) (old new : LoggedState)
+    (request : Request) (now : ℤ) (result : Result Reply WireEnd) : Type 0 where
+  pub met : LoggedState
+  pub acted : acts call request.session.0 was became old met
+  pub before : ComesBetween request.session.0 old met
+  pub fares : FaresAt call mishaps met new request now result

@@ -1,0 +1,42 @@
+use crate::logged_servers::LoggedServer;
+use ak_base::{Memory, SessionKey};
+
+/// What comes to a server between the calls of a wire: views, and the messages of others.
+pub trait Between {
+    ghost use Rattle.std.specs.Prelude.{ℕ};
+    ghost use Rattle.ak_loops.specs.Betweens.{ComesBetween};
+    ghost use Rattle.ak_loops.specs.Entries.{LoggedState};
+
+    /// What it makes of itself and of the server before the call of a number, whose request has a session key.
+    ghost acts: { ℕ → ℕ → Self → Self → LoggedState → LoggedState → Type 0 };
+
+    /// Acts on the server before the call of this number of a wire, counted from 0, whose request has this session key.
+    /// It may send requests of other sessions, and again what came before; whatever it answers.
+    fn before(
+        &mut self,
+        call: u64,
+        session: SessionKey,
+        server: &mut LoggedServer,
+    ) -> Result<(), Memory>
+        ensures acts { acts call session.0 self.old self.new server.old server.new }
+        ensures comes { ComesBetween session.0 server.old server.new };
+}
+
+/// Nothing comes in between.
+#[derive(Clone, Copy, Debug, Drop)]
+pub struct NothingBetween;
+
+impl Between for NothingBetween {
+    ghost use Rattle.std.specs.Prelude.{◌≡◌};
+
+    ghost acts = { λ call session old new before after. (new ≡ old) × (after ≡ before) };
+
+    fn before(
+        &mut self,
+        _call: u64,
+        _session: SessionKey,
+        _server: &mut LoggedServer,
+    ) -> Result<(), Memory> {
+        Ok(())
+    }
+}

@@ -1,0 +1,84 @@
+ghost use Rattle.std.specs.Prelude.{◌≡◌, ◌≤◌};
+ghost use Rattle.ak_loops.specs.LoopWires.{counts_after, no_calls};
+
+use ak_messages::{Reply, Request, SanityReply};
+use ak_wires::{Said, WireEnd, said_of};
+
+/// What a wire counts of its calls, and what the reply of the last one said. Each count stays at the last `u64`.
+#[derive(Drop)]
+pub(crate) struct CallCounts {
+    /// The calls that were made.
+    pub(crate) calls: u64,
+    /// Those that failed.
+    pub(crate) faults: u64,
+    /// Those that failed in a row, up to the last one.
+    pub(crate) silent: u64,
+    pub(crate) said: Option<Said>,
+}
+
+impl CallCounts {
+    /// No call was made.
+    pub(crate) fn new() -> CallCounts
+        ensures { result ≡ no_calls }
+    {
+        CallCounts {
+            calls: 0,
+            faults: 0,
+            silent: 0,
+            said: None,
+        }
+    }
+
+    /// What the reply of the last call said.
+    pub(crate) fn last(&self) -> Option<Said>
+        ensures { result ≡ self.now.said }
+    {
+        match &self.said {
+            Some(said) => Some(copy_said(said)),
+            None => None,
+        }
+    }
+
+    /// Counts a call that was answered so.
+    pub(crate) fn count(&mut self, request: &Request, answer: &Result<Reply, WireEnd>)
+        ensures counts { self.new ≡ counts_after self.old request.now answer.now }
+        ensures later { self.old.faults ≤ self.new.faults }
+    {
+        self.calls = self.calls.saturating_add(1);
+        self.silent = match answer {
+            Err(WireEnd::Failed) => self.silent.saturating_add(1),
+            _ => 0,
+        };
+        if let Err(WireEnd::Failed) = answer {
+            self.faults = self.faults.saturating_add(1);
+        }
+        self.said = match answer {
+            Ok(reply) => Some(said_of(request, reply)),
+            Err(_) => None,
+        };
+    }
+}
+
+/// An equal one of its own.
+fn copy_said(said: &Said) -> Said
+    ensures { result ≡ said.now }
+{
+    Said {
+        session: said.session,
+        status: said.status,
+        word: said.word,
+        seen: said.seen,
+        meta: said.meta,
+        sanity: copy_sanity(&said.sanity),
+    }
+}
+
+/// An equal one of its own.
+fn copy_sanity(sanity: &Option<SanityReply>) -> Option<SanityReply>
+    ensures { result ≡ sanity.now }
+{
+    match sanity {
+        Some(reply) => Some(reply.copy()),
+        None => None,
+    }
+}

@@ -1,0 +1,19 @@
+// A server that writes down what comes to it, and a wire in memory that leads to it: messages get lost, are repeated, and
+// cross those of other devices, as a script says.
+#![tactic(auto)]
+
+mod between_laws;
+mod betweens;
+mod call_counts;
+mod deliveries;
+mod logged_servers;
+mod logs;
+mod loop_wires;
+mod mishaps;
+
+pub use between_laws::{openings_are_told, others_may_act};
+pub use betweens::{Between, NothingBetween};
+pub use logged_servers::LoggedServer;
+pub use logs::{Entry, Log, Logged, Trouble};
+pub use loop_wires::LoopWire;
+pub use mishaps::{Mishap, What};
