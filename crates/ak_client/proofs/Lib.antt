@@ -1,0 +1,5 @@
+pub mod Fates
+pub mod Finishing
+pub mod Greeting
+pub mod Healing
+pub mod Leading

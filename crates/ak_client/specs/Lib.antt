@@ -1,0 +1,3 @@
+pub mod Greetings
+pub mod Outcomes
+pub mod Syncs

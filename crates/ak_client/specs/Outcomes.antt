@@ -1,0 +1,28 @@
+-- What an outcome says.
+use Rattle.std.specs.Prelude.{Result, Ok, Err}
+use Rattle.ak_client.specs.declared.outcomes.Outcome.{Outcome}
+use Rattle.ak_client.specs.declared.outcomes.Outcome.TheVariants as outcomes
+use Rattle.ak_exchange.specs.declared.stops.Stop.{Stop}
+use Rattle.ak_exchange.specs.declared.stops.Stop.TheVariants as stops
+
+-- the outcome of a sync that stopped
+abbrev pub outcome_at : Stop → Outcome
+outcome_at stops.NoChanges = outcomes.NoChanges
+outcome_at (stops.FullSchema device server) = outcomes.FullSchema device server
+outcome_at (stops.FullSequence usn) = outcomes.FullSequence usn
+outcome_at (stops.BadRow fault) = outcomes.BadRow fault
+outcome_at (stops.BadCounts client server) = outcomes.BadCounts client server
+outcome_at (stops.ClockOff device server) = outcomes.ClockOff device server
+outcome_at (stops.OwnCheck fault) = outcomes.OwnCheck fault
+outcome_at stops.Stopped = outcomes.Stopped
+outcome_at (stops.Refused status word seen) = outcomes.Refused status word seen
+outcome_at stops.Lost = outcomes.Lost
+outcome_at stops.BadReply = outcomes.BadReply
+outcome_at stops.TooManyChunks = outcomes.TooManyChunks
+outcome_at stops.Keep = outcomes.Keep
+outcome_at stops.Memory = outcomes.Memory
+
+-- the outcome of a sync
+abbrev pub outcome_of : Result (Unit {0}) Stop → Outcome
+outcome_of (Ok done) = outcomes.Finished
+outcome_of (Err stop) = outcome_at stop

@@ -1,0 +1,13 @@
+// A sync from the device's side, over a keeper, a wire and a clock: it exchanges what the two sides lack, and commits only
+// after its finish was answered.
+#![tactic(auto)]
+
+mod greetings;
+mod outcomes;
+mod sync_laws;
+mod syncs;
+
+pub use ak_exchange::Ids;
+pub use outcomes::Outcome;
+pub use sync_laws::lost_finishes_heal;
+pub use syncs::sync_over;

@@ -1,0 +1,89 @@
+ghost use Rattle.ak_client.specs.declared.outcomes.Outcome.TheVariants as outcomes;
+ghost use Rattle.ak_client.specs.Outcomes.{outcome_of};
+ghost use Rattle.std.specs.Prelude.{◌≡◌};
+
+use ak_exchange::Stop;
+use ak_merge::CheckFault;
+use ak_messages::{SanityCounts, Word};
+
+/// How a sync ended.
+#[derive(Clone, Copy, Debug, PartialEq, Eq)]
+pub enum Outcome {
+    /// Device and server hold one content, the join of what they held.
+    Finished,
+    /// Both were changed last at one moment.
+    NoChanges,
+    /// The schema moments differ, in milliseconds: the whole collection has to be sent.
+    FullSchema {
+        device: i64,
+        server: i64,
+    },
+    /// The server's number is the last one: the whole collection has to be sent.
+    FullSequence {
+        usn: i64,
+    },
+    /// The join has this fault. The schema moment has risen, so that the whole collection is sent next.
+    BadRow(CheckFault),
+    /// The two sides count unlike numbers of rows. The schema moment has risen.
+    BadCounts {
+        client: SanityCounts,
+        server: SanityCounts,
+    },
+    /// The clocks are over 300 seconds apart, in seconds.
+    ClockOff {
+        device: i64,
+        server: i64,
+    },
+    /// The device's collection has this fault.
+    OwnCheck(CheckFault),
+    /// The server does not let the sync go on.
+    Stopped,
+    /// The server did not do what was asked.
+    Refused {
+        status: u16,
+        word: Word,
+        seen: i64,
+    },
+    /// Each of three tries of one request got no answer.
+    Lost,
+    /// An answer can't be read, or is not of the form of what was asked.
+    BadReply,
+    /// The 40,000th chunk of one direction is not the last one.
+    TooManyChunks,
+    /// The device's keeper failed.
+    Keep,
+    /// Out of memory.
+    Memory,
+}
+
+/// The outcome of a sync.
+pub(crate) fn outcome_of(end: Result<(), Stop>) -> Outcome
+    ensures { result ≡ outcome_of end }
+{
+    match end {
+        Ok(()) => Outcome::Finished,
+        Err(stop) => outcome_at(stop),
+    }
+}
+
+/// The outcome of a sync that did not finish.
+fn outcome_at(stop: Stop) -> Outcome
+    ensures { result ≡ outcome_at stop }
+{
+    match stop {
+        Stop::NoChanges => Outcome::NoChanges,
+        Stop::FullSchema { device, server } => Outcome::FullSchema { device, server },
+        Stop::FullSequence { usn } => Outcome::FullSequence { usn },
+        Stop::BadRow(fault) => Outcome::BadRow(fault),
+        Stop::BadCounts { client, server } => Outcome::BadCounts { client, server },
+        Stop::ClockOff { device, server } => Outcome::ClockOff { device, server },
+        Stop::OwnCheck(fault) => Outcome::OwnCheck(fault),
+        Stop::Stopped => Outcome::Stopped,
+        Stop::Refused { status, word, seen } => Outcome::Refused { status, word, seen },
+        Stop::Lost => Outcome::Lost,
+        Stop::BadReply => Outcome::BadReply,
+        Stop::TooManyChunks => Outcome::TooManyChunks,
+        Stop::Keep => Outcome::Keep,
+        Stop::Memory => Outcome::Memory,
+    }
+}

@@ -1,0 +1,10 @@
+pub mod Asking
+pub mod Chunking
+pub mod Granted
+pub mod Held
+pub mod Parts
+pub mod Passing
+pub mod Places
+pub mod Replying
+pub mod Stepping
+pub mod Tried

@@ -1,0 +1,506 @@
+-- The parts of a sync that ask one request: refused once it was asked, and granted.
+use Rattle.std.specs.Int.{div_ceil}
+use Rattle.std.specs.Option.{option_map}
+use Rattle.std.specs.Prelude.{◌≡◌, ℕ, pos, ◌≤ℤ◌, ◌+◌, ◌*◌, ◌%◌, ◌<◌, ◌≤◌, ◌&&◌, ℤ, cond, nat_lt, not, Bool, true, false, List, [], ◌∷◌, ◌++◌, length, Option, Some, None, option_and_then, Result, Ok, Err, IsErr, IfOk, IfSome, ok_or, ◌==◌, if◌then◌else◌}
+use Rattle.std.proofs.lemmas.List.{length-append}
+use Rattle.std.proofs.lemmas.Nat.{div-add-mod', mod_below}
+use Rattle.std.proofs.lemmas.Option.{none-some, same_Some}
+use Rattle.std.proofs.Common.{refl, sym, ap, subst, ◌∙◌, append_assoc, arith}
+use Rattle.ak_base.specs.declared.heads.Head.{Head}
+use Rattle.ak_base.specs.declared.names.Name.{Name}
+use Rattle.ak_base.specs.declared.names.Table.TheVariants as tables
+use Rattle.ak_base.specs.declared.rows.Row.{Row}
+use Rattle.ak_device.proofs.Receiving.{received_nothing}
+use Rattle.ak_device.specs.Devices.{IsNextToSend, Settles, changes_to_send, received}
+use Rattle.ak_exchange.proofs.Granted.{changes_are, chunk_are, graves_are}
+use Rattle.ak_exchange.proofs.Held.{changes_at, held_at, replied_quietly, rows_at, told_at}
+use Rattle.ak_exchange.proofs.Passing.{IsRefused, advances_to, asked_one, left_one, refused_after, took_after}
+use Rattle.ak_exchange.proofs.Places.{after_changes, after_chunks, after_graves, after_pushes, after_start, grave_request, leads_on, meta_leads, next_graves, no_graves_yet, next_pull, next_push, part_sent, pulled_one, push_request, pushed_full, pushed_last, sent_graves}
+use Rattle.ak_exchange.specs.Asked.{AreFew, Talk, asker, request_at}
+use Rattle.ak_exchange.specs.Loops.{HasPulledOne, HasPushedOne, HavePulled, HavePushed, HaveSentGraves, last_sent, rows_to_push}
+use Rattle.ak_exchange.specs.Phases.{Advances, AreGraveRequests, Exchanges, HasReceived, IsAt, IsMet, Place, at_end_of, at_meta, held_by}
+use Rattle.ak_exchange.specs.Stops.{verdict_of}
+use Rattle.ak_exchange.specs.declared.envelopes.Envelopes.{Envelopes}
+use Rattle.ak_exchange.specs.declared.envelopes.Met.{Met}
+use Rattle.ak_exchange.specs.declared.stops.Stop.{Stop}
+use Rattle.ak_keep.specs.Collections.{Collection, Holding, Rows, wanted_past}
+use Rattle.ak_keep.specs.Keepers.{Keeping, WhereTold, changed}
+use Rattle.ak_keep.specs.Marks as marks
+use Rattle.ak_keep.specs.Marks.{WithMark}
+use Rattle.ak_keep.specs.declared.keepers.Wanted.TheVariants.{Unsent}
+use Rattle.ak_merge.proofs.WantedCounts.{unsent_never_grow}
+use Rattle.ak_merge.specs.Takings.{all_taken}
+use Rattle.ak_merge.specs.Commits.{Received}
+use Rattle.ak_messages.specs.declared.replies.Give.{Give}
+use Rattle.ak_messages.specs.declared.replies.Give.TheVariants as gives
+use Rattle.ak_messages.specs.declared.replies.Reply.{Reply}
+use Rattle.ak_messages.specs.declared.replies.SanityReply.{SanityReply}
+use Rattle.ak_messages.specs.declared.requests.Ask.{Ask}
+use Rattle.ak_messages.specs.declared.requests.Ask.TheVariants as asks
+use Rattle.ak_messages.specs.declared.requests.Changes.{Changes}
+use Rattle.ak_messages.specs.declared.requests.Chunk.{Chunk}
+use Rattle.ak_messages.specs.declared.requests.GraveIds.{GraveIds}
+use Rattle.ak_messages.specs.declared.requests.Request.{Request}
+use Rattle.ak_messages.specs.declared.requests.SanityCounts.{SanityCounts}
+use Rattle.ak_parts.specs.Chunks.{ahead_of}
+use Rattle.ak_protocol.specs.Accounts.{AccountState}
+use Rattle.ak_session.specs.Answers.{answer_to, counts_of}
+use Rattle.ak_session.specs.Messages.{changes_of, chunk_of, grave_ids}
+use Rattle.ak_session.specs.Plans.{device_changes, device_rows, planned, planned_changes, planned_check, planned_chunks, planned_graves, planned_pushes, planned_start}
+use Rattle.ak_session.specs.Replies.{all_replied, replied}
+use Rattle.ak_session.specs.Sessions.{MaySync}
+use Rattle.ak_session.specs.Slices.{slice, slices, wanted_graves}
+use Rattle.ak_wires.specs.Forms.{changes_in, chunk_in, graves_in, nothing_in, sanity_in, shows_cause, verdict_in}
+use Rattle.ak_wires.specs.Tries.{Answered, granted_in, in_form}
+use Rattle.ak_wires.specs.Wires.{said_after, said_of, sanity_said}
+use Rattle.ak_wires.specs.declared.asks.Unanswered.{Unanswered}
+use Rattle.ak_wires.specs.declared.asks.Unanswered.TheVariants as unanswered
+use Rattle.ak_wires.specs.declared.wires.Said.{Said}
+use Rattle.ak_wires.specs.declared.wires.WireEnd.{WireEnd}
+use Rattle.ak_wires.specs.declared.wires.WireEnd.TheVariants as ends
+
+-- a part with its request, as it was called
+pub record IsAsked {G : Type 0} (was now : Talk) (ask : Ask) (part : Give → Option G) (given : Result G Unanswered) : Type 0 where
+  pub it : Request
+  pub made : it ≡ request_at (asker was.envelopes.ids) was.envelopes.base (was.envelopes.step + 1) ask
+  pub envelopes : now.envelopes ≡ record was.envelopes { step = was.envelopes.step + 1 }
+  pub call : Answered was.health now.health was.wire now.wire it part given
+
+-- what was received with the number that was met was received with the server's
+received_met : (c s : Collection) (met : Met) (give own : Give) (before after : Keeping) → IsMet c s met → give ≡ own
+    → after ≡ changed (received met.meta.usn (replied own)) before → after ≡ changed (received s.head.usn (replied give)) before
+received_met c s met give own before after met_is same took =
+    took
+    ∙ ap (λ (usn : ℤ). changed (received usn (replied own)) before) met_is.usn
+    ∙ ap (λ (g : Give). changed (received s.head.usn (replied g)) before) (sym same)
+
+-- ---- the start
+module _ (met : Met) (before : Keeping) (was now : Talk) (given : Result GraveIds Unanswered)
+    (at : IsAsked was now (asks.Start met.head.usn met.head.moment) graves_in given) where
+  abbrev start_place : Place
+  start_place = at_end_of (λ c s. planned_start c)
+
+  start_few : AreFew 0 0 1 (asks.Start met.head.usn met.head.moment ∷ [])
+  start_few = record { asked = omega arith; sent = omega arith; rest = omega arith }
+
+  start_is : (c s : Collection) (asked more : List Ask) → IsMet c s met → asked ≡ []
+      → asked ++ asks.Start met.head.usn met.head.moment ∷ more ≡ asks.Start c.head.usn c.head.moment ∷ more
+  start_is c s asked more met_is is =
+      ap (λ (l : List Ask). l ++ asks.Start met.head.usn met.head.moment ∷ more) is
+      ∙ ap (λ (h : Head). asks.Start h.usn h.moment ∷ more) met_is.head
+
+  start_next : (c s : Collection) (account : AccountState) (asked : List Ask) → IsMet c s met → IsAt c s account asked at_meta before was → MaySync c s
+      → (rest : List Ask) × (asked ++ asks.Start met.head.usn met.head.moment ∷ rest ≡ planned c s)
+  start_next c s account asked met_is place may =
+      let ahead = after_start c s in (ahead.0, start_is c s asked ahead.0 met_is (place.has.placed may) ∙ ahead.1)
+
+  pub start_refused : {T : Type 0} (after : Keeping) (result : Result T Stop) → IsRefused result → Advances 0 0 1 at_meta start_place met before after was now result
+  start_refused after result is =
+      refused_after was now (asks.Start met.head.usn met.head.moment) at.it graves_in given at.made at.envelopes at.call refl refl refl
+      0 0 1 start_few at_meta met before start_next start_place after result is
+
+  pub start_took : {T : Type 0} (after : Keeping) (x : T) (ids : GraveIds) → given ≡ Ok ids
+      → after ≡ changed (received met.meta.usn (replied (gives.Graves ids))) before → Advances 0 0 1 at_meta start_place met before after was now (Ok x)
+  start_took after x ids came took =
+      took_after was now (asks.Start met.head.usn met.head.moment) at.it graves_in given at.made at.envelopes at.call refl refl refl
+      0 0 1 start_few at_meta met before start_next start_place after x ids came
+      (λ c s asked met_is is. received_met c s met (answer_to s asked (asks.Start met.head.usn met.head.moment)) (gives.Graves ids) before after met_is
+      (graves_are (answer_to s asked (asks.Start met.head.usn met.head.moment)) ids is).0 took)
+      (λ c s account asked met_is place is may. start_is c s asked [] met_is (place.has.placed may))
+
+-- ---- graves
+module _ (met : Met) (keeping : Keeping) (was now : Talk) (given : Result (Unit {0}) Unanswered) (k : ℕ) (list : List Row) (ids : GraveIds)
+    (less : 250 * k < length list) (ids_are : ids ≡ grave_ids (slice k list)) (at : IsAsked was now (asks.ApplyGraves ids) nothing_in given) where
+  graves_few : AreFew 0 0 1 (asks.ApplyGraves ids ∷ [])
+  graves_few = record { asked = omega arith; sent = omega arith; rest = omega arith }
+
+  graves_next : (c s : Collection) (account : AccountState) (asked : List Ask) → IsMet c s met → IsAt c s account asked (HaveSentGraves k list) keeping was
+      → MaySync c s → (rest : List Ask) × (asked ++ asks.ApplyGraves ids ∷ rest ≡ planned c s)
+  graves_next c s account asked met_is place may =
+      let ahead = next_graves k list c s asked less (place.has.placed may) in
+      (ahead.0, ap (λ (i : GraveIds). asked ++ asks.ApplyGraves i ∷ ahead.0) ids_are ∙ ahead.1)
+
+  pub graves_refused : {T : Type 0} (result : Result T Stop) → IsRefused result
+      → Advances 0 0 1 (HaveSentGraves k list) (HaveSentGraves (k + 1) list) met keeping keeping was now result
+  graves_refused result is =
+      refused_after was now (asks.ApplyGraves ids) at.it nothing_in given at.made at.envelopes at.call refl refl refl
+      0 0 1 graves_few (HaveSentGraves k list) met keeping graves_next (HaveSentGraves (k + 1) list) keeping result is
+
+  pub graves_took : {T : Type 0} (x : T) (done : Unit {0}) → given ≡ Ok done
+      → Advances 0 0 1 (HaveSentGraves k list) (HaveSentGraves (k + 1) list) met keeping keeping was now (Ok x)
+  graves_took x done came =
+      took_after was now (asks.ApplyGraves ids) at.it nothing_in given at.made at.envelopes at.call refl refl refl
+      0 0 1 graves_few (HaveSentGraves k list) met keeping graves_next (HaveSentGraves (k + 1) list) keeping x done came
+      (λ c s asked met_is is. received_nothing s.head.usn keeping)
+      (λ c s account asked met_is place is may.
+      subst (λ (i : GraveIds). HaveSentGraves (k + 1) list c s (asked ++ asks.ApplyGraves i ∷ [])) (sym ids_are)
+      (sent_graves k list c s asked (place.has.placed may)))
+
+-- ---- the changes
+module _ (met : Met) (before : Keeping) (was now : Talk) (given : Result Changes Unanswered) (changes : Changes)
+    (told : WhereTold before (λ h. IfSome h.head (λ head. changes ≡ changes_to_send met.meta.moment h.rows head)))
+    (at : IsAsked was now (asks.ApplyChanges changes) changes_in given) where
+  changes_few : AreFew 0 0 1 (asks.ApplyChanges changes ∷ [])
+  changes_few = record { asked = omega arith; sent = omega arith; rest = omega arith }
+
+  changes_made : (c s : Collection) (account : AccountState) (asked : List Ask) → IsMet c s met → IsAt c s account asked (at_end_of planned_graves) before was
+      → MaySync c s → changes ≡ changes_of (device_changes c s)
+  changes_made c s account asked met_is place may =
+      let is = place.has.placed may in
+      let ahead = leads_on planned_graves after_graves c s asked may is in
+      changes_at c s account asked (at_end_of planned_graves) before was changes place may is ahead
+      (subst (λ (moment : ℤ). WhereTold before (λ h. IfSome h.head (λ head. changes ≡ changes_to_send moment h.rows head))) met_is.moment told)
+
+  changes_end : (c s : Collection) (asked more : List Ask) → asked ≡ planned_graves c s → changes ≡ changes_of (device_changes c s)
+      → asked ++ asks.ApplyChanges changes ∷ more ≡ planned_graves c s ++ asks.ApplyChanges (changes_of (device_changes c s)) ∷ more
+  changes_end c s asked more is made =
+      ap (λ (l : List Ask). l ++ asks.ApplyChanges changes ∷ more) is
+      ∙ ap (λ (m : Changes). planned_graves c s ++ asks.ApplyChanges m ∷ more) made
+
+  changes_next : (c s : Collection) (account : AccountState) (asked : List Ask) → IsMet c s met → IsAt c s account asked (at_end_of planned_graves) before was
+      → MaySync c s → (rest : List Ask) × (asked ++ asks.ApplyChanges changes ∷ rest ≡ planned c s)
+  changes_next c s account asked met_is place may =
+      let ahead = after_changes c s in (
+        ahead.0,
+        changes_end c s asked ahead.0 (place.has.placed may) (changes_made c s account asked met_is place may)
+            ∙ sym (append_assoc (planned_graves c s) (asks.ApplyChanges (changes_of (device_changes c s)) ∷ []) ahead.0)
+            ∙ ahead.1,
+      )
+
+  pub changes_refused : {T : Type 0} (after : Keeping) (result : Result T Stop) → IsRefused result
+      → Advances 0 0 1 (at_end_of planned_graves) (at_end_of planned_changes) met before after was now result
+  changes_refused after result is =
+      refused_after was now (asks.ApplyChanges changes) at.it changes_in given at.made at.envelopes at.call refl refl refl
+      0 0 1 changes_few (at_end_of planned_graves) met before changes_next (at_end_of planned_changes) after result is
+
+  pub changes_took : {T : Type 0} (after : Keeping) (x : T) (came : Changes) → given ≡ Ok came
+      → after ≡ changed (received met.meta.usn (replied (gives.Changes came))) before
+      → Advances 0 0 1 (at_end_of planned_graves) (at_end_of planned_changes) met before after was now (Ok x)
+  changes_took after x came granted took =
+      took_after was now (asks.ApplyChanges changes) at.it changes_in given at.made at.envelopes at.call refl refl refl
+      0 0 1 changes_few (at_end_of planned_graves) met before changes_next (at_end_of planned_changes) after x came granted
+      (λ c s asked met_is is. received_met c s met (answer_to s asked (asks.ApplyChanges changes)) (gives.Changes came) before after met_is
+      (changes_are (answer_to s asked (asks.ApplyChanges changes)) came is).0 took)
+      (λ c s account asked met_is place is may. changes_end c s asked [] (place.has.placed may) (changes_made c s account asked met_is place may))
+
+-- ---- a chunk that comes
+module _ (met : Met) (before : Keeping) (was now : Talk) (given : Result Chunk Unanswered) (k : ℕ) (at : IsAsked was now asks.Chunk chunk_in given) where
+  pull_few : AreFew 1 0 0 (asks.Chunk ∷ [])
+  pull_few = record { asked = omega arith; sent = omega arith; rest = omega arith }
+
+  pull_next : (c s : Collection) (account : AccountState) (asked : List Ask) → IsMet c s met → IsAt c s account asked (HavePulled k) before was
+      → MaySync c s → (rest : List Ask) × (asked ++ asks.Chunk ∷ rest ≡ planned c s)
+  pull_next c s account asked met_is place may = next_pull k c s asked (place.has.placed may)
+
+  pub pull_refused : {T : Type 0} (to : Place) (after : Keeping) (result : Result T Stop) → IsRefused result
+      → Advances 1 0 0 (HavePulled k) to met before after was now result
+  pull_refused to after result is =
+      refused_after was now asks.Chunk at.it chunk_in given at.made at.envelopes at.call refl refl refl
+      1 0 0 pull_few (HavePulled k) met before pull_next to after result is
+
+  pub pull_took : {T : Type 0} (after : Keeping) (x : T) (chunk : Chunk) → given ≡ Ok chunk
+      → after ≡ changed (received met.meta.usn (replied (gives.Chunk chunk))) before
+      → Advances 1 0 0 (HavePulled k) (HasPulledOne k chunk.done) met before after was now (Ok x)
+  pull_took after x chunk granted took =
+      took_after was now asks.Chunk at.it chunk_in given at.made at.envelopes at.call refl refl refl
+      1 0 0 pull_few (HavePulled k) met before pull_next (HasPulledOne k chunk.done) after x chunk granted
+      (λ c s asked met_is is. received_met c s met (answer_to s asked asks.Chunk) (gives.Chunk chunk) before after met_is
+      (chunk_are (answer_to s asked asks.Chunk) chunk is).0 took)
+      (λ c s account asked met_is place is may. pulled_one k c s asked chunk may (place.has.placed may) (chunk_are (answer_to s asked asks.Chunk) chunk is).0)
+
+-- ---- a chunk that is sent
+-- how many requests it is
+pub pushed_few : (chunk : Chunk) (may_follow : Bool) (others : ℕ) → (chunk.done ≡ false → may_follow ≡ true) → (chunk.done ≡ true → 1 ≤ others)
+    → AreFew 0 (if may_follow then 1 else 0) others (asks.ApplyChunk chunk ∷ [])
+pushed_few chunk may_follow others unfinished last = by chunk.done refl
+  where
+    by : (b : Bool) → chunk.done ≡ b → AreFew 0 (if may_follow then 1 else 0) others (asks.ApplyChunk chunk ∷ [])
+    by true is = let one = last is in record {
+      asked = omega arith;
+      sent = subst (λ (b : Bool). 0 + cond (not b) 1 0 ≤ (if may_follow then 1 else 0)) (sym is) (omega arith);
+      rest = subst (λ (b : Bool). 0 + cond (true && not (not b)) 1 0 ≤ others) (sym is) (omega (arith, one));
+    }
+    by false is = let follows = unfinished is in record {
+      asked = omega arith;
+      sent = subst (λ (b : Bool). 0 + cond (not b) 1 0 ≤ (if may_follow then 1 else 0)) (sym is)
+          (subst (λ (m : Bool). 1 ≤ (if m then 1 else 0)) (sym follows) (omega arith));
+      rest = subst (λ (b : Bool). 0 + cond (true && not (not b)) 1 0 ≤ others) (sym is) (omega arith);
+    }
+
+pub last_sent_most : (result : Result (Option Name) Stop) → last_sent result ≤ 1
+last_sent_most (Ok None) = omega arith
+last_sent_most (Ok (Some next)) = omega arith
+last_sent_most (Err stop) = omega arith
+
+pub refused_sent : (result : Result (Option Name) Stop) → IsRefused result → last_sent result ≡ 1
+refused_sent (Ok next) is = absurd is
+refused_sent (Err stop) is = refl
+
+module _ (met : Met) (keeping : Keeping) (was now : Talk) (given : Result (Unit {0}) Unanswered) (k : ℕ) (from next : Name) (chunk : Chunk)
+    (told : WhereTold keeping (λ h. IsNextToSend h.rows from chunk next)) (at : IsAsked was now (asks.ApplyChunk chunk) nothing_in given) where
+  -- the chunk is the next one of what the device held once it took the server's
+  chunk_made : (c s : Collection) (account : AccountState) (asked : List Ask) → IsAt c s account asked (HavePushed k from) keeping was → MaySync c s
+      → IsNextToSend (device_rows c s (planned_chunks c s)) from chunk next
+  chunk_made c s account asked place may =
+      let same : all_replied s asked ≡ all_replied s (planned_chunks c s) =
+      ap (all_replied s) (place.has.placed may).asked_is
+      ∙ replied_quietly s push_request (λ before part. refl) (planned_chunks c s) (slices k (rows_to_push c s)) in
+      subst (λ (rows : Rows). IsNextToSend rows from chunk next)
+      (ap (λ (came : Received). (received s.head.usn came (held_by c)).rows) same
+      ∙ rows_at c s (planned_chunks c s) may (after_chunks c s))
+      (told_at c s account asked (HavePushed k from) keeping was place (λ h. IsNextToSend h.rows from chunk next) told)
+
+  push_next : (c s : Collection) (account : AccountState) (asked : List Ask) → IsMet c s met → IsAt c s account asked (HavePushed k from) keeping was
+      → MaySync c s → (rest : List Ask) × (asked ++ asks.ApplyChunk chunk ∷ rest ≡ planned c s)
+  push_next c s account asked met_is place may =
+      let at_k = place.has.placed may in
+      let made = chunk_made c s account asked place may in
+      let ahead = next_push k from c s asked at_k in (
+        ahead.0,
+        ap (λ (x : Chunk). asked ++ asks.ApplyChunk x ∷ ahead.0)
+            (made.chunk_is ∙ ap chunk_of (part_sent k from next c s asked at_k made.part made.slice))
+            ∙ ahead.1,
+      )
+
+  pub push_refused : {T : Type 0} (q o : ℕ) (to : Place) (result : Result T Stop) → AreFew 0 q o (asks.ApplyChunk chunk ∷ []) → IsRefused result
+      → Advances 0 q o (HavePushed k from) to met keeping keeping was now result
+  push_refused q o to result few is =
+      refused_after was now (asks.ApplyChunk chunk) at.it nothing_in given at.made at.envelopes at.call refl refl refl
+      0 q o few (HavePushed k from) met keeping push_next to keeping result is
+
+  -- it was the last one, or the next begins after it
+  push_place : (c s : Collection) (account : AccountState) (asked : List Ask) → IsAt c s account asked (HavePushed k from) keeping was → MaySync c s
+      → (done : Bool) → chunk.done ≡ done → HasPushedOne k (if done then None else Some next) c s (asked ++ asks.ApplyChunk chunk ∷ [])
+  push_place c s account asked place may true is =
+      let at_k = place.has.placed may in
+      let made = chunk_made c s account asked place may in
+      subst (λ (x : Chunk). asked ++ asks.ApplyChunk x ∷ [] ≡ planned_pushes c s) (sym made.chunk_is)
+      (pushed_last k from next c s asked at_k made.part made.slice (sym (ap (λ (x : Chunk). x.done) made.chunk_is) ∙ is))
+  push_place c s account asked place may false is =
+      let at_k = place.has.placed may in
+      let made = chunk_made c s account asked place may in
+      subst (λ (x : Chunk). HavePushed (k + 1) next c s (asked ++ asks.ApplyChunk x ∷ [])) (sym made.chunk_is)
+      (pushed_full k from next c s asked at_k made.part made.slice (sym (ap (λ (x : Chunk). x.done) made.chunk_is) ∙ is))
+
+  pub push_took : {T : Type 0} (q o : ℕ) (x : T) (done : Unit {0}) (last : Bool) → AreFew 0 q o (asks.ApplyChunk chunk ∷ []) → given ≡ Ok done → chunk.done ≡ last
+      → Advances 0 q o (HavePushed k from) (HasPushedOne k (if last then None else Some next)) met keeping keeping was now (Ok x)
+  push_took q o x done last few came is =
+      took_after was now (asks.ApplyChunk chunk) at.it nothing_in given at.made at.envelopes at.call refl refl refl
+      0 q o few (HavePushed k from) met keeping push_next (HasPushedOne k (if last then None else Some next)) keeping x done came
+      (λ c s asked met_is told_is. received_nothing s.head.usn keeping)
+      (λ c s account asked met_is place told_is may. push_place c s account asked place may last is)
+
+-- ---- the sanity check
+abbrev Checking : Type 0
+Checking = Result SanityReply Unanswered
+
+err-ok : (why : Unanswered) (reply : SanityReply) → (let refused : Checking = Err why in refused ≡ Ok reply) → ⊥
+err-ok why reply is = grind (arith, is)
+
+same_ok : (own reply : SanityReply) → (let granted : Checking = Ok own in granted ≡ Ok reply) → own ≡ reply
+same_ok own reply is = grind (arith, is)
+
+-- the part of a give that shows a cause is what the give said
+shown_sanity : (give : Give) (reply : SanityReply) → verdict_in give ≡ Some reply → sanity_in give ≡ Some reply
+shown_sanity give reply is = by (sanity_in give) is
+  where
+    by : (o : Option SanityReply) → option_and_then (λ (r : SanityReply). if shows_cause r then Some r else None) o ≡ Some reply → o ≡ Some reply
+    by None is = absurd (none-some reply is)
+    by (Some own) is = cause (shows_cause own) is
+      where
+        cause : (b : Bool) → (if b then Some own else None) ≡ Some reply → Some own ≡ Some reply
+        cause true is = is
+        cause false is = absurd (none-some reply is)
+
+-- what the wire says once a sanity check was granted
+said_check : (it : Request) (counts : SanityCounts) → it.ask ≡ asks.SanityCheck2 counts → (answer : Result Reply WireEnd) (reply : SanityReply)
+    → in_form verdict_in (granted_in answer) ≡ Ok reply → (said : Said) × (said_after it answer ≡ Some said) × (said.sanity ≡ Some reply)
+said_check it counts ask (Ok own) reply is =
+    (said_of it own, refl, ap (λ (a : Ask). sanity_said a own) ask ∙ by (own.status == 200) is)
+  where
+    given : (o : Option SanityReply) → verdict_in own.give ≡ o → ok_or o unanswered.BadReply ≡ Ok reply → sanity_in own.give ≡ Some reply
+    given None shown same = absurd (err-ok unanswered.BadReply reply same)
+    given (Some r) shown same = shown_sanity own.give reply (shown ∙ ap (λ (x : SanityReply). Some x) (same_ok r reply same))
+
+    by : (b : Bool) → in_form verdict_in (if b then Ok own.give else Err (unanswered.Refused own.status own.word own.seen)) ≡ Ok reply
+        → (if b then sanity_in own.give else None) ≡ Some reply
+    by true same = given (verdict_in own.give) refl same
+    by false same = absurd (err-ok (unanswered.Refused own.status own.word own.seen) reply same)
+said_check it counts ask (Err ends.Failed) reply is = absurd (err-ok unanswered.Lost reply is)
+said_check it counts ask (Err ends.BadReply) reply is = absurd (err-ok unanswered.BadReply reply is)
+said_check it counts ask (Err ends.Memory) reply is = absurd (err-ok unanswered.Memory reply is)
+
+module _ (met : Met) (keeping : Keeping) (was now : Talk) (given : Result SanityReply Unanswered) (counts : SanityCounts)
+    (told : WhereTold keeping (λ h. counts ≡ counts_of h.rows)) (at : IsAsked was now (asks.SanityCheck2 counts) verdict_in given) where
+  check_few : AreFew 0 0 1 (asks.SanityCheck2 counts ∷ [])
+  check_few = record { asked = omega arith; sent = omega arith; rest = omega arith }
+
+  check_end : (c s : Collection) (account : AccountState) (asked more : List Ask) → IsAt c s account asked (at_end_of planned_pushes) keeping was → MaySync c s
+      → asked ++ asks.SanityCheck2 counts ∷ more ≡ planned_pushes c s ++ asks.SanityCheck2 (counts_of (device_rows c s (planned_pushes c s))) ∷ more
+  check_end c s account asked more place may =
+      let is = place.has.placed may in
+      let counted : counts ≡ counts_of (device_rows c s (planned_pushes c s)) =
+      told_at c s account asked (at_end_of planned_pushes) keeping was place (λ h. counts ≡ counts_of h.rows) told
+      ∙ ap counts_of (rows_at c s asked may (leads_on planned_pushes after_pushes c s asked may is) ∙ ap (device_rows c s) is) in
+      ap (λ (l : List Ask). l ++ asks.SanityCheck2 counts ∷ more) is
+      ∙ ap (λ (n : SanityCounts). planned_pushes c s ++ asks.SanityCheck2 n ∷ more) counted
+
+  check_next : (c s : Collection) (account : AccountState) (asked : List Ask) → IsMet c s met → IsAt c s account asked (at_end_of planned_pushes) keeping was
+      → MaySync c s → (rest : List Ask) × (asked ++ asks.SanityCheck2 counts ∷ rest ≡ planned c s)
+  check_next c s account asked met_is place may =
+      (asks.Finish ∷ [], check_end c s account asked (asks.Finish ∷ []) place may
+      ∙ sym (append_assoc (planned_pushes c s) (asks.SanityCheck2 (counts_of (device_rows c s (planned_pushes c s))) ∷ []) (asks.Finish ∷ [])))
+
+  pub check_refused : {T : Type 0} (to : Place) (result : Result T Stop) → IsRefused result
+      → Advances 0 0 1 (at_end_of planned_pushes) to met keeping keeping was now result
+  check_refused to result is =
+      refused_after was now (asks.SanityCheck2 counts) at.it verdict_in given at.made at.envelopes at.call refl refl refl
+      0 0 1 check_few (at_end_of planned_pushes) met keeping check_next to keeping result is
+
+  pub check_took : {T : Type 0} (x : T) (reply : SanityReply) → given ≡ Ok reply
+      → Advances 0 0 1 (at_end_of planned_pushes) (at_end_of planned_check) met keeping keeping was now (Ok x)
+  check_took x reply came =
+      took_after was now (asks.SanityCheck2 counts) at.it verdict_in given at.made at.envelopes at.call refl refl refl
+      0 0 1 check_few (at_end_of planned_pushes) met keeping check_next (at_end_of planned_check) keeping x reply came
+      (λ c s asked met_is is. received_nothing s.head.usn keeping)
+      (λ c s account asked met_is place is may. check_end c s account asked [] place may)
+
+  -- what the check found: the sync goes on, or stops at what the reply showed
+  pub check_ends : (result : Result (Unit {0}) Stop) (reply : SanityReply) → given ≡ Ok reply → result ≡ verdict_of reply
+      → Advances 0 0 1 (at_end_of planned_pushes) (at_end_of planned_check) met keeping keeping was now result
+  check_ends (Ok x) reply came is = check_took x reply came
+  check_ends (Err stop) reply came is = record {
+    asks = asks.SanityCheck2 counts ∷ [];
+    asked = asked_one was now (asks.SanityCheck2 counts) at.it verdict_in given at.made at.envelopes at.call;
+    few = check_few;
+    plain = (refl, tt);
+    checked = λ bad.
+        let said = said_check at.it counts (ap (λ (r : Request). r.ask) at.made) at.call.answer reply (sym at.call.came ∙ came) in
+        record {
+          before = [];
+          counts = counts;
+          last = refl;
+          said = said.0;
+          is = at.call.tried.said ∙ said.1;
+          reply = reply;
+          found = said.2;
+          verdict = sym is;
+        };
+    leads = λ c s account earlier met_is place. (
+      left_one was now (asks.SanityCheck2 counts) at.it verdict_in given at.made at.envelopes at.call refl refl refl
+          0 0 1 check_few (at_end_of planned_pushes) met keeping check_next c s account earlier met_is place,
+      tt,
+    );
+  }
+
+-- ---- turns of chunks that are sent
+pub pushed_end : (k q : ℕ) (from : Name) (met : Met) (k0 k1 : Keeping) (t0 t1 : Talk) (next : Option Name) → next ≡ None
+    → Advances 0 q (last_sent (Ok next)) (HavePushed k from) (HasPushedOne k next) met k0 k1 t0 t1 (Ok next)
+    → Advances {T = Unit {0}} 0 q 1 (HavePushed k from) (at_end_of planned_pushes) met k0 k1 t0 t1 (Ok tt)
+pushed_end k q from met k0 k1 t0 t1 None is one =
+    advances_to 0 q 1 (HavePushed k from) (at_end_of planned_pushes) (at_end_of planned_pushes) met k0 k1 t0 t1 None tt (λ c s asked may at. at) one
+pushed_end k q from met k0 k1 t0 t1 (Some next) is one = absurd (grind (arith, is))
+
+pub pushed_on : (k q : ℕ) (from : Name) (met : Met) (k0 k1 : Keeping) (t0 t1 : Talk) (next : Option Name) (name : Name) → next ≡ Some name
+    → Advances 0 q (last_sent (Ok next)) (HavePushed k from) (HasPushedOne k next) met k0 k1 t0 t1 (Ok next)
+    → Advances {T = Unit {0}} 0 q 0 (HavePushed k from) (HavePushed (k + 1) name) met k0 k1 t0 t1 (Ok tt)
+pushed_on k q from met k0 k1 t0 t1 None name is one = absurd (none-some name is)
+pushed_on k q from met k0 k1 t0 t1 (Some next) name is one =
+    advances_to 0 q 0 (HavePushed k from) (HavePushed (k + 1) next) (HavePushed (k + 1) name) met k0 k1 t0 t1 (Some next) tt
+    (λ c s asked may at. subst (λ (n : Name). HavePushed (k + 1) n c s asked) (same_Some next name is) at) one
+
+-- ---- how many requests the graves need
+pub no_grave_requests : (k : Keeping) → AreGraveRequests k 0
+no_grave_requests k = by k.told
+  where
+    by : (t : Option (WithMark Holding)) → IfSome t (λ w. 0 ≤ div_ceil (length (wanted_graves Unsent w.current.rows)) 250)
+    by None = tt
+    by (Some w) = omega arith
+
+pub grave_requests : (k : Keeping) (list : List Row) → WhereTold k (λ h. list ≡ wanted_graves Unsent h.rows) → AreGraveRequests k (div_ceil (length list) 250)
+grave_requests k list told = by k.told told
+  where
+    by : (t : Option (WithMark Holding)) → IfSome t (λ w. list ≡ wanted_graves Unsent w.current.rows)
+        → IfSome t (λ w. div_ceil (length list) 250 ≤ div_ceil (length (wanted_graves Unsent w.current.rows)) 250)
+    by None is = tt
+    by (Some w) is = subst (λ (l : List Row). div_ceil (length list) 250 ≤ div_ceil (length l) 250) is (omega arith)
+
+div_more : (m n : ℕ) → m ≤ n → div_ceil m 250 ≤ div_ceil n 250
+div_more m n le =
+    let one = div-add-mod' m 250 in
+    let two = div-add-mod' n 250 in
+    let below : m % 250 < 250 = mod_below m 250 (omega arith) in
+    let under : n % 250 < 250 = mod_below n 250 (omega arith) in
+    omega (arith, one, two, below, under, le)
+
+-- what came with the server's number adds no grave that is still to be sent
+fewer_graves : (usn : ℤ) (came : List Row) (held : Rows) → pos 0 ≤ℤ usn
+    → length (wanted_graves Unsent (all_taken usn came held)) ≤ length (wanted_graves Unsent held)
+fewer_graves usn came held low =
+    let notes = unsent_never_grow tables.NoteGrave usn came held low in
+    let cards = unsent_never_grow tables.CardGrave usn came held low in
+    let decks = unsent_never_grow tables.DeckGrave usn came held low in
+    let before = three (wanted_past tables.NoteGrave Unsent (pos 0) held) (wanted_past tables.CardGrave Unsent (pos 0) held) (wanted_past tables.DeckGrave Unsent (pos 0) held) in
+    let after = three (wanted_past tables.NoteGrave Unsent (pos 0) (all_taken usn came held)) (wanted_past tables.CardGrave Unsent (pos 0) (all_taken usn came held)) (wanted_past tables.DeckGrave Unsent (pos 0) (all_taken usn came held)) in
+    omega (arith, notes, cards, decks, before, after)
+  where
+    three : (a b d : List Row) → length (a ++ (b ++ d)) ≡ length a + (length b + length d)
+    three a b d = length-append a (b ++ d) ∙ ap (λ (n : ℕ). length a + n) (length-append b d)
+
+pub requests_before : (usn : ℤ) (k0 k1 : Keeping) (graves : ℕ) → pos 0 ≤ℤ usn → HasReceived usn k0 k1 → AreGraveRequests k1 graves → AreGraveRequests k0 graves
+requests_before usn k0 k1 graves low took most = by k0.told (subst (λ (k : Keeping). AreGraveRequests k graves) took.1 most)
+  where
+    by : (t : Option (WithMark Holding))
+        → IfSome (option_map (marks.changed (received usn took.0)) t) (λ w. graves ≤ div_ceil (length (wanted_graves Unsent w.current.rows)) 250)
+        → IfSome t (λ w. graves ≤ div_ceil (length (wanted_graves Unsent w.current.rows)) 250)
+    by None is = tt
+    by (Some w) is =
+        let fewer = div_more (length (wanted_graves Unsent (all_taken usn took.0.rows w.current.rows))) (length (wanted_graves Unsent w.current.rows))
+        (fewer_graves usn took.0.rows w.current.rows low) in
+        omega (arith, is, fewer)
+
+-- the graves that were read are those of the plan
+pub graves_at : (c s : Collection) (account : AccountState) (asked : List Ask) (keeping : Keeping) (was : Talk) (list : List Row)
+    → IsAt c s account asked (at_end_of (λ d t. planned_start d)) keeping was → MaySync c s → WhereTold keeping (λ h. list ≡ wanted_graves Unsent h.rows)
+    → HaveSentGraves 0 list c s asked
+graves_at c s account asked keeping was list place may told =
+    let is = place.has.placed may in
+    no_graves_yet list c s asked
+    (told_at c s account asked (at_end_of (λ d t. planned_start d)) keeping was place (λ h. list ≡ wanted_graves Unsent h.rows) told
+    ∙ ap (wanted_graves Unsent) (rows_at c s asked may (leads_on (λ d t. planned_start d) after_start c s asked may is) ∙ ap (device_rows c s) is)) is
+
+-- ---- all but the finish
+pub exchanges_refused : (to : Place) (met : Met) (k0 k1 k2 : Keeping) (t0 t1 : Talk) (result : Result (Unit {0}) Stop) (graves : ℕ)
+    → AreGraveRequests k0 graves → IsErr result → Advances 40_000 39_999 (4 + graves) at_meta to met k0 k1 t0 t1 result → Exchanges met k0 k2 t0 t1 result
+exchanges_refused to met k0 k1 k2 t0 t1 (Ok x) graves most is one = absurd (grind (arith, is))
+exchanges_refused to met k0 k1 k2 t0 t1 (Err stop) graves most is one = record {
+  asks = one.asks;
+  asked = one.asked;
+  graves = graves;
+  graves_most = most;
+  few = one.few;
+  plain = one.plain;
+  checked = one.checked;
+  leads = λ c s account met_is at. ((one.leads c s account [] met_is at).0, tt);
+}
+
+pub exchanges_settled : (met : Met) (k0 k1 k2 : Keeping) (t0 t1 : Talk) (graves : ℕ) → AreGraveRequests k0 graves
+    → Advances {T = Unit {0}} 40_000 39_999 (4 + graves) at_meta (at_end_of planned_check) met k0 k1 t0 t1 (Ok tt) → Settles met.meta.usn k1 k2
+    → Exchanges met k0 k2 t0 t1 (Ok tt)
+exchanges_settled met k0 k1 k2 t0 t1 graves most one settled = record {
+  asks = one.asks;
+  asked = one.asked;
+  graves = graves;
+  graves_most = most;
+  few = one.few;
+  plain = one.plain;
+  checked = tt;
+  leads = λ c s account met_is at.
+      let there = one.leads c s account [] met_is at in (
+        there.0,
+        (
+          there.1.has,
+          subst (λ (k : Keeping). Settles s.head.usn k k2) there.1.device (subst (λ (usn : ℤ). Settles usn k1 k2) met_is.usn settled),
+        ),
+      );
+}

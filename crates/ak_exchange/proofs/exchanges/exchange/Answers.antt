@@ -1,0 +1,58 @@
+use Rattle.std.proofs.Common.{◌≡◌, ◌+◌, true, refl, ap, sym, subst, ◌∙◌, rules, arith, w64, SFits}
+use Rattle.std.proofs.lemmas.Int.{to_z-of_z}
+use Rattle.ak_exchange.proofs.Held.{received_held, received_more}
+use Rattle.ak_exchange.proofs.Parts.{exchanges_refused, exchanges_settled}
+use Rattle.ak_exchange.proofs.Passing.{advances_left, advances_more, advances_passed, advances_then, by_keeper}
+use Rattle.ak_exchange.specs.Phases.{HasReceived}
+use Rattle.ak_faults.proofs.Healths.{goes_further}
+use Rattle.ak_keep.specs.Keepers.{IsMarkedAt, Keeping, back, is_marked}
+use Rattle.ak_parts.proofs.Taking.{stays_marked}
+use Rattle.ak_exchange.proofs.exchanges.exchange.Goals as goal
+
+pub returns-in_err-exchange_first-clause-exchanges : goal.returns-in_err-exchange_first-clause-exchanges
+returns-in_err-exchange_first-clause-exchanges g c =
+    let first = c.in_err-exchange_first.ensures.leads in
+    exchanges_refused _ _ _ (g.K.Lookup.keeping c.exchange_first.new.keeper) _ _ _ _ first.0 first.1 c.from_residual.ensures.0
+    (advances_more 0 0 (2 + first.0) _ _ _ _ _ _ _ _ _ _ _ (omega arith) (omega arith) (omega arith)
+    (advances_passed _ _ _ _ _ _ _ _ _ _ _ _ _ c.from_residual.ensures.1 first.2))
+
+pub exchange_chunks-requires-clause-marked : goal.exchange_chunks-requires-clause-marked
+exchange_chunks-requires-clause-marked g c = c.in_ok-exchange_first.ensures.stays.marked
+
+pub returns-in_err-exchange_chunks-clause-exchanges : goal.returns-in_err-exchange_chunks-clause-exchanges
+returns-in_err-exchange_chunks-clause-exchanges g c =
+    let first = c.in_ok-exchange_first.ensures.leads in
+    exchanges_refused _ _ _ (g.K.Lookup.keeping c.exchange_chunks.new.keeper) _ _ _ _ first.0 first.1 c.from_residual-in_err-exchange_chunks.ensures.0
+    (advances_more 40000 39999 (2 + first.0 + 1) _ _ _ _ _ _ _ _ _ _ _ (omega arith) (omega arith) (omega arith)
+    (advances_passed _ _ _ _ _ _ _ _ _ _ _ _ _ c.from_residual-in_err-exchange_chunks.ensures.1
+    (advances_then _ _ _ _ _ _ _ _ _ _ _ _ _ _ _ _ _ _ first.2 c.in_err-exchange_chunks.ensures.leads)))
+
+pub returns-in_err-exchange_chunks-clause-stays : goal.returns-in_err-exchange_chunks-clause-stays
+returns-in_err-exchange_chunks-clause-stays g c =
+    stays_marked (back (g.K.Lookup.keeping c.args.keeper.now)) (g.K.Lookup.keeping c.exchange_first.new.keeper) (g.K.Lookup.keeping c.exchange_chunks.new.keeper)
+    c.in_ok-exchange_first.ensures.stays c.in_err-exchange_chunks.ensures.stays
+
+pub returns-in_err-exchange_chunks-clause-keeper : goal.returns-in_err-exchange_chunks-clause-keeper
+returns-in_err-exchange_chunks-clause-keeper g c = goes_further c.in_ok-exchange_first.ensures.keeper c.in_err-exchange_chunks.ensures.keeper
+
+pub compare-requires : goal.compare-requires
+compare-requires g c = record { marked = c.in_ok-exchange_chunks.ensures.stays.marked }
+
+pub returns-in_err-compare-clause-exchanges : goal.returns-in_err-compare-clause-exchanges
+returns-in_err-compare-clause-exchanges g c =
+    let first = c.in_ok-exchange_first.ensures.leads in
+    exchanges_refused _ _ _ (g.K.Lookup.keeping c.compare.new.keeper) _ _ _ _ first.0 first.1 c.from_residual-in_err-compare.ensures.0
+    (advances_more 40000 39999 (2 + first.0 + 1 + 1) _ _ _ _ _ _ _ _ _ _ _ (omega arith) (omega arith) (omega arith)
+    (advances_passed _ _ _ _ _ _ _ _ _ _ _ _ _ c.from_residual-in_err-compare.ensures.1
+    (advances_then _ _ _ _ _ _ _ _ _ _ _ _ _ _ _ _ _ _
+    (advances_then _ _ _ _ _ _ _ _ _ _ _ _ _ _ _ _ _ _ first.2 c.in_ok-exchange_chunks.ensures.leads) c.in_err-compare.ensures.leads)))
+
+pub returns-in_err-compare-clause-stays : goal.returns-in_err-compare-clause-stays
+returns-in_err-compare-clause-stays g c =
+    subst (λ (k : Keeping). IsMarkedAt (back (g.K.Lookup.keeping c.args.keeper.now)) k) (sym c.in_err-compare.ensures.same)
+    (stays_marked (back (g.K.Lookup.keeping c.args.keeper.now)) (g.K.Lookup.keeping c.exchange_first.new.keeper) (g.K.Lookup.keeping c.exchange_chunks.new.keeper)
+    c.in_ok-exchange_first.ensures.stays c.in_ok-exchange_chunks.ensures.stays)
+
+pub returns-in_err-compare-clause-keeper : goal.returns-in_err-compare-clause-keeper
+returns-in_err-compare-clause-keeper g c =
+    goes_further (goes_further c.in_ok-exchange_first.ensures.keeper c.in_ok-exchange_chunks.ensures.keeper) c.in_err-compare.ensures.keeper

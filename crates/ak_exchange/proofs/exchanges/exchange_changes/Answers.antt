@@ -1,0 +1,60 @@
+use Rattle.std.proofs.Common.{refl, ap, sym, subst, ◌∙◌, rules, w64, SFits}
+use Rattle.std.proofs.lemmas.Int.{to_z-of_z}
+use Rattle.ak_device.specs.Devices.{received}
+use Rattle.ak_exchange.proofs.Granted.{changes_are, granted_give}
+use Rattle.ak_exchange.proofs.Parts.{changes_refused, changes_took}
+use Rattle.ak_exchange.proofs.Passing.{by_keeper, by_memory, by_wire, stays_here}
+use Rattle.ak_exchange.proofs.Places.{after_graves, leads_on}
+use Rattle.ak_keep.specs.Keepers.{IsMarkedAt, Keeping, back, changed}
+use Rattle.ak_messages.specs.declared.replies.Give.TheVariants as gives
+use Rattle.ak_session.specs.Plans.{planned_graves}
+use Rattle.ak_session.specs.Replies.{replied}
+use Rattle.ak_wires.specs.Forms.{changes_in}
+use Rattle.ak_exchange.proofs.exchanges.exchange_changes.Goals as goal
+
+pub returns-in_err-changes-clause-leads : goal.returns-in_err-changes-clause-leads
+returns-in_err-changes-clause-leads g c =
+    stays_here _ _ _ _ _ _ _ _ _ _ _ (leads_on planned_graves after_graves) refl refl refl (by_keeper _ _ c.from_residual.ensures.1)
+
+pub returns-in_err-request-clause-leads : goal.returns-in_err-request-clause-leads
+returns-in_err-request-clause-leads g c =
+    stays_here _ _ _ _ _ _ _ _ _ _ _ (leads_on planned_graves after_graves) refl refl c.in_err-request.ensures.stays
+    (by_memory _ c.from_residual-in_err-request.ensures.1)
+
+pub returns-in_err-came-clause-leads : goal.returns-in_err-came-clause-leads
+returns-in_err-came-clause-leads g c =
+    let moment : SFits w64 c.args.met.now.meta.moment = search rules in
+    changes_refused c.args.met.now (g.K.Lookup.keeping c.args.keeper.now) _ _ c.ask_changes.result c.in_ok-changes.changes
+    (rw (to_z-of_z w64 c.args.met.now.meta.moment moment) at c.in_ok-changes.ensures.reads.told)
+    (record { it = c.in_ok-request.request; made = c.in_ok-request.ensures.made; envelopes = c.in_ok-request.ensures.next; call = c.ask_changes.ensures })
+    _ _ (by_wire _ _ c.from_residual-in_err-came.ensures.1)
+
+pub take_changes-requires-clause-taken : goal.take_changes-requires-clause-taken
+take_changes-requires-clause-taken g c =
+    let give = granted_give _ _ _ _ _ changes_in _ _ c.ask_changes.ensures c.in_ok-came.was in
+    (changes_are give.0 c.in_ok-came.came give.1).1
+
+pub returns-in_err-take_changes-clause-leads : goal.returns-in_err-take_changes-clause-leads
+returns-in_err-take_changes-clause-leads g c =
+    let moment : SFits w64 c.args.met.now.meta.moment = search rules in
+    changes_refused c.args.met.now (g.K.Lookup.keeping c.args.keeper.now) _ _ c.ask_changes.result c.in_ok-changes.changes
+    (rw (to_z-of_z w64 c.args.met.now.meta.moment moment) at c.in_ok-changes.ensures.reads.told)
+    (record { it = c.in_ok-request.request; made = c.in_ok-request.ensures.made; envelopes = c.in_ok-request.ensures.next; call = c.ask_changes.ensures })
+    _ _ (by_keeper _ _ c.from_residual-in_err-take_changes.ensures.1)
+
+pub returns-clause-leads : goal.returns-clause-leads
+returns-clause-leads g c =
+    let moment : SFits w64 c.args.met.now.meta.moment = search rules in
+    let usn : SFits w64 c.args.met.now.meta.usn = search rules in
+    changes_took c.args.met.now (g.K.Lookup.keeping c.args.keeper.now) _ _ c.ask_changes.result c.in_ok-changes.changes
+    (rw (to_z-of_z w64 c.args.met.now.meta.moment moment) at c.in_ok-changes.ensures.reads.told)
+    (record { it = c.in_ok-request.request; made = c.in_ok-request.ensures.made; envelopes = c.in_ok-request.ensures.next; call = c.ask_changes.ensures })
+    _ _ c.in_ok-came.came c.in_ok-came.was
+    ((rw (to_z-of_z w64 c.args.met.now.meta.usn usn) at c.in_ok-take_changes.ensures.ok)
+    ∙ ap (changed (received c.args.met.now.meta.usn (replied (gives.Changes c.in_ok-came.came)))) c.in_ok-changes.ensures.reads.same)
+
+pub returns-clause-took : goal.returns-clause-took
+returns-clause-took g c =
+    let usn : SFits w64 c.args.met.now.meta.usn = search rules in
+    (replied (gives.Changes c.in_ok-came.came), (rw (to_z-of_z w64 c.args.met.now.meta.usn usn) at c.in_ok-take_changes.ensures.ok)
+    ∙ ap (changed (received c.args.met.now.meta.usn (replied (gives.Changes c.in_ok-came.came)))) c.in_ok-changes.ensures.reads.same)

@@ -1,0 +1,43 @@
+use Rattle.std.proofs.Common.{refl, rules, w64, SFits}
+use Rattle.std.proofs.lemmas.Int.{to_z-of_z}
+use Rattle.ak_exchange.proofs.Granted.{chunk_are, granted_give}
+use Rattle.ak_exchange.proofs.Parts.{pull_refused, pull_took}
+use Rattle.ak_exchange.proofs.Passing.{by_keeper, by_memory, by_wire, stays_here}
+use Rattle.ak_exchange.proofs.Places.{pulled_lead}
+use Rattle.ak_messages.specs.declared.replies.Give.TheVariants as gives
+use Rattle.ak_session.specs.Replies.{replied}
+use Rattle.ak_wires.specs.Forms.{chunk_in}
+use Rattle.ak_exchange.proofs.exchanges.pull_chunk.Goals as goal
+
+pub returns-in_err-request-clause-leads : goal.returns-in_err-request-clause-leads
+returns-in_err-request-clause-leads g c = λ count.
+    stays_here _ _ _ _ _ _ _ _ _ _ _ (pulled_lead count) refl refl c.in_err-request.ensures.stays (by_memory _ c.from_residual.ensures.1)
+
+pub returns-in_err-chunk-clause-leads : goal.returns-in_err-chunk-clause-leads
+returns-in_err-chunk-clause-leads g c = λ count.
+    pull_refused c.args.met.now (g.K.Lookup.keeping c.args.keeper.now) _ _ c.ask_chunk.result count
+    (record { it = c.in_ok-request.request; made = c.in_ok-request.ensures.made; envelopes = c.in_ok-request.ensures.next; call = c.ask_chunk.ensures })
+    _ _ _ (by_wire _ _ c.from_residual-in_err-chunk.ensures.1)
+
+pub take_chunk-requires-clause-taken : goal.take_chunk-requires-clause-taken
+take_chunk-requires-clause-taken g c =
+    let give = granted_give _ _ _ _ _ chunk_in _ _ c.ask_chunk.ensures c.in_ok-chunk.was in
+    (chunk_are give.0 c.in_ok-chunk.chunk give.1).1
+
+pub returns-in_err-take_chunk-clause-leads : goal.returns-in_err-take_chunk-clause-leads
+returns-in_err-take_chunk-clause-leads g c = λ count.
+    pull_refused c.args.met.now (g.K.Lookup.keeping c.args.keeper.now) _ _ c.ask_chunk.result count
+    (record { it = c.in_ok-request.request; made = c.in_ok-request.ensures.made; envelopes = c.in_ok-request.ensures.next; call = c.ask_chunk.ensures })
+    _ _ _ (by_keeper _ _ c.from_residual-in_err-take_chunk.ensures.1)
+
+pub returns-clause-leads : goal.returns-clause-leads
+returns-clause-leads g c = λ count.
+    let usn : SFits w64 c.args.met.now.meta.usn = search rules in
+    pull_took c.args.met.now (g.K.Lookup.keeping c.args.keeper.now) _ _ c.ask_chunk.result count
+    (record { it = c.in_ok-request.request; made = c.in_ok-request.ensures.made; envelopes = c.in_ok-request.ensures.next; call = c.ask_chunk.ensures })
+    _ _ c.in_ok-chunk.chunk c.in_ok-chunk.was (rw (to_z-of_z w64 c.args.met.now.meta.usn usn) at c.in_ok-take_chunk.ensures.ok)
+
+pub returns-clause-took : goal.returns-clause-took
+returns-clause-took g c =
+    let usn : SFits w64 c.args.met.now.meta.usn = search rules in
+    (replied (gives.Chunk c.in_ok-chunk.chunk), rw (to_z-of_z w64 c.args.met.now.meta.usn usn) at c.in_ok-take_chunk.ensures.ok)

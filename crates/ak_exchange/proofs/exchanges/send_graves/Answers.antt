@@ -1,0 +1,33 @@
+use Rattle.std.proofs.Common.{◌≡◌, ◌+◌, List, length, refl, sym, subst, arith}
+use Rattle.std.specs.Int.{div_ceil}
+use Rattle.ak_base.specs.declared.rows.Row.{Row}
+use Rattle.ak_exchange.proofs.Parts.{grave_requests, graves_at, no_grave_requests}
+use Rattle.ak_exchange.proofs.Passing.{advances_more, advances_place, advances_then, at_start, by_keeper, stays_here}
+use Rattle.ak_exchange.proofs.Places.{after_start, all_graves, leads_on}
+use Rattle.ak_keep.specs.Keepers.{WhereTold}
+use Rattle.ak_keep.specs.declared.keepers.Wanted.TheVariants.{Unsent}
+use Rattle.ak_session.specs.Plans.{planned_start}
+use Rattle.ak_session.specs.Slices.{wanted_graves}
+use Rattle.ak_exchange.proofs.exchanges.send_graves.Goals as goal
+
+pub returns-in_err-graves-clause-leads : goal.returns-in_err-graves-clause-leads
+returns-in_err-graves-clause-leads g c = (
+  0,
+  no_grave_requests (g.K.Lookup.keeping c.args.keeper.now),
+  stays_here _ _ _ _ _ _ _ _ _ _ _ (leads_on (λ own s. planned_start own) after_start) refl refl refl (by_keeper _ _ c.from_residual.ensures.1),
+)
+
+pub returns-clause-leads : goal.returns-clause-leads
+returns-clause-leads g c =
+    let told = subst (λ (list : List Row). WhereTold (g.K.Lookup.keeping c.args.keeper.now) (λ h. list ≡ wanted_graves Unsent h.rows))
+    (sym c.as_slice.ensures.value) c.in_ok-graves.ensures.reads.told in (
+      div_ceil (length c.as_slice.result.now) 250,
+      grave_requests (g.K.Lookup.keeping c.args.keeper.now) c.as_slice.result.now told,
+      advances_place _ _ _ _ _ _ _ _ _ _ _ _ (λ own s asked may at. all_graves c.as_slice.result.now own s asked at)
+          (advances_more 0 0 (0 + div_ceil (length c.as_slice.result.now) 250) _ _ _ _ _ _ _ _ _ _ _ (omega arith) (omega arith) (omega arith)
+          (advances_then 0 0 0 _ _ _ _ _ _ _ _ _ _ _ _ _ (tt {0}) _
+          (at_start _ _ _ _ _ _ _ _ _ _ (tt {0}) (leads_on (λ own s. planned_start own) after_start)
+          (λ own s account asked met_is at may. graves_at own s account asked (g.K.Lookup.keeping c.args.keeper.now) _ c.as_slice.result.now at may told)
+          c.in_ok-graves.ensures.reads.same refl refl refl)
+          (c.send_parts.ensures.leads c.args.met.now (g.K.Lookup.keeping c.wanted_graves.new.keeper)))),
+    )

@@ -1,0 +1,4 @@
+pub mod Asked
+pub mod Loops
+pub mod Phases
+pub mod Stops

@@ -1,0 +1,52 @@
+-- Places within the parts of a plan that ask more than once: graves, and chunks each way.
+use Rattle.std.specs.Prelude.{◌≡◌, ℕ, ◌+◌, ◌*◌, ◌≤◌, Bool, true, false, List, ◌++◌, map, length, drop, Option, Some, None, Result, Ok, Err}
+use Rattle.ak_base.specs.declared.names.Name.{Name}
+use Rattle.ak_base.specs.declared.rows.Row.{Row}
+use Rattle.ak_exchange.specs.Phases.{Place, at_end_of}
+use Rattle.ak_exchange.specs.declared.stops.Stop.{Stop}
+use Rattle.ak_keep.specs.Collections.{Collection}
+use Rattle.ak_keep.specs.declared.keepers.Wanted.TheVariants.{Unsent}
+use Rattle.ak_messages.specs.declared.requests.Ask.{Ask}
+use Rattle.ak_messages.specs.declared.requests.Ask.TheVariants.{ApplyChunk, ApplyGraves, Chunk}
+use Rattle.ak_parts.specs.Chunks.{ahead_of}
+use Rattle.ak_session.specs.Answers.{server_rows}
+use Rattle.ak_session.specs.Messages.{chunk_of, grave_ids}
+use Rattle.ak_session.specs.Plans.{device_rows, planned_changes, planned_chunks, planned_pushes, planned_start}
+use Rattle.ak_session.specs.Slices.{slices, wanted_graves, wanted_in_chunks}
+
+-- this many slices of the device's graves were sent, after its start
+pub record HaveSentGraves (count : ℕ) (list : List Row) (c s : Collection) (asked : List Ask) : Type 0 where
+  pub list_is : list ≡ wanted_graves Unsent (device_rows c s (planned_start c))
+  pub asked_is : asked ≡ planned_start c ++ map (λ (part : List Row). ApplyGraves (grave_ids part)) (slices count list)
+
+-- this many chunks were asked for after the changes, and each was full
+pub record HavePulled (count : ℕ) (c s : Collection) (asked : List Ask) : Type 0 where
+  pub asked_is : asked ≡ planned_changes c s
+      ++ map (λ (part : List Row). Chunk) (slices count (server_rows s (planned_changes c s)))
+  pub full : 250 * count ≤ length (server_rows s (planned_changes c s))
+
+-- one chunk more was asked for, and it was the last one or not
+abbrev pub HasPulledOne : ℕ → Bool → Place
+HasPulledOne count true = at_end_of planned_chunks
+HasPulledOne count false = HavePulled (count + 1)
+
+-- the device's rows that go in chunks, once it took the server's
+abbrev pub rows_to_push : Collection → Collection → List Row
+rows_to_push c s = wanted_in_chunks Unsent (device_rows c s (planned_chunks c s))
+
+-- this many chunks were sent after those that came, each was full, and the next begins at this place
+pub record HavePushed (count : ℕ) (from : Name) (c s : Collection) (asked : List Ask) : Type 0 where
+  pub asked_is : asked ≡ planned_chunks c s ++ map (λ (part : List Row). ApplyChunk (chunk_of part)) (slices count (rows_to_push c s))
+  pub full : 250 * count ≤ length (rows_to_push c s)
+  pub ahead : ahead_of Unsent from (device_rows c s (planned_chunks c s)) ≡ drop (250 * count) (rows_to_push c s)
+
+-- one chunk more was sent: the last one, or the next begins at this place
+abbrev pub HasPushedOne : ℕ → Option Name → Place
+HasPushedOne count None = at_end_of planned_pushes
+HasPushedOne count (Some next) = HavePushed (count + 1) next
+
+-- how many chunks that are the last one may have been sent: none if another one follows
+abbrev pub last_sent : Result (Option Name) Stop → ℕ
+last_sent (Ok None) = 1
+last_sent (Ok (Some next)) = 0
+last_sent (Err stop) = 1

@@ -1,0 +1,163 @@
+-- How far a sync came: what it asked, what the log of its wire shows of it, and what the device took.
+use Rattle.std.specs.Int.{div_ceil}
+use Rattle.std.specs.List.{AllByRecursion}
+use Rattle.std.specs.Prelude.{◌≡◌, ℕ, ℤ, ◌+◌, ◌≤◌, false, true, List, [], ◌∷◌, ◌++◌, length, Option, Some, None, Result, Err, OnOk, IfOk, IfErr}
+use Rattle.ak_exchange.specs.Asked.{AreAsked, AreFew, Talk, asker, request_at}
+use Rattle.ak_exchange.specs.Stops.{comes_before_finish, shows_bad_check, verdict_of}
+use Rattle.ak_exchange.specs.declared.envelopes.Met.{Met}
+use Rattle.ak_exchange.specs.declared.stops.Stop.{Stop}
+use Rattle.ak_device.specs.Devices.{Settles, received}
+use Rattle.ak_keep.specs.Collections.{Collection, Holding}
+use Rattle.ak_keep.specs.Keepers.{Keeping, WhereTold, all_known, changed}
+use Rattle.ak_keep.specs.declared.keepers.Wanted.TheVariants.{Unsent}
+use Rattle.ak_merge.specs.Commits.{Received}
+use Rattle.ak_messages.specs.declared.requests.Ask.{Ask}
+use Rattle.ak_messages.specs.declared.requests.Ask.TheVariants.{Finish, SanityCheck2}
+use Rattle.ak_messages.specs.declared.replies.SanityReply.{SanityReply}
+use Rattle.ak_messages.specs.declared.requests.Request.{Request}
+use Rattle.ak_messages.specs.declared.requests.SanityCounts.{SanityCounts}
+use Rattle.ak_protocol.specs.Accounts.{AccountState}
+use Rattle.ak_protocol.specs.Logs.{Log, commits_of}
+use Rattle.ak_protocol.specs.Syncs.{IsUnderWay, world_of}
+use Rattle.ak_session.specs.Contents.{closed, refusal}
+use Rattle.ak_session.specs.Plans.{Asker, planned, planned_check, requests_from}
+use Rattle.ak_session.specs.Replies.{all_replied}
+use Rattle.ak_session.specs.Requests.{asks_commit}
+use Rattle.ak_session.specs.Sessions.{MaySync}
+use Rattle.ak_session.specs.Slices.{wanted_graves}
+use Rattle.ak_wires.specs.Wires.{WireState}
+use Rattle.ak_wires.specs.declared.wires.Said.{Said}
+
+-- ---- the device
+-- what a keeper holds if it holds this collection
+abbrev pub held_by : Collection → Holding
+held_by c = record { rows = c.rows; head = Some c.head }
+
+-- a keeper that tells that it holds this collection, and is not marked
+abbrev pub holding : Collection → Keeping
+holding c = all_known (record { current = held_by c; mark = None })
+
+-- a keeper that tells that it holds this collection, and is marked at it
+abbrev pub marked_at : Collection → Keeping
+marked_at c = all_known (record { current = held_by c; mark = Some (held_by c) })
+
+-- a keeper once something came to it, which was taken with the server's number
+abbrev pub HasReceived : ℤ → Keeping → Keeping → Type 0
+HasReceived usn before now = (came : Received) × (now ≡ changed (received usn came) before)
+
+-- ---- places of a plan
+-- what is true of a sync of c with s, once these were asked, wherever the two may sync
+abbrev pub Place : Type 1
+Place = Collection → Collection → List Ask → Type 0
+
+-- all that is planned up to the end of this part was asked
+abbrev pub at_end_of : (Collection → Collection → List Ask) → Place
+at_end_of part c s asked = asked ≡ part c s
+
+-- nothing was asked after the meta
+abbrev pub at_meta : Place
+at_meta c s asked = asked ≡ []
+
+-- what was met is s, and the device's head that of c
+pub record IsMet (c s : Collection) (met : Met) : Type 0 where
+  pub moment : met.meta.moment ≡ s.head.moment
+  pub usn : met.meta.usn ≡ s.head.usn
+  pub head : met.head ≡ c.head
+
+-- a wire tells a log in which the sync of this asker is under way, over this collection and with these requests
+abbrev pub IsReached : Asker → AccountState → Collection → List Ask → Option Log → Type 0
+IsReached who account s asked told = (log : Log) × (told ≡ Some log)
+    × IsUnderWay who.host.digits who.session.0 (requests_from who s.head.moment 1 asked) s account log
+
+-- a sync with what was committed as s asked these after its meta, step by step, and nothing else. If the two may sync, that led to a place
+pub record HasAsked (c s : Collection) (account : AccountState) (asked : List Ask) (place : Place) (talk : Talk) : Type 0 where
+  pub base : talk.envelopes.base ≡ s.head.moment
+  pub step : talk.envelopes.step ≡ length asked
+  pub reached : IsReached (asker talk.envelopes.ids) account s asked talk.wire.log
+  pub placed : MaySync c s → place c s asked
+
+-- and the device, which is marked at c, took what the replies brought
+pub record IsAt (c s : Collection) (account : AccountState) (asked : List Ask) (place : Place) (keeping : Keeping) (talk : Talk) : Type 0 where
+  pub has : HasAsked c s account asked place talk
+  pub device : keeping ≡ changed (received s.head.usn (all_replied s asked)) (marked_at c)
+
+-- a sync was left once it had asked these, a front of its plan if the two may sync
+pub record IsLeft (c s : Collection) (account : AccountState) (who : Asker) (asked : List Ask) (talk : Talk) : Type 0 where
+  pub reached : IsReached who account s asked talk.wire.log
+  pub front : MaySync c s → (rest : List Ask) × (asked ++ rest ≡ planned c s)
+
+-- ---- parts
+-- the last that was asked is a sanity check, and this is what its reply showed
+pub record IsCheckedLast (asks : List Ask) (stop : Stop) (wire : WireState) : Type 0 where
+  pub before : List Ask
+  pub counts : SanityCounts
+  pub last : asks ≡ before ++ SanityCheck2 counts ∷ []
+  pub said : Said
+  pub is : wire.said ≡ Some said
+  pub reply : SanityReply
+  pub found : said.sanity ≡ Some reply
+  pub verdict : verdict_of reply ≡ Err stop
+
+-- a part that stops at a bad sanity check asked one, and its reply showed it
+abbrev pub IsChecked : {T : Type 0} → List Ask → Talk → Result T Stop → Type 0
+IsChecked asks now result = IfErr result (λ stop. shows_bad_check stop ≡ true → IsCheckedLast asks stop now.wire)
+
+-- a part of a sync: what it asked, and that nothing of it commits; and where keeper and wire tell what they hold, that it leads from one
+-- place of the plan to another. If it is refused, the sync is left where it is
+pub record Advances {T : Type 0} (pulled pushed others : ℕ) (from to : Place) (met : Met) (before after : Keeping) (was now : Talk)
+    (result : Result T Stop) : Type 0 where
+  pub asks : List Ask
+  pub asked : AreAsked asks was now
+  pub few : AreFew pulled pushed others asks
+  pub plain : AllByRecursion (λ (ask : Ask). asks_commit ask ≡ false) asks
+  pub checked : IsChecked asks now result
+  pub leads : (c s : Collection) (account : AccountState) (earlier : List Ask) → IsMet c s met → IsAt c s account earlier from before was
+      → IsLeft c s account (asker was.envelopes.ids) (earlier ++ asks) now × OnOk result (IsAt c s account (earlier ++ asks) to after now)
+
+-- a number that is at most the requests that the graves need which were not sent yet: 250 go in each
+abbrev pub AreGraveRequests : Keeping → ℕ → Type 0
+AreGraveRequests keeping graves = WhereTold keeping (λ h. graves ≤ div_ceil (length (wanted_graves Unsent h.rows)) 250)
+
+-- ---- all but the finish
+-- what a sync asks between its meta and its finish; and where keeper and wire tell what they hold, that it was left in its plan, or that all
+-- of the plan but the finish was asked, and the device took what the replies brought and settled what it had sent
+pub record Exchanges (met : Met) (before after : Keeping) (was now : Talk) (result : Result (Unit {0}) Stop) : Type 0 where
+  pub asks : List Ask
+  pub asked : AreAsked asks was now
+  -- at most 40,000 chunks each way; the start, the changes, the last chunk that is sent and the sanity check are others
+  pub graves : ℕ
+  pub graves_most : AreGraveRequests before graves
+  pub few : AreFew 40_000 39_999 (4 + graves) asks
+  pub plain : AllByRecursion (λ (ask : Ask). asks_commit ask ≡ false) asks
+  pub checked : IsChecked asks now result
+  pub leads : (c s : Collection) (account : AccountState) → IsMet c s met → IsAt c s account [] at_meta before was
+      → IsLeft c s account (asker was.envelopes.ids) asks now
+      × OnOk result (HasAsked c s account asks (at_end_of planned_check) now
+      × Settles s.head.usn (changed (received s.head.usn (all_replied s asks)) (marked_at c)) after)
+
+-- ---- the finish
+-- the finish of a sync that asked these after its meta
+abbrev pub finish_after : Asker → Collection → List Ask → Request
+finish_after who s before = request_at who s.head.moment (length before + 1) Finish
+
+-- the session committed once: at the finish, which came after these, what they made of s; and it had no reason to refuse it
+pub record HasCommitted (c s : Collection) (account : AccountState) (who : Asker) (before : List Ask) (moment : ℤ) (talk : Talk) : Type 0 where
+  pub log : Log
+  pub told : talk.wire.log ≡ Some log
+  pub at : ℤ
+  pub after : Collection
+  pub after_is : after ≡ closed s (requests_from who s.head.moment 1 before) (finish_after who s before) at
+  pub only : commits_of who.session.0 (world_of who.host.digits account log).commits
+      ≡ record { key = who.session.0; before = s; after = after } ∷ []
+  pub allowed : refusal s (requests_from who s.head.moment 1 before) (finish_after who s before) ≡ None
+  pub moment_is : moment ≡ after.head.moment
+
+-- a finish: what it asked; and where the wire tells its log, that the sync was left, or that its session committed
+pub record Finishes (was now : Talk) (result : Result ℤ Stop) : Type 0 where
+  pub asks : List Ask
+  pub asked : AreAsked asks was now
+  pub few : AreFew 0 0 1 asks
+  pub late : IfErr result (λ stop. comes_before_finish stop ≡ false)
+  pub leads : (c s : Collection) (account : AccountState) (earlier : List Ask) → HasAsked c s account earlier (at_end_of planned_check) was
+      → IsLeft c s account (asker was.envelopes.ids) (earlier ++ asks) now
+      × IfOk result (λ moment. (asks ≡ Finish ∷ []) × HasCommitted c s account (asker was.envelopes.ids) earlier moment now)

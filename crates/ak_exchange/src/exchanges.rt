@@ -1,0 +1,374 @@
+// What a sync asks after its meta, and what the device does with the replies. The keeper is marked throughout.
+ghost use Rattle.std.specs.Int.{div_ceil};
+ghost use Rattle.std.specs.Prelude.{◌≡◌, ◌+◌, ◌<◌, ◌*◌, ℕ, pos, true, if◌then◌else◌, length, IfOk, OnOk};
+ghost use Rattle.ak_base.specs.Heads.{IsMoment, IsWithin};
+ghost use Rattle.ak_base.specs.Limits.{last_head_usn};
+ghost use Rattle.ak_exchange.specs.Loops.{HasPulledOne, HasPushedOne, HavePulled, HavePushed, HaveSentGraves, last_sent};
+ghost use Rattle.ak_exchange.specs.Phases.{Advances, AreGraveRequests, Exchanges, Finishes, HasReceived, at_end_of, at_meta};
+ghost use Rattle.ak_exchange.specs.Stops.{verdict_of};
+ghost use Rattle.ak_exchange.specs.declared.envelopes.Met.{Met};
+ghost use Rattle.ak_faults.specs.Causes.{GoesOn};
+ghost use Rattle.ak_keep.specs.Keepers.{IsMarkedAt, Keeping, back, is_marked};
+ghost use Rattle.ak_session.specs.Plans.{planned_start, planned_graves, planned_changes, planned_chunks, planned_pushes, planned_check};
+
+use crate::envelopes::{Envelopes, Met};
+use crate::stops::Stop;
+use ak_base::{Name, Row};
+use ak_device::{
+    FIRST_PLACE, Gathered, graves_part, next_chunk, settle, take_changes, take_chunk, take_graves,
+    unsent_changes,
+};
+use ak_keep::{Keeper, Wanted};
+use ak_messages::{Ask, SanityReply};
+use ak_parts::{counts_of, wanted_graves};
+use ak_wires::{Wire, ask_changes, ask_chunk, ask_graves, ask_moment, ask_nothing, ask_sanity};
+use std::alloc::Global;
+
+/// The most chunks that are asked for.
+const MOST_PULLED: u64 = 40_000;
+
+/// The most chunks that are sent and are not the last one. A 40,000th is sent only if it is the last.
+const MOST_UNFINISHED: u64 = 39_999;
+
+/// All that a sync asks between its meta and its finish. The device holds then what it has to commit, all of it settled. A
+/// refusal leaves the keeper marked, with some of it taken.
+pub fn exchange<K: Keeper, W: Wire>(
+    alloc: Global,
+    keeper: &mut K,
+    wire: &mut W,
+    envelopes: &mut Envelopes,
+    met: &Met,
+) -> Result<(), Stop>
+    requires marked { is_marked (K.keeping keeper.old) ≡ true }
+    requires held { (K.keeping keeper.old).headed.current ≡ true }
+    requires number { IsWithin (pos 0) last_head_usn met.now.meta.usn }
+    ensures exchanges { Exchanges met.now (K.keeping keeper.old) (K.keeping keeper.new)
+        (record { health = W.health wire.old; wire = W.state wire.old; envelopes = envelopes.old })
+        (record { health = W.health wire.new; wire = W.state wire.new; envelopes = envelopes.new }) result }
+    ensures stays { IsMarkedAt (back (K.keeping keeper.old)) (K.keeping keeper.new) }
+    ensures held { OnOk result ((K.keeping keeper.new).headed.current ≡ true) }
+    ensures keeper { GoesOn (K.health keeper.old) (K.health keeper.new) }
+{
+    exchange_first(alloc, keeper, wire, envelopes, met)?;
+    exchange_chunks(alloc, keeper, wire, envelopes, met)?;
+    compare(keeper, wire, envelopes, met)?;
+    settle(keeper, met.meta.usn)?;
+    Ok(())
+}
+
+/// The start, the graves and the changes.
+fn exchange_first<K: Keeper, W: Wire>(
+    alloc: Global,
+    keeper: &mut K,
+    wire: &mut W,
+    envelopes: &mut Envelopes,
+    met: &Met,
+) -> Result<(), Stop>
+    requires marked { is_marked (K.keeping keeper.old) ≡ true }
+    requires held { (K.keeping keeper.old).headed.current ≡ true }
+    requires number { IsWithin (pos 0) last_head_usn met.now.meta.usn }
+    ensures leads { (graves : ℕ) × AreGraveRequests (K.keeping keeper.old) graves
+        × Advances 0 0 (2 + graves) at_meta (at_end_of planned_changes) met.now (K.keeping keeper.old) (K.keeping keeper.new)
+        (record { health = W.health wire.old; wire = W.state wire.old; envelopes = envelopes.old })
+        (record { health = W.health wire.new; wire = W.state wire.new; envelopes = envelopes.new }) result }
+    ensures stays { IsMarkedAt (back (K.keeping keeper.old)) (K.keeping keeper.new) }
+    ensures took { OnOk result (HasReceived met.now.meta.usn (K.keeping keeper.old) (K.keeping keeper.new)) }
+    ensures keeper { GoesOn (K.health keeper.old) (K.health keeper.new) }
+{
+    start(keeper, wire, envelopes, met)?;
+    send_graves(alloc, keeper, wire, envelopes, met)?;
+    exchange_changes(alloc, keeper, wire, envelopes, met)
+}
+
+/// The chunks: the server's, and then the device's.
+fn exchange_chunks<K: Keeper, W: Wire>(
+    alloc: Global,
+    keeper: &mut K,
+    wire: &mut W,
+    envelopes: &mut Envelopes,
+    met: &Met,
+) -> Result<(), Stop>
+    requires marked { is_marked (K.keeping keeper.old) ≡ true }
+    requires number { IsWithin (pos 0) last_head_usn met.now.meta.usn }
+    ensures leads { Advances 40_000 39_999 1 (at_end_of planned_changes) (at_end_of planned_pushes) met.now
+        (K.keeping keeper.old) (K.keeping keeper.new)
+        (record { health = W.health wire.old; wire = W.state wire.old; envelopes = envelopes.old })
+        (record { health = W.health wire.new; wire = W.state wire.new; envelopes = envelopes.new }) result }
+    ensures stays { IsMarkedAt (back (K.keeping keeper.old)) (K.keeping keeper.new) }
+    ensures took { OnOk result (HasReceived met.now.meta.usn (K.keeping keeper.old) (K.keeping keeper.new)) }
+    ensures keeper { GoesOn (K.health keeper.old) (K.health keeper.new) }
+{
+    pull(keeper, wire, envelopes, met)?;
+    push(alloc, keeper, wire, envelopes, met)
+}
+
+/// Tells the server the device's number and moment, and takes the graves that it gives.
+pub fn start<K: Keeper, W: Wire>(
+    keeper: &mut K,
+    wire: &mut W,
+    envelopes: &mut Envelopes,
+    met: &Met,
+) -> Result<(), Stop>
+    requires marked { is_marked (K.keeping keeper.old) ≡ true }
+    requires number { IsWithin (pos 0) last_head_usn met.now.meta.usn }
+    ensures leads { Advances 0 0 1 at_meta (at_end_of (λ c s. planned_start c)) met.now
+        (K.keeping keeper.old) (K.keeping keeper.new)
+        (record { health = W.health wire.old; wire = W.state wire.old; envelopes = envelopes.old })
+        (record { health = W.health wire.new; wire = W.state wire.new; envelopes = envelopes.new }) result }
+    ensures stays { IsMarkedAt (back (K.keeping keeper.old)) (K.keeping keeper.new) }
+    ensures took { OnOk result (HasReceived met.now.meta.usn (K.keeping keeper.old) (K.keeping keeper.new)) }
+    ensures keeper { GoesOn (K.health keeper.old) (K.health keeper.new) }
+{
+    let request = envelopes.request(Ask::Start {
+        min_usn: met.head.usn,
+        lmod: met.head.moment,
+    })?;
+    let graves = ask_graves(wire, &request)?;
+    take_graves(keeper, &graves, met.meta.usn)?;
+    Ok(())
+}
+
+/// Sends the graves that were not sent yet: of notes, then of cards, then of decks, at most 250 a request. If there are none,
+/// nothing is asked.
+pub fn send_graves<K: Keeper, W: Wire>(
+    alloc: Global,
+    keeper: &mut K,
+    wire: &mut W,
+    envelopes: &mut Envelopes,
+    met: &Met,
+) -> Result<(), Stop>
+    requires marked { is_marked (K.keeping keeper.old) ≡ true }
+    ensures leads { (graves : ℕ) × AreGraveRequests (K.keeping keeper.old) graves
+        × Advances 0 0 graves (at_end_of (λ c s. planned_start c)) (at_end_of planned_graves) met.now
+        (K.keeping keeper.old) (K.keeping keeper.new)
+        (record { health = W.health wire.old; wire = W.state wire.old; envelopes = envelopes.old })
+        (record { health = W.health wire.new; wire = W.state wire.new; envelopes = envelopes.new }) result }
+    ensures same { K.keeping keeper.new ≡ K.keeping keeper.old }
+    ensures keeper { GoesOn (K.health keeper.old) (K.health keeper.new) }
+{
+    let graves = wanted_graves(keeper, Wanted::Unsent)?;
+    send_parts(alloc, wire, envelopes, graves.as_slice())
+}
+
+/// Sends these graves, at most 250 a request.
+fn send_parts<W: Wire>(
+    alloc: Global,
+    wire: &mut W,
+    envelopes: &mut Envelopes,
+    graves: &[Row],
+) -> Result<(), Stop>
+    ensures leads { (met : Met) (keeping : Keeping)
+        → Advances 0 0 (div_ceil (length graves.now) 250)
+        (HaveSentGraves 0 graves.now) (HaveSentGraves (div_ceil (length graves.now) 250) graves.now) met keeping keeping
+        (record { health = W.health wire.old; wire = W.state wire.old; envelopes = envelopes.old })
+        (record { health = W.health wire.new; wire = W.state wire.new; envelopes = envelopes.new }) result }
+{
+    let parts = graves.len().div_ceil(250);
+    for part in 0..parts {
+        send_part(alloc, wire, envelopes, graves, part)?;
+    }
+    Ok(())
+}
+
+/// Sends one part of the graves.
+fn send_part<W: Wire>(
+    alloc: Global,
+    wire: &mut W,
+    envelopes: &mut Envelopes,
+    graves: &[Row],
+    part: usize,
+) -> Result<(), Stop>
+    requires { 250 * part < length graves.now }
+    ensures leads { (met : Met) (keeping : Keeping)
+        → Advances 0 0 1 (HaveSentGraves part graves.now) (HaveSentGraves (part + 1) graves.now) met keeping keeping
+        (record { health = W.health wire.old; wire = W.state wire.old; envelopes = envelopes.old })
+        (record { health = W.health wire.new; wire = W.state wire.new; envelopes = envelopes.new }) result }
+{
+    let ids = graves_part(alloc, graves, part)?;
+    let request = envelopes.request(Ask::ApplyGraves(ids))?;
+    ask_nothing(wire, &request)?;
+    Ok(())
+}
+
+/// Sends the changes that were not sent yet, and takes the server's.
+pub fn exchange_changes<K: Keeper, W: Wire>(
+    alloc: Global,
+    keeper: &mut K,
+    wire: &mut W,
+    envelopes: &mut Envelopes,
+    met: &Met,
+) -> Result<(), Stop>
+    requires marked { is_marked (K.keeping keeper.old) ≡ true }
+    requires held { (K.keeping keeper.old).headed.current ≡ true }
+    requires number { IsWithin (pos 0) last_head_usn met.now.meta.usn }
+    ensures leads { Advances 0 0 1 (at_end_of planned_graves) (at_end_of planned_changes) met.now
+        (K.keeping keeper.old) (K.keeping keeper.new)
+        (record { health = W.health wire.old; wire = W.state wire.old; envelopes = envelopes.old })
+        (record { health = W.health wire.new; wire = W.state wire.new; envelopes = envelopes.new }) result }
+    ensures stays { IsMarkedAt (back (K.keeping keeper.old)) (K.keeping keeper.new) }
+    ensures took { OnOk result (HasReceived met.now.meta.usn (K.keeping keeper.old) (K.keeping keeper.new)) }
+    ensures keeper { GoesOn (K.health keeper.old) (K.health keeper.new) }
+{
+    let changes = unsent_changes(alloc, keeper, met.meta.moment)?;
+    let request = envelopes.request(Ask::ApplyChanges(changes))?;
+    let came = ask_changes(wire, &request)?;
+    take_changes(keeper, &came, met.meta.usn)?;
+    Ok(())
+}
+
+/// Takes the server's rows, chunk by chunk, until one is done.
+pub fn pull<K: Keeper, W: Wire>(
+    keeper: &mut K,
+    wire: &mut W,
+    envelopes: &mut Envelopes,
+    met: &Met,
+) -> Result<(), Stop>
+    requires marked { is_marked (K.keeping keeper.old) ≡ true }
+    requires number { IsWithin (pos 0) last_head_usn met.now.meta.usn }
+    ensures leads { Advances 40_000 0 0 (at_end_of planned_changes) (at_end_of planned_chunks) met.now
+        (K.keeping keeper.old) (K.keeping keeper.new)
+        (record { health = W.health wire.old; wire = W.state wire.old; envelopes = envelopes.old })
+        (record { health = W.health wire.new; wire = W.state wire.new; envelopes = envelopes.new }) result }
+    ensures stays { IsMarkedAt (back (K.keeping keeper.old)) (K.keeping keeper.new) }
+    ensures took { OnOk result (HasReceived met.now.meta.usn (K.keeping keeper.old) (K.keeping keeper.new)) }
+    ensures keeper { GoesOn (K.health keeper.old) (K.health keeper.new) }
+{
+    for _turn in 0..MOST_PULLED {
+        if pull_chunk(keeper, wire, envelopes, met)? {
+            return Ok(());
+        }
+    }
+    Err(Stop::TooManyChunks)
+}
+
+/// Takes one chunk, and answers whether it was done.
+fn pull_chunk<K: Keeper, W: Wire>(
+    keeper: &mut K,
+    wire: &mut W,
+    envelopes: &mut Envelopes,
+    met: &Met,
+) -> Result<bool, Stop>
+    requires marked { is_marked (K.keeping keeper.old) ≡ true }
+    requires number { IsWithin (pos 0) last_head_usn met.now.meta.usn }
+    ensures leads { (count : ℕ) → Advances 1 0 0 (HavePulled count)
+        (λ c s asked. IfOk result (λ done. HasPulledOne count done c s asked)) met.now
+        (K.keeping keeper.old) (K.keeping keeper.new)
+        (record { health = W.health wire.old; wire = W.state wire.old; envelopes = envelopes.old })
+        (record { health = W.health wire.new; wire = W.state wire.new; envelopes = envelopes.new }) result }
+    ensures stays { IsMarkedAt (back (K.keeping keeper.old)) (K.keeping keeper.new) }
+    ensures took { OnOk result (HasReceived met.now.meta.usn (K.keeping keeper.old) (K.keeping keeper.new)) }
+    ensures keeper { GoesOn (K.health keeper.old) (K.health keeper.new) }
+{
+    let request = envelopes.request(Ask::Chunk)?;
+    let chunk = ask_chunk(wire, &request)?;
+    take_chunk(keeper, &chunk, met.meta.usn)?;
+    Ok(chunk.done)
+}
+
+/// Sends the rows that were not sent yet, chunk by chunk. A 40,000th chunk that is not the last one is not sent.
+pub fn push<K: Keeper, W: Wire>(
+    alloc: Global,
+    keeper: &mut K,
+    wire: &mut W,
+    envelopes: &mut Envelopes,
+    met: &Met,
+) -> Result<(), Stop>
+    requires marked { is_marked (K.keeping keeper.old) ≡ true }
+    ensures leads { Advances 0 39_999 1 (at_end_of planned_chunks) (at_end_of planned_pushes) met.now
+        (K.keeping keeper.old) (K.keeping keeper.new)
+        (record { health = W.health wire.old; wire = W.state wire.old; envelopes = envelopes.old })
+        (record { health = W.health wire.new; wire = W.state wire.new; envelopes = envelopes.new }) result }
+    ensures same { K.keeping keeper.new ≡ K.keeping keeper.old }
+    ensures keeper { GoesOn (K.health keeper.old) (K.health keeper.new) }
+{
+    let mut from = FIRST_PLACE;
+    for _turn in 0..MOST_UNFINISHED {
+        match push_chunk(alloc, keeper, wire, envelopes, from, true)? {
+            Some(next) => from = next,
+            None => return Ok(()),
+        }
+    }
+    match push_chunk(alloc, keeper, wire, envelopes, from, false)? {
+        Some(_) => Err(Stop::TooManyChunks),
+        None => Ok(()),
+    }
+}
+
+/// Sends the chunk that begins at this place, and answers where the next one begins, if there is one. If none may follow, it
+/// is sent only if it is the last one.
+fn push_chunk<K: Keeper, W: Wire>(
+    alloc: Global,
+    keeper: &mut K,
+    wire: &mut W,
+    envelopes: &mut Envelopes,
+    from: Name,
+    may_follow: bool,
+) -> Result<Option<Name>, Stop>
+    ensures leads { (count : ℕ) (met : Met)
+        → Advances 0 (if may_follow then 1 else 0) (last_sent result) (HavePushed count from)
+        (λ c s asked. IfOk result (λ next. HasPushedOne count next c s asked)) met
+        (K.keeping keeper.old) (K.keeping keeper.new)
+        (record { health = W.health wire.old; wire = W.state wire.old; envelopes = envelopes.old })
+        (record { health = W.health wire.new; wire = W.state wire.new; envelopes = envelopes.new }) result }
+    ensures same { K.keeping keeper.new ≡ K.keeping keeper.old }
+    ensures keeper { GoesOn (K.health keeper.old) (K.health keeper.new) }
+{
+    let Gathered { chunk, next } = next_chunk(alloc, keeper, from)?;
+    let done = chunk.done;
+    if !done && !may_follow {
+        drop(chunk);
+        return Err(Stop::TooManyChunks);
+    }
+    let request = envelopes.request(Ask::ApplyChunk(chunk))?;
+    ask_nothing(wire, &request)?;
+    if done { Ok(None) } else { Ok(Some(next)) }
+}
+
+/// Asks whether both sides hold the same, and whether that is sound.
+pub fn compare<K: Keeper, W: Wire>(
+    keeper: &mut K,
+    wire: &mut W,
+    envelopes: &mut Envelopes,
+    met: &Met,
+) -> Result<(), Stop>
+    requires marked { is_marked (K.keeping keeper.old) ≡ true }
+    ensures leads { Advances 0 0 1 (at_end_of planned_pushes) (at_end_of planned_check) met.now
+        (K.keeping keeper.old) (K.keeping keeper.new)
+        (record { health = W.health wire.old; wire = W.state wire.old; envelopes = envelopes.old })
+        (record { health = W.health wire.new; wire = W.state wire.new; envelopes = envelopes.new }) result }
+    ensures same { K.keeping keeper.new ≡ K.keeping keeper.old }
+    ensures keeper { GoesOn (K.health keeper.old) (K.health keeper.new) }
+{
+    let counts = counts_of(keeper)?;
+    let request = envelopes.request(Ask::SanityCheck2(counts))?;
+    let reply = ask_sanity(wire, &request)?;
+    verdict(&reply)
+}
+
+/// What a sanity check found: its fault, or else counts that differ.
+fn verdict(reply: &SanityReply) -> Result<(), Stop>
+    ensures { result ≡ verdict_of reply.now }
+{
+    if reply.good {
+        return Ok(());
+    }
+    match reply.fault {
+        Some(fault) => Err(Stop::BadRow(fault)),
+        None => Err(Stop::BadCounts {
+            client: reply.client,
+            server: reply.server,
+        }),
+    }
+}
+
+/// Asks the server to commit, and answers the moment at which it did, in milliseconds.
+pub fn finish<W: Wire>(wire: &mut W, envelopes: &mut Envelopes) -> Result<i64, Stop>
+    ensures leads { Finishes
+        (record { health = W.health wire.old; wire = W.state wire.old; envelopes = envelopes.old })
+        (record { health = W.health wire.new; wire = W.state wire.new; envelopes = envelopes.new }) result }
+    ensures range { IfOk result IsMoment }
+{
+    let request = envelopes.request(Ask::Finish)?;
+    let moment = ask_moment(wire, &request)?;
+    Ok(moment)
+}
