@@ -1,20 +1,20 @@
 -- How a sync begins: what it tests once its meta was answered, and what it knows then.
+use Rattle.std.specs.List.{AllByRecursion}
 use Rattle.std.specs.Ordering.{int_eq}
 use Rattle.std.specs.Prelude.{◌≡◌, ◌≢◌, ℤ, pos, ◌+ℤ◌, ◌<ℤ◌, ◌||◌, Bool, not, int_lt, if◌then◌else◌, List, [], ◌++◌, Option, Some, None, Result, IfOk}
 use Rattle.ak_base.specs.Limits.{last_head_usn}
 use Rattle.ak_base.specs.declared.heads.Head.{Head}
-use Rattle.ak_exchange.specs.Phases.{asker}
+use Rattle.ak_exchange.specs.Asked.{asker}
 use Rattle.ak_exchange.specs.declared.envelopes.Ids.{Ids}
 use Rattle.ak_exchange.specs.declared.envelopes.Met.{Met}
 use Rattle.ak_exchange.specs.declared.stops.Stop.{Stop}
 use Rattle.ak_exchange.specs.declared.stops.Stop.TheVariants as stops
 use Rattle.ak_keep.specs.Collections.{Collection, Holding}
 use Rattle.ak_merge.specs.Soundness.{first_fault}
-use Rattle.ak_merge.specs.declared.checks.CheckFault.{CheckFault}
 use Rattle.ak_messages.specs.declared.requests.Ask.TheVariants as asks
 use Rattle.ak_messages.specs.declared.requests.Request.{Request}
 use Rattle.ak_protocol.specs.Accounts.{AccountState}
-use Rattle.ak_protocol.specs.Logs.{Event, Log, IsGrowth, with_growth}
+use Rattle.ak_protocol.specs.Logs.{Event, Log, IsTimely, with_growth}
 use Rattle.ak_protocol.specs.Syncs.{IsUnderWay, IsUnused, world_of}
 use Rattle.ak_session.specs.Plans.{Asker}
 use Rattle.ak_wires.specs.declared.wires.MetaSaid.{MetaSaid}
@@ -38,11 +38,6 @@ head_stop meta head =
     else if int_eq meta.usn last_head_usn then Some (stops.FullSequence meta.usn)
     else None
 
--- why it ends by the device's own rows: they are not sound
-abbrev pub check_stop : Option CheckFault → Option Stop
-check_stop None = None
-check_stop (Some fault) = Some (stops.OwnCheck fault)
-
 -- ---- what a greeting leaves
 -- the request that begins a sync
 abbrev pub meta_of : Ids → Request
@@ -54,6 +49,7 @@ pub record IsMetOver (who : Asker) (account : AccountState) (old now : Log) (s :
   pub front : List Event
   pub rest : List Event
   pub grown : now ≡ with_growth old (front ++ rest)
+  pub timely : AllByRecursion IsTimely front
   pub place : (world_of who.host.digits account (with_growth old front)).state.committed ≡ s
   pub under_way : IsUnderWay who.host.digits who.session.0 [] s account now
 
@@ -65,16 +61,14 @@ pub record IsMetBy (meta : MetaSaid) (s : Collection) : Type 0 where
 
 -- what a greeting knows of the server: its key is unused still, but for metas; and if the sync may go on, over what its meta was answered
 pub record Greets (ids : Ids) (account : AccountState) (old now : Log) (result : Result Met Stop) : Type 0 where
-  pub growth : List Event
-  pub grown : now ≡ with_growth old growth
-  pub may : IsGrowth old (meta_of ids) growth
   pub unused : IsUnused ids.host.digits ids.session.0 account now
   pub met : IfOk result (λ met. (s : Collection) × IsMetOver (asker ids) account old now s × IsMetBy met.meta s)
 
 -- the same wherever the wire tells a log in which nothing but metas has the session key
 abbrev pub GreetsTold : Ids → Option Log → Option Log → Result Met Stop → Type 0
-GreetsTold ids was is result = (account : AccountState) (old : Log) → was ≡ Some old → IsUnused ids.host.digits ids.session.0 account old
-    → (now : Log) × (is ≡ Some now) × Greets ids account old now result
+GreetsTold ids told_before told_now result = (account : AccountState) (old : Log) → told_before ≡ Some old
+    → IsUnused ids.host.digits ids.session.0 account old
+    → (now : Log) × (told_now ≡ Some now) × Greets ids account old now result
 
 -- what a greeting knows of the device once the sync may go on: the head that it holds, and that it may sync by the meta
 pub record IsReady (h : Holding) (met : Met) : Type 0 where

@@ -1,5 +1,5 @@
 ghost use Rattle.ak_client.specs.declared.outcomes.Outcome.TheVariants as outcomes;
-ghost use Rattle.ak_client.specs.Outcomes.{outcome_of};
+ghost use Rattle.ak_client.specs.Outcomes.{is_bad_check, outcome_at, outcome_of};
 ghost use Rattle.std.specs.Prelude.{◌≡◌};
 
 use ak_exchange::Stop;
@@ -86,4 +86,11 @@ fn outcome_at(stop: Stop) -> Outcome
         Stop::Keep => Outcome::Keep,
         Stop::Memory => Outcome::Memory,
     }
+}
+
+/// Whether a sync stops at a bad sanity check.
+pub(crate) fn is_bad_check(stop: Stop) -> bool
+    ensures { result ≡ is_bad_check stop }
+{
+    matches!(stop, Stop::BadRow(_) | Stop::BadCounts { .. })
 }
