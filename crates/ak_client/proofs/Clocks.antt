@@ -2,17 +2,20 @@
 use Rattle.std.specs.Prelude.{◌≡◌, ℕ, zero, suc, ◌+◌, ◌≤◌, ℤ, Bool, true, false, List, Option}
 use Rattle.std.proofs.Common.{refl, sym, ap, subst, ◌∙◌, arith}
 use Rattle.ak_client.specs.Endings.{IsOfGreeting}
-use Rattle.ak_client.specs.Outcomes.{is_bad_check, outcome_at}
-use Rattle.ak_client.specs.Syncs.{HasGiven, HasRaised, KeepsDevice, TakesMoments, ends_before_finish, fewest_moments, most_moments}
+use Rattle.ak_client.specs.Outcomes.{outcome_at}
+use Rattle.ak_client.specs.Syncs.{HasChecked, HasGiven, HasRaised, KeepsDevice, TakesMoments, ends_before_finish, fewest_moments, most_moments}
 use Rattle.ak_client.specs.declared.outcomes.Outcome.{Outcome}
 use Rattle.ak_client.specs.declared.outcomes.Outcome.TheVariants as outcomes
-use Rattle.ak_exchange.specs.Stops.{comes_before_finish, keep_stop, wire_stop}
+use Rattle.ak_exchange.specs.Phases.{IsCheckedLast}
+use Rattle.ak_exchange.specs.Stops.{comes_before_finish, keep_stop, shows_bad_check, wire_stop}
 use Rattle.ak_exchange.specs.declared.stops.Stop.{Stop}
 use Rattle.ak_exchange.specs.declared.stops.Stop.TheVariants as stops
 use Rattle.ak_keep.specs.Keepers.{Keeping}
 use Rattle.ak_keep.specs.declared.keepers.KeepFault.{KeepFault}
 use Rattle.ak_keep.specs.declared.keepers.KeepFault.TheVariants as faults
+use Rattle.ak_messages.specs.declared.requests.Ask.{Ask}
 use Rattle.ak_protocol.proofs.Commits.{not_both}
+use Rattle.ak_wires.specs.Wires.{WireState}
 use Rattle.ak_wires.specs.declared.asks.Unanswered.{Unanswered}
 use Rattle.ak_wires.specs.declared.asks.Unanswered.TheVariants as unanswered
 
@@ -62,6 +65,45 @@ pub fault_not_early : (fault : KeepFault) → ends_before_finish (outcome_at (ke
 fault_not_early faults.Failed early = not_both early refl
 fault_not_early faults.Memory early = not_both early refl
 
+-- ---- the sanity check
+module _ (asks : List Ask) (now : WireState) where
+  pub stop_checks : (stop : Stop) → (shows_bad_check stop ≡ true → IsCheckedLast asks stop now) → HasChecked asks now (outcome_at stop)
+  stop_checks stops.NoChanges so = tt
+  stop_checks (stops.FullSchema device server) so = tt
+  stop_checks (stops.FullSequence usn) so = tt
+  stop_checks (stops.BadRow fault) so = so refl
+  stop_checks (stops.BadCounts client server) so = so refl
+  stop_checks (stops.ClockOff device server) so = tt
+  stop_checks (stops.OwnCheck fault) so = tt
+  stop_checks stops.Stopped so = tt
+  stop_checks (stops.Refused status word seen) so = tt
+  stop_checks stops.Lost so = tt
+  stop_checks stops.BadReply so = tt
+  stop_checks stops.TooManyChunks so = tt
+  stop_checks stops.Keep so = tt
+  stop_checks stops.Memory so = tt
+
+  pub fault_checks : (fault : KeepFault) → HasChecked asks now (outcome_at (keep_stop fault))
+  fault_checks faults.Failed = tt
+  fault_checks faults.Memory = tt
+
+-- a request that is not granted, and want of memory, are no bad sanity check
+pub late_is_good : (stop : Stop) → comes_before_finish stop ≡ false → shows_bad_check stop ≡ true → ⊥
+late_is_good stops.NoChanges late bad = not_both bad refl
+late_is_good (stops.FullSchema device server) late bad = not_both bad refl
+late_is_good (stops.FullSequence usn) late bad = not_both bad refl
+late_is_good (stops.BadRow fault) late bad = not_both refl late
+late_is_good (stops.BadCounts client server) late bad = not_both refl late
+late_is_good (stops.ClockOff device server) late bad = not_both bad refl
+late_is_good (stops.OwnCheck fault) late bad = not_both bad refl
+late_is_good stops.Stopped late bad = not_both bad refl
+late_is_good (stops.Refused status word seen) late bad = not_both bad refl
+late_is_good stops.Lost late bad = not_both bad refl
+late_is_good stops.BadReply late bad = not_both bad refl
+late_is_good stops.TooManyChunks late bad = not_both bad refl
+late_is_good stops.Keep late bad = not_both bad refl
+late_is_good stops.Memory late bad = not_both bad refl
+
 -- ---- the clock
 given_more : (n : ℕ) (old mid new : Option (List ℤ)) → HasGiven 1 old mid → HasGiven n mid new → HasGiven (suc n) old new
 given_more zero old mid new one same = subst (λ (o : Option (List ℤ)). HasGiven 1 old o) (sym same) one
@@ -94,13 +136,13 @@ unanswered_takes unanswered.BadReply old = record { count = 0; least = omega ari
 unanswered_takes (unanswered.Refused status word seen) old = record { count = 0; least = omega arith; most = omega arith; given = refl }
 unanswered_takes unanswered.Memory old = record { count = 0; least = omega arith; most = omega arith; given = refl }
 
-pub unanswered_good : (why : Unanswered) → is_bad_check (wire_stop why) ≡ false
+pub unanswered_good : (why : Unanswered) → shows_bad_check (wire_stop why) ≡ false
 unanswered_good unanswered.Lost = refl
 unanswered_good unanswered.BadReply = refl
 unanswered_good (unanswered.Refused status word seen) = refl
 unanswered_good unanswered.Memory = refl
 
-few_moments : (stop : Stop) → is_bad_check stop ≡ false → fewest_moments (outcome_at stop) ≤ 1
+few_moments : (stop : Stop) → shows_bad_check stop ≡ false → fewest_moments (outcome_at stop) ≤ 1
 few_moments stops.NoChanges good = omega arith
 few_moments (stops.FullSchema device server) good = omega arith
 few_moments (stops.FullSequence usn) good = omega arith
@@ -133,13 +175,13 @@ one_moment stops.Keep = omega arith
 one_moment stops.Memory = omega arith
 
 -- a stop that is no bad sanity check takes no more
-pub stop_takes : (stop : Stop) (old : Option (List ℤ)) → is_bad_check stop ≡ false → TakesMoments 1 old old (outcome_at stop)
+pub stop_takes : (stop : Stop) (old : Option (List ℤ)) → shows_bad_check stop ≡ false → TakesMoments 1 old old (outcome_at stop)
 stop_takes stop old good =
     let least = few_moments stop good in let most = one_moment stop in
     record { count = 0; least = omega (arith, least); most = omega (arith, most); given = refl }
 
 -- a bad one takes another, and so may what the keeper refuses after it
-pub bad_takes : (stop : Stop) (old new : Option (List ℤ)) → is_bad_check stop ≡ true → HasGiven 1 old new → TakesMoments 1 old new (outcome_at stop)
+pub bad_takes : (stop : Stop) (old new : Option (List ℤ)) → shows_bad_check stop ≡ true → HasGiven 1 old new → TakesMoments 1 old new (outcome_at stop)
 bad_takes stops.NoChanges old new bad one = absurd (not_both bad refl)
 bad_takes (stops.FullSchema device server) old new bad one = absurd (not_both bad refl)
 bad_takes (stops.FullSequence usn) old new bad one = absurd (not_both bad refl)
@@ -161,7 +203,7 @@ fault_takes faults.Memory n old new few given = record { count = n; least = omeg
 
 -- ---- the device
 module _ (earlier : ℕ) (before left : Keeping) (old new : Option (List ℤ)) where
-  pub stop_keeps : (stop : Stop) → is_bad_check stop ≡ false → left ≡ before → KeepsDevice earlier before left old new (outcome_at stop)
+  pub stop_keeps : (stop : Stop) → shows_bad_check stop ≡ false → left ≡ before → KeepsDevice earlier before left old new (outcome_at stop)
   stop_keeps stops.NoChanges good same = same
   stop_keeps (stops.FullSchema device server) good same = same
   stop_keeps (stops.FullSequence usn) good same = same
@@ -177,7 +219,7 @@ module _ (earlier : ℕ) (before left : Keeping) (old new : Option (List ℤ)) w
   stop_keeps stops.Keep good same = same
   stop_keeps stops.Memory good same = same
 
-  pub bad_keeps : (stop : Stop) → is_bad_check stop ≡ true → HasRaised earlier before left old new → KeepsDevice earlier before left old new (outcome_at stop)
+  pub bad_keeps : (stop : Stop) → shows_bad_check stop ≡ true → HasRaised earlier before left old new → KeepsDevice earlier before left old new (outcome_at stop)
   bad_keeps stops.NoChanges bad raised = absurd (not_both bad refl)
   bad_keeps (stops.FullSchema device server) bad raised = absurd (not_both bad refl)
   bad_keeps (stops.FullSequence usn) bad raised = absurd (not_both bad refl)

@@ -4,19 +4,19 @@ use Rattle.std.specs.Prelude.{◌≡◌, ℕ, zero, ℤ, pos, ◌+◌, ◌≤◌
 use Rattle.std.specs.Int.{div_ceil}
 use Rattle.std.proofs.Common.{refl, sym, ap, subst, ◌∙◌, inl, inr, arith}
 use Rattle.std.proofs.lemmas.Result.{IfErr-weaker, IfOk-weaker}
-use Rattle.ak_client.proofs.Clocks.{fault_not_early, not_early, not_finished}
+use Rattle.ak_client.proofs.Clocks.{fault_checks, fault_not_early, late_is_good, not_early, not_finished, stop_checks}
 use Rattle.ak_client.proofs.Committing.{ended}
 use Rattle.ak_client.specs.Endings.{ArePlain, AsksAfter, Ended, Ends, Exchanged, ExchangesAll, IsEnded, IsGranted, IsShownAfter}
 use Rattle.ak_client.specs.Outcomes.{EndsFor, outcome_at, outcome_of}
-use Rattle.ak_client.specs.Syncs.{ends_before_finish}
+use Rattle.ak_client.specs.Syncs.{HasChecked, ends_before_finish}
 use Rattle.ak_client.specs.declared.outcomes.Outcome.{Outcome}
 use Rattle.ak_client.specs.declared.outcomes.Outcome.TheVariants as outcomes
 use Rattle.ak_device.proofs.Receiving.{received_nothing}
 use Rattle.ak_device.specs.Devices.{Settles, received}
 use Rattle.ak_exchange.proofs.Tried.{asked_then, few_more, few_none, few_then}
 use Rattle.ak_exchange.specs.Asked.{AreAsked, AreFew, AreTried, Talk, asker}
-use Rattle.ak_exchange.specs.Phases.{AreGraveRequests, Exchanges, Finishes, HasAsked, HasCommitted, IsAt, IsLeft, IsMet, IsReached, at_end_of, at_meta, holding, marked_at}
-use Rattle.ak_exchange.specs.Stops.{comes_before_finish, keep_stop}
+use Rattle.ak_exchange.specs.Phases.{AreGraveRequests, Exchanges, IsCheckedLast, Finishes, HasAsked, HasCommitted, IsAt, IsLeft, IsMet, IsReached, at_end_of, at_meta, holding, marked_at}
+use Rattle.ak_exchange.specs.Stops.{comes_before_finish, keep_stop, shows_bad_check}
 use Rattle.ak_exchange.specs.declared.envelopes.Envelopes.{Envelopes}
 use Rattle.ak_exchange.specs.declared.envelopes.Ids.{Ids}
 use Rattle.ak_exchange.specs.declared.envelopes.Met.{Met}
@@ -83,6 +83,7 @@ module _ (ids : Ids) (met : Met) (before mid : Keeping) (h0 h1 h2 : Health) (w0 
     graves = ex.graves;
     graves_most = ex.graves_most;
     few = few_more ex.asks 40_000 39_999 (4 + ex.graves) 40_000 39_999 (5 + ex.graves) (omega arith) (omega arith) (omega arith) ex.few;
+    checked = ex.checked;
     told = λ c s account is_met reached marked.
         let led = ex.leads c s account is_met (at_start c s account is_met reached marked) in
         record {
@@ -93,15 +94,18 @@ module _ (ids : Ids) (met : Met) (before mid : Keeping) (h0 h1 h2 : Health) (w0 
   }
 
   -- the finish was asked
-  pub asked_all : (result : Result ℤ Stop) → Exchanges met before mid was between (Ok tt) → Finishes between now result
+  pub asked_all : (result : Result ℤ Stop) (done : Unit {0}) → Exchanges met before mid was between (Ok done) → Finishes between now result
       → ExchangesAll ids met before mid h0 h2 w0 w2 result
-  asked_all result ex fin = record {
+  asked_all result done ex fin = record {
     asks = ex.asks ++ fin.asks;
     tried = (asked_then ex.asks fin.asks was between now ex.asked fin.asked).tried;
     graves = ex.graves;
     graves_most = ex.graves_most;
     few = few_more (ex.asks ++ fin.asks) 40_000 39_999 (4 + ex.graves + 1) 40_000 39_999 (5 + ex.graves) (omega arith) (omega arith) (omega arith)
         (few_then ex.asks fin.asks 40_000 39_999 (4 + ex.graves) 0 0 1 ex.few fin.few);
+    checked = IfErr-weaker result (λ (stop : Stop). comes_before_finish stop ≡ false)
+        (λ (stop : Stop). shows_bad_check stop ≡ true → IsCheckedLast (ex.asks ++ fin.asks) stop w2)
+        (λ stop late bad. absurd (late_is_good stop late bad)) fin.late;
     told = λ c s account is_met reached marked.
         let led = ex.leads c s account is_met (at_start c s account is_met reached marked) in
         let end : IsLeft c s account (asker ids) (ex.asks ++ fin.asks) now
@@ -129,18 +133,19 @@ module _ (ids : Ids) (met : Met) (before mid : Keeping) (h0 h1 h2 : Health) (w0 
 
 -- ---- up to the end
 -- a device that could not be marked asked nothing
-pub asked_nothing : (ids : Ids) (met : Met) (before left : Keeping) (h : Health) (w : WireState) (stop : Stop)
-    → Ends ids met before left h h w w (outcome_at stop)
-asked_nothing ids met before left h w stop = record {
+pub asked_nothing : (ids : Ids) (met : Met) (before left : Keeping) (h : Health) (w : WireState) (fault : KeepFault)
+    → Ends ids met before left h h w w (outcome_at (keep_stop fault))
+asked_nothing ids met before left h w fault = record {
   asks = [];
   tried = (refl, refl);
   graves = 0;
   graves_most = no_graves before;
   few = few_none 40_000 39_999 (5 + 0);
+  checked = fault_checks [] w fault;
   told = λ c s account is_met reached holds. record {
     shown = record { reached = reached; front = λ may. (planned c s, refl) };
     early = λ early. tt;
-    finished = λ is. absurd (not_finished stop is);
+    finished = λ is. absurd (not_finished (keep_stop fault) is);
   };
 }
 
@@ -152,15 +157,17 @@ module _ (ids : Ids) (met : Met) (before marked mid left : Keeping) (h0 h1 : Hea
   Leaves outcome c s account asks = before ≡ holding c → Ended c s account (asker ids) asks w1.log left outcome
 
   ends_with : (result : Result ℤ Stop) (outcome : Outcome) → (ex : ExchangesAll ids met marked mid h0 h1 w0 w1 result)
+      → HasChecked ex.asks w1 outcome
       → ((c s : Collection) (account : AccountState) → IsMet c s met → Exchanged c s account (asker ids) ex.asks w1.log mid result
       → Ended c s account (asker ids) ex.asks w1.log left outcome)
       → Ends ids met before left h0 h1 w0 w1 outcome
-  ends_with result outcome ex so = record {
+  ends_with result outcome ex checked so = record {
     asks = ex.asks;
     tried = ex.tried;
     graves = ex.graves;
     graves_most = graves_marked before ex.graves (subst (λ (k : Keeping). AreGraveRequests k ex.graves) marks_it ex.graves_most);
     few = ex.few;
+    checked = checked;
     told = λ c s account is_met reached holds. so c s account is_met (ex.told c s account is_met reached (marked_so c holds));
   }
 
@@ -169,14 +176,14 @@ module _ (ids : Ids) (met : Met) (before marked mid left : Keeping) (h0 h1 : Hea
       → Ends ids met before left h0 h1 w0 w1 (outcome_of result)
   ends_stopped stop result ex (inl same) =
       subst (λ (r : Result (Unit {0}) Stop). Ends ids met before left h0 h1 w0 w1 (outcome_of r)) (sym same)
-      (ends_with (Err stop) (outcome_at stop) ex (λ c s account is_met it. record {
+      (ends_with (Err stop) (outcome_at stop) ex (stop_checks ex.asks w1 stop ex.checked) (λ c s account is_met it. record {
         shown = it.shown;
         early = it.early;
         finished = λ is. absurd (not_finished stop is);
       }))
   ends_stopped stop result ex (inr (fault, same)) =
       subst (λ (r : Result (Unit {0}) Stop). Ends ids met before left h0 h1 w0 w1 (outcome_of r)) (sym same)
-      (ends_with (Err stop) (outcome_at (keep_stop fault)) ex (λ c s account is_met it. record {
+      (ends_with (Err stop) (outcome_at (keep_stop fault)) ex (fault_checks ex.asks w1 fault) (λ c s account is_met it. record {
         shown = it.shown;
         early = λ early. absurd (fault_not_early fault early);
         finished = λ is. absurd (not_finished (keep_stop fault) is);
@@ -185,7 +192,7 @@ module _ (ids : Ids) (met : Met) (before marked mid left : Keeping) (h0 h1 : Hea
   -- the device's commit was refused
   pub ends_refused : (moment : ℤ) (fault : KeepFault) → ExchangesAll ids met marked mid h0 h1 w0 w1 (Ok moment)
       → Ends ids met before left h0 h1 w0 w1 (outcome_at (keep_stop fault))
-  ends_refused moment fault ex = ends_with (Ok moment) (outcome_at (keep_stop fault)) ex (λ c s account is_met it. record {
+  ends_refused moment fault ex = ends_with (Ok moment) (outcome_at (keep_stop fault)) ex (fault_checks ex.asks w1 fault) (λ c s account is_met it. record {
     shown = it.shown;
     early = λ early. absurd (fault_not_early fault early);
     finished = λ is. absurd (not_finished (keep_stop fault) is);
@@ -195,7 +202,7 @@ module _ (ids : Ids) (met : Met) (before marked mid left : Keeping) (h0 h1 : Hea
   pub ends_finished : (moment : ℤ) → ExchangesAll ids met marked mid h0 h1 w0 w1 (Ok moment)
       → left ≡ committed (moments_set moment met.head.schema (met.meta.usn +ℤ pos 1) moment mid)
       → Ends ids met before left h0 h1 w0 w1 outcomes.Finished
-  ends_finished moment ex commits = ends_with (Ok moment) outcomes.Finished ex (λ c s account is_met it. record {
+  ends_finished moment ex commits = ends_with (Ok moment) outcomes.Finished ex tt (λ c s account is_met it. record {
     shown = it.shown;
     early = λ early. absurd (not_both early refl);
     finished = λ is. ended c s account (asker ids) w1.log met moment mid left it.granted is_met commits;

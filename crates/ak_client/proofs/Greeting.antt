@@ -16,7 +16,7 @@ use Rattle.ak_messages.specs.declared.replies.Give.TheVariants as gives
 use Rattle.ak_messages.specs.declared.replies.Reply.{Reply}
 use Rattle.ak_messages.specs.declared.requests.Request.{Request}
 use Rattle.ak_protocol.proofs.Calls.{metas_are_read}
-use Rattle.ak_protocol.proofs.Syncs.{all_front, metas_leave_unused}
+use Rattle.ak_protocol.proofs.Syncs.{metas_leave_unused}
 use Rattle.ak_protocol.specs.Accounts.{AccountState}
 use Rattle.ak_protocol.specs.Logs.{Event, Asked, Log, Grows, IsTimely, with_growth}
 use Rattle.ak_protocol.specs.Replies.{granted, meta_reply}
@@ -65,8 +65,7 @@ module _ (ids : Ids) (account : AccountState) (old : Log) (unused : IsUnused ids
         front = grows.reply.before;
         rest = place ∷ grows.reply.after;
         grown = grows.grown ∙ ap (λ (events : List Event). with_growth old events) (sym grows.reply.place);
-        timely = all_front IsTimely grows.reply.before (place ∷ grows.reply.after)
-            (subst (AllByRecursion IsTimely) (sym grows.reply.place) (timely_growth old.events (meta_of ids) grows.growth grows.may));
+        timely = subst (AllByRecursion IsTimely) (sym grows.reply.place) (timely_growth old.events (meta_of ids) grows.growth grows.may);
         place = sym read.1;
         under_way = subst (λ (log : Log). IsUnderWay ids.host.digits ids.session.0 [] read.0.base account log) (sym grows.grown) read.0.under_way;
       }, (read.0.now, read.0.told))

@@ -10,3 +10,4 @@ pub mod Healing
 pub mod Leading
 pub mod Meeting
 pub mod Syncing
+pub mod Testing

@@ -20,7 +20,7 @@ use Rattle.ak_merge.specs.Commits.{IsCommitted}
 use Rattle.ak_merge.specs.Holdings.{row_under}
 use Rattle.ak_merge.specs.Joins.{AreApart}
 use Rattle.ak_merge.specs.Links.{AreLinked, AreLinkedParts}
-use Rattle.ak_protocol.proofs.Syncs.{own_append, world_append}
+use Rattle.ak_protocol.proofs.Syncs.{all_front, own_append, world_append}
 use Rattle.ak_protocol.specs.Accounts.{AccountState}
 use Rattle.ak_protocol.specs.Commits.{EachNewer, HasFreshSchema}
 use Rattle.ak_protocol.specs.Logs.{Event, World, Log, IsTimely, events_of, with_growth, world_after}
@@ -53,6 +53,9 @@ module _ (who : Asker) (c s : Collection) (account : AccountState) (old mid : Lo
       ∙ ap (world_after (world_at who account old)) (own_append who.host.digits over.front (over.rest ++ later))
       ∙ world_append (world_at who account old) (events_of who.host.digits over.front) (events_of who.host.digits (over.rest ++ later))
 
+  timely_front : AllByRecursion IsTimely over.front
+  timely_front = all_front IsTimely over.front over.rest over.timely
+
   fresh_front : EachNewer (HasFreshSchema c) (world_at who account old) (world_at who account (with_growth old over.front))
   fresh_front =
       subst (EachNewer (HasFreshSchema c) (world_at who account old)) (sym (world_grown who account old over.front))
@@ -61,11 +64,11 @@ module _ (who : Asker) (c s : Collection) (account : AccountState) (old mid : Lo
 
   pub committed_at_meta : IsCommitted s
   committed_at_meta =
-      subst IsCommitted over.place (lawful_grown who account old over.front over.timely may.lawful).committed
+      subst IsCommitted over.place (lawful_grown who account old over.front timely_front may.lawful).committed
 
   pub linked_at_meta : AreLinked c s
   linked_at_meta =
-      subst (AreLinked c) over.place (linked_grown who account old over.front over.timely may.lawful c fresh_front may.linked)
+      subst (AreLinked c) over.place (linked_grown who account old over.front timely_front may.lawful c fresh_front may.linked)
 
   -- a device whose keeper tells it may sync with what was committed at its meta, if the two are apart
   pub may_sync : IsWellFormed (held_by c) → IsReady (held_by c) met → IsMetBy met.meta s → AreApart (row_under c) (row_under s) → MaySync c s

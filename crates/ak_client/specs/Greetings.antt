@@ -49,7 +49,7 @@ pub record IsMetOver (who : Asker) (account : AccountState) (old now : Log) (s :
   pub front : List Event
   pub rest : List Event
   pub grown : now ≡ with_growth old (front ++ rest)
-  pub timely : AllByRecursion IsTimely front
+  pub timely : AllByRecursion IsTimely (front ++ rest)
   pub place : (world_of who.host.digits account (with_growth old front)).state.committed ≡ s
   pub under_way : IsUnderWay who.host.digits who.session.0 [] s account now
 

@@ -29,12 +29,6 @@ abbrev pub outcome_of : Result (Unit {0}) Stop → Outcome
 outcome_of (Ok done) = outcomes.Finished
 outcome_of (Err stop) = outcome_at stop
 
--- whether a sync stops at a bad sanity check
-abbrev pub is_bad_check : Stop → Bool
-is_bad_check (stops.BadRow fault) = true
-is_bad_check (stops.BadCounts client server) = true
-is_bad_check stop = false
-
 -- a sync that is stopped so ends for that reason, or because the keeper refused what was left to do
 abbrev pub EndsFor : Stop → Result (Unit {0}) Stop → Type 0
 EndsFor stop result = (result ≡ Err stop) ⊎ ((fault : KeepFault) × (result ≡ Err (keep_stop fault)))

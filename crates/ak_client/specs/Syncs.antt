@@ -1,17 +1,19 @@
 -- What a sync asks and what it leaves, over a keeper that tells the device's collection c and a wire that tells the log of a server.
 use Rattle.std.specs.List.{AllByRecursion}
-use Rattle.std.specs.Prelude.{◌≡◌, ℕ, zero, suc, ℤ, pos, ◌+◌, ◌≤◌, ◌+ℤ◌, Bool, true, false, List, [], ◌∷◌, ◌++◌, Option, Some, ⊤, ◌⊎◌}
+use Rattle.std.specs.Prelude.{◌≡◌, ℕ, zero, suc, ℤ, pos, ◌+◌, ◌/◌, ◌≤◌, ◌+ℤ◌, Bool, true, false, List, [], ◌∷◌, ◌++◌, length, Option, Some, ⊤, ◌⊎◌}
 use Rattle.ak_client.specs.Greetings.{meta_of}
 use Rattle.ak_client.specs.declared.outcomes.Outcome.{Outcome}
 use Rattle.ak_client.specs.declared.outcomes.Outcome.TheVariants as outcomes
 use Rattle.ak_device.specs.Devices.{RaisesMoments}
 use Rattle.ak_exchange.specs.Asked.{AreFew, AreTried, asker}
-use Rattle.ak_exchange.specs.Phases.{AreGraveRequests, holding}
+use Rattle.ak_exchange.specs.Phases.{AreGraveRequests, IsCheckedLast, holding}
 use Rattle.ak_exchange.specs.declared.envelopes.Ids.{Ids}
+use Rattle.ak_exchange.specs.declared.stops.Stop.TheVariants as stops
 use Rattle.ak_faults.specs.Causes.{Health}
 use Rattle.ak_io.specs.Arrivals.{GivesNext, IsClockMoment}
 use Rattle.ak_keep.specs.Collections.{Collection}
 use Rattle.ak_keep.specs.Keepers.{Keeping}
+use Rattle.ak_keep.specs.declared.keepers.Wanted.TheVariants.{From, Unsent}
 use Rattle.ak_merge.specs.Exchanges.{HoldsJoin, AreExchanged}
 use Rattle.ak_merge.specs.Holdings.{row_under}
 use Rattle.ak_merge.specs.Joins.{AreApart}
@@ -24,6 +26,7 @@ use Rattle.ak_protocol.specs.Logs.{Event, Commit, World, Log, IsTimely, with_gro
 use Rattle.ak_protocol.specs.Sessions.{IsOwnOrOther}
 use Rattle.ak_protocol.specs.Syncs.{IsUnderWay, IsUnused, world_of}
 use Rattle.ak_session.specs.Plans.{Asker, planned, requests_from}
+use Rattle.ak_session.specs.Slices.{wanted_graves, wanted_in_chunks}
 use Rattle.ak_wires.specs.Wires.{WireState}
 
 -- ---- before a sync
@@ -82,7 +85,7 @@ pub record IsSyncFinished (who : Asker) (c base : Collection) (account : Account
   pub linked : AreApart (row_under c) (row_under base) → AreLinked device (world_at who account now).state.committed
 
 -- ---- a sync
--- whether an outcome is told only of a sync that did not ask its finish
+-- whether an outcome is told only of a sync that did not ask its finish. A keeper that refused may have refused the commit after it
 abbrev pub ends_before_finish : Outcome → Bool
 ends_before_finish outcomes.Finished = false
 ends_before_finish outcomes.NoChanges = true
@@ -100,6 +103,13 @@ ends_before_finish outcomes.TooManyChunks = true
 ends_before_finish outcomes.Keep = false
 ends_before_finish outcomes.Memory = false
 
+-- a collection was committed at a place of what came to the account
+pub record IsCommittedIn (who : Asker) (account : AccountState) (old : Log) (growth : List Event) (base : Collection) : Type 0 where
+  pub front : List Event
+  pub rest : List Event
+  pub parts : growth ≡ front ++ rest
+  pub place : (world_at who account (with_growth old front)).state.committed ≡ base
+
 -- what a sync that asked these after its meta, over the moment that this told, makes of the log and of what the keeper tells, if no
 -- upload in between gave just the device's schema moment
 pub record Synced (who : Asker) (moment : ℤ) (asks : List Ask) (c : Collection) (account : AccountState)
@@ -110,11 +120,16 @@ pub record Synced (who : Asker) (moment : ℤ) (asks : List Ask) (c : Collection
   pub timely : AllByRecursion IsTimely growth
   -- what is committed changed at commits alone, each over what the one before it left
   pub server : CommitsGrow (world_at who account old) (world_at who account now)
-  -- the collection that was committed at its meta, if that was answered
+  -- the collection that was committed at the place at which its meta was answered, if it asked more
   pub base : Collection
+  pub at_meta : (asks ≡ []) ⊎ IsCommittedIn who account old growth base
   pub shown : IsShown who account base moment asks now
   -- it asked its plan up to some place, if the device and that collection are apart
   pub front : AreApart (row_under c) (row_under base) → (rest : List Ask) × (asks ++ rest ≡ planned c base)
+  -- that is at most 8 requests, its meta counted, and one more for each 250 of the graves that the device did not send yet, of the reviews,
+  -- cards and notes of the server with at least the device's number, and of those that the device did not send yet
+  pub short : AreApart (row_under c) (row_under base) → length asks + 1 ≤ 8 + length (wanted_graves Unsent c.rows) / 250
+      + length (wanted_in_chunks (From c.head.usn) base.rows) / 250 + length (wanted_in_chunks Unsent c.rows) / 250
   pub once : StaysOnce who c base moment asks account now
   -- it committed nothing, if it ended before its finish
   pub early : ends_before_finish outcome ≡ true → commits_of who.session.0 (world_at who account now).commits ≡ []
@@ -132,8 +147,15 @@ abbrev pub SyncsTold : Ids → ℤ → List Ask → Keeping → Keeping → Opti
 SyncsTold ids moment asks before left told_before told_now outcome = (old : Log) → told_before ≡ Some old
     → (now : Log) × (told_now ≡ Some now) × Syncs ids moment asks before left old now outcome
 
+-- a sync that ends at a bad sanity check asked for that last, and the reply found so
+abbrev pub HasChecked : List Ask → WireState → Outcome → Type 0
+HasChecked asks now (outcomes.BadRow fault) = IsCheckedLast asks (stops.BadRow fault) now
+HasChecked asks now (outcomes.BadCounts client server) = IsCheckedLast asks (stops.BadCounts client server) now
+HasChecked asks now outcome = ⊤
+
 -- what a sync does over any keeper and wire, whose health and state go from the one to the other
-pub record IsSync (ids : Ids) (before left : Keeping) (health_before health_now : Health) (old now : WireState) (outcome : Outcome) : Type 0 where
+pub record IsSync (ids : Ids) (before left : Keeping) (health_before health_now : Health) (old now : WireState)
+    (outcome : Outcome) : Type 0 where
   -- the moment that its meta told, and what it asked after it
   pub moment : ℤ
   pub asks : List Ask
@@ -144,6 +166,7 @@ pub record IsSync (ids : Ids) (before left : Keeping) (health_before health_now 
   pub graves : ℕ
   pub graves_most : AreGraveRequests before graves
   pub few : AreFew 40_000 39_999 (5 + graves) asks
+  pub checked : HasChecked asks now outcome
   -- and what that makes of what keeper and wire tell
   pub told : SyncsTold ids moment asks before left old.log now.log outcome
 

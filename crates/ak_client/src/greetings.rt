@@ -1,15 +1,19 @@
-ghost use Rattle.std.specs.Prelude.{◌≡◌, ◌≤ℤ◌, ◌<ℤ◌, ◌∷◌, [], pos, true, false, None, IfOk, IfErr, OnOk};
+ghost use Rattle.std.specs.Prelude.{◌≡◌, ◌≤ℤ◌, ◌<ℤ◌, ◌∷◌, [], ℤ, pos, true, false, Some, None, IfOk, IfErr, OnOk};
 ghost use Rattle.ak_base.specs.Heads.{IsHeadInRange, IsWithin};
 ghost use Rattle.ak_base.specs.Limits.{last_head_usn};
 ghost use Rattle.ak_client.specs.Endings.{IsOfGreeting};
 ghost use Rattle.ak_client.specs.Greetings.{GreetsTold, IsReady, are_far_apart, clock_stop, head_stop, meta_of};
-ghost use Rattle.ak_client.specs.Outcomes.{is_bad_check, outcome_at};
+ghost use Rattle.ak_client.specs.Outcomes.{outcome_at};
 ghost use Rattle.ak_client.specs.Syncs.{HasGiven, TakesMoments};
 ghost use Rattle.ak_exchange.specs.Asked.{AreTried};
-ghost use Rattle.ak_exchange.specs.Stops.{stop_or_go};
+ghost use Rattle.ak_exchange.specs.Stops.{shows_bad_check, stop_or_go};
+ghost use Rattle.ak_exchange.specs.declared.stops.Stop.TheVariants as stops;
 ghost use Rattle.ak_faults.specs.Causes.{GoesOn};
-ghost use Rattle.ak_keep.specs.Keepers.{WhereTold};
+ghost use Rattle.ak_io.specs.Arrivals.{GivesNext};
+ghost use Rattle.ak_keep.specs.Keepers.{IsRightlyKnown, WhereTold};
+ghost use Rattle.ak_merge.specs.Edits.{second_of};
 ghost use Rattle.ak_merge.specs.Soundness.{first_fault};
+ghost use Rattle.ak_merge.specs.declared.checks.CheckFault.{CheckFault};
 
 use ak_base::{Head, LAST_HEAD_USN};
 use ak_exchange::{Ids, Met, Stop, meta_request};
@@ -44,18 +48,26 @@ pub(crate) fn greet<K: Keeper, W: Wire, C: Clock>(
     ensures low { IfOk result (λ met. pos 0 ≤ℤ met.meta.usn) }
     ensures number { IfOk result (λ met. met.meta.usn <ℤ last_head_usn) }
     ensures head { IfOk result (λ met. IsHeadInRange met.head) }
+    ensures known { IfOk result (λ met. IsRightlyKnown (K.keeping keeper.old)) }
     ensures same { K.keeping keeper.new ≡ K.keeping keeper.old }
 
+    // If it may, the server lets it, and the clocks are near.
+    ensures clocks { IfOk result (λ met. (at : ℤ) × GivesNext (C.to_come clock.old) (C.to_come clock.new) at
+        × (clock_stop met.meta (second_of at) ≡ None)) }
+
     // It ends at no bad sanity check, and takes one moment of the clock once its meta is granted.
-    ensures early { IfErr result (λ stop. is_bad_check stop ≡ false) }
+    ensures early { IfErr result (λ stop. shows_bad_check stop ≡ false) }
     ensures once { OnOk result (HasGiven 1 (C.to_come clock.old) (C.to_come clock.new)) }
     ensures clock { IfErr result (λ stop. TakesMoments 0 (C.to_come clock.old) (C.to_come clock.new) (outcome_at stop)) }
     ensures keeper { GoesOn (K.health keeper.old) (K.health keeper.new) }
 {
     let request = meta_request(ids);
     let meta = ask_meta(wire, &request)?;
-    let second = clock.now() / 1000;
-    test_clocks(meta, second)?;
+    let at = clock.now();
+    test_clocks(meta, at / 1000)?;
+    // For the proof alone: they say that what the keeper tells is well formed.
+    let _checks = keeper.marked();
+    let _formed = keeper.held();
     let head = head_of(keeper)?;
     test_heads(meta, &head)?;
     test_rows(keeper)?;
@@ -112,6 +124,8 @@ fn test_heads(meta: MetaSaid, head: &Head) -> Result<(), Stop>
 fn test_rows<K: Keeper>(keeper: &mut K) -> Result<(), Stop>
     ensures sound { OnOk result (WhereTold (K.keeping keeper.old) (λ h. first_fault h.rows ≡ None)) }
     ensures same { K.keeping keeper.new ≡ K.keeping keeper.old }
+    ensures fault { IfErr result (λ stop. (fault : CheckFault) → stop ≡ stops.OwnCheck fault
+        → WhereTold (K.keeping keeper.old) (λ h. first_fault h.rows ≡ Some fault)) }
     ensures early { IfErr result IsOfGreeting }
     ensures keeper { GoesOn (K.health keeper.old) (K.health keeper.new) }
 {

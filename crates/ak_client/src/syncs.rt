@@ -8,7 +8,7 @@ ghost use Rattle.ak_faults.specs.Causes.{GoesOn};
 ghost use Rattle.ak_keep.specs.Keepers.{IsMarkedAt, back, is_marked};
 
 use crate::greetings::greet;
-use crate::outcomes::{Outcome, is_bad_check, outcome_of};
+use crate::outcomes::{Outcome, shows_bad_check, outcome_of};
 use ak_device::{commit_at, raise_moments};
 use ak_exchange::{Envelopes, Ids, Met, Stop, exchange, finish};
 use ak_io::Clock;
@@ -147,7 +147,7 @@ fn after_stop<K: Keeper, C: Clock>(keeper: &mut K, clock: &mut C, stop: Stop) ->
     ensures unmarked { is_marked (K.keeping keeper.new) ≡ false }
     ensures keeper { GoesOn (K.health keeper.old) (K.health keeper.new) }
 {
-    if !is_bad_check(stop) {
+    if !shows_bad_check(stop) {
         return Err(stop);
     }
     let at = clock.now();
