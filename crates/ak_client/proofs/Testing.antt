@@ -30,9 +30,10 @@ use Rattle.ak_wires.specs.declared.wires.MetaSaid.{MetaSaid}
 use Rattle.ak_wires.specs.declared.wires.WireEnd.{WireEnd}
 use Rattle.ak_wires.specs.declared.wires.WireEnd.TheVariants as ends
 
-pub went_on : (o : Option Stop) → stop_or_go o ≡ Ok tt → o ≡ None
-went_on None is = refl
-went_on (Some stop) is = grind (arith, is)
+-- a test that lets a sync go on found no reason to stop
+pub passed : (o : Option Stop) → stop_or_go o ≡ Ok tt → o ≡ None
+passed None is = refl
+passed (Some stop) is = grind (arith, is)
 
 none_of : (stop : Stop) → Some stop ≡ None → ⊥
 none_of stop is = grind (arith, is)
@@ -42,10 +43,6 @@ pub exits : {T : Type 0} (result : Result T Stop) (stop : Stop) (P : Result T St
     → P (Err stop) → P result
 exits (Ok value) stop P is so = absurd is
 exits (Err other) stop P is so = subst (λ (s : Stop). P (Err s)) (sym is) so
-
-pub not_so : (b : Bool) → not b ≡ false → b ≡ true
-not_so true is = refl
-not_so false is = grind (arith, is)
 
 -- the moments differ, the schema moments agree, and the server's number is not the last one
 pub heads_pass : (meta : MetaSaid) (head : Head) → head_stop meta head ≡ None
@@ -124,5 +121,5 @@ ready_where keeping meta head pass usn = by keeping.told
         → IfSome told (λ (w : WithMark Holding). IsReady w.current (record { meta = meta; head = head }))
     by None held sound = tt
     by (Some w) held sound =
-        let passed = heads_pass meta head pass in
-        record { head = held; differ = passed.0; schema = passed.1; number = below_last meta.usn usn passed.2; sound = sound }
+        let heads = heads_pass meta head pass in
+        record { head = held; differ = heads.0; schema = heads.1; number = below_last meta.usn usn heads.2; sound = sound }

@@ -9,7 +9,7 @@ ghost use Rattle.ak_exchange.specs.Asked.{AreTried};
 ghost use Rattle.ak_exchange.specs.Stops.{shows_bad_check, stop_or_go};
 ghost use Rattle.ak_exchange.specs.declared.stops.Stop.TheVariants as stops;
 ghost use Rattle.ak_faults.specs.Causes.{GoesOn};
-ghost use Rattle.ak_io.specs.Arrivals.{GivesNext};
+ghost use Rattle.ak_io.specs.Arrivals.{GivesNext, IsClockMoment};
 ghost use Rattle.ak_keep.specs.Keepers.{IsRightlyKnown, WhereTold};
 ghost use Rattle.ak_merge.specs.Edits.{second_of};
 ghost use Rattle.ak_merge.specs.Soundness.{first_fault};
@@ -64,7 +64,8 @@ pub(crate) fn greet<K: Keeper, W: Wire, C: Clock>(
     let request = meta_request(ids);
     let meta = ask_meta(wire, &request)?;
     let at = clock.now();
-    test_clocks(meta, at / 1000)?;
+    let second = second_of(at);
+    test_clocks(meta, second)?;
     // For the proof alone: they say that what the keeper tells is well formed.
     let _checks = keeper.marked();
     let _formed = keeper.held();
@@ -72,6 +73,15 @@ pub(crate) fn greet<K: Keeper, W: Wire, C: Clock>(
     test_heads(meta, &head)?;
     test_rows(keeper)?;
     Ok(Met { meta, head })
+}
+
+/// The second in which a moment lies.
+fn second_of(at: i64) -> i64
+    requires clock { IsClockMoment at }
+    ensures second { result ≡ second_of at }
+    ensures range { IsWithin (pos 0) (pos 4_294_967_294) result }
+{
+    at / 1000
 }
 
 /// Whether the server lets the sync go on, and the clocks are at most 300 seconds apart.

@@ -1,9 +1,9 @@
-use Rattle.std.specs.Prelude.{◌≡◌, Ok, Err, IfErr, Result, Some, None, false}
+use Rattle.std.specs.Prelude.{◌≡◌, ℤ, Ok, Err, IfErr, Result, Some, None, false}
 use Rattle.std.proofs.Common.{sym, subst, ◌∙◌, rules, w64, SFits}
 use Rattle.std.proofs.lemmas.Int.{to_z-of_z}
 use Rattle.ak_client.proofs.Clocks.{greeting_takes, keep_of_greeting, unanswered_takes}
 use Rattle.ak_client.proofs.Greeting.{greets_on, greets_stop}
-use Rattle.ak_client.proofs.Testing.{below_last, exits, heads_pass, ready_where, usn_within, went_on}
+use Rattle.ak_client.proofs.Testing.{below_last, exits, heads_pass, ready_where, usn_within, passed}
 use Rattle.ak_client.specs.Greetings.{GreetsTold, clock_stop, head_stop, meta_of}
 use Rattle.ak_client.specs.Outcomes.{outcome_at}
 use Rattle.ak_client.specs.Syncs.{TakesMoments}
@@ -11,6 +11,7 @@ use Rattle.ak_exchange.specs.Stops.{keep_stop, shows_bad_check, wire_stop}
 use Rattle.ak_exchange.specs.declared.envelopes.Met.{Met}
 use Rattle.ak_exchange.specs.declared.stops.Stop.{Stop}
 use Rattle.ak_keep.specs.Keepers.{Keeping, WhereTold}
+use Rattle.ak_merge.specs.Edits.{second_of}
 use Rattle.ak_merge.specs.Soundness.{first_fault}
 use Rattle.ak_messages.specs.declared.requests.Request.{Request}
 use Rattle.ak_wires.specs.Forms.{meta_in}
@@ -84,7 +85,7 @@ returns-clause-greets g c =
 
 pub returns-clause-ready : goal.returns-clause-ready
 returns-clause-ready g c =
-    ready_where (g.K.Lookup.keeping c.args.keeper.now) c.in_ok-meta.meta c.in_ok-head.head (went_on (head_stop c.in_ok-meta.meta c.in_ok-head.head) (sym c.in_ok-test_heads.ensures.stop))
+    ready_where (g.K.Lookup.keeping c.args.keeper.now) c.in_ok-meta.meta c.in_ok-head.head (passed (head_stop c.in_ok-meta.meta c.in_ok-head.head) (sym c.in_ok-test_heads.ensures.stop))
     (usn_within c.meta_request-request.result (g.W.End.health c.args.wire.now) (g.W.End.health c.ask_meta.new.wire) (g.W.Wire.state c.args.wire.now) (g.W.Wire.state c.ask_meta.new.wire) c.in_ok-meta.meta c.in_ok-meta.ensures)
     c.in_ok-head.ensures.reads.told
     (subst (λ (k : Keeping). WhereTold k (λ h. first_fault h.rows ≡ None)) c.in_ok-head.ensures.reads.same c.in_ok-test_rows.ensures.sound)
@@ -95,10 +96,15 @@ returns-clause-low g c =
 
 pub returns-clause-number : goal.returns-clause-number
 returns-clause-number g c =
-    below_last c.in_ok-meta.meta.usn (usn_within c.meta_request-request.result (g.W.End.health c.args.wire.now) (g.W.End.health c.ask_meta.new.wire) (g.W.Wire.state c.args.wire.now) (g.W.Wire.state c.ask_meta.new.wire) c.in_ok-meta.meta c.in_ok-meta.ensures) (heads_pass c.in_ok-meta.meta c.in_ok-head.head (went_on (head_stop c.in_ok-meta.meta c.in_ok-head.head) (sym c.in_ok-test_heads.ensures.stop))).2
+    below_last c.in_ok-meta.meta.usn (usn_within c.meta_request-request.result (g.W.End.health c.args.wire.now) (g.W.End.health c.ask_meta.new.wire) (g.W.Wire.state c.args.wire.now) (g.W.Wire.state c.ask_meta.new.wire) c.in_ok-meta.meta c.in_ok-meta.ensures) (heads_pass c.in_ok-meta.meta c.in_ok-head.head (passed (head_stop c.in_ok-meta.meta c.in_ok-head.head) (sym c.in_ok-test_heads.ensures.stop))).2
 
 pub returns-clause-clocks : goal.returns-clause-clocks
 returns-clause-clocks g c =
-    let fits : SFits w64 c.now-at.result = search rules in
-    (c.now-at.result, c.now-at.ensures.given, went_on (clock_stop c.in_ok-meta.meta _) (sym c.in_ok-test_clocks.ensures.stop))
-
+    let moment : SFits w64 c.now-at.result = search rules in
+    let fits : SFits w64 c.second_of-second.result = search rules in
+    let second : c.second_of-second.result ≡ second_of c.now-at.result = rw (to_z-of_z w64 c.now-at.result moment) at c.second_of-second.ensures.second in (
+      c.now-at.result,
+      c.now-at.ensures.given,
+      subst (λ (at : ℤ). clock_stop c.in_ok-meta.meta at ≡ None) (to_z-of_z w64 c.second_of-second.result fits ∙ second)
+          (passed _ (sym c.in_ok-test_clocks.ensures.stop)),
+    )
