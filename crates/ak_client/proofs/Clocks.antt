@@ -250,7 +250,7 @@ raised_more before left old mid new one raised = record {
 -- after the clocks' test
 pub keeps_more : (before left : Keeping) (old mid new : Option (List ℤ)) (outcome : Outcome) → HasGiven 1 old mid
     → KeepsDevice 0 before left mid new outcome → KeepsDevice 1 before left old new outcome
-keeps_more before left old mid new outcomes.Finished one keeps = tt
+keeps_more before left old mid new outcomes.Finished one keeps = keeps
 keeps_more before left old mid new outcomes.NoChanges one keeps = keeps
 keeps_more before left old mid new (outcomes.FullSchema device server) one keeps = keeps
 keeps_more before left old mid new (outcomes.FullSequence usn) one keeps = keeps

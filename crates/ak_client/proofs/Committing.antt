@@ -1,17 +1,20 @@
 -- What the device holds once a finished sync is committed.
 use Rattle.std.specs.FinMap.{get}
 use Rattle.std.specs.Option.{option_map}
-use Rattle.std.specs.Prelude.{◌≡◌, ℤ, pos, ◌+ℤ◌, Bool, List, Option, Some, None}
+use Rattle.std.specs.Prelude.{◌≡◌, ℤ, pos, ◌+ℤ◌, Bool, List, Option, Some, None, IfSome}
 use Rattle.std.proofs.Common.{refl, sym, ap, subst, ◌∙◌}
+use Rattle.std.proofs.lemmas.Option.{same_Some}
 use Rattle.ak_base.specs.declared.heads.Head.{Head}
 use Rattle.ak_base.specs.declared.names.Name.{Name}
 use Rattle.ak_client.proofs.Finishing.{ended_head, exchanged}
 use Rattle.ak_client.specs.Endings.{IsEnded, IsGranted}
+use Rattle.ak_client.specs.Syncs.{CommitsHead}
 use Rattle.ak_device.specs.Devices.{IsSettledTo, SettlesTold, received}
 use Rattle.ak_exchange.specs.Phases.{IsMet, held_by, holding, marked_at}
 use Rattle.ak_exchange.specs.declared.envelopes.Met.{Met}
 use Rattle.ak_keep.specs.Collections.{Collection, Holding, Rows, with_moments}
-use Rattle.ak_keep.specs.Keepers.{Keeping, changed, committed, moments_set}
+use Rattle.ak_keep.specs.Keepers.{Keeping, WhereTold, changed, committed, moments_set}
+use Rattle.ak_keep.specs.Marks as marks
 use Rattle.ak_keep.specs.Marks.{WithMark}
 use Rattle.ak_merge.specs.Commits.{Received}
 use Rattle.ak_merge.specs.Exchanges.{AreExchanged, HoldsJoin, settled, settled_tags}
@@ -115,3 +118,38 @@ module _ (c s : Collection) (account : AccountState) (who : Asker) (told : Optio
     schema = refl;
     half = half;
   }
+
+-- ---- over any keeper
+own_head : (moment schema usn : ℤ) (t : Option (WithMark Holding))
+    → IfSome (option_map marks.committed (option_map (marks.changed (with_moments moment schema usn moment)) t))
+    (λ (w : WithMark Holding). IfSome w.current.head (λ (now : Head). (now.last_sync ≡ now.moment) × (now.schema ≡ schema)))
+own_head moment schema usn None = tt
+own_head moment schema usn (Some w) = by w.current.head
+  where
+    by : (o : Option Head)
+        → IfSome (option_map (λ (head : Head). record head { moment = moment; schema = schema; usn = usn; last_sync = moment }) o)
+        (λ (now : Head). (now.last_sync ≡ now.moment) × (now.schema ≡ schema))
+    by None = tt
+    by (Some head) = (refl, refl)
+
+-- the head that is committed
+pub commits_head : (before mid left : Keeping) (moment schema usn : ℤ) (head : Head) → schema ≡ head.schema
+    → WhereTold before (λ h. h.head ≡ Some head) → left ≡ committed (moments_set moment schema usn moment mid) → CommitsHead before left
+commits_head before mid left moment schema usn head same own commits = by before.told own
+  where
+    set : (other : ℤ) → schema ≡ other → WhereTold left (λ h. IfSome h.head (λ now. (now.last_sync ≡ now.moment) × (now.schema ≡ other)))
+    set other is =
+        subst (λ (s : ℤ). WhereTold left (λ h. IfSome h.head (λ now. (now.last_sync ≡ now.moment) × (now.schema ≡ s)))) is
+        (subst (λ (k : Keeping). WhereTold k (λ h. IfSome h.head (λ now. (now.last_sync ≡ now.moment) × (now.schema ≡ schema)))) (sym commits)
+        (own_head moment schema usn mid.told))
+
+    held : (o : Option Head) → o ≡ Some head
+        → IfSome o (λ (own : Head). WhereTold left (λ h. IfSome h.head (λ now. (now.last_sync ≡ now.moment) × (now.schema ≡ own.schema))))
+    held None is = tt
+    held (Some other) is = set other.schema (same ∙ ap (λ (h : Head). h.schema) (sym (same_Some other head is)))
+
+    by : (t : Option (WithMark Holding)) → IfSome t (λ (w : WithMark Holding). w.current.head ≡ Some head)
+        → IfSome t (λ (w : WithMark Holding). IfSome w.current.head (λ (own : Head).
+        WhereTold left (λ h. IfSome h.head (λ now. (now.last_sync ≡ now.moment) × (now.schema ≡ own.schema)))))
+    by None is = tt
+    by (Some w) is = held w.current.head is

@@ -1,20 +1,27 @@
 -- What the tests of a greeting say if they let a sync go on.
 use Rattle.std.specs.Ordering.{int_eq}
-use Rattle.std.specs.Prelude.{◌≡◌, ◌≢◌, ◌==◌, ℤ, pos, ◌<ℤ◌, ◌&&◌, Bool, true, false, not, if◌then◌else◌, Option, Some, None, IfSome, Result, Ok, Err, IfOk, IsErrAnd, ok_or}
-use Rattle.std.proofs.Common.{refl, sym, subst, arith}
+use Rattle.std.specs.Prelude.{◌≡◌, ◌≢◌, ◌==◌, ℤ, pos, ◌<ℤ◌, ◌&&◌, Bool, true, false, not, if◌then◌else◌, List, Option, Some, None, IfSome, Result, Ok, Err, IfOk, IsErrAnd, ok_or, ◌⊎◌}
+use Rattle.std.proofs.Common.{refl, sym, ap, subst, ◌∙◌, inl, inr, arith}
 use Rattle.std.proofs.lemmas.Int.{ints}
+use Rattle.std.proofs.lemmas.Option.{same_Some}
 use Rattle.ak_base.specs.Heads.{IsWithin}
 use Rattle.ak_base.specs.Limits.{last_head_usn}
 use Rattle.ak_base.specs.declared.heads.Head.{Head}
-use Rattle.ak_client.specs.Greetings.{IsReady, head_stop}
-use Rattle.ak_exchange.specs.Stops.{stop_or_go}
+use Rattle.ak_client.specs.Greetings.{EndsAtDevice, IsGreeting, IsReady, clock_stop, head_stop, meta_of}
+use Rattle.ak_exchange.specs.Stops.{keep_stop, stop_or_go, wire_stop}
+use Rattle.ak_exchange.specs.declared.envelopes.Ids.{Ids}
+use Rattle.ak_exchange.specs.declared.envelopes.Met.{Met}
 use Rattle.ak_exchange.specs.declared.stops.Stop.{Stop}
 use Rattle.ak_exchange.specs.declared.stops.Stop.TheVariants as stops
 use Rattle.ak_faults.specs.Causes.{Health}
-use Rattle.ak_keep.specs.Collections.{Holding}
+use Rattle.ak_io.specs.Arrivals.{GivesNext}
+use Rattle.ak_keep.specs.Collections.{Holding, Rows}
 use Rattle.ak_keep.specs.Keepers.{Keeping, WhereTold}
 use Rattle.ak_keep.specs.Marks.{WithMark}
+use Rattle.ak_keep.specs.declared.keepers.KeepFault.{KeepFault}
+use Rattle.ak_merge.specs.Edits.{second_of}
 use Rattle.ak_merge.specs.Soundness.{first_fault}
+use Rattle.ak_merge.specs.declared.checks.CheckFault.{CheckFault}
 use Rattle.ak_messages.specs.declared.replies.Give.{Give}
 use Rattle.ak_messages.specs.declared.replies.Give.TheVariants as gives
 use Rattle.ak_messages.specs.declared.replies.Reply.{Reply}
@@ -123,3 +130,83 @@ ready_where keeping meta head pass usn = by keeping.told
     by (Some w) held sound =
         let heads = heads_pass meta head pass in
         record { head = held; differ = heads.0; schema = heads.1; number = below_last meta.usn usn heads.2; sound = sound }
+
+-- the head that was read is that of the device
+pub heads_told : (before now : Keeping) (met : Met) → now ≡ before → WhereTold before (λ h. IsReady h met) → WhereTold now (λ h. h.head ≡ Some met.head)
+heads_told before now met same ready = subst (λ (k : Keeping). WhereTold k (λ h. h.head ≡ Some met.head)) (sym same) (by before.told ready)
+  where
+    by : (t : Option (WithMark Holding)) → IfSome t (λ (w : WithMark Holding). IsReady w.current met)
+        → IfSome t (λ (w : WithMark Holding). w.current.head ≡ Some met.head)
+    by None is = tt
+    by (Some w) is = is.head
+
+-- ---- why a greeting ends
+stopped_by : (o : Option Stop) (stop : Stop) → stop_or_go o ≡ Err stop → o ≡ Some stop
+stopped_by None stop is = grind (arith, is)
+stopped_by (Some own) stop is = grind (arith, is)
+
+-- what the heads and the rows say, where the keeper tells them
+pub ends_by_heads : (keeping : Keeping) (meta : MetaSaid) (head : Head) (stop : Stop) → WhereTold keeping (λ h. h.head ≡ Some head)
+    → Err stop ≡ stop_or_go (head_stop meta head) → EndsAtDevice meta keeping stop
+ends_by_heads keeping meta head stop told is = inr (by keeping.told told)
+  where
+    held : (rows : Rows) (o : Option Head) → o ≡ Some head → IfSome o (λ (own : Head). (head_stop meta own ≡ Some stop)
+        ⊎ ((head_stop meta own ≡ None) × ((fault : CheckFault) × (stop ≡ stops.OwnCheck fault) × (first_fault rows ≡ Some fault))))
+    held rows None own = tt
+    held rows (Some other) own =
+        inl (ap (head_stop meta) (same_Some other head own) ∙ stopped_by (head_stop meta head) stop (sym is))
+
+    by : (t : Option (WithMark Holding)) → IfSome t (λ (w : WithMark Holding). w.current.head ≡ Some head)
+        → IfSome t (λ (w : WithMark Holding). IfSome w.current.head (λ (own : Head). (head_stop meta own ≡ Some stop)
+        ⊎ ((head_stop meta own ≡ None) × ((fault : CheckFault) × (stop ≡ stops.OwnCheck fault) × (first_fault w.current.rows ≡ Some fault)))))
+    by None own = tt
+    by (Some w) own = held w.current.rows w.current.head own
+
+pub ends_by_rows : (keeping read : Keeping) (meta : MetaSaid) (head : Head) (stop : Stop) → read ≡ keeping → WhereTold keeping (λ h. h.head ≡ Some head)
+    → head_stop meta head ≡ None
+    → ((fault : KeepFault) × (stop ≡ keep_stop fault))
+    ⊎ ((fault : CheckFault) × (stop ≡ stops.OwnCheck fault) × WhereTold read (λ h. first_fault h.rows ≡ Some fault))
+    → EndsAtDevice meta keeping stop
+ends_by_rows keeping read meta head stop same told pass (inl refused) = inl refused
+ends_by_rows keeping read meta head stop same told pass (inr (fault, own, unsound)) =
+    inr (by keeping.told told (subst (λ (k : Keeping). WhereTold k (λ h. first_fault h.rows ≡ Some fault)) same unsound))
+  where
+    held : (rows : Rows) (o : Option Head) → o ≡ Some head → first_fault rows ≡ Some fault → IfSome o (λ (own : Head). (head_stop meta own ≡ Some stop)
+        ⊎ ((head_stop meta own ≡ None) × ((fault : CheckFault) × (stop ≡ stops.OwnCheck fault) × (first_fault rows ≡ Some fault))))
+    held rows None is bad = tt
+    held rows (Some other) is bad = inr (ap (head_stop meta) (same_Some other head is) ∙ pass, (fault, own, bad))
+
+    by : (t : Option (WithMark Holding)) → IfSome t (λ (w : WithMark Holding). w.current.head ≡ Some head)
+        → IfSome t (λ (w : WithMark Holding). first_fault w.current.rows ≡ Some fault)
+        → IfSome t (λ (w : WithMark Holding). IfSome w.current.head (λ (own : Head). (head_stop meta own ≡ Some stop)
+        ⊎ ((head_stop meta own ≡ None) × ((fault : CheckFault) × (stop ≡ stops.OwnCheck fault) × (first_fault w.current.rows ≡ Some fault)))))
+    by None is bad = tt
+    by (Some w) is bad = held w.current.rows w.current.head is bad
+
+-- the greeting, once its meta was granted and the clock gave this moment
+module _ (ids : Ids) (h0 h1 : Health) (w0 w1 : WireState) (old new : Option (List ℤ)) (keeping : Keeping) (meta : MetaSaid) (stop : Stop)
+    (heard : Answered h0 h1 w0 w1 (meta_of ids) meta_in (Ok meta)) (at second : ℤ) (given : GivesNext old new at) (is : second ≡ second_of at) where
+  pub greeting_by_clocks : Err stop ≡ stop_or_go (clock_stop meta second) → IsGreeting ids h0 h1 w0 w1 old new keeping (Err stop)
+  greeting_by_clocks stopped = record {
+    answer = Ok meta;
+    heard = heard;
+    goes_on = tt;
+    ends = (at, given, inl (subst (λ (s : ℤ). clock_stop meta s ≡ Some stop) is (stopped_by (clock_stop meta second) stop (sym stopped))));
+  }
+
+  pub greeting_by_device : Ok tt ≡ stop_or_go (clock_stop meta second) → EndsAtDevice meta keeping stop
+      → IsGreeting ids h0 h1 w0 w1 old new keeping (Err stop)
+  greeting_by_device pass ends = record {
+    answer = Ok meta;
+    heard = heard;
+    goes_on = tt;
+    ends = (at, given, inr (subst (λ (s : ℤ). clock_stop meta s ≡ None) is (passed (clock_stop meta second) (sym pass)), ends));
+  }
+
+pub greeting_unheard : (ids : Ids) (h0 h1 : Health) (w0 w1 : WireState) (old : Option (List ℤ)) (keeping : Keeping) (why : Unanswered)
+    → Answered h0 h1 w0 w1 (meta_of ids) meta_in (Err why) → IsGreeting ids h0 h1 w0 w1 old old keeping (Err (wire_stop why))
+greeting_unheard ids h0 h1 w0 w1 old keeping why heard = record { answer = Err why; heard = heard; goes_on = tt; ends = refl }
+
+pub greeting_goes_on : (ids : Ids) (h0 h1 : Health) (w0 w1 : WireState) (old new : Option (List ℤ)) (keeping : Keeping) (met : Met)
+    → Answered h0 h1 w0 w1 (meta_of ids) meta_in (Ok met.meta) → IsGreeting ids h0 h1 w0 w1 old new keeping (Ok met)
+greeting_goes_on ids h0 h1 w0 w1 old new keeping met heard = record { answer = Ok met.meta; heard = heard; goes_on = refl; ends = tt }

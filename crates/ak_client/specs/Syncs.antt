@@ -1,6 +1,6 @@
 -- What a sync asks and what it leaves, over a keeper that tells the device's collection c and a wire that tells the log of a server.
 use Rattle.std.specs.List.{AllByRecursion}
-use Rattle.std.specs.Prelude.{◌≡◌, ℕ, zero, suc, ℤ, pos, ◌+◌, ◌/◌, ◌≤◌, ◌+ℤ◌, Bool, true, false, List, [], ◌∷◌, ◌++◌, length, Option, Some, ⊤, ◌⊎◌}
+use Rattle.std.specs.Prelude.{◌≡◌, ℕ, zero, suc, ℤ, pos, ◌+◌, ◌/◌, ◌≤◌, ◌+ℤ◌, Bool, true, false, List, [], ◌∷◌, ◌++◌, length, Option, Some, IfSome, ⊤, ◌⊎◌}
 use Rattle.ak_client.specs.Greetings.{meta_of}
 use Rattle.ak_client.specs.declared.outcomes.Outcome.{Outcome}
 use Rattle.ak_client.specs.declared.outcomes.Outcome.TheVariants as outcomes
@@ -12,7 +12,7 @@ use Rattle.ak_exchange.specs.declared.stops.Stop.TheVariants as stops
 use Rattle.ak_faults.specs.Causes.{Health}
 use Rattle.ak_io.specs.Arrivals.{GivesNext, IsClockMoment}
 use Rattle.ak_keep.specs.Collections.{Collection}
-use Rattle.ak_keep.specs.Keepers.{Keeping}
+use Rattle.ak_keep.specs.Keepers.{Keeping, WhereTold}
 use Rattle.ak_keep.specs.declared.keepers.Wanted.TheVariants.{From, Unsent}
 use Rattle.ak_merge.specs.Exchanges.{HoldsJoin, AreExchanged}
 use Rattle.ak_merge.specs.Holdings.{row_under}
@@ -214,10 +214,15 @@ pub record HasRaised (earlier : ℕ) (before left : Keeping) (to_come_before to_
   pub moment : IsClockMoment at
   pub raises : RaisesMoments at before left
 
--- a sync that reports finished leaves what it does; one that ended at a bad sanity check, both moments raised, to the one that the clock gave
+-- where the keeper tells both heads, the schema moment stays, and the device's last change is at its last sync
+abbrev pub CommitsHead : Keeping → Keeping → Type 0
+CommitsHead before left = WhereTold before (λ own. IfSome own.head (λ head.
+    WhereTold left (λ h. IfSome h.head (λ now. (now.last_sync ≡ now.moment) × (now.schema ≡ head.schema)))))
+
+-- a sync that reports finished commits such a head, with what it took; one that ended at a bad sanity check, both moments raised, to the one that the clock gave
 -- once it gave so many others; any other, the device as it was
 abbrev pub KeepsDevice : ℕ → Keeping → Keeping → Option (List ℤ) → Option (List ℤ) → Outcome → Type 0
-KeepsDevice earlier before left to_come_before to_come outcomes.Finished = ⊤
+KeepsDevice earlier before left to_come_before to_come outcomes.Finished = CommitsHead before left
 KeepsDevice earlier before left to_come_before to_come (outcomes.BadRow fault) =
     HasRaised earlier before left to_come_before to_come
 KeepsDevice earlier before left to_come_before to_come (outcomes.BadCounts client server) =

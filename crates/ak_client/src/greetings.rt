@@ -1,16 +1,17 @@
-ghost use Rattle.std.specs.Prelude.{◌≡◌, ◌≤ℤ◌, ◌<ℤ◌, ◌∷◌, [], ℤ, pos, true, false, Some, None, IfOk, IfErr, OnOk};
+ghost use Rattle.std.specs.Prelude.{◌≡◌, ◌≤ℤ◌, ◌<ℤ◌, ◌∷◌, [], ℤ, pos, true, false, Some, None, IfOk, IfErr, OnOk, ◌⊎◌};
 ghost use Rattle.ak_base.specs.Heads.{IsHeadInRange, IsWithin};
 ghost use Rattle.ak_base.specs.Limits.{last_head_usn};
 ghost use Rattle.ak_client.specs.Endings.{IsOfGreeting};
-ghost use Rattle.ak_client.specs.Greetings.{GreetsTold, IsReady, are_far_apart, clock_stop, head_stop, meta_of};
+ghost use Rattle.ak_client.specs.Greetings.{GreetsTold, IsGreeting, IsReady, are_far_apart, clock_stop, head_stop, meta_of};
 ghost use Rattle.ak_client.specs.Outcomes.{outcome_at};
 ghost use Rattle.ak_client.specs.Syncs.{HasGiven, TakesMoments};
 ghost use Rattle.ak_exchange.specs.Asked.{AreTried};
-ghost use Rattle.ak_exchange.specs.Stops.{shows_bad_check, stop_or_go};
+ghost use Rattle.ak_exchange.specs.Stops.{keep_stop, shows_bad_check, stop_or_go};
 ghost use Rattle.ak_exchange.specs.declared.stops.Stop.TheVariants as stops;
 ghost use Rattle.ak_faults.specs.Causes.{GoesOn};
 ghost use Rattle.ak_io.specs.Arrivals.{GivesNext, IsClockMoment};
 ghost use Rattle.ak_keep.specs.Keepers.{IsRightlyKnown, WhereTold};
+ghost use Rattle.ak_keep.specs.declared.keepers.KeepFault.{KeepFault};
 ghost use Rattle.ak_merge.specs.Edits.{second_of};
 ghost use Rattle.ak_merge.specs.Soundness.{first_fault};
 ghost use Rattle.ak_merge.specs.declared.checks.CheckFault.{CheckFault};
@@ -54,6 +55,10 @@ pub(crate) fn greet<K: Keeper, W: Wire, C: Clock>(
     // If it may, the server lets it, and the clocks are near.
     ensures clocks { IfOk result (λ met. (at : ℤ) × GivesNext (C.to_come clock.old) (C.to_come clock.new) at
         × (clock_stop met.meta (second_of at) ≡ None)) }
+
+    // What its meta was answered, and if it ends, why: its tests come in this order.
+    ensures heard { IsGreeting ids (W.health wire.old) (W.health wire.new) (W.state wire.old) (W.state wire.new)
+        (C.to_come clock.old) (C.to_come clock.new) (K.keeping keeper.old) result }
 
     // It ends at no bad sanity check, and takes one moment of the clock once its meta is granted.
     ensures early { IfErr result (λ stop. shows_bad_check stop ≡ false) }
@@ -134,8 +139,9 @@ fn test_heads(meta: MetaSaid, head: &Head) -> Result<(), Stop>
 fn test_rows<K: Keeper>(keeper: &mut K) -> Result<(), Stop>
     ensures sound { OnOk result (WhereTold (K.keeping keeper.old) (λ h. first_fault h.rows ≡ None)) }
     ensures same { K.keeping keeper.new ≡ K.keeping keeper.old }
-    ensures fault { IfErr result (λ stop. (fault : CheckFault) → stop ≡ stops.OwnCheck fault
-        → WhereTold (K.keeping keeper.old) (λ h. first_fault h.rows ≡ Some fault)) }
+    ensures fault { IfErr result (λ stop. ((fault : KeepFault) × (stop ≡ keep_stop fault))
+        ⊎ ((fault : CheckFault) × (stop ≡ stops.OwnCheck fault)
+        × WhereTold (K.keeping keeper.old) (λ h. first_fault h.rows ≡ Some fault))) }
     ensures early { IfErr result IsOfGreeting }
     ensures keeper { GoesOn (K.health keeper.old) (K.health keeper.new) }
 {

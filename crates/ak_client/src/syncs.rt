@@ -1,11 +1,11 @@
-ghost use Rattle.std.specs.Prelude.{◌≡◌, ◌≤ℤ◌, ◌<ℤ◌, pos, [], true, false, IfOk};
+ghost use Rattle.std.specs.Prelude.{◌≡◌, ◌≤ℤ◌, ◌<ℤ◌, pos, [], true, false, Some, IfOk};
 ghost use Rattle.ak_base.specs.Heads.{IsHeadInRange, IsMoment};
 ghost use Rattle.ak_base.specs.Limits.{last_head_usn};
 ghost use Rattle.ak_client.specs.Endings.{Ends, ExchangesAll};
 ghost use Rattle.ak_client.specs.Outcomes.{EndsFor, outcome_of};
 ghost use Rattle.ak_client.specs.Syncs.{IsSync, KeepsDevice, TakesMoments};
 ghost use Rattle.ak_faults.specs.Causes.{GoesOn};
-ghost use Rattle.ak_keep.specs.Keepers.{IsMarkedAt, back, is_marked};
+ghost use Rattle.ak_keep.specs.Keepers.{IsMarkedAt, WhereTold, back, is_marked};
 
 use crate::greetings::greet;
 use crate::outcomes::{Outcome, shows_bad_check, outcome_of};
@@ -87,6 +87,7 @@ fn sync_met<K: Keeper, W: Wire, C: Clock>(
     requires unmarked { is_marked (K.keeping keeper.old) ≡ false }
     requires held { (K.keeping keeper.old).headed.current ≡ true }
     requires head { IsHeadInRange met.now.head }
+    requires own { WhereTold (K.keeping keeper.old) (λ h. h.head ≡ Some met.now.head) }
     requires low { pos 0 ≤ℤ met.now.meta.usn }
     requires number { met.now.meta.usn <ℤ last_head_usn }
     ensures ends { Ends ids met.now (K.keeping keeper.old) (K.keeping keeper.new) (W.health wire.old) (W.health wire.new)

@@ -2,7 +2,7 @@ use Rattle.std.specs.Prelude.{Result}
 use Rattle.std.proofs.Common.{subst}
 use Rattle.ak_client.proofs.Clocks.{keeps_more, takes_more}
 use Rattle.ak_client.proofs.Syncing.{unmet, went_on}
-use Rattle.ak_client.proofs.Testing.{exits}
+use Rattle.ak_client.proofs.Testing.{exits, heads_told}
 use Rattle.ak_client.specs.Outcomes.{outcome_of}
 use Rattle.ak_client.specs.Syncs.{IsSync, KeepsDevice}
 use Rattle.ak_exchange.specs.declared.stops.Stop.{Stop}
@@ -38,3 +38,7 @@ pub returns-clause-clock : goal.returns-clause-clock
 returns-clause-clock g c =
     takes_more (g.C.Clock.to_come c.args.clock.now) (g.C.Clock.to_come c.greet.new.clock) (g.C.Clock.to_come c.sync_met.new.clock)
     (outcome_of c.sync_met.result) c.in_ok-met.ensures.once c.sync_met.ensures.clock
+
+pub sync_met-requires-clause-own : goal.sync_met-requires-clause-own
+sync_met-requires-clause-own g c =
+    heads_told (g.K.Lookup.keeping c.args.keeper.now) (g.K.Lookup.keeping c.greet.new.keeper) c.in_ok-met.met c.in_ok-met.ensures.same c.in_ok-met.ensures.ready

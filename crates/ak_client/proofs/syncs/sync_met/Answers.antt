@@ -1,7 +1,8 @@
-use Rattle.std.specs.Prelude.{Result}
+use Rattle.std.specs.Prelude.{◌+ℤ◌, pos, Result}
 use Rattle.std.proofs.Common.{refl, rules, arith, w64, SFits}
 use Rattle.std.proofs.lemmas.Int.{to_z-of_z}
 use Rattle.ak_client.proofs.Clocks.{fault_takes}
+use Rattle.ak_client.proofs.Committing.{commits_head}
 use Rattle.ak_client.proofs.Ending.{asked_nothing, ends_finished, ends_refused, ends_stopped}
 use Rattle.ak_client.proofs.Testing.{exits}
 use Rattle.ak_client.specs.Endings.{Ends}
@@ -48,6 +49,16 @@ returns-in_ok-commit_at-in-Ok-clause-ends g c =
     (g.K.Lookup.keeping c.exchange_all.new.keeper) (g.K.Lookup.keeping c.commit_at.new.keeper)
     (g.W.End.health c.args.wire.now) (g.W.End.health c.exchange_all.new.wire) (g.W.Wire.state c.args.wire.now) (g.W.Wire.state c.exchange_all.new.wire)
     c.in_ok-mark.ensures.ok c.in-Ok.moment c.in-Ok.ensures.exchanges
+    (rw (to_z-of_z w64 c.in-Ok.moment moment, to_z-of_z w64 c.args.met.now.head.schema schema, to_z-of_z w64 c.args.met.now.meta.usn usn)
+    at c.in_ok-commit_at-in-Ok.ensures.ok)
+
+pub returns-in_ok-commit_at-in-Ok-clause-device : goal.returns-in_ok-commit_at-in-Ok-clause-device
+returns-in_ok-commit_at-in-Ok-clause-device g c =
+    let moment : SFits w64 c.in-Ok.moment = search rules in
+    let schema : SFits w64 c.args.met.now.head.schema = search rules in
+    let usn : SFits w64 c.args.met.now.meta.usn = search rules in
+    commits_head (g.K.Lookup.keeping c.args.keeper.now) (g.K.Lookup.keeping c.exchange_all.new.keeper) (g.K.Lookup.keeping c.commit_at.new.keeper)
+    c.in-Ok.moment c.args.met.now.head.schema (c.args.met.now.meta.usn +ℤ pos 1) c.args.met.now.head refl c.requires.own
     (rw (to_z-of_z w64 c.in-Ok.moment moment, to_z-of_z w64 c.args.met.now.head.schema schema, to_z-of_z w64 c.args.met.now.meta.usn usn)
     at c.in_ok-commit_at-in-Ok.ensures.ok)
 
