@@ -1,6 +1,6 @@
 -- What a sync takes of its clock, and what it leaves on the device, by how it ends.
-use Rattle.std.specs.Prelude.{◌≡◌, ℕ, zero, suc, ◌+◌, ◌≤◌, ℤ, Bool, true, false, List, Option}
-use Rattle.std.proofs.Common.{refl, sym, ap, subst, ◌∙◌, arith}
+use Rattle.std.specs.Prelude.{◌≡◌, ℕ, zero, suc, ◌≤◌, ℤ, Bool, true, false, List, Option}
+use Rattle.std.proofs.Common.{refl, sym, ap, subst, arith}
 use Rattle.ak_client.specs.Endings.{IsOfGreeting}
 use Rattle.ak_client.specs.Outcomes.{outcome_at}
 use Rattle.ak_client.specs.Syncs.{HasChecked, HasGiven, HasRaised, KeepsDevice, TakesMoments, ends_before_finish, fewest_moments, most_moments}

@@ -5,19 +5,18 @@ use Rattle.std.specs.Prelude.{◌≡◌, ℤ, pos, ◌+ℤ◌, Bool, List, Optio
 use Rattle.std.proofs.Common.{refl, sym, ap, subst, ◌∙◌}
 use Rattle.std.proofs.lemmas.Option.{same_Some}
 use Rattle.ak_base.specs.declared.heads.Head.{Head}
-use Rattle.ak_base.specs.declared.names.Name.{Name}
 use Rattle.ak_client.proofs.Finishing.{ended_head, exchanged}
 use Rattle.ak_client.specs.Endings.{IsEnded, IsGranted}
 use Rattle.ak_client.specs.Syncs.{CommitsHead}
-use Rattle.ak_device.specs.Devices.{IsSettledTo, SettlesTold, received}
+use Rattle.ak_device.specs.Devices.{IsSettledTo, received}
 use Rattle.ak_exchange.specs.Phases.{IsMet, held_by, holding, marked_at}
 use Rattle.ak_exchange.specs.declared.envelopes.Met.{Met}
-use Rattle.ak_keep.specs.Collections.{Collection, Holding, Rows, with_moments}
-use Rattle.ak_keep.specs.Keepers.{Keeping, WhereTold, changed, committed, moments_set}
+use Rattle.ak_keep.specs.Collections.{Collection, Holding, with_moments}
+use Rattle.ak_keep.specs.Keepers.{Keeping, WhereTold, committed, moments_set}
 use Rattle.ak_keep.specs.Marks as marks
 use Rattle.ak_keep.specs.Marks.{WithMark}
 use Rattle.ak_merge.specs.Commits.{Received}
-use Rattle.ak_merge.specs.Exchanges.{AreExchanged, HoldsJoin, settled, settled_tags}
+use Rattle.ak_merge.specs.Exchanges.{AreExchanged, HoldsJoin, settled}
 use Rattle.ak_merge.specs.Takings.{all_taken}
 use Rattle.ak_messages.specs.declared.requests.Ask.{Ask}
 use Rattle.ak_protocol.specs.Accounts.{AccountState}
@@ -66,20 +65,29 @@ module _ (c s : Collection) (account : AccountState) (who : Asker) (told : Optio
   numbers : record {
     rows = settles.0.rows;
     head = Some (record (ended_head s.head.usn moment came c.head) {
-      moment = moment; schema = met.head.schema; usn = met.meta.usn +ℤ pos 1; last_sync = moment;
+      moment = moment;
+      schema = met.head.schema;
+      usn = met.meta.usn +ℤ pos 1;
+      last_sync = moment;
     });
   } ≡ held_by device
   numbers =
       ap (λ (schema : ℤ). record {
         rows = settles.0.rows;
         head = Some (record (ended_head s.head.usn moment came c.head) {
-          moment = moment; schema = schema; usn = met.meta.usn +ℤ pos 1; last_sync = moment;
+          moment = moment;
+          schema = schema;
+          usn = met.meta.usn +ℤ pos 1;
+          last_sync = moment;
         });
       }) (ap (λ (h : Head). h.schema) is_met.head)
       ∙ ap (λ (usn : ℤ). record {
         rows = settles.0.rows;
         head = Some (record (ended_head s.head.usn moment came c.head) {
-          moment = moment; schema = c.head.schema; usn = usn +ℤ pos 1; last_sync = moment;
+          moment = moment;
+          schema = c.head.schema;
+          usn = usn +ℤ pos 1;
+          last_sync = moment;
         });
       }) is_met.usn
 

@@ -1,21 +1,20 @@
 -- How a sync that went on after its meta ends.
 use Rattle.std.specs.Option.{option_map}
-use Rattle.std.specs.Prelude.{◌≡◌, ℕ, zero, ℤ, pos, ◌+◌, ◌≤◌, ◌+ℤ◌, true, false, List, [], ◌∷◌, ◌++◌, length, Option, Some, None, IfSome, Result, Ok, Err, IfOk, IfErr, ◌⊎◌}
+use Rattle.std.specs.Prelude.{◌≡◌, ℕ, ℤ, pos, ◌+◌, ◌≤◌, ◌+ℤ◌, true, false, List, [], ◌∷◌, ◌++◌, length, Option, Some, None, IfSome, Result, Ok, Err, IfOk}
 use Rattle.std.specs.Int.{div_ceil}
 use Rattle.std.proofs.Common.{refl, sym, ap, subst, ◌∙◌, inl, inr, arith}
 use Rattle.std.proofs.lemmas.Result.{IfErr-weaker, IfOk-weaker}
 use Rattle.ak_client.proofs.Clocks.{fault_checks, fault_not_early, late_is_good, not_early, not_finished, stop_checks}
 use Rattle.ak_client.proofs.Committing.{ended}
-use Rattle.ak_client.specs.Endings.{ArePlain, AsksAfter, Ended, Ends, Exchanged, ExchangesAll, IsEnded, IsGranted, IsShownAfter}
+use Rattle.ak_client.specs.Endings.{ArePlain, Ended, Ends, Exchanged, ExchangesAll, IsGranted}
 use Rattle.ak_client.specs.Outcomes.{EndsFor, outcome_at, outcome_of}
 use Rattle.ak_client.specs.Syncs.{HasChecked, ends_before_finish}
 use Rattle.ak_client.specs.declared.outcomes.Outcome.{Outcome}
 use Rattle.ak_client.specs.declared.outcomes.Outcome.TheVariants as outcomes
 use Rattle.ak_device.proofs.Receiving.{received_nothing}
-use Rattle.ak_device.specs.Devices.{Settles, received}
 use Rattle.ak_exchange.proofs.Tried.{asked_then, few_more, few_none, few_then}
-use Rattle.ak_exchange.specs.Asked.{AreAsked, AreFew, AreTried, Talk, asker}
-use Rattle.ak_exchange.specs.Phases.{AreGraveRequests, Exchanges, IsCheckedLast, Finishes, HasAsked, HasCommitted, IsAt, IsLeft, IsMet, IsReached, at_end_of, at_meta, holding, marked_at}
+use Rattle.ak_exchange.specs.Asked.{Talk, asker}
+use Rattle.ak_exchange.specs.Phases.{AreGraveRequests, Exchanges, IsCheckedLast, Finishes, HasCommitted, IsAt, IsLeft, IsMet, IsReached, at_meta, holding, marked_at}
 use Rattle.ak_exchange.specs.Stops.{comes_before_finish, keep_stop, shows_bad_check}
 use Rattle.ak_exchange.specs.declared.envelopes.Envelopes.{Envelopes}
 use Rattle.ak_exchange.specs.declared.envelopes.Ids.{Ids}
@@ -23,7 +22,7 @@ use Rattle.ak_exchange.specs.declared.envelopes.Met.{Met}
 use Rattle.ak_exchange.specs.declared.stops.Stop.{Stop}
 use Rattle.ak_faults.specs.Causes.{Health}
 use Rattle.ak_keep.specs.Collections.{Collection, Holding}
-use Rattle.ak_keep.specs.Keepers.{Keeping, WhereTold, changed, committed, marked_here, moments_set}
+use Rattle.ak_keep.specs.Keepers.{Keeping, committed, marked_here, moments_set}
 use Rattle.ak_keep.specs.Marks as marks
 use Rattle.ak_keep.specs.Marks.{WithMark}
 use Rattle.ak_keep.specs.declared.keepers.KeepFault.{KeepFault}
@@ -32,9 +31,7 @@ use Rattle.ak_messages.specs.declared.requests.Ask.{Ask}
 use Rattle.ak_messages.specs.declared.requests.Ask.TheVariants.{Finish}
 use Rattle.ak_protocol.proofs.Commits.{not_both}
 use Rattle.ak_protocol.specs.Accounts.{AccountState}
-use Rattle.ak_session.specs.Plans.{planned, planned_check, requests_from}
-use Rattle.ak_session.specs.Replies.{all_replied}
-use Rattle.ak_session.specs.Sessions.{MaySync}
+use Rattle.ak_session.specs.Plans.{planned}
 use Rattle.ak_session.specs.Slices.{wanted_graves}
 use Rattle.ak_wires.specs.Wires.{WireState}
 
@@ -109,10 +106,10 @@ module _ (ids : Ids) (met : Met) (before mid : Keeping) (h0 h1 h2 : Health) (w0 
     told = λ c s account is_met reached marked.
         let led = ex.leads c s account is_met (at_start c s account is_met reached marked) in
         let end : IsLeft c s account (asker ids) (ex.asks ++ fin.asks) now
-            × IfOk result (λ (moment : ℤ). (fin.asks ≡ Finish ∷ []) × HasCommitted c s account (asker ids) ex.asks moment now) =
-            subst (λ (e : Envelopes). IsLeft c s account (asker e.ids) (ex.asks ++ fin.asks) now
-            × IfOk result (λ (moment : ℤ). (fin.asks ≡ Finish ∷ []) × HasCommitted c s account (asker e.ids) ex.asks moment now))
-            ex.asked.envelopes (fin.leads c s account ex.asks led.1.0) in
+        × IfOk result (λ (moment : ℤ). (fin.asks ≡ Finish ∷ []) × HasCommitted c s account (asker ids) ex.asks moment now) =
+        subst (λ (e : Envelopes). IsLeft c s account (asker e.ids) (ex.asks ++ fin.asks) now
+        × IfOk result (λ (moment : ℤ). (fin.asks ≡ Finish ∷ []) × HasCommitted c s account (asker e.ids) ex.asks moment now))
+        ex.asked.envelopes (fin.leads c s account ex.asks led.1.0) in
         record {
           shown = record { reached = end.0.reached; front = end.0.front };
           early = IfErr-weaker result (λ (stop : Stop). comes_before_finish stop ≡ false)

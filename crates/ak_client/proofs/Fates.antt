@@ -3,7 +3,7 @@ use Rattle.std.specs.List.{AllByRecursion}
 use Rattle.std.specs.Prelude.{◌≡◌, ℕ, ◌+◌, ℤ, true, false, ◌⊎◌, List, [], ◌∷◌, ◌++◌, length}
 use Rattle.std.proofs.Common.{sym, ap, subst, ◌∙◌, inl, inr, append_assoc, arith}
 use Rattle.ak_client.specs.Endings.{ArePlain}
-use Rattle.ak_client.specs.Syncs.{JoinedAt, CommitsAtMostOnce, StaysOnce, world_at}
+use Rattle.ak_client.specs.Syncs.{CommitsAtMostOnce, StaysOnce, world_at}
 use Rattle.ak_exchange.proofs.Tried.{requests_append}
 use Rattle.ak_keep.specs.Collections.{Collection}
 use Rattle.ak_merge.proofs.ExchangeLaws.{server_half_joins}
@@ -66,9 +66,10 @@ module _ (who : Asker) (c s : Collection) (account : AccountState) (asks : List 
 
   in_plan : MaySync c s → (rest : List Request) × (asked ++ rest ≡ plan who c s)
   in_plan so =
-      let more = front so in
-      (requests_from who s.head.moment (1 + length asks) more.0,
-       sym (requests_append who s.head.moment 1 asks more.0) ∙ ap (requests_from who s.head.moment 1) more.1)
+      let more = front so in (
+        requests_from who s.head.moment (1 + length asks) more.0,
+        sym (requests_append who s.head.moment 1 asks more.0) ∙ ap (requests_from who s.head.moment 1) more.1,
+      )
 
   -- the commit of a request that was asked holds the join
   joins : (request : Request) (at : IsAsked asked s.head.moment request) (now : ℤ) → asks_commit request.ask ≡ true

@@ -1,7 +1,7 @@
 -- What the next sync may begin with.
 use Rattle.std.specs.List.{AllByRecursion}
 use Rattle.std.specs.Prelude.{◌≡◌, ◌≢◌, ℤ, ◌<ℤ◌, List}
-use Rattle.std.proofs.Common.{refl, sym, ap, subst, ◌∙◌, inl, arith}
+use Rattle.std.proofs.Common.{sym, subst, inl, arith}
 use Rattle.std.proofs.lemmas.Int.{ints}
 use Rattle.ak_base.specs.Limits.{last_moment}
 use Rattle.ak_base.specs.declared.heads.Head.{Head}
@@ -17,7 +17,7 @@ use Rattle.ak_merge.specs.Links.{AreLinked}
 use Rattle.ak_protocol.specs.Accounts.{AccountState}
 use Rattle.ak_protocol.specs.Commits.{EachNewer, HasFreshSchema}
 use Rattle.ak_protocol.specs.LawfulServers.{IsLawfulAccount}
-use Rattle.ak_protocol.specs.Logs.{Event, World, Log, IsTimely, with_growth}
+use Rattle.ak_protocol.specs.Logs.{Event, Log, IsTimely, with_growth}
 use Rattle.ak_protocol.specs.Syncs.{IsUnused, world_of}
 use Rattle.ak_session.specs.Plans.{Asker}
 

@@ -1,6 +1,6 @@
 -- What the meta of a sync makes of the log, and what its reply tells.
 use Rattle.std.specs.List.{AllByRecursion}
-use Rattle.std.specs.Prelude.{◌≡◌, ◌==◌, ℕ, ℤ, Bool, true, false, if◌then◌else◌, List, [], ◌∷◌, ◌++◌, Option, Some, None, Result, Ok, Err, IfOk, ok_or}
+use Rattle.std.specs.Prelude.{◌≡◌, ◌==◌, ℕ, ℤ, Bool, true, false, if◌then◌else◌, List, [], ◌∷◌, Option, Some, None, Result, Ok, Err, IfOk, ok_or}
 use Rattle.std.proofs.Common.{refl, sym, ap, subst, ◌∙◌, arith}
 use Rattle.std.proofs.lemmas.Option.{none-some, same_Some}
 use Rattle.ak_base.specs.declared.heads.Head.{Head}
@@ -8,13 +8,11 @@ use Rattle.ak_client.proofs.Growing.{timely_growth}
 use Rattle.ak_client.specs.Greetings.{GreetsTold, IsMetBy, IsMetOver, meta_of}
 use Rattle.ak_exchange.specs.Asked.{AreTried, asker}
 use Rattle.ak_exchange.specs.declared.envelopes.Ids.{Ids}
-use Rattle.ak_exchange.specs.declared.envelopes.Met.{Met}
 use Rattle.ak_exchange.specs.declared.stops.Stop.{Stop}
 use Rattle.ak_faults.specs.Causes.{Health}
 use Rattle.ak_keep.specs.Collections.{Collection}
 use Rattle.ak_messages.specs.declared.replies.Give.TheVariants as gives
 use Rattle.ak_messages.specs.declared.replies.Reply.{Reply}
-use Rattle.ak_messages.specs.declared.requests.Request.{Request}
 use Rattle.ak_protocol.proofs.Calls.{metas_are_read}
 use Rattle.ak_protocol.proofs.Syncs.{metas_leave_unused}
 use Rattle.ak_protocol.specs.Accounts.{AccountState}
@@ -60,15 +58,18 @@ module _ (ids : Ids) (account : AccountState) (old : Log) (unused : IsUnused ids
       → (s : Collection) × IsMetOver (asker ids) account old new s × ((now : ℤ) × (reply ≡ granted (gives.Meta (meta_reply s.head now))))
   opened new reply grows ok =
       let read = metas_are_read (meta_of ids) account old grows.growth grows.may reply grows.reply unused.opening unused refl ok in
-      let place = Asked (meta_of ids) grows.reply.now grows.reply.setback in
-      (read.0.base, record {
-        front = grows.reply.before;
-        rest = place ∷ grows.reply.after;
-        grown = grows.grown ∙ ap (λ (events : List Event). with_growth old events) (sym grows.reply.place);
-        timely = subst (AllByRecursion IsTimely) (sym grows.reply.place) (timely_growth old.events (meta_of ids) grows.growth grows.may);
-        place = sym read.1;
-        under_way = subst (λ (log : Log). IsUnderWay ids.host.digits ids.session.0 [] read.0.base account log) (sym grows.grown) read.0.under_way;
-      }, (read.0.now, read.0.told))
+      let place = Asked (meta_of ids) grows.reply.now grows.reply.setback in (
+        read.0.base,
+        record {
+          front = grows.reply.before;
+          rest = place ∷ grows.reply.after;
+          grown = grows.grown ∙ ap (λ (events : List Event). with_growth old events) (sym grows.reply.place);
+          timely = subst (AllByRecursion IsTimely) (sym grows.reply.place) (timely_growth old.events (meta_of ids) grows.growth grows.may);
+          place = sym read.1;
+          under_way = subst (λ (log : Log). IsUnderWay ids.host.digits ids.session.0 [] read.0.base account log) (sym grows.grown) read.0.under_way;
+        },
+        (read.0.now, read.0.told),
+      )
 
   met_of : (new : Log) (reply : Reply) → Grows {E = WireEnd} old new (meta_of ids) (Ok reply) → IfOk (in_form meta_in (granted_by reply)) (IsMetBySome new)
   met_of new reply grows = by (reply.status == 200) refl
@@ -97,9 +98,12 @@ module _ (ids : Ids) (account : AccountState) (old : Log) (unused : IsUnused ids
       → (new : Log) × (is.log ≡ Some new) × IsUnused ids.host.digits ids.session.0 account new × IfOk result (IsMetBySome new)
   greeted before now was is result told call =
       let grown : (new : Log) × (is.log ≡ Some new) × Grows old new (meta_of ids) call.answer =
-          subst (λ (o : Option Log). Carries o is.log (meta_of ids) call.answer) told call.tried.carries in
-      (grown.0, grown.1, still_unused grown.0 call.answer grown.2,
-       subst (λ (r : Result MetaSaid Unanswered). IfOk r (IsMetBySome grown.0)) (sym call.came) (answered grown.0 call.answer grown.2))
+      subst (λ (o : Option Log). Carries o is.log (meta_of ids) call.answer) told call.tried.carries in (
+        grown.0,
+        grown.1,
+        still_unused grown.0 call.answer grown.2,
+        subst (λ (r : Result MetaSaid Unanswered). IfOk r (IsMetBySome grown.0)) (sym call.came) (answered grown.0 call.answer grown.2),
+      )
 
 -- ---- what a greeting knows
 -- a meta was asked, and nothing else

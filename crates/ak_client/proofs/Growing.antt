@@ -1,7 +1,7 @@
 -- How the log of a wire grows while requests are tried, and what that leaves of an account.
 use Rattle.std.specs.List.{AllByRecursion}
 use Rattle.std.specs.Prelude.{◌≡◌, List, [], ◌∷◌, ◌++◌, Option, Some}
-use Rattle.std.proofs.Common.{refl, sym, ap, subst, ◌∙◌, append_assoc, append-nil}
+use Rattle.std.proofs.Common.{sym, ap, subst, ◌∙◌, append_assoc, append-nil}
 use Rattle.ak_client.specs.Syncs.{world_at}
 use Rattle.ak_exchange.specs.Asked.{AreTried}
 use Rattle.ak_faults.specs.Causes.{Health}
@@ -44,7 +44,7 @@ tried_grows [] h0 h1 w0 w1 old tried is = record {
 }
 tried_grows (request ∷ more) h0 h1 w0 w1 old tried is =
     let carried : (new : Log) × (tried.2.log ≡ Some new) × Grows old new request tried.0 =
-        subst (λ (o : Option Log). Carries o tried.2.log request tried.0) is tried.3.carries in
+    subst (λ (o : Option Log). Carries o tried.2.log request tried.0) is tried.3.carries in
     let rest = tried_grows more tried.1 h1 tried.2 w1 carried.0 tried.4 carried.1 in
     record {
       now = rest.now;

@@ -1,6 +1,6 @@
 -- What commits one after the other keep.
 use Rattle.std.specs.List.{AllByRecursion}
-use Rattle.std.specs.Prelude.{◌≡◌, ◌==◌, ℕ, ℤ, ◌<ℤ◌, Bool, true, false, cond, List, [], ◌∷◌, ◌++◌, ◌⊎◌}
+use Rattle.std.specs.Prelude.{◌≡◌, ◌==◌, ℕ, ℤ, ◌<ℤ◌, Bool, true, false, cond, List, [], ◌∷◌, ◌++◌}
 use Rattle.std.proofs.Common.{refl, sym, ap, subst, ◌∙◌, append_assoc, append-nil, inl, inr, arith}
 use Rattle.std.proofs.lemmas.Int.{ints}
 use Rattle.std.proofs.lemmas.List.Elements.{filter-append}
@@ -103,21 +103,21 @@ pub linked_after : (key : ℕ) (c d : Collection) (one : Commit) (w : World) (ev
 linked_after key c d one w events timely lawful fresh linked none only same now_linked =
     let grow : CommitsGrow w (world_after w events) = commits_lead_on w events in
     let ours : commits_of key grow.newer ≡ one ∷ [] =
-        sym (append-nil (commits_of key grow.newer))
-        ∙ ap (λ (l : List Commit). commits_of key grow.newer ++ l) (sym none)
-        ∙ sym (filter-append (λ (commit : Commit). commit.key == key) grow.newer w.commits)
-        ∙ ap (commits_of key) (sym grow.grown)
-        ∙ only in
+    sym (append-nil (commits_of key grow.newer))
+    ∙ ap (λ (l : List Commit). commits_of key grow.newer ++ l) (sym none)
+    ∙ sym (filter-append (λ (commit : Commit). commit.key == key) grow.newer w.commits)
+    ∙ ap (commits_of key) (sym grow.grown)
+    ∙ only in
     let place = one_place key one grow.newer ours in
     let lead : Leads w.state.committed (place.0 ++ one ∷ place.1) (world_after w events).state.committed =
-        subst (λ (l : List Commit). Leads w.state.committed l (world_after w events).state.committed) place.2 grow.lead in
+    subst (λ (l : List Commit). Leads w.state.committed l (world_after w events).state.committed) place.2 grow.lead in
     let made : AllByRecursion IsMade (place.0 ++ one ∷ place.1) =
-        subst (AllByRecursion IsMade) place.2 (commits_are_made w events timely lawful grow.newer grow.grown) in
+    subst (AllByRecursion IsMade) place.2 (commits_are_made w events timely lawful grow.newer grow.grown) in
     let each : AllByRecursion (HasFreshSchema c) (place.0 ++ one ∷ place.1) =
-        subst (AllByRecursion (HasFreshSchema c)) place.2 (fresh grow.newer grow.grown) in
+    subst (AllByRecursion (HasFreshSchema c)) place.2 (fresh grow.newer grow.grown) in
     let up_to = leads_keep_links c w.state.committed (one ∷ place.1) one.after
-        (leads_up_to w.state.committed place.0 one place.1 (world_after w events).state.committed lead)
-        (all_back IsMade place.0 (one ∷ place.1) made) (all_back (HasFreshSchema c) place.0 (one ∷ place.1) each) lawful.committed linked in
+    (leads_up_to w.state.committed place.0 one place.1 (world_after w events).state.committed lead)
+    (all_back IsMade place.0 (one ∷ place.1) made) (all_back (HasFreshSchema c) place.0 (one ∷ place.1) each) lawful.committed linked in
     (leads_keep_links d one.after place.0 (world_after w events).state.committed
     (leads_on w.state.committed place.0 one place.1 (world_after w events).state.committed lead)
     (all_front IsMade place.0 (one ∷ place.1) made)

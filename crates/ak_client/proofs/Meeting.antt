@@ -1,7 +1,7 @@
 -- What is known of the two sides once a meta was answered and the sync may go on.
 use Rattle.std.specs.List.{AllByRecursion}
-use Rattle.std.specs.Prelude.{◌≡◌, List, ◌++◌, Some, ◌⊎◌}
-use Rattle.std.proofs.Common.{refl, sym, ap, subst, ◌∙◌, inl, inr, append_assoc}
+use Rattle.std.specs.Prelude.{◌≡◌, List, ◌++◌}
+use Rattle.std.proofs.Common.{sym, ap, subst, ◌∙◌, inl, inr, append_assoc}
 use Rattle.std.proofs.lemmas.Option.{same_Some}
 use Rattle.ak_base.specs.Rows.{IsChecked}
 use Rattle.ak_base.specs.declared.heads.Head.{Head}
@@ -23,7 +23,7 @@ use Rattle.ak_merge.specs.Links.{AreLinked, AreLinkedParts}
 use Rattle.ak_protocol.proofs.Syncs.{all_front, own_append, world_append}
 use Rattle.ak_protocol.specs.Accounts.{AccountState}
 use Rattle.ak_protocol.specs.Commits.{EachNewer, HasFreshSchema}
-use Rattle.ak_protocol.specs.Logs.{Event, World, Log, IsTimely, events_of, with_growth, world_after}
+use Rattle.ak_protocol.specs.Logs.{Event, Log, IsTimely, events_of, with_growth, world_after}
 use Rattle.ak_session.specs.Plans.{Asker}
 use Rattle.ak_session.specs.Sessions.{MaySync}
 

@@ -1,21 +1,20 @@
 -- What a whole sync asks and leaves.
 use Rattle.std.specs.List.{AllByRecursion}
-use Rattle.std.specs.Prelude.{◌≡◌, ℕ, ℤ, pos, ◌+◌, ◌/◌, ◌≤◌, true, false, List, [], ◌∷◌, ◌++◌, length, Option, Some, Result, Ok, Err, IfOk, ◌⊎◌}
+use Rattle.std.specs.Prelude.{◌≡◌, ℤ, pos, ◌+◌, ◌/◌, ◌≤◌, false, List, [], ◌∷◌, ◌++◌, length, Option, Some, Ok, Err}
 use Rattle.std.proofs.Common.{refl, sym, ap, subst, ◌∙◌, append_assoc, inl, inr, arith}
 use Rattle.std.proofs.lemmas.List.{length-append}
 use Rattle.std.proofs.lemmas.Option.{same_Some}
 use Rattle.ak_client.proofs.Clocks.{not_finished, stop_checks}
 use Rattle.ak_client.proofs.Ending.{no_graves}
 use Rattle.ak_client.proofs.Fates.{at_most_once, plain_commits_nothing, stays_once, stays_unused}
-use Rattle.ak_client.proofs.Growing.{HasGrown, commits_grown, tried_grows, world_grown, own_timely}
+use Rattle.ak_client.proofs.Growing.{commits_grown, tried_grows, world_grown, own_timely}
 use Rattle.ak_client.proofs.Leading.{linked_after}
 use Rattle.ak_client.proofs.Meeting.{formed_by, is_met, may_sync}
 use Rattle.ak_client.specs.Endings.{Ended, Ends, IsEnded}
-use Rattle.ak_client.specs.Greetings.{Greets, GreetsTold, IsMetBy, IsMetOver, IsReady, meta_of}
+use Rattle.ak_client.specs.Greetings.{GreetsTold, IsMetOver, IsReady, meta_of}
 use Rattle.ak_client.specs.Outcomes.{outcome_at}
-use Rattle.ak_client.specs.Syncs.{CommitsAtMostOnce, IsShown, IsSync, IsSyncFinished, JoinedAt, MayBegin, StaysOnce, Synced, Syncs, SyncsTold, ends_before_finish, world_at}
+use Rattle.ak_client.specs.Syncs.{CommitsAtMostOnce, IsShown, IsSync, IsSyncFinished, MayBegin, StaysOnce, Synced, world_at}
 use Rattle.ak_client.specs.declared.outcomes.Outcome.{Outcome}
-use Rattle.ak_client.specs.declared.outcomes.Outcome.TheVariants as outcomes
 use Rattle.ak_exchange.proofs.Replying.{requests_count}
 use Rattle.ak_exchange.proofs.Tried.{few_none, tried_then}
 use Rattle.ak_exchange.specs.Asked.{AreTried, asker}
@@ -162,9 +161,9 @@ module _ (ids : Ids) (met : Met) (c s : Collection) (account : AccountState) (as
   ended it =
       let same : now ≡ it.committed.log = same_Some now it.committed.log it.committed.is in
       let only : commits_of who.session.0 (world_at who account now).commits ≡ record { key = who.session.0; before = s; after = it.after } ∷ [] =
-          ap (λ (log : Log). commits_of who.session.0 (world_at who account log).commits) same ∙ it.committed.only in
+      ap (λ (log : Log). commits_of who.session.0 (world_at who account log).commits) same ∙ it.committed.only in
       let halves : AreApart (row_under c) (row_under s) → AreExchanged c s it.device it.after =
-          λ apart. it.half (syncs apart) (joined it.after only apart) in
+      λ apart. it.half (syncs apart) (joined it.after only apart) in
       record {
         after = it.after;
         device = it.device;
@@ -232,8 +231,8 @@ went_on ids met before kept left h0 h1 h2 w0 w1 w2 outcome tried greets ready kn
         λ c account holds may fresh.
             let greeted = greets account old told may.unused in
             let met_over : IsMetOver (asker ids) account old first.now greeted.2.met.0 =
-                subst (λ (log : Log). IsMetOver (asker ids) account old log greeted.2.met.0)
-                (same_Some greeted.0 first.now (sym greeted.1 ∙ first.is)) greeted.2.met.1 in
+            subst (λ (log : Log). IsMetOver (asker ids) account old log greeted.2.met.0)
+            (same_Some greeted.0 first.now (sym greeted.1 ∙ first.is)) greeted.2.met.1 in
             let ready_so : IsReady (held_by c) met = told_of before c (λ h. IsReady h met) holds ready in
             let both : IsMet c greeted.2.met.0 met = is_met c greeted.2.met.0 met ready_so greeted.2.met.2 in
             synced_met ids met c greeted.2.met.0 account ends.asks old first.now then_on.growth left outcome then_on.timely may fresh met_over both

@@ -8,7 +8,7 @@ ghost use Rattle.ak_faults.specs.Causes.{GoesOn};
 ghost use Rattle.ak_keep.specs.Keepers.{IsMarkedAt, WhereTold, back, is_marked};
 
 use crate::greetings::greet;
-use crate::outcomes::{Outcome, shows_bad_check, outcome_of};
+use crate::outcomes::{Outcome, outcome_of, shows_bad_check};
 use ak_device::{commit_at, raise_moments};
 use ak_exchange::{Envelopes, Ids, Met, Stop, exchange, finish};
 use ak_io::Clock;

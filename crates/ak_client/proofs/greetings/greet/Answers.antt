@@ -1,10 +1,10 @@
-use Rattle.std.specs.Prelude.{◌≡◌, ℤ, Ok, Err, IfErr, Result, Some, None, false}
+use Rattle.std.specs.Prelude.{◌≡◌, ℤ, Ok, Err, IfErr, Result, None, false}
 use Rattle.std.proofs.Common.{refl, sym, subst, ◌∙◌, inl, rules, w64, SFits}
 use Rattle.std.proofs.lemmas.Int.{to_z-of_z}
 use Rattle.ak_client.proofs.Clocks.{greeting_takes, keep_of_greeting, unanswered_takes}
 use Rattle.ak_client.proofs.Greeting.{greets_on, greets_stop}
 use Rattle.ak_client.proofs.Testing.{below_last, ends_by_heads, ends_by_rows, exits, greeting_by_clocks, greeting_by_device, greeting_goes_on, greeting_unheard, heads_pass, passed, ready_where, usn_within}
-use Rattle.ak_client.specs.Greetings.{GreetsTold, IsGreeting, clock_stop, head_stop, meta_of}
+use Rattle.ak_client.specs.Greetings.{GreetsTold, IsGreeting, clock_stop, head_stop}
 use Rattle.ak_client.specs.Outcomes.{outcome_at}
 use Rattle.ak_client.specs.Syncs.{TakesMoments}
 use Rattle.ak_exchange.specs.Stops.{keep_stop, shows_bad_check, wire_stop}

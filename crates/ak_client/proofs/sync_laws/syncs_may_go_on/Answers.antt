@@ -1,8 +1,4 @@
-use Rattle.ak_client.proofs.Ending.{ends_finished}
 use Rattle.ak_client.proofs.Going.{begins_finished, begins_parted, begins_unfinished, raised_rises}
-use Rattle.ak_client.proofs.Greeting.{greets_on}
-use Rattle.ak_client.proofs.Syncing.{went_on}
-use Rattle.ak_client.proofs.Testing.{heads_pass}
 use Rattle.ak_client.proofs.sync_laws.syncs_may_go_on.Goals as goal
 
 pub returns : goal.returns
