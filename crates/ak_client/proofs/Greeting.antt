@@ -1,19 +1,22 @@
 -- What the meta of a sync makes of the log, and what its reply tells.
-use Rattle.std.specs.Prelude.{◌≡◌, ◌==◌, ℕ, ℤ, Bool, true, false, if◌then◌else◌, List, [], ◌∷◌, ◌++◌, Option, Some, None, Result, Ok, Err, IfOk, ok_or}
+use Rattle.std.specs.List.{AllByRecursion}
+use Rattle.std.specs.Prelude.{◌≡◌, ◌==◌, ℕ, ℤ, Bool, true, false, if◌then◌else◌, List, [], ◌∷◌, Option, Some, None, Result, Ok, Err, IfOk, ok_or}
 use Rattle.std.proofs.Common.{refl, sym, ap, subst, ◌∙◌, arith}
 use Rattle.std.proofs.lemmas.Option.{none-some, same_Some}
-use Rattle.ak_client.specs.Greetings.{IsMetBy, IsMetOver, meta_of}
-use Rattle.ak_exchange.specs.Phases.{asker}
+use Rattle.ak_base.specs.declared.heads.Head.{Head}
+use Rattle.ak_client.proofs.Growing.{timely_growth}
+use Rattle.ak_client.specs.Greetings.{GreetsTold, IsMetBy, IsMetOver, meta_of}
+use Rattle.ak_exchange.specs.Asked.{AreTried, asker}
 use Rattle.ak_exchange.specs.declared.envelopes.Ids.{Ids}
+use Rattle.ak_exchange.specs.declared.stops.Stop.{Stop}
 use Rattle.ak_faults.specs.Causes.{Health}
 use Rattle.ak_keep.specs.Collections.{Collection}
 use Rattle.ak_messages.specs.declared.replies.Give.TheVariants as gives
 use Rattle.ak_messages.specs.declared.replies.Reply.{Reply}
-use Rattle.ak_messages.specs.declared.requests.Request.{Request}
 use Rattle.ak_protocol.proofs.Calls.{metas_are_read}
 use Rattle.ak_protocol.proofs.Syncs.{metas_leave_unused}
 use Rattle.ak_protocol.specs.Accounts.{AccountState}
-use Rattle.ak_protocol.specs.Logs.{Event, Asked, Log, Grows, IsGrowth, with_growth}
+use Rattle.ak_protocol.specs.Logs.{Event, Asked, Log, Grows, IsTimely, with_growth}
 use Rattle.ak_protocol.specs.Replies.{granted, meta_reply}
 use Rattle.ak_protocol.specs.Syncs.{IsUnderWay, IsUnused}
 use Rattle.ak_wires.specs.Forms.{is_meta_in_range, meta_in, meta_told}
@@ -43,63 +46,81 @@ met_by s now met is =
     }
 
 module _ (ids : Ids) (account : AccountState) (old : Log) (unused : IsUnused ids.host.digits ids.session.0 account old) where
-  abbrev Met : Log → MetaSaid → Type 0
-  Met new met = (s : Collection) × IsMetOver (asker ids) account old new s × IsMetBy met s
-
-  -- what came while it was under way
-  abbrev Grown : Log → Type 0
-  Grown new = (growth : List Event) × (new ≡ with_growth old growth) × IsGrowth old (meta_of ids) growth
+  abbrev IsMetBySome : Log → MetaSaid → Type 0
+  IsMetBySome new met = (s : Collection) × IsMetOver (asker ids) account old new s × IsMetBy met s
 
   still_unused : (new : Log) (answer : Result Reply WireEnd) → Grows old new (meta_of ids) answer → IsUnused ids.host.digits ids.session.0 account new
   still_unused new answer grows =
       subst (λ (log : Log). IsUnused ids.host.digits ids.session.0 account log) (sym grows.grown)
       (metas_leave_unused (meta_of ids) account old grows.growth grows.may unused refl)
 
-  opened : (new : Log) (reply : Reply) → Grows old new (meta_of ids) (Ok reply) → reply.status ≡ 200
+  opened : (new : Log) (reply : Reply) → Grows {E = WireEnd} old new (meta_of ids) (Ok reply) → reply.status ≡ 200
       → (s : Collection) × IsMetOver (asker ids) account old new s × ((now : ℤ) × (reply ≡ granted (gives.Meta (meta_reply s.head now))))
   opened new reply grows ok =
-      let read = metas_are_read (meta_of ids) account old grows.growth grows.may reply grows.reply unused.opening unused refl ok in (
+      let read = metas_are_read (meta_of ids) account old grows.growth grows.may reply grows.reply unused.opening unused refl ok in
+      let place = Asked (meta_of ids) grows.reply.now grows.reply.setback in (
         read.0.base,
         record {
           front = grows.reply.before;
-          rest = Asked (meta_of ids) grows.reply.now grows.reply.setback ∷ grows.reply.after;
+          rest = place ∷ grows.reply.after;
           grown = grows.grown ∙ ap (λ (events : List Event). with_growth old events) (sym grows.reply.place);
+          timely = subst (AllByRecursion IsTimely) (sym grows.reply.place) (timely_growth old.events (meta_of ids) grows.growth grows.may);
           place = sym read.1;
           under_way = subst (λ (log : Log). IsUnderWay ids.host.digits ids.session.0 [] read.0.base account log) (sym grows.grown) read.0.under_way;
         },
         (read.0.now, read.0.told),
       )
 
-  met_of : (new : Log) (reply : Reply) → Grows old new (meta_of ids) (Ok reply) → IfOk (in_form meta_in (granted_by reply)) (Met new)
+  met_of : (new : Log) (reply : Reply) → Grows {E = WireEnd} old new (meta_of ids) (Ok reply) → IfOk (in_form meta_in (granted_by reply)) (IsMetBySome new)
   met_of new reply grows = by (reply.status == 200) refl
     where
-      given : (o : Option MetaSaid) → meta_in reply.give ≡ o → reply.status ≡ 200 → IfOk (ok_or o unanswered.BadReply) (Met new)
+      given : (o : Option MetaSaid) → meta_in reply.give ≡ o → reply.status ≡ 200 → IfOk (ok_or o unanswered.BadReply) (IsMetBySome new)
       given None is ok = tt
       given (Some met) is ok =
           let it = opened new reply grows ok in
           (it.0, it.1, met_by it.0 it.2.0 met (ap (λ (r : Reply). meta_in r.give) (sym it.2.1) ∙ is))
 
       by : (b : Bool) → (reply.status == 200) ≡ b
-          → IfOk (in_form meta_in (if b then Ok reply.give else Err (unanswered.Refused reply.status reply.word reply.seen))) (Met new)
+          → IfOk (in_form meta_in (if b then Ok reply.give else Err (unanswered.Refused reply.status reply.word reply.seen))) (IsMetBySome new)
       by false is = tt
       by true is = given (meta_in reply.give) refl (is_200 reply.status is)
 
-  answered : (new : Log) (answer : Result Reply WireEnd) → Grows old new (meta_of ids) answer → IfOk (in_form meta_in (granted_in answer)) (Met new)
+  answered : (new : Log) (answer : Result Reply WireEnd) → Grows old new (meta_of ids) answer
+      → IfOk (in_form meta_in (granted_in answer)) (IsMetBySome new)
   answered new (Ok reply) grows = met_of new reply grows
   answered new (Err ends.Failed) grows = tt
   answered new (Err ends.BadReply) grows = tt
   answered new (Err ends.Memory) grows = tt
 
   -- the meta of a sync whose key is unused: it stays so, and a granted reply tells what was committed at its place
-  pub greeted : (before now : Health) (was is : WireState) (result : Result MetaSaid Unanswered) → was.log ≡ Some old
+  greeted : (before now : Health) (was is : WireState) (result : Result MetaSaid Unanswered) → was.log ≡ Some old
       → Answered before now was is (meta_of ids) meta_in result
-      → (new : Log) × (is.log ≡ Some new) × Grown new × IsUnused ids.host.digits ids.session.0 account new × IfOk result (Met new)
+      → (new : Log) × (is.log ≡ Some new) × IsUnused ids.host.digits ids.session.0 account new × IfOk result (IsMetBySome new)
   greeted before now was is result told call =
       let grown : (new : Log) × (is.log ≡ Some new) × Grows old new (meta_of ids) call.answer =
       subst (λ (o : Option Log). Carries o is.log (meta_of ids) call.answer) told call.tried.carries in (
         grown.0,
         grown.1,
-        (grown.2.growth, grown.2.grown, grown.2.may),
         still_unused grown.0 call.answer grown.2,
-        subst (λ (r : Result MetaSaid Unanswered). IfOk r (Met grown.0)) (sym call.came) (answered grown.0 call.answer grown.2),
+        subst (λ (r : Result MetaSaid Unanswered). IfOk r (IsMetBySome grown.0)) (sym call.came) (answered grown.0 call.answer grown.2),
       )
+
+-- ---- what a greeting knows
+-- a meta was asked, and nothing else
+pub asked_meta : (ids : Ids) (before now : Health) (was is : WireState) (result : Result MetaSaid Unanswered)
+    → Answered before now was is (meta_of ids) meta_in result → AreTried (meta_of ids ∷ []) before now was is
+asked_meta ids before now was is result call = (call.answer, now, is, call.tried, (refl, refl))
+
+-- a greeting that stops
+pub greets_stop : (ids : Ids) (before now : Health) (was is : WireState) (result : Result MetaSaid Unanswered) (stop : Stop)
+    → Answered before now was is (meta_of ids) meta_in result → GreetsTold ids was.log is.log (Err stop)
+greets_stop ids before now was is result stop call account old told unused =
+    let it = greeted ids account old unused before now was is result told call in
+    (it.0, it.1, record { unused = it.2; met = tt })
+
+-- a greeting after which the sync may go on
+pub greets_on : (ids : Ids) (before now : Health) (was is : WireState) (meta : MetaSaid) (head : Head)
+    → Answered before now was is (meta_of ids) meta_in (Ok meta) → GreetsTold ids was.log is.log (Ok (record { meta = meta; head = head }))
+greets_on ids before now was is meta head call account old told unused =
+    let it = greeted ids account old unused before now was is (Ok meta) told call in
+    (it.0, it.1, record { unused = it.2; met = it.3 })

@@ -2,7 +2,7 @@
 use Rattle.ak_keep.specs.Collections.{Collection}
 use Rattle.ak_merge.proofs.JoinLaws.{join_once}
 use Rattle.ak_merge.proofs.ContentLaws.{content-through}
-use Rattle.ak_merge.specs.Exchanges.{AreExchanged, HoldsJoin}
+use Rattle.ak_merge.specs.Exchanges.{HoldsJoin}
 use Rattle.ak_merge.specs.Holdings.{Content, SameContent, content_of}
 use Rattle.ak_merge.specs.Joins.{join}
 

@@ -1,5 +1,13 @@
+pub mod Clocks
+pub mod Committing
+pub mod Ending
 pub mod Fates
 pub mod Finishing
+pub mod Going
 pub mod Greeting
+pub mod Growing
 pub mod Healing
 pub mod Leading
+pub mod Meeting
+pub mod Syncing
+pub mod Testing

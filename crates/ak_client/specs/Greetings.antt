@@ -1,23 +1,39 @@
 -- How a sync begins: what it tests once its meta was answered, and what it knows then.
+use Rattle.std.specs.List.{AllByRecursion}
 use Rattle.std.specs.Ordering.{int_eq}
-use Rattle.std.specs.Prelude.{◌≡◌, ◌≢◌, ℤ, pos, ◌+ℤ◌, ◌<ℤ◌, ◌||◌, Bool, not, int_lt, if◌then◌else◌, List, [], ◌++◌, Option, Some, None, Result, IfOk}
+use Rattle.std.specs.Prelude.{◌≡◌, ◌≢◌, ℤ, pos, ◌+ℤ◌, ◌<ℤ◌, ◌||◌, Bool, not, int_lt, if◌then◌else◌, List, [], ◌++◌, Option, Some, None, IfSome, Result, Ok, Err, IfOk, IfErr, ◌⊎◌}
 use Rattle.ak_base.specs.Limits.{last_head_usn}
 use Rattle.ak_base.specs.declared.heads.Head.{Head}
-use Rattle.ak_exchange.specs.Phases.{asker}
+use Rattle.ak_exchange.specs.Asked.{asker}
+use Rattle.ak_exchange.specs.Stops.{keep_stop, wire_stop}
 use Rattle.ak_exchange.specs.declared.envelopes.Ids.{Ids}
 use Rattle.ak_exchange.specs.declared.envelopes.Met.{Met}
 use Rattle.ak_exchange.specs.declared.stops.Stop.{Stop}
 use Rattle.ak_exchange.specs.declared.stops.Stop.TheVariants as stops
+use Rattle.ak_faults.specs.Causes.{Health}
+use Rattle.ak_io.specs.Arrivals.{GivesNext}
 use Rattle.ak_keep.specs.Collections.{Collection, Holding}
+use Rattle.ak_keep.specs.Keepers.{Keeping, WhereTold}
+use Rattle.ak_keep.specs.declared.keepers.KeepFault.{KeepFault}
+use Rattle.ak_merge.specs.Edits.{second_of}
 use Rattle.ak_merge.specs.Soundness.{first_fault}
 use Rattle.ak_merge.specs.declared.checks.CheckFault.{CheckFault}
 use Rattle.ak_messages.specs.declared.requests.Ask.TheVariants as asks
 use Rattle.ak_messages.specs.declared.requests.Request.{Request}
 use Rattle.ak_protocol.specs.Accounts.{AccountState}
-use Rattle.ak_protocol.specs.Logs.{Event, Log, IsGrowth, with_growth}
+use Rattle.ak_protocol.specs.Logs.{Event, Log, IsTimely, with_growth}
 use Rattle.ak_protocol.specs.Syncs.{IsUnderWay, IsUnused, world_of}
 use Rattle.ak_session.specs.Plans.{Asker}
+use Rattle.ak_wires.specs.Forms.{meta_in}
+use Rattle.ak_wires.specs.Tries.{Answered}
+use Rattle.ak_wires.specs.Wires.{WireState}
+use Rattle.ak_wires.specs.declared.asks.Unanswered.{Unanswered}
 use Rattle.ak_wires.specs.declared.wires.MetaSaid.{MetaSaid}
+
+-- ---- the meta, and the tests of what it says
+-- the request that begins a sync
+abbrev pub meta_of : Ids → Request
+meta_of ids = record { host = ids.host; session = ids.session; step = 0; base = pos 0; ask = asks.Meta }
 
 -- two clocks, in seconds, are over 300 seconds apart
 abbrev pub are_far_apart : ℤ → ℤ → Bool
@@ -38,22 +54,36 @@ head_stop meta head =
     else if int_eq meta.usn last_head_usn then Some (stops.FullSequence meta.usn)
     else None
 
--- why it ends by the device's own rows: they are not sound
-abbrev pub check_stop : Option CheckFault → Option Stop
-check_stop None = None
-check_stop (Some fault) = Some (stops.OwnCheck fault)
+-- ---- why a greeting ends
+-- once the clocks let it go on: the keeper refused, the two heads do not let it, or else the device's rows are not sound
+abbrev pub EndsAtDevice : MetaSaid → Keeping → Stop → Type 0
+EndsAtDevice meta keeping stop =
+    ((fault : KeepFault) × (stop ≡ keep_stop fault))
+    ⊎ WhereTold keeping (λ h. IfSome h.head (λ head. (head_stop meta head ≡ Some stop)
+    ⊎ ((head_stop meta head ≡ None) × ((fault : CheckFault) × (stop ≡ stops.OwnCheck fault) × (first_fault h.rows ≡ Some fault)))))
+
+-- the meta was not granted; or the server or the clocks, by the moment that the clock gave, do not let it go on; or else the device does not
+abbrev pub EndsGreeting : Result MetaSaid Unanswered → Option (List ℤ) → Option (List ℤ) → Keeping → Stop → Type 0
+EndsGreeting (Err why) to_come_before to_come keeping stop = stop ≡ wire_stop why
+EndsGreeting (Ok meta) to_come_before to_come keeping stop = (at : ℤ) × GivesNext to_come_before to_come at
+    × ((clock_stop meta (second_of at) ≡ Some stop) ⊎ ((clock_stop meta (second_of at) ≡ None) × EndsAtDevice meta keeping stop))
+
+-- what a greeting heard, over any keeper and wire, and why it ended
+pub record IsGreeting (ids : Ids) (health_before health_now : Health) (old now : WireState)
+    (to_come_before to_come : Option (List ℤ)) (keeping : Keeping) (result : Result Met Stop) : Type 0 where
+  pub answer : Result MetaSaid Unanswered
+  pub heard : Answered health_before health_now old now (meta_of ids) meta_in answer
+  pub goes_on : IfOk result (λ met. answer ≡ Ok met.meta)
+  pub ends : IfErr result (EndsGreeting answer to_come_before to_come keeping)
 
 -- ---- what a greeting leaves
--- the request that begins a sync
-abbrev pub meta_of : Ids → Request
-meta_of ids = record { host = ids.host; session = ids.session; step = 0; base = pos 0; ask = asks.Meta }
-
 -- the meta of a sync was answered over s, which was committed at a place of what came to the account meanwhile; from there on the sync is
 -- under way, and nothing was asked after the meta
 pub record IsMetOver (who : Asker) (account : AccountState) (old now : Log) (s : Collection) : Type 0 where
   pub front : List Event
   pub rest : List Event
   pub grown : now ≡ with_growth old (front ++ rest)
+  pub timely : AllByRecursion IsTimely (front ++ rest)
   pub place : (world_of who.host.digits account (with_growth old front)).state.committed ≡ s
   pub under_way : IsUnderWay who.host.digits who.session.0 [] s account now
 
@@ -65,16 +95,14 @@ pub record IsMetBy (meta : MetaSaid) (s : Collection) : Type 0 where
 
 -- what a greeting knows of the server: its key is unused still, but for metas; and if the sync may go on, over what its meta was answered
 pub record Greets (ids : Ids) (account : AccountState) (old now : Log) (result : Result Met Stop) : Type 0 where
-  pub growth : List Event
-  pub grown : now ≡ with_growth old growth
-  pub may : IsGrowth old (meta_of ids) growth
   pub unused : IsUnused ids.host.digits ids.session.0 account now
   pub met : IfOk result (λ met. (s : Collection) × IsMetOver (asker ids) account old now s × IsMetBy met.meta s)
 
 -- the same wherever the wire tells a log in which nothing but metas has the session key
 abbrev pub GreetsTold : Ids → Option Log → Option Log → Result Met Stop → Type 0
-GreetsTold ids was is result = (account : AccountState) (old : Log) → was ≡ Some old → IsUnused ids.host.digits ids.session.0 account old
-    → (now : Log) × (is ≡ Some now) × Greets ids account old now result
+GreetsTold ids told_before told_now result = (account : AccountState) (old : Log) → told_before ≡ Some old
+    → IsUnused ids.host.digits ids.session.0 account old
+    → (now : Log) × (told_now ≡ Some now) × Greets ids account old now result
 
 -- what a greeting knows of the device once the sync may go on: the head that it holds, and that it may sync by the meta
 pub record IsReady (h : Holding) (met : Met) : Type 0 where

@@ -1,3 +1,4 @@
+pub mod Endings
 pub mod Greetings
 pub mod Outcomes
 pub mod Syncs

@@ -1,9 +1,11 @@
 -- What an outcome says.
-use Rattle.std.specs.Prelude.{Result, Ok, Err}
+use Rattle.std.specs.Prelude.{◌≡◌, Result, Ok, Err, ◌⊎◌}
 use Rattle.ak_client.specs.declared.outcomes.Outcome.{Outcome}
 use Rattle.ak_client.specs.declared.outcomes.Outcome.TheVariants as outcomes
+use Rattle.ak_exchange.specs.Stops.{keep_stop}
 use Rattle.ak_exchange.specs.declared.stops.Stop.{Stop}
 use Rattle.ak_exchange.specs.declared.stops.Stop.TheVariants as stops
+use Rattle.ak_keep.specs.declared.keepers.KeepFault.{KeepFault}
 
 -- the outcome of a sync that stopped
 abbrev pub outcome_at : Stop → Outcome
@@ -26,3 +28,7 @@ outcome_at stops.Memory = outcomes.Memory
 abbrev pub outcome_of : Result (Unit {0}) Stop → Outcome
 outcome_of (Ok done) = outcomes.Finished
 outcome_of (Err stop) = outcome_at stop
+
+-- a sync that is stopped so ends for that reason, or because the keeper refused what was left to do
+abbrev pub EndsFor : Stop → Result (Unit {0}) Stop → Type 0
+EndsFor stop result = (result ≡ Err stop) ⊎ ((fault : KeepFault) × (result ≡ Err (keep_stop fault)))

@@ -1,31 +1,33 @@
--- What a sync leaves, over a keeper that tells the device's collection c and a wire that tells the log of a server.
-use Rattle.std.specs.Int.{div_ceil}
+-- What a sync asks and what it leaves, over a keeper that tells the device's collection c and a wire that tells the log of a server.
 use Rattle.std.specs.List.{AllByRecursion}
-use Rattle.std.specs.Prelude.{◌≡◌, ℕ, zero, suc, ℤ, pos, ◌+◌, ◌*◌, ◌≤◌, ◌+ℤ◌, Bool, true, false, List, [], ◌∷◌, length, Option, Some, None, ⊤, ◌⊎◌}
+use Rattle.std.specs.Prelude.{◌≡◌, ℕ, zero, suc, ℤ, pos, ◌+◌, ◌/◌, ◌≤◌, ◌+ℤ◌, Bool, true, false, List, [], ◌∷◌, ◌++◌, length, Option, Some, IfSome, ⊤, ◌⊎◌}
+use Rattle.ak_client.specs.Greetings.{meta_of}
 use Rattle.ak_client.specs.declared.outcomes.Outcome.{Outcome}
 use Rattle.ak_client.specs.declared.outcomes.Outcome.TheVariants as outcomes
 use Rattle.ak_device.specs.Devices.{RaisesMoments}
-use Rattle.ak_exchange.specs.Phases.{asker, holding}
+use Rattle.ak_exchange.specs.Asked.{AreFew, AreTried, asker}
+use Rattle.ak_exchange.specs.Phases.{AreGraveRequests, IsCheckedLast, holding}
 use Rattle.ak_exchange.specs.declared.envelopes.Ids.{Ids}
+use Rattle.ak_exchange.specs.declared.stops.Stop.TheVariants as stops
+use Rattle.ak_faults.specs.Causes.{Health}
 use Rattle.ak_io.specs.Arrivals.{GivesNext, IsClockMoment}
-use Rattle.ak_keep.specs.Collections.{Collection, Holding}
-use Rattle.ak_keep.specs.Keepers.{Keeping, WhereTold, all_known}
-use Rattle.ak_keep.specs.declared.keepers.Wanted.TheVariants.{Unsent}
+use Rattle.ak_keep.specs.Collections.{Collection}
+use Rattle.ak_keep.specs.Keepers.{Keeping, WhereTold}
+use Rattle.ak_keep.specs.declared.keepers.Wanted.TheVariants.{From, Unsent}
 use Rattle.ak_merge.specs.Exchanges.{HoldsJoin, AreExchanged}
 use Rattle.ak_merge.specs.Holdings.{row_under}
 use Rattle.ak_merge.specs.Joins.{AreApart}
 use Rattle.ak_merge.specs.Links.{AreLinked}
-use Rattle.ak_messages.specs.declared.requests.Request.{Request}
+use Rattle.ak_messages.specs.declared.requests.Ask.{Ask}
 use Rattle.ak_protocol.specs.Accounts.{AccountState}
-use Rattle.ak_protocol.specs.Commits.{EachNewer, HasFreshSchema}
+use Rattle.ak_protocol.specs.Commits.{CommitsGrow, EachNewer, HasFreshSchema}
 use Rattle.ak_protocol.specs.LawfulServers.{IsLawfulAccount}
 use Rattle.ak_protocol.specs.Logs.{Event, Commit, World, Log, IsTimely, with_growth, events_of, commits_of}
 use Rattle.ak_protocol.specs.Sessions.{IsOwnOrOther}
 use Rattle.ak_protocol.specs.Syncs.{IsUnderWay, IsUnused, world_of}
-use Rattle.ak_session.specs.Plans.{Asker, plan}
-use Rattle.ak_session.specs.Sessions.{MaySync}
-use Rattle.ak_session.specs.Slices.{wanted_graves}
-use Rattle.ak_wires.specs.Wires.{WireState, more}
+use Rattle.ak_session.specs.Plans.{Asker, planned, requests_from}
+use Rattle.ak_session.specs.Slices.{wanted_graves, wanted_in_chunks}
+use Rattle.ak_wires.specs.Wires.{WireState}
 
 -- ---- before a sync
 -- the account of a sync, as the log of its wire leaves it
@@ -50,17 +52,20 @@ pub record JoinedAt (key : ℕ) (c base : Collection) (past : List Commit) : Typ
 abbrev pub CommitsAtMostOnce : ℕ → Collection → Collection → List Commit → Type 0
 CommitsAtMostOnce key c base past = (commits_of key past ≡ []) ⊎ JoinedAt key c base past
 
--- the log shows of a sync what it asked, or that its meta was not answered: then it asked nothing more
-abbrev pub IsShown : Asker → AccountState → Collection → List Request → Log → Type 0
-IsShown who account base asked log =
-    ((asked ≡ []) × IsUnused who.host.digits who.session.0 account log)
-    ⊎ IsUnderWay who.host.digits who.session.0 asked base account log
+-- what the log shows of a sync that asked these over this moment: it is under way, its meta was answered over this collection, which was
+-- changed last at that moment, and after it came no others of its requests; or its meta was not answered, and it asked nothing more
+abbrev pub IsShown : Asker → AccountState → Collection → ℤ → List Ask → Log → Type 0
+IsShown who account base moment asks log =
+    ((asks ≡ []) × IsUnused who.host.digits who.session.0 account log)
+    ⊎ ((base.head.moment ≡ moment)
+    × IsUnderWay who.host.digits who.session.0 (requests_from who moment 1 asks) base account log)
 
--- in this log, and in any later one in which nothing but metas and these requests has the session key, the session commits at most once
-abbrev pub StaysOnce : Asker → Collection → Collection → List Request → AccountState → Log → Type 0
-StaysOnce who c base asked account now = (later : List Event)
+-- in this log, and in any later one in which nothing but metas and what this sync asked has the session key, the session commits at most
+-- once, also if what it asked comes later than it waited for it
+abbrev pub StaysOnce : Asker → Collection → Collection → ℤ → List Ask → AccountState → Log → Type 0
+StaysOnce who c base moment asks account now = (later : List Event)
     → AllByRecursion IsTimely later
-    → AllByRecursion (IsOwnOrOther who.session.0 asked base.head.moment) (events_of who.host.digits later)
+    → AllByRecursion (IsOwnOrOther who.session.0 (requests_from who moment 1 asks) moment) (events_of who.host.digits later)
     → CommitsAtMostOnce who.session.0 c base (world_at who account (with_growth now later)).commits
 
 -- ---- what it leaves if it reports that it is finished
@@ -80,7 +85,7 @@ pub record IsSyncFinished (who : Asker) (c base : Collection) (account : Account
   pub linked : AreApart (row_under c) (row_under base) → AreLinked device (world_at who account now).state.committed
 
 -- ---- a sync
--- whether an outcome comes before the finish is asked
+-- whether an outcome is told only of a sync that did not ask its finish. A keeper that refused may have refused the commit after it
 abbrev pub ends_before_finish : Outcome → Bool
 ends_before_finish outcomes.Finished = false
 ends_before_finish outcomes.NoChanges = true
@@ -98,47 +103,74 @@ ends_before_finish outcomes.TooManyChunks = true
 ends_before_finish outcomes.Keep = false
 ends_before_finish outcomes.Memory = false
 
--- what a sync makes of the log and of what the keeper tells, where no upload in between gave just the device's schema moment
-pub record Synced (who : Asker) (c : Collection) (account : AccountState) (old now : Log) (left : Keeping) (outcome : Outcome) : Type 0 where
+-- a collection was committed at a place of what came to the account
+pub record IsCommittedIn (who : Asker) (account : AccountState) (old : Log) (growth : List Event) (base : Collection) : Type 0 where
+  pub front : List Event
+  pub rest : List Event
+  pub parts : growth ≡ front ++ rest
+  pub place : (world_at who account (with_growth old front)).state.committed ≡ base
+
+-- what a sync that asked these after its meta, over the moment that this told, makes of the log and of what the keeper tells, if no
+-- upload in between gave just the device's schema moment
+pub record Synced (who : Asker) (moment : ℤ) (asks : List Ask) (c : Collection) (account : AccountState)
+    (old now : Log) (left : Keeping) (outcome : Outcome) : Type 0 where
   -- the log grew, by what came at moments that a clock may tell
   pub growth : List Event
   pub grown : now ≡ with_growth old growth
   pub timely : AllByRecursion IsTimely growth
-  -- the collection that was committed at its meta, and what it asked after it: at most what its plan has
+  -- what is committed changed at commits alone, each over what the one before it left
+  pub server : CommitsGrow (world_at who account old) (world_at who account now)
+  -- the collection that was committed at the place at which its meta was answered, if it asked more
   pub base : Collection
-  pub asked : List Request
-  pub shown : IsShown who account base asked now
-  pub within : MaySync c base → length asked ≤ length (plan who c base)
-  pub once : StaysOnce who c base asked account now
+  pub at_meta : (asks ≡ []) ⊎ IsCommittedIn who account old growth base
+  pub shown : IsShown who account base moment asks now
+  -- it asked its plan up to some place, if the device and that collection are apart
+  pub front : AreApart (row_under c) (row_under base) → (rest : List Ask) × (asks ++ rest ≡ planned c base)
+  -- that is at most 8 requests, its meta counted, and one more for each 250 of the graves that the device did not send yet, of the reviews,
+  -- cards and notes of the server with at least the device's number, and of those that the device did not send yet
+  pub short : AreApart (row_under c) (row_under base) → length asks + 1 ≤ 8 + length (wanted_graves Unsent c.rows) / 250
+      + length (wanted_in_chunks (From c.head.usn) base.rows) / 250 + length (wanted_in_chunks Unsent c.rows) / 250
+  pub once : StaysOnce who c base moment asks account now
   -- it committed nothing, if it ended before its finish
   pub early : ends_before_finish outcome ≡ true → commits_of who.session.0 (world_at who account now).commits ≡ []
   pub finished : outcome ≡ outcomes.Finished → IsSyncFinished who c base account now left
 
 -- the same wherever the keeper tells a collection with which the sync may begin, and the wire a log
-abbrev pub Syncs : Ids → Keeping → Keeping → Log → Log → Outcome → Type 0
-Syncs ids before left old now outcome = let who = asker ids in (c : Collection) (account : AccountState)
+abbrev pub Syncs : Ids → ℤ → List Ask → Keeping → Keeping → Log → Log → Outcome → Type 0
+Syncs ids moment asks before left old now outcome = let who = asker ids in (c : Collection) (account : AccountState)
     → before ≡ holding c → MayBegin who c account old
     → EachNewer (HasFreshSchema c) (world_at who account old) (world_at who account now)
-    → Synced who c account old now left outcome
+    → Synced who moment asks c account old now left outcome
 
 -- the same of what is known of keeper and wire: whatever collection and log they tell
-abbrev pub SyncsTold : Ids → Keeping → Keeping → WireState → WireState → Outcome → Type 0
-SyncsTold ids before left was is outcome = (old : Log) → was.log ≡ Some old
-    → (now : Log) × (is.log ≡ Some now) × Syncs ids before left old now outcome
+abbrev pub SyncsTold : Ids → ℤ → List Ask → Keeping → Keeping → Option Log → Option Log → Outcome → Type 0
+SyncsTold ids moment asks before left told_before told_now outcome = (old : Log) → told_before ≡ Some old
+    → (now : Log) × (told_now ≡ Some now) × Syncs ids moment asks before left old now outcome
 
--- ---- how much it asks, whatever keeper and wire are
--- a meta, a start, the changes, a sanity check and a finish; requests for graves, a 250th of the graves that were not sent yet; and at
--- most 40,000 chunks each way. Each is tried at most 3 times
-pub record IsBounded (before : Keeping) (calls_before calls_now : ℕ) : Type 0 where
+-- a sync that ends at a bad sanity check asked for that last, and the reply found so
+abbrev pub HasChecked : List Ask → WireState → Outcome → Type 0
+HasChecked asks now (outcomes.BadRow fault) = IsCheckedLast asks (stops.BadRow fault) now
+HasChecked asks now (outcomes.BadCounts client server) = IsCheckedLast asks (stops.BadCounts client server) now
+HasChecked asks now outcome = ⊤
+
+-- what a sync does over any keeper and wire, whose health and state go from the one to the other
+pub record IsSync (ids : Ids) (before left : Keeping) (health_before health_now : Health) (old now : WireState)
+    (outcome : Outcome) : Type 0 where
+  -- the moment that its meta told, and what it asked after it
+  pub moment : ℤ
+  pub asks : List Ask
+  -- it asked its meta and these, step by step, one after the other. Each was tried at most 3 times
+  pub tried : AreTried (meta_of ids ∷ requests_from (asker ids) moment 1 asks) health_before health_now old now
+  -- it asked for at most 40,000 chunks, and sent at most 39,999 that are not the last one. It asked at most 5 others and those for graves: 250
+  -- go in each
   pub graves : ℕ
-  pub pulled : ℕ
-  pub pushed : ℕ
-  pub graves_most : WhereTold before (λ h. graves ≤ div_ceil (length (wanted_graves Unsent h.rows)) 250)
-  pub pulled_most : pulled ≤ 40_000
-  pub pushed_most : pushed ≤ 40_000
-  pub calls : calls_now ≤ more (3 * (5 + graves + pulled + pushed)) calls_before
+  pub graves_most : AreGraveRequests before graves
+  pub few : AreFew 40_000 39_999 (5 + graves) asks
+  pub checked : HasChecked asks now outcome
+  -- and what that makes of what keeper and wire tell
+  pub told : SyncsTold ids moment asks before left old.log now.log outcome
 
--- ---- what it leaves on the device
+-- ---- what it takes of its clock
 -- the moment that a clock gives once it gave so many others, and what it has still to give then
 abbrev pub GivesAfter : ℕ → Option (List ℤ) → Option (List ℤ) → ℤ → Type 0
 GivesAfter zero old new at = GivesNext old new at
@@ -149,16 +181,50 @@ abbrev pub HasGiven : ℕ → Option (List ℤ) → Option (List ℤ) → Type 0
 HasGiven zero old new = new ≡ old
 HasGiven (suc n) old new = (at : ℤ) × GivesAfter n old new at
 
--- both moments have risen to the clock's second moment: its first is for the clocks' test
-pub record HasParted (before left : Keeping) (clock_before clock_now : Option (List ℤ)) : Type 0 where
+-- the fewest moments that a sync takes of its clock, by its outcome: one once its meta was granted, and another after a bad sanity check
+abbrev pub fewest_moments : Outcome → ℕ
+fewest_moments (outcomes.BadRow fault) = 2
+fewest_moments (outcomes.BadCounts client server) = 2
+fewest_moments (outcomes.Refused status word seen) = 0
+fewest_moments outcomes.Lost = 0
+fewest_moments outcomes.BadReply = 0
+fewest_moments outcomes.Memory = 0
+fewest_moments outcome = 1
+
+-- the most: a keeper's fault and want of memory may come after a bad sanity check too
+abbrev pub most_moments : Outcome → ℕ
+most_moments (outcomes.BadRow fault) = 2
+most_moments (outcomes.BadCounts client server) = 2
+most_moments outcomes.Keep = 2
+most_moments outcomes.Memory = 2
+most_moments outcome = 1
+
+-- how many moments a sync takes of its clock, once it took so many
+pub record TakesMoments (earlier : ℕ) (old now : Option (List ℤ)) (outcome : Outcome) : Type 0 where
+  pub count : ℕ
+  pub least : fewest_moments outcome ≤ earlier + count
+  pub most : earlier + count ≤ most_moments outcome
+  pub given : HasGiven count old now
+
+-- ---- what it leaves on the device
+-- both moments have risen to the one that the clock gave once it gave so many others
+pub record HasRaised (earlier : ℕ) (before left : Keeping) (to_come_before to_come : Option (List ℤ)) : Type 0 where
   pub at : ℤ
-  pub given : GivesAfter 1 clock_before clock_now at
+  pub given : GivesAfter earlier to_come_before to_come at
   pub moment : IsClockMoment at
   pub raises : RaisesMoments at before left
 
--- a sync that reports finished leaves what it does; one that ended at a bad sanity check, both moments raised; any other, the device as it was
-abbrev pub KeepsDevice : Keeping → Keeping → Option (List ℤ) → Option (List ℤ) → Outcome → Type 0
-KeepsDevice before left was is outcomes.Finished = ⊤
-KeepsDevice before left was is (outcomes.BadRow fault) = HasParted before left was is
-KeepsDevice before left was is (outcomes.BadCounts client server) = HasParted before left was is
-KeepsDevice before left was is outcome = left ≡ before
+-- where the keeper tells both heads, the schema moment stays, and the device's last change is at its last sync
+abbrev pub CommitsHead : Keeping → Keeping → Type 0
+CommitsHead before left = WhereTold before (λ own. IfSome own.head (λ head.
+    WhereTold left (λ h. IfSome h.head (λ now. (now.last_sync ≡ now.moment) × (now.schema ≡ head.schema)))))
+
+-- a sync that reports finished commits such a head, with what it took; one that ended at a bad sanity check, both moments raised, to the one that the clock gave
+-- once it gave so many others; any other, the device as it was
+abbrev pub KeepsDevice : ℕ → Keeping → Keeping → Option (List ℤ) → Option (List ℤ) → Outcome → Type 0
+KeepsDevice earlier before left to_come_before to_come outcomes.Finished = CommitsHead before left
+KeepsDevice earlier before left to_come_before to_come (outcomes.BadRow fault) =
+    HasRaised earlier before left to_come_before to_come
+KeepsDevice earlier before left to_come_before to_come (outcomes.BadCounts client server) =
+    HasRaised earlier before left to_come_before to_come
+KeepsDevice earlier before left to_come_before to_come outcome = left ≡ before

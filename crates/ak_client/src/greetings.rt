@@ -1,14 +1,20 @@
-ghost use Rattle.std.specs.Prelude.{◌≡◌, ◌≤◌, ◌*◌, ℕ, ℤ, pos, true, IfOk};
+ghost use Rattle.std.specs.Prelude.{◌≡◌, ◌≤ℤ◌, ◌<ℤ◌, ◌∷◌, [], ℤ, pos, true, false, Some, None, IfOk, IfErr, OnOk, ◌⊎◌};
 ghost use Rattle.ak_base.specs.Heads.{IsHeadInRange, IsWithin};
 ghost use Rattle.ak_base.specs.Limits.{last_head_usn};
-ghost use Rattle.ak_client.specs.Greetings.{GreetsTold, IsReady, are_far_apart, check_stop, clock_stop, head_stop};
-ghost use Rattle.ak_exchange.specs.Stops.{stop_or_go};
-ghost use Rattle.ak_client.specs.Syncs.{HasGiven};
+ghost use Rattle.ak_client.specs.Endings.{IsOfGreeting};
+ghost use Rattle.ak_client.specs.Greetings.{GreetsTold, IsGreeting, IsReady, are_far_apart, clock_stop, head_stop, meta_of};
+ghost use Rattle.ak_client.specs.Outcomes.{outcome_at};
+ghost use Rattle.ak_client.specs.Syncs.{HasGiven, TakesMoments};
+ghost use Rattle.ak_exchange.specs.Asked.{AreTried};
+ghost use Rattle.ak_exchange.specs.Stops.{keep_stop, shows_bad_check, stop_or_go};
+ghost use Rattle.ak_exchange.specs.declared.stops.Stop.TheVariants as stops;
 ghost use Rattle.ak_faults.specs.Causes.{GoesOn};
-ghost use Rattle.ak_io.specs.Arrivals.{IsClockMoment};
-ghost use Rattle.ak_keep.specs.Keepers.{WhereTold};
+ghost use Rattle.ak_io.specs.Arrivals.{GivesNext, IsClockMoment};
+ghost use Rattle.ak_keep.specs.Keepers.{IsRightlyKnown, WhereTold};
+ghost use Rattle.ak_keep.specs.declared.keepers.KeepFault.{KeepFault};
+ghost use Rattle.ak_merge.specs.Edits.{second_of};
 ghost use Rattle.ak_merge.specs.Soundness.{first_fault};
-ghost use Rattle.ak_wires.specs.Wires.{more};
+ghost use Rattle.ak_merge.specs.declared.checks.CheckFault.{CheckFault};
 
 use ak_base::{Head, LAST_HEAD_USN};
 use ak_exchange::{Ids, Met, Stop, meta_request};
@@ -34,30 +40,60 @@ pub(crate) fn greet<K: Keeper, W: Wire, C: Clock>(
     // Where the wire tells its log, what is known of the server.
     ensures greets { GreetsTold ids (W.state wire.old).log (W.state wire.new).log result }
 
+    // It asks its meta, and nothing else.
+    ensures tried { AreTried (meta_of ids ∷ []) (W.health wire.old) (W.health wire.new)
+        (W.state wire.old) (W.state wire.new) }
+
     // If the sync may go on, the device's head, and that moments, schema moments, numbers and the check let it.
     ensures ready { IfOk result (λ met. WhereTold (K.keeping keeper.old) (λ h. IsReady h met)) }
-    ensures number { IfOk result (λ met. IsWithin (pos 0) last_head_usn met.meta.usn) }
+    ensures low { IfOk result (λ met. pos 0 ≤ℤ met.meta.usn) }
+    ensures number { IfOk result (λ met. met.meta.usn <ℤ last_head_usn) }
     ensures head { IfOk result (λ met. IsHeadInRange met.head) }
+    ensures known { IfOk result (λ met. IsRightlyKnown (K.keeping keeper.old)) }
     ensures same { K.keeping keeper.new ≡ K.keeping keeper.old }
-    ensures clock { (n : ℕ) × (n ≤ 1) × HasGiven n (C.to_come clock.old) (C.to_come clock.new) }
+
+    // If it may, the server lets it, and the clocks are near.
+    ensures clocks { IfOk result (λ met. (at : ℤ) × GivesNext (C.to_come clock.old) (C.to_come clock.new) at
+        × (clock_stop met.meta (second_of at) ≡ None)) }
+
+    // What its meta was answered, and if it ends, why: its tests come in this order.
+    ensures heard { IsGreeting ids (W.health wire.old) (W.health wire.new) (W.state wire.old) (W.state wire.new)
+        (C.to_come clock.old) (C.to_come clock.new) (K.keeping keeper.old) result }
+
+    // It ends at no bad sanity check, and takes one moment of the clock once its meta is granted.
+    ensures early { IfErr result (λ stop. shows_bad_check stop ≡ false) }
+    ensures once { OnOk result (HasGiven 1 (C.to_come clock.old) (C.to_come clock.new)) }
+    ensures clock { IfErr result (λ stop. TakesMoments 0 (C.to_come clock.old) (C.to_come clock.new) (outcome_at stop)) }
     ensures keeper { GoesOn (K.health keeper.old) (K.health keeper.new) }
-    ensures wire { GoesOn (W.health wire.old) (W.health wire.new) }
-    ensures calls { (W.state wire.new).calls ≤ more (3 * 1) (W.state wire.old).calls }
 {
     let request = meta_request(ids);
     let meta = ask_meta(wire, &request)?;
-    let second = clock.now() / 1000;
+    let at = clock.now();
+    let second = second_of(at);
     test_clocks(meta, second)?;
+    // For the proof alone: they say that what the keeper tells is well formed.
+    let _checks = keeper.marked();
+    let _formed = keeper.held();
     let head = head_of(keeper)?;
     test_heads(meta, &head)?;
     test_rows(keeper)?;
     Ok(Met { meta, head })
 }
 
+/// The second in which a moment lies.
+fn second_of(at: i64) -> i64
+    requires clock { IsClockMoment at }
+    ensures second { result ≡ second_of at }
+    ensures range { IsWithin (pos 0) (pos 4_294_967_294) result }
+{
+    at / 1000
+}
+
 /// Whether the server lets the sync go on, and the clocks are at most 300 seconds apart.
 fn test_clocks(meta: MetaSaid, second: i64) -> Result<(), Stop>
     requires { IsWithin (pos 0) (pos 4_294_967_294) second }
-    ensures { result ≡ stop_or_go (clock_stop meta second) }
+    ensures stop { result ≡ stop_or_go (clock_stop meta second) }
+    ensures early { IfErr result IsOfGreeting }
 {
     if !meta.cont {
         return Err(Stop::Stopped);
@@ -81,7 +117,8 @@ fn are_far_apart(device: i64, server: i64) -> bool
 
 /// Whether there is something to sync, and no need to send the whole collection.
 fn test_heads(meta: MetaSaid, head: &Head) -> Result<(), Stop>
-    ensures { result ≡ stop_or_go (head_stop meta head.now) }
+    ensures stop { result ≡ stop_or_go (head_stop meta head.now) }
+    ensures early { IfErr result IsOfGreeting }
 {
     if head.moment == meta.moment {
         return Err(Stop::NoChanges);
@@ -99,7 +136,15 @@ fn test_heads(meta: MetaSaid, head: &Head) -> Result<(), Stop>
 }
 
 /// Whether the device's own collection is sound.
-fn test_rows<K: Keeper>(keeper: &mut K) -> Result<(), Stop> {
+fn test_rows<K: Keeper>(keeper: &mut K) -> Result<(), Stop>
+    ensures sound { OnOk result (WhereTold (K.keeping keeper.old) (λ h. first_fault h.rows ≡ None)) }
+    ensures same { K.keeping keeper.new ≡ K.keeping keeper.old }
+    ensures fault { IfErr result (λ stop. ((fault : KeepFault) × (stop ≡ keep_stop fault))
+        ⊎ ((fault : CheckFault) × (stop ≡ stops.OwnCheck fault)
+        × WhereTold (K.keeping keeper.old) (λ h. first_fault h.rows ≡ Some fault))) }
+    ensures early { IfErr result IsOfGreeting }
+    ensures keeper { GoesOn (K.health keeper.old) (K.health keeper.new) }
+{
     match check(keeper)? {
         Some(fault) => Err(Stop::OwnCheck(fault)),
         None => Ok(()),

@@ -9,5 +9,5 @@ mod syncs;
 
 pub use ak_exchange::Ids;
 pub use outcomes::Outcome;
-pub use sync_laws::lost_finishes_heal;
+pub use sync_laws::{lost_finishes_heal, syncs_may_go_on};
 pub use syncs::sync_over;

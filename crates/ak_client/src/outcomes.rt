@@ -1,5 +1,6 @@
 ghost use Rattle.ak_client.specs.declared.outcomes.Outcome.TheVariants as outcomes;
-ghost use Rattle.ak_client.specs.Outcomes.{outcome_of};
+ghost use Rattle.ak_client.specs.Outcomes.{outcome_at, outcome_of};
+ghost use Rattle.ak_exchange.specs.Stops.{shows_bad_check};
 ghost use Rattle.std.specs.Prelude.{◌≡◌};
 
 use ak_exchange::Stop;
@@ -86,4 +87,11 @@ fn outcome_at(stop: Stop) -> Outcome
         Stop::Keep => Outcome::Keep,
         Stop::Memory => Outcome::Memory,
     }
+}
+
+/// Whether a sync stops at a bad sanity check.
+pub(crate) fn shows_bad_check(stop: Stop) -> bool
+    ensures { result ≡ shows_bad_check stop }
+{
+    matches!(stop, Stop::BadRow(_) | Stop::BadCounts { .. })
 }

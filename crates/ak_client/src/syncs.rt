@@ -1,12 +1,16 @@
-ghost use Rattle.std.specs.Prelude.{◌≡◌, ◌≤◌, ℕ, [], true, false};
-ghost use Rattle.ak_client.specs.Syncs.{HasGiven, IsBounded, KeepsDevice, SyncsTold};
+ghost use Rattle.std.specs.Prelude.{◌≡◌, ◌≤ℤ◌, ◌<ℤ◌, pos, [], true, false, Some, IfOk};
+ghost use Rattle.ak_base.specs.Heads.{IsHeadInRange, IsMoment};
+ghost use Rattle.ak_base.specs.Limits.{last_head_usn};
+ghost use Rattle.ak_client.specs.Endings.{Ends, ExchangesAll};
+ghost use Rattle.ak_client.specs.Outcomes.{EndsFor, outcome_of};
+ghost use Rattle.ak_client.specs.Syncs.{IsSync, KeepsDevice, TakesMoments};
 ghost use Rattle.ak_faults.specs.Causes.{GoesOn};
-ghost use Rattle.ak_keep.specs.Keepers.{is_marked};
+ghost use Rattle.ak_keep.specs.Keepers.{IsMarkedAt, WhereTold, back, is_marked};
 
 use crate::greetings::greet;
-use crate::outcomes::{Outcome, outcome_of};
+use crate::outcomes::{Outcome, outcome_of, shows_bad_check};
 use ak_device::{commit_at, raise_moments};
-use ak_exchange::{Envelopes, Ids, Met, Stop, exchange};
+use ak_exchange::{Envelopes, Ids, Met, Stop, exchange, finish};
 use ak_io::Clock;
 use ak_keep::Keeper;
 use ak_undo::UndoList;
@@ -25,22 +29,21 @@ pub fn sync_over<K: Keeper, W: Wire, C: Clock>(
     requires unmarked { is_marked (K.keeping keeper.old) ≡ false }
     requires held { (K.keeping keeper.old).headed.current ≡ true }
 
-    // Where keeper and wire tell what they hold, and the host key is an account's: what the server's log shows of it, in this
-    // log and any later one; and if it is finished, that both hold the join.
-    ensures syncs { SyncsTold ids (K.keeping keeper.old) (K.keeping keeper.new)
+    // Over any keeper and wire, what it asks, in which order and how often. Where they tell what they hold, and the host key is
+    // an account's, what the server's log shows of it, in this log and any later one; and if it is finished, that both hold
+    // the join.
+    ensures syncs { IsSync ids (K.keeping keeper.old) (K.keeping keeper.new) (W.health wire.old) (W.health wire.new)
         (W.state wire.old) (W.state wire.new) result }
 
-    // Over any keeper and wire: how much it asks.
-    ensures bounded { IsBounded (K.keeping keeper.old) (W.state wire.old).calls (W.state wire.new).calls }
-
-    // If it is not finished, the device is as it was; after a bad sanity check alone both moments have risen.
-    ensures device { KeepsDevice (K.keeping keeper.old) (K.keeping keeper.new)
+    // If it is not finished, the device is as it was; after a bad sanity check alone both moments have risen, to the second
+    // moment that it takes of the clock.
+    ensures device { KeepsDevice 1 (K.keeping keeper.old) (K.keeping keeper.new)
         (C.to_come clock.old) (C.to_come clock.new) result }
     ensures unmarked { is_marked (K.keeping keeper.new) ≡ false }
     ensures undo { undo.new ≡ [] }
 
     // It takes one moment of the clock once its meta is granted, and another after a bad sanity check.
-    ensures clock { (n : ℕ) × (n ≤ 2) × HasGiven n (C.to_come clock.old) (C.to_come clock.new) }
+    ensures clock { TakesMoments 0 (C.to_come clock.old) (C.to_come clock.new) result }
     ensures keeper { GoesOn (K.health keeper.old) (K.health keeper.new) }
     ensures wire { GoesOn (W.health wire.old) (W.health wire.new) }
     ensures reading { GoesOn (W.state wire.old).reading (W.state wire.new).reading }
@@ -57,19 +60,47 @@ fn sync_device<K: Keeper, W: Wire, C: Clock>(
     wire: &mut W,
     clock: &mut C,
     ids: Ids,
-) -> Result<(), Stop> {
+) -> Result<(), Stop>
+    requires unmarked { is_marked (K.keeping keeper.old) ≡ false }
+    requires held { (K.keeping keeper.old).headed.current ≡ true }
+    ensures syncs { IsSync ids (K.keeping keeper.old) (K.keeping keeper.new) (W.health wire.old) (W.health wire.new)
+        (W.state wire.old) (W.state wire.new) (outcome_of result) }
+    ensures device { KeepsDevice 1 (K.keeping keeper.old) (K.keeping keeper.new)
+        (C.to_come clock.old) (C.to_come clock.new) (outcome_of result) }
+    ensures unmarked { is_marked (K.keeping keeper.new) ≡ false }
+    ensures clock { TakesMoments 0 (C.to_come clock.old) (C.to_come clock.new) (outcome_of result) }
+    ensures keeper { GoesOn (K.health keeper.old) (K.health keeper.new) }
+{
     let met = greet(keeper, wire, clock, ids)?;
-    let envelopes = Envelopes {
-        ids,
-        base: met.meta.moment,
-        step: 0,
-    };
+    sync_met(alloc, keeper, wire, clock, ids, &met)
+}
+
+/// Syncs a device that may go on: what it asks and takes is between a mark and a commit.
+fn sync_met<K: Keeper, W: Wire, C: Clock>(
+    alloc: Global,
+    keeper: &mut K,
+    wire: &mut W,
+    clock: &mut C,
+    ids: Ids,
+    met: &Met,
+) -> Result<(), Stop>
+    requires unmarked { is_marked (K.keeping keeper.old) ≡ false }
+    requires held { (K.keeping keeper.old).headed.current ≡ true }
+    requires head { IsHeadInRange met.now.head }
+    requires own { WhereTold (K.keeping keeper.old) (λ h. h.head ≡ Some met.now.head) }
+    requires low { pos 0 ≤ℤ met.now.meta.usn }
+    requires number { met.now.meta.usn <ℤ last_head_usn }
+    ensures ends { Ends ids met.now (K.keeping keeper.old) (K.keeping keeper.new) (W.health wire.old) (W.health wire.new)
+        (W.state wire.old) (W.state wire.new) (outcome_of result) }
+    ensures device { KeepsDevice 0 (K.keeping keeper.old) (K.keeping keeper.new)
+        (C.to_come clock.old) (C.to_come clock.new) (outcome_of result) }
+    ensures clock { TakesMoments 1 (C.to_come clock.old) (C.to_come clock.new) (outcome_of result) }
+    ensures unmarked { is_marked (K.keeping keeper.new) ≡ false }
+    ensures keeper { GoesOn (K.health keeper.old) (K.health keeper.new) }
+{
     keeper.mark()?;
-    match exchange(alloc, keeper, wire, envelopes, &met) {
-        Ok(moment) => {
-            commit_at(keeper, moment, met.head.schema, met.meta.usn)?;
-            Ok(())
-        }
+    match exchange_all(alloc, keeper, wire, ids, met) {
+        Ok(moment) => Ok(commit_at(keeper, moment, met.head.schema, met.meta.usn)?),
         Err(stop) => {
             keeper.back();
             after_stop(keeper, clock, stop)
@@ -77,14 +108,50 @@ fn sync_device<K: Keeper, W: Wire, C: Clock>(
     }
 }
 
+/// All that a sync asks after its meta. It answers the moment that the server committed at, in milliseconds; the device
+/// holds what it has to commit then.
+fn exchange_all<K: Keeper, W: Wire>(
+    alloc: Global,
+    keeper: &mut K,
+    wire: &mut W,
+    ids: Ids,
+    met: &Met,
+) -> Result<i64, Stop>
+    requires marked { is_marked (K.keeping keeper.old) ≡ true }
+    requires held { (K.keeping keeper.old).headed.current ≡ true }
+    requires low { pos 0 ≤ℤ met.now.meta.usn }
+    requires number { met.now.meta.usn <ℤ last_head_usn }
+    ensures exchanges { ExchangesAll ids met.now (K.keeping keeper.old) (K.keeping keeper.new)
+        (W.health wire.old) (W.health wire.new) (W.state wire.old) (W.state wire.new) result }
+    ensures stays { IsMarkedAt (back (K.keeping keeper.old)) (K.keeping keeper.new) }
+    ensures held { IfOk result (λ moment. (K.keeping keeper.new).headed.current ≡ true) }
+    ensures moment { IfOk result IsMoment }
+    ensures keeper { GoesOn (K.health keeper.old) (K.health keeper.new) }
+{
+    let mut envelopes = Envelopes {
+        ids,
+        base: met.meta.moment,
+        step: 0,
+    };
+    exchange(alloc, keeper, wire, &mut envelopes, met)?;
+    finish(wire, &mut envelopes)
+}
+
 /// What follows once a device is back at its mark: after a bad sanity check its moments rise.
-fn after_stop<K: Keeper, C: Clock>(keeper: &mut K, clock: &mut C, stop: Stop) -> Result<(), Stop> {
-    match stop {
-        Stop::BadRow(_) | Stop::BadCounts { .. } => {
-            let at = clock.now();
-            raise_moments(keeper, at)?;
-            Err(stop)
-        }
-        _ => Err(stop),
+fn after_stop<K: Keeper, C: Clock>(keeper: &mut K, clock: &mut C, stop: Stop) -> Result<(), Stop>
+    requires unmarked { is_marked (K.keeping keeper.old) ≡ false }
+    requires held { (K.keeping keeper.old).headed.current ≡ true }
+    ensures ends { EndsFor stop result }
+    ensures device { KeepsDevice 0 (K.keeping keeper.old) (K.keeping keeper.new)
+        (C.to_come clock.old) (C.to_come clock.new) (outcome_of result) }
+    ensures clock { TakesMoments 1 (C.to_come clock.old) (C.to_come clock.new) (outcome_of result) }
+    ensures unmarked { is_marked (K.keeping keeper.new) ≡ false }
+    ensures keeper { GoesOn (K.health keeper.old) (K.health keeper.new) }
+{
+    if !shows_bad_check(stop) {
+        return Err(stop);
     }
+    let at = clock.now();
+    raise_moments(keeper, at)?;
+    Err(stop)
 }

@@ -1,9 +1,3 @@
-use Rattle.ak_client.proofs.Fates.{stays_unused}
-use Rattle.ak_client.proofs.Finishing.{exchanged as finished_exchange}
-use Rattle.ak_client.proofs.Leading.{leads_keep_links}
-use Rattle.ak_client.proofs.Greeting.{greeted}
-use Rattle.ak_client.specs.Greetings.{IsReady}
-use Rattle.ak_client.specs.Outcomes.{outcome_at}
 use Rattle.ak_client.proofs.Healing.{joined_once}
 use Rattle.ak_merge.proofs.LaterSyncs.{joins_stay_apart}
 use Rattle.ak_merge.specs.Holdings.{content_of}

@@ -1,0 +1,244 @@
+-- What a whole sync asks and leaves.
+use Rattle.std.specs.List.{AllByRecursion}
+use Rattle.std.specs.Prelude.{◌≡◌, ℤ, pos, ◌+◌, ◌/◌, ◌≤◌, false, List, [], ◌∷◌, ◌++◌, length, Option, Some, Ok, Err}
+use Rattle.std.proofs.Common.{refl, sym, ap, subst, ◌∙◌, append_assoc, inl, inr, arith}
+use Rattle.std.proofs.lemmas.List.{length-append}
+use Rattle.std.proofs.lemmas.Option.{same_Some}
+use Rattle.ak_client.proofs.Clocks.{not_finished, stop_checks}
+use Rattle.ak_client.proofs.Ending.{no_graves}
+use Rattle.ak_client.proofs.Fates.{at_most_once, plain_commits_nothing, stays_once, stays_unused}
+use Rattle.ak_client.proofs.Growing.{commits_grown, tried_grows, world_grown, own_timely}
+use Rattle.ak_client.proofs.Leading.{linked_after}
+use Rattle.ak_client.proofs.Meeting.{formed_by, is_met, may_sync}
+use Rattle.ak_client.specs.Endings.{Ended, Ends, IsEnded}
+use Rattle.ak_client.specs.Greetings.{GreetsTold, IsMetOver, IsReady, meta_of}
+use Rattle.ak_client.specs.Outcomes.{outcome_at}
+use Rattle.ak_client.specs.Syncs.{CommitsAtMostOnce, IsShown, IsSync, IsSyncFinished, MayBegin, StaysOnce, Synced, world_at}
+use Rattle.ak_client.specs.declared.outcomes.Outcome.{Outcome}
+use Rattle.ak_exchange.proofs.Replying.{requests_count}
+use Rattle.ak_exchange.proofs.Tried.{few_none, tried_then}
+use Rattle.ak_exchange.specs.Asked.{AreTried, asker}
+use Rattle.ak_exchange.specs.Phases.{AreGraveRequests, IsMet, holding, held_by}
+use Rattle.ak_exchange.specs.Stops.{shows_bad_check}
+use Rattle.ak_exchange.specs.declared.envelopes.Ids.{Ids}
+use Rattle.ak_exchange.specs.declared.envelopes.Met.{Met}
+use Rattle.ak_exchange.specs.declared.stops.Stop.{Stop}
+use Rattle.ak_faults.specs.Causes.{Health}
+use Rattle.ak_keep.specs.Collections.{Collection, Holding}
+use Rattle.ak_keep.specs.Keepers.{IsRightlyKnown, Keeping, WhereTold}
+use Rattle.ak_keep.specs.declared.keepers.Wanted.TheVariants.{From, Unsent}
+use Rattle.ak_merge.specs.Exchanges.{AreExchanged, HoldsJoin}
+use Rattle.ak_merge.specs.Holdings.{row_under}
+use Rattle.ak_merge.specs.Joins.{AreApart}
+use Rattle.ak_merge.specs.Links.{AreLinked}
+use Rattle.ak_messages.specs.declared.requests.Ask.{Ask}
+use Rattle.ak_protocol.proofs.Commits.{not_both}
+use Rattle.ak_protocol.proofs.Syncs.{all_append, unused_keys_commit_nothing}
+use Rattle.ak_protocol.specs.Accounts.{AccountState}
+use Rattle.ak_protocol.specs.Commits.{CommitsGrow, EachNewer, HasFreshSchema}
+use Rattle.ak_protocol.specs.Logs.{Commit, Event, World, Log, IsTimely, commits_of, events_of, with_growth, world_after}
+use Rattle.ak_protocol.specs.Syncs.{IsUnderWay, IsUnused}
+use Rattle.ak_session.proofs.PlanLaws.{plans_are_short}
+use Rattle.ak_session.specs.Plans.{Asker, planned, requests_from}
+use Rattle.ak_session.specs.Sessions.{MaySync}
+use Rattle.ak_session.specs.Slices.{wanted_graves, wanted_in_chunks}
+use Rattle.ak_wires.specs.Wires.{WireState}
+
+-- ---- a sync whose meta was not answered, or that was ended by it
+synced_unmet : (ids : Ids) (stop : Stop) (c : Collection) (account : AccountState) (old now : Log) (growth : List Event) (left : Keeping)
+    → now ≡ with_growth old growth → AllByRecursion IsTimely growth → IsUnused ids.host.digits ids.session.0 account now
+    → Synced (asker ids) (pos 0) [] c account old now left (outcome_at stop)
+synced_unmet ids stop c account old now growth left grown timely unused = record {
+  growth = growth;
+  grown = grown;
+  timely = timely;
+  server = subst (λ (log : Log). CommitsGrow (world_at (asker ids) account old) (world_at (asker ids) account log)) (sym grown)
+      (commits_grown (asker ids) account old growth);
+  base = c;
+  at_meta = inl refl;
+  shown = inl (refl, unused);
+  front = λ apart. (planned c c, refl);
+  short = λ apart. omega arith;
+  once = stays_unused (asker ids) c c (pos 0) account now unused;
+  early = λ early. unused_keys_commit_nothing ids.host.digits ids.session.0 account now unused;
+  finished = λ is. absurd (not_finished stop is);
+}
+
+pub unmet : (ids : Ids) (stop : Stop) (before left : Keeping) (h0 h1 : Health) (w0 w1 : WireState) → shows_bad_check stop ≡ false
+    → AreTried (meta_of ids ∷ []) h0 h1 w0 w1
+    → GreetsTold ids w0.log w1.log (Err stop) → IsSync ids before left h0 h1 w0 w1 (outcome_at stop)
+unmet ids stop before left h0 h1 w0 w1 good tried greets = record {
+  moment = pos 0;
+  asks = [];
+  tried = tried;
+  graves = 0;
+  graves_most = no_graves before;
+  few = few_none 40_000 39_999 (5 + 0);
+  checked = stop_checks [] w1 stop (λ bad. absurd (not_both bad good));
+  told = λ old told.
+      let grown = tried_grows (meta_of ids ∷ []) h0 h1 w0 w1 old tried told in (
+        grown.now,
+        grown.is,
+        λ c account holds may fresh.
+            let greeted = greets account old told may.unused in
+            synced_unmet ids stop c account old grown.now grown.growth left grown.grown grown.timely
+            (subst (λ (log : Log). IsUnused ids.host.digits ids.session.0 account log)
+            (same_Some greeted.0 grown.now (sym greeted.1 ∙ grown.is)) greeted.2.unused),
+      );
+}
+
+-- ---- a sync that went on
+module _ (ids : Ids) (met : Met) (c s : Collection) (account : AccountState) (asks : List Ask) (old mid : Log) (later : List Event) (left : Keeping)
+    (outcome : Outcome) (later_timely : AllByRecursion IsTimely later)
+    (may : MayBegin (asker ids) c account old)
+    (fresh : EachNewer (HasFreshSchema c) (world_at (asker ids) account old) (world_at (asker ids) account (with_growth mid later)))
+    (over : IsMetOver (asker ids) account old mid s) (both : IsMet c s met)
+    (syncs : AreApart (row_under c) (row_under s) → MaySync c s)
+    (end : Ended c s account (asker ids) asks (Some (with_growth mid later)) left outcome) where
+  abbrev now : Log
+  now = with_growth mid later
+
+  abbrev who : Asker
+  who = asker ids
+
+  abbrev growth : List Event
+  growth = over.front ++ (over.rest ++ later)
+
+  timely : AllByRecursion IsTimely growth
+  timely =
+      subst (AllByRecursion IsTimely) (append_assoc over.front over.rest later)
+      (all_append IsTimely (over.front ++ over.rest) later over.timely later_timely)
+
+  now_grown : now ≡ with_growth old growth
+  now_grown =
+      ap (λ (log : Log). with_growth log later) over.grown
+      ∙ ap (λ (events : List Event). record old { events = events })
+      (append_assoc old.events (over.front ++ over.rest) later ∙ ap (λ (l : List Event). old.events ++ l) (append_assoc over.front over.rest later))
+
+  under_way : IsUnderWay who.host.digits who.session.0 (requests_from who s.head.moment 1 asks) s account now
+  under_way =
+      subst (λ (log : Log). IsUnderWay who.host.digits who.session.0 (requests_from who s.head.moment 1 asks) s account log)
+      (sym (same_Some now end.shown.reached.0 end.shown.reached.1)) end.shown.reached.2
+
+  -- at the meta's moment
+  shown : IsShown who account s met.meta.moment asks now
+  shown = subst (λ (moment : ℤ). IsShown who account s moment asks now) (sym both.moment) (inr (refl, under_way))
+
+  once : StaysOnce who c s met.meta.moment asks account now
+  once =
+      subst (λ (moment : ℤ). StaysOnce who c s moment asks account now) (sym both.moment)
+      (stays_once who c s account asks syncs end.shown.front now under_way)
+
+  -- a front of the plan is at most as long
+  short : AreApart (row_under c) (row_under s) → length asks + 1 ≤ 8 + length (wanted_graves Unsent c.rows) / 250
+      + length (wanted_in_chunks (From c.head.usn) s.rows) / 250 + length (wanted_in_chunks Unsent c.rows) / 250
+  short apart =
+      let so = syncs apart in
+      let ahead = end.shown.front so in
+      let most = plans_are_short who c s so.committed.head.usn.low in
+      let count = requests_count who s.head.moment 1 (planned c s) in
+      let both = length-append asks ahead.0 in
+      let whole = ap (λ (l : List Ask). length l) ahead.1 in
+      omega (arith, most, count, both, whole)
+
+  -- the join that the one commit holds
+  joined : (after : Collection) → commits_of who.session.0 (world_at who account now).commits
+      ≡ record { key = who.session.0; before = s; after = after } ∷ []
+      → AreApart (row_under c) (row_under s) → HoldsJoin c s after
+  joined after only apart = by (at_most_once who c s account asks syncs end.shown.front now under_way)
+    where
+      by : CommitsAtMostOnce who.session.0 c s (world_at who account now).commits → HoldsJoin c s after
+      by (inl none) = absurd (one_is_none (record { key = who.session.0; before = s; after = after }) (sym only ∙ none))
+        where
+          one_is_none : (one : Commit) → one ∷ [] ≡ [] → ⊥
+          one_is_none one is = grind (arith, is)
+      by (inr one) =
+          subst (λ (t : Collection). HoldsJoin c s t)
+          (ap (λ (l : List Commit). elim l as (λ _. Collection) [ [] ↦ after | x ∷ xs ↦ x.after ]) (sym one.only ∙ only))
+          (one.joins apart)
+
+  ended : IsEnded c s account who (Some now) left → IsSyncFinished who c s account now left
+  ended it =
+      let same : now ≡ it.committed.log = same_Some now it.committed.log it.committed.is in
+      let only : commits_of who.session.0 (world_at who account now).commits ≡ record { key = who.session.0; before = s; after = it.after } ∷ [] =
+      ap (λ (log : Log). commits_of who.session.0 (world_at who account log).commits) same ∙ it.committed.only in
+      let halves : AreApart (row_under c) (row_under s) → AreExchanged c s it.device it.after =
+      λ apart. it.half (syncs apart) (joined it.after only apart) in
+      record {
+        after = it.after;
+        device = it.device;
+        only = only;
+        holds = it.holds;
+        moment = it.moment;
+        last_sync = it.last_sync;
+        usn = it.usn;
+        schema = it.schema;
+        exchanged = halves;
+        linked = λ apart. linked_now it.device it.after only it.schema (inr (halves apart).linked);
+      }
+    where
+      grown_world : world_at who account now ≡ world_after (world_at who account old) (events_of who.host.digits growth)
+      grown_world = ap (world_at who account) now_grown ∙ world_grown who account old growth
+
+      linked_now : (d after : Collection)
+          → commits_of who.session.0 (world_at who account now).commits ≡ record { key = who.session.0; before = s; after = after } ∷ []
+          → d.head.schema ≡ c.head.schema → AreLinked d after → AreLinked d (world_at who account now).state.committed
+      linked_now d after only same linked =
+          subst (λ (w : World). AreLinked d w.state.committed) (sym grown_world)
+          (linked_after who.session.0 c d (record { key = who.session.0; before = s; after = after }) (world_at who account old)
+          (events_of who.host.digits growth) (own_timely who account old growth timely may.lawful) may.lawful
+          (subst (EachNewer (HasFreshSchema c) (world_at who account old)) grown_world fresh) may.linked
+          (unused_keys_commit_nothing who.host.digits who.session.0 account old may.unused)
+          (ap (λ (w : World). commits_of who.session.0 w.commits) (sym grown_world) ∙ only) same linked)
+
+  pub synced_met : Synced who met.meta.moment asks c account old now left outcome
+  synced_met = record {
+    growth = growth;
+    grown = now_grown;
+    timely = timely;
+    server = subst (λ (log : Log). CommitsGrow (world_at who account old) (world_at who account log)) (sym now_grown)
+        (commits_grown who account old growth);
+    base = s;
+    at_meta = inr (record { front = over.front; rest = over.rest ++ later; parts = refl; place = over.place });
+    shown = shown;
+    front = λ apart. end.shown.front (syncs apart);
+    short = short;
+    once = once;
+    early = λ early. plain_commits_nothing who s account asks now (end.early early) under_way;
+    finished = λ is. ended (end.finished is);
+  }
+
+-- what a keeper tells is true of the collection that it holds
+told_of : (keeping : Keeping) (c : Collection) (P : Holding → Type 0) → keeping ≡ holding c → WhereTold keeping P → P (held_by c)
+told_of keeping c P is told = subst (λ (k : Keeping). WhereTold k P) is told
+
+pub went_on : (ids : Ids) (met : Met) (before kept left : Keeping) (h0 h1 h2 : Health) (w0 w1 w2 : WireState) (outcome : Outcome)
+    → AreTried (meta_of ids ∷ []) h0 h1 w0 w1 → GreetsTold ids w0.log w1.log (Ok met) → WhereTold before (λ h. IsReady h met)
+    → IsRightlyKnown before → kept ≡ before → Ends ids met kept left h1 h2 w1 w2 outcome → IsSync ids before left h0 h2 w0 w2 outcome
+went_on ids met before kept left h0 h1 h2 w0 w1 w2 outcome tried greets ready known same ends = record {
+  moment = met.meta.moment;
+  asks = ends.asks;
+  tried = tried_then (meta_of ids ∷ []) (requests_from (asker ids) met.meta.moment 1 ends.asks) h0 h1 h2 w0 w1 w2 tried ends.tried;
+  graves = ends.graves;
+  graves_most = subst (λ (k : Keeping). AreGraveRequests k ends.graves) same ends.graves_most;
+  few = ends.few;
+  checked = ends.checked;
+  told = λ old told.
+      let first = tried_grows (meta_of ids ∷ []) h0 h1 w0 w1 old tried told in
+      let then_on = tried_grows (requests_from (asker ids) met.meta.moment 1 ends.asks) h1 h2 w1 w2 first.now ends.tried first.is in (
+        with_growth first.now then_on.growth,
+        then_on.is ∙ ap (λ (log : Log). Some log) then_on.grown,
+        λ c account holds may fresh.
+            let greeted = greets account old told may.unused in
+            let met_over : IsMetOver (asker ids) account old first.now greeted.2.met.0 =
+            subst (λ (log : Log). IsMetOver (asker ids) account old log greeted.2.met.0)
+            (same_Some greeted.0 first.now (sym greeted.1 ∙ first.is)) greeted.2.met.1 in
+            let ready_so : IsReady (held_by c) met = told_of before c (λ h. IsReady h met) holds ready in
+            let both : IsMet c greeted.2.met.0 met = is_met c greeted.2.met.0 met ready_so greeted.2.met.2 in
+            synced_met ids met c greeted.2.met.0 account ends.asks old first.now then_on.growth left outcome then_on.timely may fresh met_over both
+            (may_sync (asker ids) c greeted.2.met.0 account old first.now then_on.growth met may met_over fresh (formed_by c before holds known) ready_so greeted.2.met.2)
+            (subst (λ (o : Option Log). Ended c greeted.2.met.0 account (asker ids) ends.asks o left outcome)
+            (then_on.is ∙ ap (λ (log : Log). Some log) then_on.grown)
+            (ends.told c greeted.2.met.0 account both (first.now, first.is, met_over.under_way) (same ∙ holds))),
+      );
+}

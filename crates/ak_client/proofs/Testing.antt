@@ -1,0 +1,212 @@
+-- What the tests of a greeting say if they let a sync go on.
+use Rattle.std.specs.Ordering.{int_eq}
+use Rattle.std.specs.Prelude.{◌≡◌, ◌≢◌, ◌==◌, ℤ, pos, ◌<ℤ◌, ◌&&◌, Bool, true, false, not, if◌then◌else◌, List, Option, Some, None, IfSome, Result, Ok, Err, IfOk, IsErrAnd, ok_or, ◌⊎◌}
+use Rattle.std.proofs.Common.{refl, sym, ap, subst, ◌∙◌, inl, inr, arith}
+use Rattle.std.proofs.lemmas.Int.{ints}
+use Rattle.std.proofs.lemmas.Option.{same_Some}
+use Rattle.ak_base.specs.Heads.{IsWithin}
+use Rattle.ak_base.specs.Limits.{last_head_usn}
+use Rattle.ak_base.specs.declared.heads.Head.{Head}
+use Rattle.ak_client.specs.Greetings.{EndsAtDevice, IsGreeting, IsReady, clock_stop, head_stop, meta_of}
+use Rattle.ak_exchange.specs.Stops.{keep_stop, stop_or_go, wire_stop}
+use Rattle.ak_exchange.specs.declared.envelopes.Ids.{Ids}
+use Rattle.ak_exchange.specs.declared.envelopes.Met.{Met}
+use Rattle.ak_exchange.specs.declared.stops.Stop.{Stop}
+use Rattle.ak_exchange.specs.declared.stops.Stop.TheVariants as stops
+use Rattle.ak_faults.specs.Causes.{Health}
+use Rattle.ak_io.specs.Arrivals.{GivesNext}
+use Rattle.ak_keep.specs.Collections.{Holding, Rows}
+use Rattle.ak_keep.specs.Keepers.{Keeping, WhereTold}
+use Rattle.ak_keep.specs.Marks.{WithMark}
+use Rattle.ak_keep.specs.declared.keepers.KeepFault.{KeepFault}
+use Rattle.ak_merge.specs.Edits.{second_of}
+use Rattle.ak_merge.specs.Soundness.{first_fault}
+use Rattle.ak_merge.specs.declared.checks.CheckFault.{CheckFault}
+use Rattle.ak_messages.specs.declared.replies.Give.{Give}
+use Rattle.ak_messages.specs.declared.replies.Give.TheVariants as gives
+use Rattle.ak_messages.specs.declared.replies.Reply.{Reply}
+use Rattle.ak_messages.specs.declared.requests.Request.{Request}
+use Rattle.ak_session.proofs.Ranges.{within}
+use Rattle.ak_session.specs.Refusals.{is_between}
+use Rattle.ak_wires.specs.Forms.{is_meta_in_range, is_moment, meta_in, meta_told}
+use Rattle.ak_wires.specs.Tries.{Answered, granted_in, in_form}
+use Rattle.ak_wires.specs.Wires.{WireState}
+use Rattle.ak_wires.specs.declared.asks.Unanswered.{Unanswered}
+use Rattle.ak_wires.specs.declared.asks.Unanswered.TheVariants as unanswered
+use Rattle.ak_wires.specs.declared.wires.MetaSaid.{MetaSaid}
+use Rattle.ak_wires.specs.declared.wires.WireEnd.{WireEnd}
+use Rattle.ak_wires.specs.declared.wires.WireEnd.TheVariants as ends
+
+-- a test that lets a sync go on found no reason to stop
+pub passed : (o : Option Stop) → stop_or_go o ≡ Ok tt → o ≡ None
+passed None is = refl
+passed (Some stop) is = grind (arith, is)
+
+none_of : (stop : Stop) → Some stop ≡ None → ⊥
+none_of stop is = grind (arith, is)
+
+-- what holds of the result of an exit by this reason
+pub exits : {T : Type 0} (result : Result T Stop) (stop : Stop) (P : Result T Stop → Type 0) → IsErrAnd result (λ (other : Stop). other ≡ stop)
+    → P (Err stop) → P result
+exits (Ok value) stop P is so = absurd is
+exits (Err other) stop P is so = subst (λ (s : Stop). P (Err s)) (sym is) so
+
+-- the moments differ, the schema moments agree, and the server's number is not the last one
+pub heads_pass : (meta : MetaSaid) (head : Head) → head_stop meta head ≡ None
+    → (head.moment ≢ meta.moment) × (head.schema ≡ meta.scm) × (meta.usn ≢ last_head_usn)
+heads_pass meta head is =
+    by (int_eq head.moment meta.moment) (int_eq head.schema meta.scm) (int_eq meta.usn last_head_usn) refl refl refl is
+  where
+    by : (moments schemas last : Bool) → int_eq head.moment meta.moment ≡ moments → int_eq head.schema meta.scm ≡ schemas
+        → int_eq meta.usn last_head_usn ≡ last
+        → (if moments then Some stops.NoChanges
+        else if not schemas then Some (stops.FullSchema head.schema meta.scm)
+        else if last then Some (stops.FullSequence meta.usn)
+        else None) ≡ None
+        → (head.moment ≢ meta.moment) × (head.schema ≡ meta.scm) × (meta.usn ≢ last_head_usn)
+    by true schemas last one two three is = absurd (none_of (stops.NoChanges) is)
+    by false false last one two three is = absurd (none_of (stops.FullSchema head.schema meta.scm) is)
+    by false true true one two three is = absurd (none_of (stops.FullSequence meta.usn) is)
+    by false true false one two three is =
+        (λ same. grind (arith, ints, one, same), grind (arith, ints, two), λ same. grind (arith, ints, three, same))
+
+-- a number in the range of a head that is not the last one is below it
+pub below_last : (usn : ℤ) → IsWithin (pos 0) last_head_usn usn → usn ≢ last_head_usn → usn <ℤ last_head_usn
+below_last usn within other = let high = within.high in grind (arith, ints, high, other)
+
+-- ---- the number of a meta
+third : (a b c : Bool) → (a && b && c) ≡ true → c ≡ true
+third true true c is = is
+third true false c is = grind (arith, is)
+third false b c is = grind (arith, is)
+
+usn_given : (give : Give) → IfOk (ok_or (meta_in give) unanswered.BadReply) (λ (met : MetaSaid). IsWithin (pos 0) last_head_usn met.usn)
+usn_given (gives.Meta meta) = by (is_meta_in_range meta) refl
+  where
+    by : (b : Bool) → is_meta_in_range meta ≡ b
+        → IfOk (ok_or (if b then Some (meta_told meta) else None) unanswered.BadReply) (λ (met : MetaSaid). IsWithin (pos 0) last_head_usn met.usn)
+    by false is = tt
+    by true is =
+        within (pos 0) last_head_usn meta.usn
+        (third (is_moment meta.scm) (is_moment meta.moment) (is_between (pos 0) last_head_usn meta.usn) is)
+usn_given gives.Nothing = tt
+usn_given (gives.Graves ids) = tt
+usn_given (gives.Changes changes) = tt
+usn_given (gives.Chunk chunk) = tt
+usn_given (gives.Sanity reply) = tt
+usn_given (gives.Moment moment) = tt
+usn_given (gives.Uploaded moment schema) = tt
+usn_given (gives.Whole whole) = tt
+
+usn_granted : (b : Bool) (reply : Reply)
+    → IfOk (in_form meta_in (if b then Ok reply.give else Err (unanswered.Refused reply.status reply.word reply.seen)))
+    (λ (met : MetaSaid). IsWithin (pos 0) last_head_usn met.usn)
+usn_granted true reply = usn_given reply.give
+usn_granted false reply = tt
+
+usn_answered : (answer : Result Reply WireEnd) → IfOk (in_form meta_in (granted_in answer)) (λ (met : MetaSaid). IsWithin (pos 0) last_head_usn met.usn)
+usn_answered (Ok reply) = usn_granted (reply.status == 200) reply
+usn_answered (Err ends.Failed) = tt
+usn_answered (Err ends.BadReply) = tt
+usn_answered (Err ends.Memory) = tt
+
+-- the number that a granted meta tells is in the range of a head
+pub usn_within : (request : Request) (before now : Health) (was is : WireState) (met : MetaSaid) → Answered before now was is request meta_in (Ok met)
+    → IsWithin (pos 0) last_head_usn met.usn
+usn_within request before now was is met call =
+    subst (λ (r : Result MetaSaid Unanswered). IfOk r (λ (m : MetaSaid). IsWithin (pos 0) last_head_usn m.usn)) (sym call.came) (usn_answered call.answer)
+
+-- ---- the device
+-- what was read of the device, and passed
+pub ready_where : (keeping : Keeping) (meta : MetaSaid) (head : Head) → head_stop meta head ≡ None → IsWithin (pos 0) last_head_usn meta.usn
+    → WhereTold keeping (λ h. h.head ≡ Some head) → WhereTold keeping (λ h. first_fault h.rows ≡ None)
+    → WhereTold keeping (λ h. IsReady h (record { meta = meta; head = head }))
+ready_where keeping meta head pass usn = by keeping.told
+  where
+    by : (told : Option (WithMark Holding)) → IfSome told (λ (w : WithMark Holding). w.current.head ≡ Some head)
+        → IfSome told (λ (w : WithMark Holding). first_fault w.current.rows ≡ None)
+        → IfSome told (λ (w : WithMark Holding). IsReady w.current (record { meta = meta; head = head }))
+    by None held sound = tt
+    by (Some w) held sound =
+        let heads = heads_pass meta head pass in
+        record { head = held; differ = heads.0; schema = heads.1; number = below_last meta.usn usn heads.2; sound = sound }
+
+-- the head that was read is that of the device
+pub heads_told : (before now : Keeping) (met : Met) → now ≡ before → WhereTold before (λ h. IsReady h met) → WhereTold now (λ h. h.head ≡ Some met.head)
+heads_told before now met same ready = subst (λ (k : Keeping). WhereTold k (λ h. h.head ≡ Some met.head)) (sym same) (by before.told ready)
+  where
+    by : (t : Option (WithMark Holding)) → IfSome t (λ (w : WithMark Holding). IsReady w.current met)
+        → IfSome t (λ (w : WithMark Holding). w.current.head ≡ Some met.head)
+    by None is = tt
+    by (Some w) is = is.head
+
+-- ---- why a greeting ends
+stopped_by : (o : Option Stop) (stop : Stop) → stop_or_go o ≡ Err stop → o ≡ Some stop
+stopped_by None stop is = grind (arith, is)
+stopped_by (Some own) stop is = grind (arith, is)
+
+-- what the heads and the rows say, where the keeper tells them
+pub ends_by_heads : (keeping : Keeping) (meta : MetaSaid) (head : Head) (stop : Stop) → WhereTold keeping (λ h. h.head ≡ Some head)
+    → Err stop ≡ stop_or_go (head_stop meta head) → EndsAtDevice meta keeping stop
+ends_by_heads keeping meta head stop told is = inr (by keeping.told told)
+  where
+    held : (rows : Rows) (o : Option Head) → o ≡ Some head → IfSome o (λ (own : Head). (head_stop meta own ≡ Some stop)
+        ⊎ ((head_stop meta own ≡ None) × ((fault : CheckFault) × (stop ≡ stops.OwnCheck fault) × (first_fault rows ≡ Some fault))))
+    held rows None own = tt
+    held rows (Some other) own =
+        inl (ap (head_stop meta) (same_Some other head own) ∙ stopped_by (head_stop meta head) stop (sym is))
+
+    by : (t : Option (WithMark Holding)) → IfSome t (λ (w : WithMark Holding). w.current.head ≡ Some head)
+        → IfSome t (λ (w : WithMark Holding). IfSome w.current.head (λ (own : Head). (head_stop meta own ≡ Some stop)
+        ⊎ ((head_stop meta own ≡ None) × ((fault : CheckFault) × (stop ≡ stops.OwnCheck fault) × (first_fault w.current.rows ≡ Some fault)))))
+    by None own = tt
+    by (Some w) own = held w.current.rows w.current.head own
+
+pub ends_by_rows : (keeping read : Keeping) (meta : MetaSaid) (head : Head) (stop : Stop) → read ≡ keeping → WhereTold keeping (λ h. h.head ≡ Some head)
+    → head_stop meta head ≡ None
+    → ((fault : KeepFault) × (stop ≡ keep_stop fault))
+    ⊎ ((fault : CheckFault) × (stop ≡ stops.OwnCheck fault) × WhereTold read (λ h. first_fault h.rows ≡ Some fault))
+    → EndsAtDevice meta keeping stop
+ends_by_rows keeping read meta head stop same told pass (inl refused) = inl refused
+ends_by_rows keeping read meta head stop same told pass (inr (fault, own, unsound)) =
+    inr (by keeping.told told (subst (λ (k : Keeping). WhereTold k (λ h. first_fault h.rows ≡ Some fault)) same unsound))
+  where
+    held : (rows : Rows) (o : Option Head) → o ≡ Some head → first_fault rows ≡ Some fault → IfSome o (λ (own : Head). (head_stop meta own ≡ Some stop)
+        ⊎ ((head_stop meta own ≡ None) × ((fault : CheckFault) × (stop ≡ stops.OwnCheck fault) × (first_fault rows ≡ Some fault))))
+    held rows None is bad = tt
+    held rows (Some other) is bad = inr (ap (head_stop meta) (same_Some other head is) ∙ pass, (fault, own, bad))
+
+    by : (t : Option (WithMark Holding)) → IfSome t (λ (w : WithMark Holding). w.current.head ≡ Some head)
+        → IfSome t (λ (w : WithMark Holding). first_fault w.current.rows ≡ Some fault)
+        → IfSome t (λ (w : WithMark Holding). IfSome w.current.head (λ (own : Head). (head_stop meta own ≡ Some stop)
+        ⊎ ((head_stop meta own ≡ None) × ((fault : CheckFault) × (stop ≡ stops.OwnCheck fault) × (first_fault w.current.rows ≡ Some fault)))))
+    by None is bad = tt
+    by (Some w) is bad = held w.current.rows w.current.head is bad
+
+-- the greeting, once its meta was granted and the clock gave this moment
+module _ (ids : Ids) (h0 h1 : Health) (w0 w1 : WireState) (old new : Option (List ℤ)) (keeping : Keeping) (meta : MetaSaid) (stop : Stop)
+    (heard : Answered h0 h1 w0 w1 (meta_of ids) meta_in (Ok meta)) (at second : ℤ) (given : GivesNext old new at) (is : second ≡ second_of at) where
+  pub greeting_by_clocks : Err stop ≡ stop_or_go (clock_stop meta second) → IsGreeting ids h0 h1 w0 w1 old new keeping (Err stop)
+  greeting_by_clocks stopped = record {
+    answer = Ok meta;
+    heard = heard;
+    goes_on = tt;
+    ends = (at, given, inl (subst (λ (s : ℤ). clock_stop meta s ≡ Some stop) is (stopped_by (clock_stop meta second) stop (sym stopped))));
+  }
+
+  pub greeting_by_device : Ok tt ≡ stop_or_go (clock_stop meta second) → EndsAtDevice meta keeping stop
+      → IsGreeting ids h0 h1 w0 w1 old new keeping (Err stop)
+  greeting_by_device pass ends = record {
+    answer = Ok meta;
+    heard = heard;
+    goes_on = tt;
+    ends = (at, given, inr (subst (λ (s : ℤ). clock_stop meta s ≡ None) is (passed (clock_stop meta second) (sym pass)), ends));
+  }
+
+pub greeting_unheard : (ids : Ids) (h0 h1 : Health) (w0 w1 : WireState) (old : Option (List ℤ)) (keeping : Keeping) (why : Unanswered)
+    → Answered h0 h1 w0 w1 (meta_of ids) meta_in (Err why) → IsGreeting ids h0 h1 w0 w1 old old keeping (Err (wire_stop why))
+greeting_unheard ids h0 h1 w0 w1 old keeping why heard = record { answer = Err why; heard = heard; goes_on = tt; ends = refl }
+
+pub greeting_goes_on : (ids : Ids) (h0 h1 : Health) (w0 w1 : WireState) (old new : Option (List ℤ)) (keeping : Keeping) (met : Met)
+    → Answered h0 h1 w0 w1 (meta_of ids) meta_in (Ok met.meta) → IsGreeting ids h0 h1 w0 w1 old new keeping (Ok met)
+greeting_goes_on ids h0 h1 w0 w1 old new keeping met heard = record { answer = Ok met.meta; heard = heard; goes_on = refl; ends = tt }

@@ -1,0 +1,117 @@
+-- What a sync that goes on after its meta asks and leaves.
+use Rattle.std.specs.List.{AllByRecursion}
+use Rattle.std.specs.Prelude.{◌≡◌, ℕ, ℤ, pos, ◌+◌, ◌≤◌, ◌+ℤ◌, true, false, List, [], ◌∷◌, ◌++◌, Option, Some, Result, IfOk, IfErr}
+use Rattle.ak_client.specs.Outcomes.{outcome_at}
+use Rattle.ak_client.specs.Syncs.{HasChecked, ends_before_finish, fewest_moments, most_moments, world_at}
+use Rattle.ak_client.specs.declared.outcomes.Outcome.{Outcome}
+use Rattle.ak_client.specs.declared.outcomes.Outcome.TheVariants as outcomes
+use Rattle.ak_device.specs.Devices.{Settles, received}
+use Rattle.ak_exchange.specs.Asked.{AreFew, AreTried, asker}
+use Rattle.ak_exchange.specs.Phases.{AreGraveRequests, IsCheckedLast, IsMet, IsReached, holding, marked_at}
+use Rattle.ak_exchange.specs.Stops.{shows_bad_check}
+use Rattle.ak_exchange.specs.declared.envelopes.Ids.{Ids}
+use Rattle.ak_exchange.specs.declared.envelopes.Met.{Met}
+use Rattle.ak_exchange.specs.declared.stops.Stop.{Stop}
+use Rattle.ak_faults.specs.Causes.{Health}
+use Rattle.ak_keep.specs.Collections.{Collection}
+use Rattle.ak_keep.specs.Keepers.{Keeping, changed}
+use Rattle.ak_merge.specs.Exchanges.{HoldsJoin, AreExchanged}
+use Rattle.ak_messages.specs.declared.requests.Ask.{Ask}
+use Rattle.ak_protocol.specs.Accounts.{AccountState}
+use Rattle.ak_protocol.specs.Logs.{Log, commits_of}
+use Rattle.ak_session.specs.Plans.{Asker, planned, planned_check, requests_from}
+use Rattle.ak_session.specs.Replies.{all_replied}
+use Rattle.ak_session.specs.Requests.{asks_commit}
+use Rattle.ak_session.specs.Sessions.{MaySync}
+use Rattle.ak_wires.specs.Wires.{WireState}
+
+-- why a sync may stop between its meta and its start: it takes one moment of its clock then, and shows no bad sanity check
+pub record IsOfGreeting (stop : Stop) : Type 0 where
+  pub least : fewest_moments (outcome_at stop) ≤ 1
+  pub most : 1 ≤ most_moments (outcome_at stop)
+  pub good : shows_bad_check stop ≡ false
+
+-- none of these commits
+abbrev pub ArePlain : List Ask → Type 0
+ArePlain asks = AllByRecursion (λ (ask : Ask). asks_commit ask ≡ false) asks
+
+-- what is asked after a meta of a wire, whatever keeper and wire are: each request is tried at most 3 times, there are few, and this holds
+-- of them. Of the device's c and what was committed as s, which the meta told, that holds then
+pub record AsksAfter (ids : Ids) (met : Met) (before : Keeping) (health_before health_now : Health) (old now : WireState)
+    (Checks : List Ask → Type 0) (Leaves : Collection → Collection → AccountState → List Ask → Type 0) : Type 0 where
+  pub asks : List Ask
+  pub tried : AreTried (requests_from (asker ids) met.meta.moment 1 asks) health_before health_now old now
+  pub graves : ℕ
+  pub graves_most : AreGraveRequests before graves
+  pub few : AreFew 40_000 39_999 (5 + graves) asks
+  pub checked : Checks asks
+  pub told : (c s : Collection) (account : AccountState) → IsMet c s met → IsReached (asker ids) account s [] old.log
+      → Leaves c s account asks
+
+-- the log shows that a sync of the device's c asked these after its meta, over s: a front of its plan if the two may sync
+pub record IsShownAfter (c s : Collection) (account : AccountState) (who : Asker) (asks : List Ask)
+    (told : Option Log) : Type 0 where
+  pub reached : IsReached who account s asks told
+  pub front : MaySync c s → (rest : List Ask) × (asks ++ rest ≡ planned c s)
+
+-- the session committed once, as this
+pub record HasOneCommit (s after : Collection) (account : AccountState) (who : Asker) (told : Option Log) : Type 0 where
+  pub log : Log
+  pub is : told ≡ Some log
+  pub only : commits_of who.session.0 (world_at who account log).commits
+      ≡ record { key = who.session.0; before = s; after = after } ∷ []
+
+-- ---- up to the finish
+-- a finish was granted: the session committed at this moment; and the device, which is marked at c, took what came and settled what it sent
+pub record IsGranted (c s : Collection) (account : AccountState) (who : Asker) (told : Option Log) (left : Keeping)
+    (moment : ℤ) : Type 0 where
+  pub after : Collection
+  pub committed : HasOneCommit s after account who told
+  pub moment_is : moment ≡ after.head.moment
+  pub asked : List Ask
+  pub whole : MaySync c s → asked ≡ planned_check c s
+  pub device : Settles s.head.usn (changed (received s.head.usn (all_replied s asked)) (marked_at c)) left
+
+-- a sync asked these, up to its finish: where it is left, and what a granted finish leaves
+pub record Exchanged (c s : Collection) (account : AccountState) (who : Asker) (asks : List Ask) (told : Option Log)
+    (left : Keeping) (result : Result ℤ Stop) : Type 0 where
+  pub shown : IsShownAfter c s account who asks told
+  pub early : IfErr result (λ (stop : Stop). ends_before_finish (outcome_at stop) ≡ true → ArePlain asks)
+  pub granted : IfOk result (λ (moment : ℤ). IsGranted c s account who told left moment)
+
+-- the same from a marked keeper on
+abbrev pub ExchangesAll : Ids → Met → Keeping → Keeping → Health → Health → WireState → WireState → Result ℤ Stop → Type 0
+ExchangesAll ids met before left health_before health_now old now result =
+    AsksAfter ids met before health_before health_now old now
+    (λ (asks : List Ask). IfErr result (λ (stop : Stop). shows_bad_check stop ≡ true → IsCheckedLast asks stop now))
+    (λ (c s : Collection) (account : AccountState) (asks : List Ask). before ≡ marked_at c
+    → Exchanged c s account (asker ids) asks now.log left result)
+
+-- ---- up to the end
+-- a sync is finished: the session committed once, and the device holds the other half of the exchange
+pub record IsEnded (c s : Collection) (account : AccountState) (who : Asker) (told : Option Log)
+    (left : Keeping) : Type 0 where
+  pub after : Collection
+  pub committed : HasOneCommit s after account who told
+  pub device : Collection
+  pub holds : left ≡ holding device
+  pub moment : device.head.moment ≡ after.head.moment
+  pub last_sync : device.head.last_sync ≡ after.head.moment
+  pub usn : device.head.usn ≡ s.head.usn +ℤ pos 1
+  pub schema : device.head.schema ≡ c.head.schema
+  pub half : MaySync c s → HoldsJoin c s after → AreExchanged c s device after
+
+-- a sync asked these and ended so
+pub record Ended (c s : Collection) (account : AccountState) (who : Asker) (asks : List Ask) (told : Option Log)
+    (left : Keeping) (outcome : Outcome) : Type 0 where
+  pub shown : IsShownAfter c s account who asks told
+  pub early : ends_before_finish outcome ≡ true → ArePlain asks
+  pub finished : outcome ≡ outcomes.Finished → IsEnded c s account who told left
+
+-- the same from a keeper on that is not marked
+abbrev pub Ends : Ids → Met → Keeping → Keeping → Health → Health → WireState → WireState → Outcome → Type 0
+Ends ids met before left health_before health_now old now outcome =
+    AsksAfter ids met before health_before health_now old now
+    (λ (asks : List Ask). HasChecked asks now outcome)
+    (λ (c s : Collection) (account : AccountState) (asks : List Ask). before ≡ holding c
+    → Ended c s account (asker ids) asks now.log left outcome)
