@@ -1,16 +1,15 @@
 use crate::servers::{Host, upload};
-use crate::shown::{all, compare};
+use crate::shown::{all, sum};
 use crate::syncs::{sync, sync_by_lie};
 use ak_keep::MemoryKeeper;
 use cases_keepers::answer_of;
 use cases_lines::Unread;
 use std::alloc::Global;
 
-/// A device: its collection, and what was remembered of it.
+/// A device.
 #[derive(Drop)]
 pub struct Device {
     keeper: MemoryKeeper,
-    remembered: String,
 }
 
 impl Device {
@@ -18,7 +17,6 @@ impl Device {
     pub fn new(alloc: Global) -> Device {
         Device {
             keeper: MemoryKeeper::new(alloc),
-            remembered: String::new(alloc),
         }
     }
 
@@ -36,10 +34,7 @@ impl Device {
             "copy" => self.copy(alloc, host),
             "upload" => self.upload(alloc, host, rest),
             "all" => all(alloc, &mut self.keeper),
-            "remember" | "same" => {
-                let text = all(alloc, &mut self.keeper)?;
-                compare(alloc, &mut self.remembered, word, text)
-            },
+            "sum" => sum(alloc, &mut self.keeper),
             _ => answer_of(alloc, &mut self.keeper, word, rest),
         }
     }

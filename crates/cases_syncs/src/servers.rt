@@ -4,7 +4,7 @@ ghost use Rattle.ak_io.specs.Arrivals.{IsClockMoment};
 ghost use Rattle.ak_loops.specs.Entries.{collection_in};
 ghost use Rattle.ak_merge.specs.Commits.{IsCommitted};
 
-use crate::shown::{all, compare, moment_at, tables};
+use crate::shown::{all, moment_at, sum, tables};
 use ak_base::{Conf, Head, HostKey, List, Memory, Rest, Row, SessionKey, Table, Text};
 use ak_keep::{KeepFault, Keeper, Lookup, MemoryKeeper, Readable};
 use ak_loops::LoggedServer;
@@ -18,16 +18,12 @@ use std::alloc::Global;
 #[derive(Drop)]
 pub struct Host {
     pub logged: Option<LoggedServer>,
-    remembered: String,
 }
 
 impl Host {
     /// No server.
-    pub fn new(alloc: Global) -> Host {
-        Host {
-            logged: None,
-            remembered: String::new(alloc),
-        }
+    pub fn new() -> Host {
+        Host { logged: None }
     }
 
     /// The answer to a command of the server.
@@ -63,10 +59,7 @@ impl Host {
         let mut keeper = self.copied(alloc)?;
         match word {
             "all" => all(alloc, &mut keeper),
-            "remember" | "same" => {
-                let text = all(alloc, &mut keeper)?;
-                compare(alloc, &mut self.remembered, word, text)
-            },
+            "sum" => sum(alloc, &mut keeper),
             _ => answer_of(alloc, &mut keeper, word, rest),
         }
     }

@@ -4,8 +4,9 @@ ghost use Rattle.ak_io.specs.Arrivals.{IsClockMoment};
 use ak_base::{List, Row, Table};
 use ak_keep::{KeepFault, Lookup, MemoryKeeper, Readable};
 use cases_keepers::{answer_of, failed};
-use cases_lines::{Unread, number_at, row_text, truth};
+use cases_lines::{Unread, number_at, row_text};
 use serde_json::Value;
+use sha1::Sha1;
 use std::alloc::Global;
 
 /// All tables, in the order in which their rows are printed.
@@ -52,18 +53,12 @@ fn rows_text(alloc: Global, rows: &[Row]) -> Result<String, Unread> {
     Ok(made)
 }
 
-/// `remember`, and `same`: whether the text is the one that was remembered.
-pub fn compare(
-    alloc: Global,
-    remembered: &mut String,
-    word: &str,
-    text: String,
-) -> Result<String, Unread> {
-    if word == "same" {
-        return truth(alloc, *remembered == text);
-    }
-    *remembered = text;
-    Ok(String::from_str(alloc, "ok")?)
+/// `all` as a sum: the first 8 hexadecimal digits of its SHA-1, as a number.
+pub fn sum(alloc: Global, keeper: &mut MemoryKeeper) -> Result<String, Unread> {
+    let text = all(alloc, keeper)?;
+    let digest = Sha1::digest(text.as_bytes());
+    let number = u32::from_be_bytes([digest[0], digest[1], digest[2], digest[3]]);
+    Ok(format!(in alloc; "{number}")?)
 }
 
 /// The moment of a clock at a place of the arguments, in milliseconds.
