@@ -1,6 +1,6 @@
 -- What a request of a sync makes of the log of its wire, and what its answer tells.
 use Rattle.std.specs.Prelude.{◌≡◌, ℕ, ◌+◌, ℤ, ◌==◌, Bool, true, false, if◌then◌else◌, List, [], ◌∷◌, ◌++◌, length, Option, Some, None, Result, Ok, Err, IfOk, ok_or}
-use Rattle.std.proofs.Common.{refl, sym, ap, subst, ◌∙◌, inl, inr, arith}
+use Rattle.std.proofs.Common.{refl, sym, ap, subst, ◌∙◌, inr, arith}
 use Rattle.ak_exchange.specs.Asked.{request_at}
 use Rattle.ak_faults.specs.Causes.{Health}
 use Rattle.ak_keep.specs.Collections.{Collection}
@@ -11,7 +11,7 @@ use Rattle.ak_messages.specs.declared.requests.Request.{Request}
 use Rattle.ak_protocol.proofs.Calls.{calls_tell, syncs_ask_more}
 use Rattle.ak_protocol.proofs.Syncs.{calls_keep_syncs}
 use Rattle.ak_protocol.specs.Accounts.{AccountState}
-use Rattle.ak_protocol.specs.Logs.{Event, Commit, Log, Grows, IsReplyIn, with_growth, commits_of}
+use Rattle.ak_protocol.specs.Logs.{Log, Grows, with_growth, commits_of}
 use Rattle.ak_protocol.specs.Replies.{granted}
 use Rattle.ak_protocol.specs.Serving.{commit_reply}
 use Rattle.ak_protocol.specs.Sessions.{IsAsked, Tells}
@@ -108,19 +108,19 @@ module _ (who : Asker) (account : AccountState) (s : Collection) (asked : List R
 
   -- ---- a request that commits
   -- the one commit of the session, at some moment
-  abbrev pub HasCommitted : Log → ℤ → Collection → Type 0
-  HasCommitted log now after = (after ≡ closed s asked request now)
+  abbrev pub CommitsOnce : Log → ℤ → Collection → Type 0
+  CommitsOnce log now after = (after ≡ closed s asked request now)
       × (commits_of who.session.0 (world_of who.host.digits account log).commits ≡ record { key = who.session.0; before = s; after = after } ∷ [])
       × (refusal s asked request ≡ None)
 
   commit_given : {T : Type 0} (part : Give → Option T) (new : Log) (reply : Reply) → asks_commit ask ≡ true
       → (reply.status ≡ 200 → (committed : Collection) × Tells who.session.0 plan s request is_asked committed (world_of who.host.digits account new).commits reply)
-      → IfOk (in_form part (granted_by reply)) (λ (it : T). (now : ℤ) × (after : Collection) × HasCommitted new now after
+      → IfOk (in_form part (granted_by reply)) (λ (it : T). (now : ℤ) × (after : Collection) × CommitsOnce new now after
       × (part (commit_reply ask after.head).give ≡ Some it))
   commit_given {T} part new reply commits tells = by (reply.status == 200) refl
     where
       Given : T → Type 0
-      Given it = (now : ℤ) × (after : Collection) × HasCommitted new now after × (part (commit_reply ask after.head).give ≡ Some it)
+      Given it = (now : ℤ) × (after : Collection) × CommitsOnce new now after × (part (commit_reply ask after.head).give ≡ Some it)
 
       given : (o : Option T) → part reply.give ≡ o → reply.status ≡ 200 → IfOk (ok_or o unanswered.BadReply) Given
       given None is ok = tt
@@ -136,7 +136,7 @@ module _ (who : Asker) (account : AccountState) (s : Collection) (asked : List R
 
   commit_answer : {T : Type 0} (part : Give → Option T) (old new : Log) (result : Result Reply WireEnd) → is_meta ask ≡ false → asks_commit ask ≡ true
       → Reached asked old → Grows old new request result
-      → IfOk (in_form part (granted_in result)) (λ (it : T). (now : ℤ) × (after : Collection) × HasCommitted new now after
+      → IfOk (in_form part (granted_in result)) (λ (it : T). (now : ℤ) × (after : Collection) × CommitsOnce new now after
       × (part (commit_reply ask after.head).give ≡ Some it))
   commit_answer part old new (Ok reply) later commits under grows =
       commit_given part new reply commits (λ ok. told old new reply later under grows ok)
@@ -149,12 +149,12 @@ module _ (who : Asker) (account : AccountState) (s : Collection) (asked : List R
       → is_meta ask ≡ false → asks_commit ask ≡ true
       → IsShown who account s asked old.log → Answered before now old new request part result
       → IsShown who account s plan new.log
-      × IfOk result (λ (it : T). (log : Log) × (new.log ≡ Some log) × ((moment : ℤ) × (after : Collection) × HasCommitted log moment after
+      × IfOk result (λ (it : T). (log : Log) × (new.log ≡ Some log) × ((moment : ℤ) × (after : Collection) × CommitsOnce log moment after
       × (part (commit_reply ask after.head).give ≡ Some it)))
   commit_call {T} before now old new part result later commits reached call =
       let grown = carried call.answer old.log new.log call.tried.carries reached.0 reached.1 in
-      let Given : T → Type 0 = λ it. (moment : ℤ) × (after : Collection) × HasCommitted grown.0 moment after × (part (commit_reply ask after.head).give ≡ Some it) in
-      let Ends : T → Type 0 = λ it. (log : Log) × (new.log ≡ Some log) × ((moment : ℤ) × (after : Collection) × HasCommitted log moment after × (part (commit_reply ask after.head).give ≡ Some it)) in (
+      let Given : T → Type 0 = λ it. (moment : ℤ) × (after : Collection) × CommitsOnce grown.0 moment after × (part (commit_reply ask after.head).give ≡ Some it) in
+      let Ends : T → Type 0 = λ it. (log : Log) × (new.log ≡ Some log) × ((moment : ℤ) × (after : Collection) × CommitsOnce log moment after × (part (commit_reply ask after.head).give ≡ Some it)) in (
         (grown.0, grown.1, still reached.0 grown.0 call.answer reached.2 grown.2),
         subst (λ (r : Result T Unanswered). IfOk r Ends) (sym call.came)
             (if_so (in_form part (granted_in call.answer)) Given Ends (λ it given. (grown.0, grown.1, given))

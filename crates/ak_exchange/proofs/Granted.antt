@@ -19,7 +19,7 @@ use Rattle.ak_session.specs.Messages.{chunk_rows}
 use Rattle.ak_session.specs.Refusals.{are_changes_in_range, is_checked, is_id}
 use Rattle.ak_session.specs.Replies.{replied}
 use Rattle.ak_wires.specs.Forms.{changes_in, chunk_in, graves_in, is_chunk_in_form}
-use Rattle.ak_wires.specs.Tries.{Answered, granted_by, granted_in, in_form}
+use Rattle.ak_wires.specs.Tries.{Answered, granted_in, in_form}
 use Rattle.ak_wires.specs.Wires.{WireState}
 use Rattle.ak_wires.specs.declared.asks.Unanswered.{Unanswered}
 use Rattle.ak_wires.specs.declared.asks.Unanswered.TheVariants as unanswered

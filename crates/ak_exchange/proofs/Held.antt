@@ -1,20 +1,15 @@
 -- What the device holds at a place of its plan, if its keeper tells it.
-use Rattle.std.specs.Option.{option_map}
-use Rattle.std.specs.Prelude.{◌≡◌, ℕ, ℤ, true, List, [], ◌∷◌, ◌++◌, map, Option, Some, None, IfSome}
-use Rattle.std.proofs.Common.{refl, sym, ap, subst, ◌∙◌}
+use Rattle.std.specs.Prelude.{◌≡◌, ℕ, ℤ, true, List, [], ◌∷◌, ◌++◌, map, Option, None, IfSome}
+use Rattle.std.proofs.Common.{refl, ap, subst, ◌∙◌}
 use Rattle.ak_base.specs.declared.heads.Head.{Head}
-use Rattle.ak_base.specs.declared.rows.Row.{Row}
 use Rattle.ak_device.proofs.Receiving.{received_nothing, received_then}
-use Rattle.ak_device.specs.Devices.{changes_from, changes_to_send, head_with, received}
+use Rattle.ak_device.specs.Devices.{changes_to_send, head_with, received}
 use Rattle.ak_exchange.proofs.Replying.{replied_append}
 use Rattle.ak_exchange.specs.Asked.{Talk}
-use Rattle.ak_exchange.specs.Phases.{HasAsked, HasReceived, IsAt, IsMet, Place, held_by, marked_at}
-use Rattle.ak_exchange.specs.declared.envelopes.Met.{Met}
+use Rattle.ak_exchange.specs.Phases.{HasReceived, IsAt, Place, held_by}
 use Rattle.ak_keep.specs.Collections.{Collection, Holding, Rows}
 use Rattle.ak_keep.specs.Keepers.{Keeping, WhereTold, changed}
-use Rattle.ak_keep.specs.declared.keepers.Wanted.TheVariants.{Unsent}
 use Rattle.ak_merge.specs.Commits.{Received, Settings}
-use Rattle.ak_merge.specs.Takings.{all_taken}
 use Rattle.ak_messages.specs.declared.replies.Give.{Give}
 use Rattle.ak_messages.specs.declared.replies.Give.TheVariants as gives
 use Rattle.ak_messages.specs.declared.requests.Ask.{Ask}
@@ -29,7 +24,6 @@ use Rattle.ak_session.specs.Messages.{changes_of}
 use Rattle.ak_session.specs.Plans.{device_changes, device_rows, planned, planned_graves}
 use Rattle.ak_session.specs.Replies.{all_replied, replied, replied_after}
 use Rattle.ak_session.specs.Sessions.{MaySync}
-use Rattle.ak_session.specs.Slices.{wanted_changes}
 
 -- what a keeper holds at a place
 abbrev pub held_at : Collection → Collection → List Ask → Holding

@@ -1,5 +1,6 @@
 pub mod Asking
 pub mod Chunking
+pub mod Finishing
 pub mod Granted
 pub mod Held
 pub mod Parts

@@ -1,7 +1,7 @@
 -- The parts of a sync that ask one request: refused once it was asked, and granted.
 use Rattle.std.specs.Int.{div_ceil}
 use Rattle.std.specs.Option.{option_map}
-use Rattle.std.specs.Prelude.{◌≡◌, ℕ, pos, ◌≤ℤ◌, ◌+◌, ◌*◌, ◌%◌, ◌<◌, ◌≤◌, ◌&&◌, ℤ, cond, nat_lt, not, Bool, true, false, List, [], ◌∷◌, ◌++◌, length, Option, Some, None, option_and_then, Result, Ok, Err, IsErr, IfOk, IfSome, ok_or, ◌==◌, if◌then◌else◌}
+use Rattle.std.specs.Prelude.{◌≡◌, ℕ, pos, ◌≤ℤ◌, ◌+◌, ◌*◌, ◌%◌, ◌<◌, ◌≤◌, ◌&&◌, ℤ, cond, not, Bool, true, false, List, [], ◌∷◌, ◌++◌, length, Option, Some, None, option_and_then, Result, Ok, Err, IsErr, IfSome, ok_or, ◌==◌, if◌then◌else◌}
 use Rattle.std.proofs.lemmas.List.{length-append}
 use Rattle.std.proofs.lemmas.Nat.{div-add-mod', mod_below}
 use Rattle.std.proofs.lemmas.Option.{none-some, same_Some}
@@ -13,14 +13,13 @@ use Rattle.ak_base.specs.declared.rows.Row.{Row}
 use Rattle.ak_device.proofs.Receiving.{received_nothing}
 use Rattle.ak_device.specs.Devices.{IsNextToSend, Settles, changes_to_send, received}
 use Rattle.ak_exchange.proofs.Granted.{changes_are, chunk_are, graves_are}
-use Rattle.ak_exchange.proofs.Held.{changes_at, held_at, replied_quietly, rows_at, told_at}
+use Rattle.ak_exchange.proofs.Held.{changes_at, replied_quietly, rows_at, told_at}
 use Rattle.ak_exchange.proofs.Passing.{IsRefused, advances_to, asked_one, left_one, refused_after, took_after}
-use Rattle.ak_exchange.proofs.Places.{after_changes, after_chunks, after_graves, after_pushes, after_start, grave_request, leads_on, meta_leads, next_graves, no_graves_yet, next_pull, next_push, part_sent, pulled_one, push_request, pushed_full, pushed_last, sent_graves}
+use Rattle.ak_exchange.proofs.Places.{after_changes, after_chunks, after_graves, after_pushes, after_start, leads_on, next_graves, no_graves_yet, next_pull, next_push, part_sent, pulled_one, push_request, pushed_full, pushed_last, sent_graves}
 use Rattle.ak_exchange.specs.Asked.{AreFew, Talk, asker, request_at}
 use Rattle.ak_exchange.specs.Loops.{HasPulledOne, HasPushedOne, HavePulled, HavePushed, HaveSentGraves, last_sent, rows_to_push}
 use Rattle.ak_exchange.specs.Phases.{Advances, AreGraveRequests, Exchanges, HasReceived, IsAt, IsMet, Place, at_end_of, at_meta, held_by}
 use Rattle.ak_exchange.specs.Stops.{verdict_of}
-use Rattle.ak_exchange.specs.declared.envelopes.Envelopes.{Envelopes}
 use Rattle.ak_exchange.specs.declared.envelopes.Met.{Met}
 use Rattle.ak_exchange.specs.declared.stops.Stop.{Stop}
 use Rattle.ak_keep.specs.Collections.{Collection, Holding, Rows, wanted_past}
@@ -42,7 +41,6 @@ use Rattle.ak_messages.specs.declared.requests.Chunk.{Chunk}
 use Rattle.ak_messages.specs.declared.requests.GraveIds.{GraveIds}
 use Rattle.ak_messages.specs.declared.requests.Request.{Request}
 use Rattle.ak_messages.specs.declared.requests.SanityCounts.{SanityCounts}
-use Rattle.ak_parts.specs.Chunks.{ahead_of}
 use Rattle.ak_protocol.specs.Accounts.{AccountState}
 use Rattle.ak_session.specs.Answers.{answer_to, counts_of}
 use Rattle.ak_session.specs.Messages.{changes_of, chunk_of, grave_ids}
@@ -347,9 +345,11 @@ module _ (met : Met) (keeping : Keeping) (was now : Talk) (given : Result Sanity
 
   check_next : (c s : Collection) (account : AccountState) (asked : List Ask) → IsMet c s met → IsAt c s account asked (at_end_of planned_pushes) keeping was
       → MaySync c s → (rest : List Ask) × (asked ++ asks.SanityCheck2 counts ∷ rest ≡ planned c s)
-  check_next c s account asked met_is place may =
-      (asks.Finish ∷ [], check_end c s account asked (asks.Finish ∷ []) place may
-      ∙ sym (append_assoc (planned_pushes c s) (asks.SanityCheck2 (counts_of (device_rows c s (planned_pushes c s))) ∷ []) (asks.Finish ∷ [])))
+  check_next c s account asked met_is place may = (
+    asks.Finish ∷ [],
+    check_end c s account asked (asks.Finish ∷ []) place may
+        ∙ sym (append_assoc (planned_pushes c s) (asks.SanityCheck2 (counts_of (device_rows c s (planned_pushes c s))) ∷ []) (asks.Finish ∷ [])),
+  )
 
   pub check_refused : {T : Type 0} (to : Place) (result : Result T Stop) → IsRefused result
       → Advances 0 0 1 (at_end_of planned_pushes) to met keeping keeping was now result

@@ -8,8 +8,8 @@ use Rattle.std.proofs.lemmas.List.{length-map, map-append}
 use Rattle.std.proofs.lemmas.List.FromFn.{length-map-range_with_len}
 use Rattle.ak_exchange.proofs.Chunking.{ends_short, front_below, is_filled, is_until_short, left_after_slice, next_slice, slices_go_on}
 use Rattle.ak_exchange.proofs.Passing.{LeadsOn}
-use Rattle.ak_exchange.specs.Loops.{HasPulledOne, HasPushedOne, HavePulled, HavePushed, HaveSentGraves, rows_to_push}
-use Rattle.ak_exchange.specs.Phases.{Place, at_end_of, at_meta}
+use Rattle.ak_exchange.specs.Loops.{HasPulledOne, HavePulled, HavePushed, HaveSentGraves, rows_to_push}
+use Rattle.ak_exchange.specs.Phases.{at_end_of, at_meta}
 use Rattle.ak_base.specs.declared.names.Name.{Name}
 use Rattle.ak_base.specs.declared.names.Table.TheVariants as tables
 use Rattle.ak_base.specs.declared.rows.Row.{Row}

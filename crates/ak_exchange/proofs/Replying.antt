@@ -3,7 +3,6 @@ use Rattle.std.specs.Prelude.{◌≡◌, ℕ, suc, ◌+◌, ℤ, List, [], ◌�
 use Rattle.std.proofs.Common.{refl, sym, ap, ◌∙◌, append_assoc, append-nil, arith}
 use Rattle.ak_exchange.specs.Asked.{request_at}
 use Rattle.ak_keep.specs.Collections.{Collection}
-use Rattle.ak_merge.specs.Commits.{Received}
 use Rattle.ak_messages.specs.declared.requests.Ask.{Ask}
 use Rattle.ak_messages.specs.declared.requests.Request.{Request}
 use Rattle.ak_session.proofs.Steps.{nothing_first, nothing_last, then_then}

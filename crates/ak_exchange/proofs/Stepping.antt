@@ -1,7 +1,6 @@
 -- One request more of a sync: what was asked is one more, and its reply is what the session answers.
-use Rattle.std.specs.List.{AllByRecursion}
-use Rattle.std.specs.Prelude.{◌≡◌, ℕ, ◌+◌, ℤ, false, List, [], ◌∷◌, ◌++◌, length, Option, Some, Result, IfOk}
-use Rattle.std.proofs.Common.{refl, sym, ap, subst, ◌∙◌, arith}
+use Rattle.std.specs.Prelude.{◌≡◌, ℕ, ◌+◌, false, List, [], ◌∷◌, ◌++◌, length, Option, Some, Result, IfOk}
+use Rattle.std.proofs.Common.{sym, ap, subst, ◌∙◌, arith}
 use Rattle.ak_exchange.proofs.Asking.{IsShown, plain_call}
 use Rattle.ak_exchange.proofs.Replying.{asks_are, requests_count, requests_go_on}
 use Rattle.ak_exchange.specs.Asked.{request_at}
@@ -27,15 +26,15 @@ unfolding answer
 answered_by s accepted request asks is = ap (λ (l : List Ask). answer_to s l request.ask) is
 
 module _ (who : Asker) (account : AccountState) (s : Collection) (asks : List Ask) (ask : Ask) where
-  abbrev asked : List Request
+  abbrev pub asked : List Request
   asked = requests_from who s.head.moment 1 asks
 
   -- its step is the number of those before it, the meta counted
-  step_is : (step : ℕ) → step ≡ length asks + 1 → request_at who s.head.moment step ask ≡ request_at who s.head.moment (length asked + 1) ask
+  pub step_is : (step : ℕ) → step ≡ length asks + 1 → request_at who s.head.moment step ask ≡ request_at who s.head.moment (length asked + 1) ask
   step_is step is = ap (λ (n : ℕ). request_at who s.head.moment n ask)
       (is ∙ ap (λ (n : ℕ). n + 1) (sym (requests_count who s.head.moment 1 asks)))
 
-  one_more : asked ++ request_at who s.head.moment (length asked + 1) ask ∷ [] ≡ requests_from who s.head.moment 1 (asks ++ ask ∷ [])
+  pub one_more : asked ++ request_at who s.head.moment (length asked + 1) ask ∷ [] ≡ requests_from who s.head.moment 1 (asks ++ ask ∷ [])
   one_more =
       let same : length asked + 1 ≡ 1 + length asks = ap (λ (n : ℕ). n + 1) (requests_count who s.head.moment 1 asks) ∙ omega arith in
       ap (λ (n : ℕ). asked ++ request_at who s.head.moment n ask ∷ []) same ∙ sym (requests_go_on who s.head.moment 1 asks ask)

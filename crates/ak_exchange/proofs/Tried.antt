@@ -1,7 +1,6 @@
 -- Requests that were asked one after the other: two lists of them make one.
-use Rattle.std.specs.List.{AllByRecursion}
 use Rattle.std.specs.Prelude.{◌≡◌, ℕ, suc, ◌+◌, ◌≤◌, ℤ, Bool, cond, List, [], ◌∷◌, ◌++◌, length, count_by}
-use Rattle.std.proofs.Common.{refl, sym, ap, subst, ◌∙◌, arith}
+use Rattle.std.proofs.Common.{sym, ap, subst, ◌∙◌, arith}
 use Rattle.std.proofs.lemmas.List.{length-append}
 use Rattle.std.proofs.lemmas.List.Sums.{sum_by-append}
 use Rattle.ak_exchange.specs.Asked.{AreAsked, AreFew, AreTried, Talk, asker, asks_chunk, is_other, request_at, sends_unfinished}

@@ -1,4 +1,4 @@
-use Rattle.std.proofs.Common.{refl, ◌∙◌, sym}
+use Rattle.std.proofs.Common.{refl}
 use Rattle.ak_exchange.proofs.Parts.{check_ends, check_refused}
 use Rattle.ak_exchange.proofs.Passing.{advances_kept, by_keeper, by_memory, by_wire, stays_here}
 use Rattle.ak_exchange.proofs.Places.{after_pushes, leads_on}

@@ -1,18 +1,17 @@
-use Rattle.std.proofs.Common.{◌≡◌, ◌+◌, true, refl, ap, sym, subst, ◌∙◌, rules, arith, w64, SFits}
+use Rattle.std.proofs.Common.{◌+◌, sym, subst, rules, arith, w64, SFits}
 use Rattle.std.proofs.lemmas.Int.{to_z-of_z}
-use Rattle.ak_exchange.proofs.Held.{received_held, received_more}
 use Rattle.ak_exchange.proofs.Parts.{exchanges_refused, exchanges_settled}
 use Rattle.ak_exchange.proofs.Passing.{advances_left, advances_more, advances_passed, advances_then, by_keeper}
-use Rattle.ak_exchange.specs.Phases.{HasReceived}
+use Rattle.ak_exchange.specs.Phases.{at_meta}
 use Rattle.ak_faults.proofs.Healths.{goes_further}
-use Rattle.ak_keep.specs.Keepers.{IsMarkedAt, Keeping, back, is_marked}
+use Rattle.ak_keep.specs.Keepers.{IsMarkedAt, Keeping, back}
 use Rattle.ak_parts.proofs.Taking.{stays_marked}
 use Rattle.ak_exchange.proofs.exchanges.exchange.Goals as goal
 
 pub returns-in_err-exchange_first-clause-exchanges : goal.returns-in_err-exchange_first-clause-exchanges
 returns-in_err-exchange_first-clause-exchanges g c =
     let first = c.in_err-exchange_first.ensures.leads in
-    exchanges_refused _ _ _ (g.K.Lookup.keeping c.exchange_first.new.keeper) _ _ _ _ first.0 first.1 c.from_residual.ensures.0
+    exchanges_refused at_meta _ _ (g.K.Lookup.keeping c.exchange_first.new.keeper) _ _ _ _ first.0 first.1 c.from_residual.ensures.0
     (advances_more 0 0 (2 + first.0) _ _ _ _ _ _ _ _ _ _ _ (omega arith) (omega arith) (omega arith)
     (advances_passed _ _ _ _ _ _ _ _ _ _ _ _ _ c.from_residual.ensures.1 first.2))
 
@@ -22,7 +21,7 @@ exchange_chunks-requires-clause-marked g c = c.in_ok-exchange_first.ensures.stay
 pub returns-in_err-exchange_chunks-clause-exchanges : goal.returns-in_err-exchange_chunks-clause-exchanges
 returns-in_err-exchange_chunks-clause-exchanges g c =
     let first = c.in_ok-exchange_first.ensures.leads in
-    exchanges_refused _ _ _ (g.K.Lookup.keeping c.exchange_chunks.new.keeper) _ _ _ _ first.0 first.1 c.from_residual-in_err-exchange_chunks.ensures.0
+    exchanges_refused at_meta _ _ (g.K.Lookup.keeping c.exchange_chunks.new.keeper) _ _ _ _ first.0 first.1 c.from_residual-in_err-exchange_chunks.ensures.0
     (advances_more 40000 39999 (2 + first.0 + 1) _ _ _ _ _ _ _ _ _ _ _ (omega arith) (omega arith) (omega arith)
     (advances_passed _ _ _ _ _ _ _ _ _ _ _ _ _ c.from_residual-in_err-exchange_chunks.ensures.1
     (advances_then _ _ _ _ _ _ _ _ _ _ _ _ _ _ _ _ _ _ first.2 c.in_err-exchange_chunks.ensures.leads)))
@@ -41,7 +40,7 @@ compare-requires g c = record { marked = c.in_ok-exchange_chunks.ensures.stays.m
 pub returns-in_err-compare-clause-exchanges : goal.returns-in_err-compare-clause-exchanges
 returns-in_err-compare-clause-exchanges g c =
     let first = c.in_ok-exchange_first.ensures.leads in
-    exchanges_refused _ _ _ (g.K.Lookup.keeping c.compare.new.keeper) _ _ _ _ first.0 first.1 c.from_residual-in_err-compare.ensures.0
+    exchanges_refused at_meta _ _ (g.K.Lookup.keeping c.compare.new.keeper) _ _ _ _ first.0 first.1 c.from_residual-in_err-compare.ensures.0
     (advances_more 40000 39999 (2 + first.0 + 1 + 1) _ _ _ _ _ _ _ _ _ _ _ (omega arith) (omega arith) (omega arith)
     (advances_passed _ _ _ _ _ _ _ _ _ _ _ _ _ c.from_residual-in_err-compare.ensures.1
     (advances_then _ _ _ _ _ _ _ _ _ _ _ _ _ _ _ _ _ _
@@ -56,3 +55,23 @@ returns-in_err-compare-clause-stays g c =
 pub returns-in_err-compare-clause-keeper : goal.returns-in_err-compare-clause-keeper
 returns-in_err-compare-clause-keeper g c =
     goes_further (goes_further c.in_ok-exchange_first.ensures.keeper c.in_ok-exchange_chunks.ensures.keeper) c.in_err-compare.ensures.keeper
+
+pub returns-in_err-settle-clause-exchanges : goal.returns-in_err-settle-clause-exchanges
+returns-in_err-settle-clause-exchanges g c =
+    let first = c.in_ok-exchange_first.ensures.leads in
+    exchanges_refused at_meta _ _ (g.K.Lookup.keeping c.compare.new.keeper) (g.K.Lookup.keeping c.settle.new.keeper) _ _ _ first.0 first.1
+    c.from_residual-in_err-settle.ensures.0
+    (advances_more 40000 39999 (2 + first.0 + 1 + 1) _ _ _ _ _ _ _ _ _ _ _ (omega arith) (omega arith) (omega arith)
+    (advances_left _ _ _ _ _ _ _ _ _ _ _ _ _ _ (by_keeper _ _ c.from_residual-in_err-settle.ensures.1)
+    (advances_then _ _ _ _ _ _ _ _ _ _ _ _ _ _ _ _ _ _
+    (advances_then _ _ _ _ _ _ _ _ _ _ _ _ _ _ _ _ _ _ first.2 c.in_ok-exchange_chunks.ensures.leads) c.in_ok-compare.ensures.leads)))
+
+pub returns-clause-exchanges : goal.returns-clause-exchanges
+returns-clause-exchanges g c =
+    let usn : SFits w64 c.args.met.now.meta.usn = search rules in
+    let first = c.in_ok-exchange_first.ensures.leads in
+    exchanges_settled _ _ (g.K.Lookup.keeping c.compare.new.keeper) (g.K.Lookup.keeping c.settle.new.keeper) _ _ first.0 first.1
+    (advances_more 40000 39999 (2 + first.0 + 1 + 1) _ _ _ _ _ _ _ _ _ _ _ (omega arith) (omega arith) (omega arith)
+    (advances_then _ _ _ _ _ _ _ _ _ _ _ _ _ _ _ _ _ _
+    (advances_then _ _ _ _ _ _ _ _ _ _ _ _ _ _ _ _ _ _ first.2 c.in_ok-exchange_chunks.ensures.leads) c.in_ok-compare.ensures.leads))
+    (rw (to_z-of_z w64 c.args.met.now.meta.usn usn) at c.in_ok-settle.ensures.ok)

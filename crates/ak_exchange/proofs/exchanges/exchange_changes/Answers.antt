@@ -1,11 +1,11 @@
-use Rattle.std.proofs.Common.{refl, ap, sym, subst, ◌∙◌, rules, w64, SFits}
+use Rattle.std.proofs.Common.{refl, ap, ◌∙◌, rules, w64, SFits}
 use Rattle.std.proofs.lemmas.Int.{to_z-of_z}
 use Rattle.ak_device.specs.Devices.{received}
 use Rattle.ak_exchange.proofs.Granted.{changes_are, granted_give}
 use Rattle.ak_exchange.proofs.Parts.{changes_refused, changes_took}
 use Rattle.ak_exchange.proofs.Passing.{by_keeper, by_memory, by_wire, stays_here}
 use Rattle.ak_exchange.proofs.Places.{after_graves, leads_on}
-use Rattle.ak_keep.specs.Keepers.{IsMarkedAt, Keeping, back, changed}
+use Rattle.ak_keep.specs.Keepers.{changed}
 use Rattle.ak_messages.specs.declared.replies.Give.TheVariants as gives
 use Rattle.ak_session.specs.Plans.{planned_graves}
 use Rattle.ak_session.specs.Replies.{replied}
@@ -55,6 +55,8 @@ returns-clause-leads g c =
 
 pub returns-clause-took : goal.returns-clause-took
 returns-clause-took g c =
-    let usn : SFits w64 c.args.met.now.meta.usn = search rules in
-    (replied (gives.Changes c.in_ok-came.came), (rw (to_z-of_z w64 c.args.met.now.meta.usn usn) at c.in_ok-take_changes.ensures.ok)
-    ∙ ap (changed (received c.args.met.now.meta.usn (replied (gives.Changes c.in_ok-came.came)))) c.in_ok-changes.ensures.reads.same)
+    let usn : SFits w64 c.args.met.now.meta.usn = search rules in (
+      replied (gives.Changes c.in_ok-came.came),
+      (rw (to_z-of_z w64 c.args.met.now.meta.usn usn) at c.in_ok-take_changes.ensures.ok)
+          ∙ ap (changed (received c.args.met.now.meta.usn (replied (gives.Changes c.in_ok-came.came)))) c.in_ok-changes.ensures.reads.same,
+    )

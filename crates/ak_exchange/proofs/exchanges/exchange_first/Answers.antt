@@ -1,4 +1,4 @@
-use Rattle.std.proofs.Common.{◌≡◌, ◌+◌, true, refl, ap, sym, subst, ◌∙◌, arith}
+use Rattle.std.proofs.Common.{◌+◌, ap, sym, subst, ◌∙◌, arith}
 use Rattle.ak_exchange.proofs.Held.{received_held, received_more}
 use Rattle.ak_exchange.proofs.Parts.{no_grave_requests, requests_before}
 use Rattle.ak_exchange.proofs.Passing.{advances_more, advances_passed, advances_then}

@@ -1,4 +1,4 @@
-use Rattle.std.proofs.Common.{◌≡◌, ◌+◌, ◌≤◌, length, refl, arith, rules}
+use Rattle.std.proofs.Common.{◌+◌, ◌≤◌, length, refl, arith, rules}
 use Rattle.std.specs.Int.{div_ceil}
 use Rattle.ak_exchange.proofs.Passing.{advances_more, advances_passed, advances_then, at_start}
 use Rattle.ak_exchange.proofs.Places.{graves_lead}

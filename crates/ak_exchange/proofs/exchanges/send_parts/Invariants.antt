@@ -1,4 +1,4 @@
-use Rattle.std.proofs.Common.{◌≡◌, Ok}
+use Rattle.std.proofs.Common.{Ok}
 use Rattle.ak_exchange.specs.Loops.{HaveSentGraves}
 use Rattle.ak_exchange.specs.Phases.{Advances}
 use Rattle.ak_exchange.specs.declared.envelopes.Met.{Met}
