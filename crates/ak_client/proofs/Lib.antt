@@ -9,5 +9,6 @@ pub mod Growing
 pub mod Healing
 pub mod Leading
 pub mod Meeting
+pub mod Stating
 pub mod Syncing
 pub mod Testing

@@ -1,4 +1,5 @@
 pub mod Endings
 pub mod Greetings
 pub mod Outcomes
+pub mod States
 pub mod Syncs

@@ -4,10 +4,12 @@
 
 mod greetings;
 mod outcomes;
+mod states;
 mod sync_laws;
 mod syncs;
 
 pub use ak_exchange::Ids;
 pub use outcomes::Outcome;
+pub use states::{Checked, Exchanged, Greeted, Hello, Pulled, Pushed, Started};
 pub use sync_laws::{lost_finishes_heal, syncs_may_go_on};
 pub use syncs::sync_over;

@@ -68,7 +68,7 @@ pub(crate) fn outcome_of(end: Result<(), Stop>) -> Outcome
 }
 
 /// The outcome of a sync that did not finish.
-fn outcome_at(stop: Stop) -> Outcome
+pub(crate) fn outcome_at(stop: Stop) -> Outcome
     ensures { result ≡ outcome_at stop }
 {
     match stop {

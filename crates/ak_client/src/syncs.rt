@@ -138,7 +138,7 @@ fn exchange_all<K: Keeper, W: Wire>(
 }
 
 /// What follows once a device is back at its mark: after a bad sanity check its moments rise.
-fn after_stop<K: Keeper, C: Clock>(keeper: &mut K, clock: &mut C, stop: Stop) -> Result<(), Stop>
+pub(crate) fn after_stop<K: Keeper, C: Clock>(keeper: &mut K, clock: &mut C, stop: Stop) -> Result<(), Stop>
     requires unmarked { is_marked (K.keeping keeper.old) ≡ false }
     requires held { (K.keeping keeper.old).headed.current ≡ true }
     ensures ends { EndsFor stop result }
