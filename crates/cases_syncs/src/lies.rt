@@ -26,12 +26,7 @@ fn reply_at(alloc: Global, arguments: &Value, method: Method) -> Result<Option<R
     }
 }
 
-fn read(
-    alloc: Global,
-    method: Method,
-    status: u16,
-    body: &Value,
-) -> Result<Option<Reply>, Unread> {
+fn read(alloc: Global, method: Method, status: u16, body: &Value) -> Result<Option<Reply>, Unread> {
     let text = write_text(alloc, body)?;
     match read_reply(alloc, method, status, text.as_str().as_bytes()) {
         Ok(reply) => Ok(Some(reply)),

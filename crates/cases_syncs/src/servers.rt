@@ -207,12 +207,7 @@ struct Step {
     at: i64,
 }
 
-fn ask(
-    alloc: Global,
-    server: &mut LoggedServer,
-    step: Step,
-    ask: Ask,
-) -> Result<String, Unread>
+fn ask(alloc: Global, server: &mut LoggedServer, step: Step, ask: Ask) -> Result<String, Unread>
     requires { IsClockMoment step.at }
 {
     let request = Request {
@@ -252,11 +247,7 @@ fn rows_in(alloc: Global, keeper: &mut MemoryKeeper) -> Result<List<Row>, Unread
     Ok(rows)
 }
 
-fn push_table(
-    keeper: &mut MemoryKeeper,
-    table: Table,
-    rows: &mut List<Row>,
-) -> Result<(), Unread> {
+fn push_table(keeper: &mut MemoryKeeper, table: Table, rows: &mut List<Row>) -> Result<(), Unread> {
     let page = done(keeper.page(table, 0, 1000))?;
     for row in page.into_vec() {
         rows.push(row)?;
