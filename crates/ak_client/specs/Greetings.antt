@@ -60,13 +60,15 @@ abbrev pub EndsAtDevice : MetaSaid → Keeping → Stop → Type 0
 EndsAtDevice meta keeping stop =
     ((fault : KeepFault) × (stop ≡ keep_stop fault))
     ⊎ WhereTold keeping (λ h. IfSome h.head (λ head. (head_stop meta head ≡ Some stop)
-    ⊎ ((head_stop meta head ≡ None) × ((fault : CheckFault) × (stop ≡ stops.OwnCheck fault) × (first_fault h.rows ≡ Some fault)))))
+    ⊎ ((head_stop meta head ≡ None)
+    × ((fault : CheckFault) × (stop ≡ stops.OwnCheck fault) × (first_fault h.rows ≡ Some fault)))))
 
 -- the meta was not granted; or the server or the clocks, by the moment that the clock gave, do not let it go on; or else the device does not
 abbrev pub EndsGreeting : Result MetaSaid Unanswered → Option (List ℤ) → Option (List ℤ) → Keeping → Stop → Type 0
 EndsGreeting (Err why) to_come_before to_come keeping stop = stop ≡ wire_stop why
 EndsGreeting (Ok meta) to_come_before to_come keeping stop = (at : ℤ) × GivesNext to_come_before to_come at
-    × ((clock_stop meta (second_of at) ≡ Some stop) ⊎ ((clock_stop meta (second_of at) ≡ None) × EndsAtDevice meta keeping stop))
+    × ((clock_stop meta (second_of at) ≡ Some stop)
+    ⊎ ((clock_stop meta (second_of at) ≡ None) × EndsAtDevice meta keeping stop))
 
 -- what a greeting heard, over any keeper and wire, and why it ended
 pub record IsGreeting (ids : Ids) (health_before health_now : Health) (old now : WireState)

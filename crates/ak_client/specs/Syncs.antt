@@ -65,13 +65,15 @@ IsShown who account base moment asks log =
 abbrev pub StaysOnce : Asker → Collection → Collection → ℤ → List Ask → AccountState → Log → Type 0
 StaysOnce who c base moment asks account now = (later : List Event)
     → AllByRecursion IsTimely later
-    → AllByRecursion (IsOwnOrOther who.session.0 (requests_from who moment 1 asks) moment) (events_of who.host.digits later)
+    → AllByRecursion (IsOwnOrOther who.session.0 (requests_from who moment 1 asks) moment)
+    (events_of who.host.digits later)
     → CommitsAtMostOnce who.session.0 c base (world_at who account (with_growth now later)).commits
 
 -- ---- what it leaves if it reports that it is finished
 -- the session committed once. The device holds d, whose moment and last sync are at that commit, and whose number is the one after the
 -- server's. If device and server were apart, both hold the join and are linked, and the device is linked with what is committed now
-pub record IsSyncFinished (who : Asker) (c base : Collection) (account : AccountState) (now : Log) (left : Keeping) : Type 0 where
+pub record IsSyncFinished (who : Asker) (c base : Collection) (account : AccountState) (now : Log)
+    (left : Keeping) : Type 0 where
   pub after : Collection
   pub device : Collection
   pub only : commits_of who.session.0 (world_at who account now).commits
@@ -104,7 +106,8 @@ ends_before_finish outcomes.Keep = false
 ends_before_finish outcomes.Memory = false
 
 -- a collection was committed at a place of what came to the account
-pub record IsCommittedIn (who : Asker) (account : AccountState) (old : Log) (growth : List Event) (base : Collection) : Type 0 where
+pub record IsCommittedIn (who : Asker) (account : AccountState) (old : Log) (growth : List Event)
+    (base : Collection) : Type 0 where
   pub front : List Event
   pub rest : List Event
   pub parts : growth ≡ front ++ rest
@@ -174,7 +177,8 @@ pub record IsSync (ids : Ids) (before left : Keeping) (health_before health_now 
 -- the moment that a clock gives once it gave so many others, and what it has still to give then
 abbrev pub GivesAfter : ℕ → Option (List ℤ) → Option (List ℤ) → ℤ → Type 0
 GivesAfter zero old new at = GivesNext old new at
-GivesAfter (suc n) old new at = (mid : Option (List ℤ)) × (earlier : ℤ) × GivesNext old mid earlier × GivesAfter n mid new at
+GivesAfter (suc n) old new at =
+    (mid : Option (List ℤ)) × (earlier : ℤ) × GivesNext old mid earlier × GivesAfter n mid new at
 
 -- what a clock has still to give, once it gave this many moments
 abbrev pub HasGiven : ℕ → Option (List ℤ) → Option (List ℤ) → Type 0

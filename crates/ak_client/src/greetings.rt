@@ -63,7 +63,8 @@ pub(crate) fn greet<K: Keeper, W: Wire, C: Clock>(
     // It ends at no bad sanity check, and takes one moment of the clock once its meta is granted.
     ensures early { IfErr result (λ stop. shows_bad_check stop ≡ false) }
     ensures once { OnOk result (HasGiven 1 (C.to_come clock.old) (C.to_come clock.new)) }
-    ensures clock { IfErr result (λ stop. TakesMoments 0 (C.to_come clock.old) (C.to_come clock.new) (outcome_at stop)) }
+    ensures clock { IfErr result (λ stop.
+        TakesMoments 0 (C.to_come clock.old) (C.to_come clock.new) (outcome_at stop)) }
     ensures keeper { GoesOn (K.health keeper.old) (K.health keeper.new) }
 {
     let request = meta_request(ids);

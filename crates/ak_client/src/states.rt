@@ -157,8 +157,11 @@ impl<'a, K: Keeper, W: Wire> Greeted<'a, K, W> {
             HasReceived next.met.meta.usn (marked_here (K.keeping self.entry.keeper.now)) (K.keeping next.keeper.now)) }
         ensures leads { IfOk result (λ next. LeadsTo 0 0 1 at_meta (at_end_of (λ c s. planned_start c)) next.met
             (marked_here (K.keeping self.entry.keeper.now)) (K.keeping next.keeper.now)
-            (record { health = W.health self.entry.wire.now; wire = W.state self.entry.wire.now;
-              envelopes = record { ids = self.entry.ids; base = self.entry.met.meta.moment; step = 0 } })
+            (record {
+              health = W.health self.entry.wire.now;
+              wire = W.state self.entry.wire.now;
+              envelopes = record { ids = self.entry.ids; base = self.entry.met.meta.moment; step = 0 };
+            })
             (record { health = W.health next.wire.now; wire = W.state next.wire.now; envelopes = next.envelopes })) }
     {
         let Greeted {
@@ -212,10 +215,15 @@ impl<'a, K: Keeper, W: Wire> Started<'a, K, W> {
         ensures in_sync { IfOk result (λ next. IsInSync (K.keeping next.keeper.now) next.met) }
         ensures mark { IfOk result (λ next. back (K.keeping next.keeper.now) ≡ back (K.keeping self.entry.keeper.now)) }
         ensures met { IfOk result (λ next. next.met ≡ self.entry.met) }
-        ensures took { IfOk result (λ next. HasReceived next.met.meta.usn (K.keeping self.entry.keeper.now) (K.keeping next.keeper.now)) }
+        ensures took { IfOk result (λ next.
+            HasReceived next.met.meta.usn (K.keeping self.entry.keeper.now) (K.keeping next.keeper.now)) }
         ensures leads { IfOk result (λ next. ExchangesChanges next.met (K.keeping self.entry.keeper.now)
             (K.keeping next.keeper.now)
-            (record { health = W.health self.entry.wire.now; wire = W.state self.entry.wire.now; envelopes = self.entry.envelopes })
+            (record {
+              health = W.health self.entry.wire.now;
+              wire = W.state self.entry.wire.now;
+              envelopes = self.entry.envelopes;
+            })
             (record { health = W.health next.wire.now; wire = W.state next.wire.now; envelopes = next.envelopes })) }
     {
         let Started {
@@ -263,10 +271,16 @@ impl<'a, K: Keeper, W: Wire> Exchanged<'a, K, W> {
         ensures in_sync { IfOk result (λ next. IsInSync (K.keeping next.keeper.now) next.met) }
         ensures mark { IfOk result (λ next. back (K.keeping next.keeper.now) ≡ back (K.keeping self.entry.keeper.now)) }
         ensures met { IfOk result (λ next. next.met ≡ self.entry.met) }
-        ensures took { IfOk result (λ next. HasReceived next.met.meta.usn (K.keeping self.entry.keeper.now) (K.keeping next.keeper.now)) }
-        ensures leads { IfOk result (λ next. LeadsTo 40_000 0 0 (at_end_of planned_changes) (at_end_of planned_chunks) next.met (K.keeping self.entry.keeper.now)
+        ensures took { IfOk result (λ next.
+            HasReceived next.met.meta.usn (K.keeping self.entry.keeper.now) (K.keeping next.keeper.now)) }
+        ensures leads { IfOk result (λ next. LeadsTo 40_000 0 0 (at_end_of planned_changes) (at_end_of planned_chunks) next.met
+            (K.keeping self.entry.keeper.now)
             (K.keeping next.keeper.now)
-            (record { health = W.health self.entry.wire.now; wire = W.state self.entry.wire.now; envelopes = self.entry.envelopes })
+            (record {
+              health = W.health self.entry.wire.now;
+              wire = W.state self.entry.wire.now;
+              envelopes = self.entry.envelopes;
+            })
             (record { health = W.health next.wire.now; wire = W.state next.wire.now; envelopes = next.envelopes })) }
     {
         let Exchanged {
@@ -315,9 +329,14 @@ impl<'a, K: Keeper, W: Wire> Pulled<'a, K, W> {
         ensures mark { IfOk result (λ next. back (K.keeping next.keeper.now) ≡ back (K.keeping self.entry.keeper.now)) }
         ensures met { IfOk result (λ next. next.met ≡ self.entry.met) }
         ensures same { IfOk result (λ next. (K.keeping next.keeper.now) ≡ (K.keeping self.entry.keeper.now)) }
-        ensures leads { IfOk result (λ next. LeadsTo 0 39_999 1 (at_end_of planned_chunks) (at_end_of planned_pushes) next.met (K.keeping self.entry.keeper.now)
+        ensures leads { IfOk result (λ next. LeadsTo 0 39_999 1 (at_end_of planned_chunks) (at_end_of planned_pushes) next.met
+            (K.keeping self.entry.keeper.now)
             (K.keeping next.keeper.now)
-            (record { health = W.health self.entry.wire.now; wire = W.state self.entry.wire.now; envelopes = self.entry.envelopes })
+            (record {
+              health = W.health self.entry.wire.now;
+              wire = W.state self.entry.wire.now;
+              envelopes = self.entry.envelopes;
+            })
             (record { health = W.health next.wire.now; wire = W.state next.wire.now; envelopes = next.envelopes })) }
     {
         let Pulled {
@@ -366,9 +385,14 @@ impl<'a, K: Keeper, W: Wire> Pushed<'a, K, W> {
         ensures mark { IfOk result (λ next. back (K.keeping next.keeper.now) ≡ back (K.keeping self.entry.keeper.now)) }
         ensures met { IfOk result (λ next. next.met ≡ self.entry.met) }
         ensures same { IfOk result (λ next. (K.keeping next.keeper.now) ≡ (K.keeping self.entry.keeper.now)) }
-        ensures leads { IfOk result (λ next. LeadsTo 0 0 1 (at_end_of planned_pushes) (at_end_of planned_check) next.met (K.keeping self.entry.keeper.now)
+        ensures leads { IfOk result (λ next. LeadsTo 0 0 1 (at_end_of planned_pushes) (at_end_of planned_check) next.met
+            (K.keeping self.entry.keeper.now)
             (K.keeping next.keeper.now)
-            (record { health = W.health self.entry.wire.now; wire = W.state self.entry.wire.now; envelopes = self.entry.envelopes })
+            (record {
+              health = W.health self.entry.wire.now;
+              wire = W.state self.entry.wire.now;
+              envelopes = self.entry.envelopes;
+            })
             (record { health = W.health next.wire.now; wire = W.state next.wire.now; envelopes = next.envelopes })) }
     {
         let Pushed {

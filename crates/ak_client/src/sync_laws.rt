@@ -35,13 +35,13 @@ pub fn syncs_may_go_on()
         → EachNewer (HasFreshSchema c) (world_at who account old) (world_at who account (with_growth old growth))
         → IsUnused next.host.digits next.session.0 account (with_growth old growth)
         → MayBegin next c account (with_growth old growth) }
-    ensures finished { (who next : Asker) (c base : Collection) (account : AccountState) (old : Log) (growth : List Event)
-        → (left : Keeping) → MayBegin who c account old → AllByRecursion IsTimely growth → next.host ≡ who.host
+    ensures finished { (who next : Asker) (c base : Collection) (account : AccountState) (old : Log)
+        → (growth : List Event) (left : Keeping) → MayBegin who c account old → AllByRecursion IsTimely growth → next.host ≡ who.host
         → IsUnused next.host.digits next.session.0 account (with_growth old growth)
         → (it : IsSyncFinished who c base account (with_growth old growth) left)
         → AreApart (row_under c) (row_under base) → MayBegin next it.device account (with_growth old growth) }
-    ensures parted { (who next : Asker) (c : Collection) (head : Head) (account : AccountState) (old : Log) (growth : List Event)
-        → MayBegin who c account old → AllByRecursion IsTimely growth → next.host ≡ who.host
+    ensures parted { (who next : Asker) (c : Collection) (head : Head) (account : AccountState) (old : Log)
+        → (growth : List Event) → MayBegin who c account old → AllByRecursion IsTimely growth → next.host ≡ who.host
         → IsUnused next.host.digits next.session.0 account (with_growth old growth)
         → head.schema ≢ (world_at who account (with_growth old growth)).state.committed.head.schema
         → MayBegin next (record c { head = head }) account (with_growth old growth) }

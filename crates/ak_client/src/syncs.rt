@@ -90,8 +90,8 @@ fn sync_met<K: Keeper, W: Wire, C: Clock>(
     requires own { WhereTold (K.keeping keeper.old) (λ h. h.head ≡ Some met.now.head) }
     requires low { pos 0 ≤ℤ met.now.meta.usn }
     requires number { met.now.meta.usn <ℤ last_head_usn }
-    ensures ends { Ends ids met.now (K.keeping keeper.old) (K.keeping keeper.new) (W.health wire.old) (W.health wire.new)
-        (W.state wire.old) (W.state wire.new) (outcome_of result) }
+    ensures ends { Ends ids met.now (K.keeping keeper.old) (K.keeping keeper.new)
+        (W.health wire.old) (W.health wire.new) (W.state wire.old) (W.state wire.new) (outcome_of result) }
     ensures device { KeepsDevice 0 (K.keeping keeper.old) (K.keeping keeper.new)
         (C.to_come clock.old) (C.to_come clock.new) (outcome_of result) }
     ensures clock { TakesMoments 1 (C.to_come clock.old) (C.to_come clock.new) (outcome_of result) }
@@ -138,7 +138,11 @@ fn exchange_all<K: Keeper, W: Wire>(
 }
 
 /// What follows once a device is back at its mark: after a bad sanity check its moments rise.
-pub(crate) fn after_stop<K: Keeper, C: Clock>(keeper: &mut K, clock: &mut C, stop: Stop) -> Result<(), Stop>
+pub(crate) fn after_stop<K: Keeper, C: Clock>(
+    keeper: &mut K,
+    clock: &mut C,
+    stop: Stop,
+) -> Result<(), Stop>
     requires unmarked { is_marked (K.keeping keeper.old) ≡ false }
     requires held { (K.keeping keeper.old).headed.current ≡ true }
     ensures ends { EndsFor stop result }
