@@ -1,0 +1,19 @@
+-- What is known of a wire that lies.
+use Rattle.std.specs.Prelude.{false, None}
+use Rattle.ak_faults.specs.Causes.{Health}
+use Rattle.ak_wires.specs.Wires.{WireState}
+use Rattle.cases_syncs.specs.declared.liar_counts.LiarCounts.{LiarCounts}
+
+-- how many of its calls failed. Some may fail
+abbrev pub health_over : LiarCounts → Health
+health_over c = record { faults = c.faults; calm = false }
+
+-- what it tells: no log, and its counts
+abbrev pub state_over : LiarCounts → WireState
+state_over c = record {
+  log = None;
+  reading = record { faults = c.unread; calm = false };
+  silence = c.silent;
+  said = c.said;
+  calls = c.calls;
+}

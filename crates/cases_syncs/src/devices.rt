@@ -1,0 +1,54 @@
+use crate::servers::{Host, upload};
+use crate::shown::{all, sum};
+use crate::syncs::{sync, sync_by_lie};
+use ak_keep::MemoryKeeper;
+use cases_keepers::answer_of;
+use cases_lines::Unread;
+use std::alloc::Global;
+
+/// A device.
+#[derive(Drop)]
+pub struct Device {
+    keeper: MemoryKeeper,
+}
+
+impl Device {
+    /// A device without a collection.
+    pub fn new(alloc: Global) -> Device {
+        Device {
+            keeper: MemoryKeeper::new(alloc),
+        }
+    }
+
+    /// The answer to a command of the device.
+    pub fn answer(
+        &mut self,
+        alloc: Global,
+        host: &mut Host,
+        word: &str,
+        rest: &str,
+    ) -> Result<String, Unread> {
+        match word {
+            "sync" => sync(alloc, &mut self.keeper, host, rest),
+            "lie" => sync_by_lie(alloc, &mut self.keeper, host, rest),
+            "copy" => self.copy(alloc, host),
+            "upload" => self.upload(alloc, host, rest),
+            "all" => all(alloc, &mut self.keeper),
+            "sum" => sum(alloc, &mut self.keeper),
+            _ => answer_of(alloc, &mut self.keeper, word, rest),
+        }
+    }
+
+    /// `copy`: it holds what the server holds, and is not marked.
+    fn copy(&mut self, alloc: Global, host: &mut Host) -> Result<String, Unread> {
+        self.keeper = host.copied(alloc)?;
+        Ok(String::from_str(alloc, "ok")?)
+    }
+
+    fn upload(&mut self, alloc: Global, host: &mut Host, rest: &str) -> Result<String, Unread> {
+        match &mut host.logged {
+            Some(server) => upload(alloc, &mut self.keeper, server, rest),
+            None => Err(Unread::Bad),
+        }
+    }
+}

@@ -1,0 +1,73 @@
+ghost use Rattle.std.specs.Prelude.{IfOk};
+ghost use Rattle.ak_io.specs.Arrivals.{IsClockMoment};
+
+use ak_base::{List, Row, Table};
+use ak_keep::{KeepFault, Lookup, MemoryKeeper, Readable};
+use cases_keepers::{answer_of, failed};
+use cases_lines::{Unread, number_at, row_text};
+use serde_json::Value;
+use sha1::Sha1;
+use std::alloc::Global;
+
+/// All tables, in the order in which their rows are printed.
+pub fn tables() -> [Table; 9] {
+    [
+        Table::Note,
+        Table::Card,
+        Table::Review,
+        Table::NoteType,
+        Table::Deck,
+        Table::Options,
+        Table::NoteGrave,
+        Table::CardGrave,
+        Table::DeckGrave,
+    ]
+}
+
+/// The head, and then the first 1,000 rows of each table.
+pub fn all(alloc: Global, keeper: &mut MemoryKeeper) -> Result<String, Unread> {
+    let mut made = answer_of(alloc, keeper, "head", "")?;
+    for table in tables() {
+        let page = keeper.page(table, 0, 1000);
+        made.push_str(page_text(alloc, page)?.as_str())?;
+    }
+    Ok(made)
+}
+
+fn page_text(alloc: Global, page: Result<List<Row>, KeepFault>) -> Result<String, Unread> {
+    match page {
+        Ok(rows) => rows_text(alloc, rows.as_slice()),
+        Err(fault) => failed(alloc, fault),
+    }
+}
+
+fn rows_text(alloc: Global, rows: &[Row]) -> Result<String, Unread> {
+    let mut made = String::from_str(alloc, " [")?;
+    for (place, row) in rows.iter().enumerate() {
+        if place > 0 {
+            made.push_str(",")?;
+        }
+        made.push_str(row_text(alloc, row)?.as_str())?;
+    }
+    made.push_str("]")?;
+    Ok(made)
+}
+
+/// `all` as a sum: the first 8 hexadecimal digits of its SHA-1, as a number.
+pub fn sum(alloc: Global, keeper: &mut MemoryKeeper) -> Result<String, Unread> {
+    let text = all(alloc, keeper)?;
+    let digest = Sha1::digest(text.as_bytes());
+    let number = u32::from_be_bytes([digest[0], digest[1], digest[2], digest[3]]);
+    Ok(format!(in alloc; "{number}")?)
+}
+
+/// The moment of a clock at a place of the arguments, in milliseconds.
+pub fn moment_at(arguments: &Value, place: usize) -> Result<i64, Unread>
+    ensures { IfOk result IsClockMoment }
+{
+    let moment = number_at(arguments, place)?;
+    if moment < 0 || moment > 4_294_967_294_999 {
+        return Err(Unread::Bad);
+    }
+    Ok(moment)
+}
