@@ -1,5 +1,5 @@
 -- A part of a sync leads from one place of its plan to another.
-use Rattle.std.specs.Prelude.{◌≡◌, ℕ, ◌+◌, ◌≤◌, ℤ, false, List, [], ◌∷◌, ◌++◌, Option, Some, Result, Ok, Err, IsErrAnd, IfOk, OnOk}
+use Rattle.std.specs.Prelude.{◌≡◌, ℕ, ◌+◌, ◌≤◌, ℤ, true, false, List, [], ◌∷◌, ◌++◌, Option, Some, Result, Ok, Err, IsErrAnd, IfOk, IfErr, OnOk}
 use Rattle.std.proofs.Common.{refl, sym, ap, subst, ◌∙◌, append_assoc, append-nil, arith}
 use Rattle.std.proofs.lemmas.List.{length-append}
 use Rattle.ak_exchange.proofs.Replying.{replies_go_on}
@@ -7,7 +7,7 @@ use Rattle.ak_exchange.proofs.Stepping.{asks_one}
 use Rattle.ak_exchange.proofs.Tried.{asked_none, asked_then, few_more, few_none, few_then}
 use Rattle.ak_exchange.specs.Asked.{AreAsked, AreFew, AreTried, Talk, asker, request_at}
 use Rattle.ak_exchange.specs.Phases.{Advances, HasAsked, IsAt, IsChecked, IsCheckedLast, IsLeft, IsMet, IsReached, Place, marked_at}
-use Rattle.ak_exchange.specs.Stops.{keep_stop, shows_bad_check, wire_stop}
+use Rattle.ak_exchange.specs.Stops.{is_too_many, keep_stop, shows_bad_check, wire_stop}
 use Rattle.ak_exchange.specs.declared.envelopes.Envelopes.{Envelopes}
 use Rattle.ak_exchange.specs.declared.envelopes.Met.{Met}
 use Rattle.ak_exchange.specs.declared.stops.Stop.{Stop}
@@ -73,6 +73,46 @@ not_ok (Err e) P is = tt
 not_checked : {T : Type 0} (result : Result T Stop) (asks : List Ask) (now : Talk) → IsRefused result → IsChecked asks now result
 not_checked (Ok x) asks now is = tt
 not_checked (Err stop) asks now is = λ bad. absurd (grind (arith, is, bad))
+
+-- ---- too many chunks
+few_as : {T : Type 0} (result : Result T Stop) (why : Stop) → is_too_many why ≡ false → IsErrAnd result (λ (stop : Stop). stop ≡ why)
+    → IfErr result (λ (stop : Stop). is_too_many stop ≡ false)
+few_as (Ok x) why few is = tt
+few_as (Err stop) why few is = ap is_too_many is ∙ few
+
+pub few_memory : {T : Type 0} (result : Result T Stop) → IsErrAnd result (λ (stop : Stop). stop ≡ stops.Memory)
+    → IfErr result (λ (stop : Stop). is_too_many stop ≡ false)
+few_memory result is = few_as result stops.Memory refl is
+
+pub few_wire : {T : Type 0} (result : Result T Stop) (why : Unanswered) → IsErrAnd result (λ (stop : Stop). stop ≡ wire_stop why)
+    → IfErr result (λ (stop : Stop). is_too_many stop ≡ false)
+few_wire result why is = few_as result (wire_stop why) (each why) is
+  where
+    each : (u : Unanswered) → is_too_many (wire_stop u) ≡ false
+    each unanswered.Lost = refl
+    each unanswered.BadReply = refl
+    each (unanswered.Refused status word seen) = refl
+    each unanswered.Memory = refl
+
+pub few_keeper : {T : Type 0} (result : Result T Stop) (fault : KeepFault) → IsErrAnd result (λ (stop : Stop). stop ≡ keep_stop fault)
+    → IfErr result (λ (stop : Stop). is_too_many stop ≡ false)
+few_keeper result fault is = few_as result (keep_stop fault) (each fault) is
+  where
+    each : (f : KeepFault) → is_too_many (keep_stop f) ≡ false
+    each faults.Failed = refl
+    each faults.Memory = refl
+
+-- what is not refused for that says nothing of it
+pub if_few : {T : Type 0} (result : Result T Stop) (P : Type 0) → IfErr result (λ (stop : Stop). is_too_many stop ≡ false)
+    → IfErr result (λ (stop : Stop). is_too_many stop ≡ true → P)
+if_few (Ok x) P few = tt
+if_few (Err stop) P few = λ many. absurd (grind (arith, few, many))
+
+-- what was refused for that, and handed on
+pub if_many : {T : Type 0} (result : Result T Stop) (e : Stop) (P : Type 0) → IsErrAnd result (λ (stop : Stop). stop ≡ e)
+    → (is_too_many e ≡ true → P) → IfErr result (λ (stop : Stop). is_too_many stop ≡ true → P)
+if_many (Ok x) e P is so = tt
+if_many (Err stop) e P is so = λ many. so (sym (ap is_too_many is) ∙ many)
 
 -- ---- nothing was asked
 -- a place is within the plan

@@ -36,7 +36,8 @@ rows_to_push c s = wanted_in_chunks Unsent (device_rows c s (planned_chunks c s)
 
 -- this many chunks were sent after those that came, each was full, and the next begins at this place
 pub record HavePushed (count : ℕ) (from : Name) (c s : Collection) (asked : List Ask) : Type 0 where
-  pub asked_is : asked ≡ planned_chunks c s ++ map (λ (part : List Row). ApplyChunk (chunk_of part)) (slices count (rows_to_push c s))
+  pub asked_is : asked ≡ planned_chunks c s
+      ++ map (λ (part : List Row). ApplyChunk (chunk_of part)) (slices count (rows_to_push c s))
   pub full : 250 * count ≤ length (rows_to_push c s)
   pub ahead : ahead_of Unsent from (device_rows c s (planned_chunks c s)) ≡ drop (250 * count) (rows_to_push c s)
 

@@ -70,14 +70,16 @@ IsReached who account s asked told = (log : Log) × (told ≡ Some log)
     × IsUnderWay who.host.digits who.session.0 (requests_from who s.head.moment 1 asked) s account log
 
 -- a sync with what was committed as s asked these after its meta, step by step, and nothing else. If the two may sync, that led to a place
-pub record HasAsked (c s : Collection) (account : AccountState) (asked : List Ask) (place : Place) (talk : Talk) : Type 0 where
+pub record HasAsked (c s : Collection) (account : AccountState) (asked : List Ask) (place : Place)
+    (talk : Talk) : Type 0 where
   pub base : talk.envelopes.base ≡ s.head.moment
   pub step : talk.envelopes.step ≡ length asked
   pub reached : IsReached (asker talk.envelopes.ids) account s asked talk.wire.log
   pub placed : MaySync c s → place c s asked
 
 -- and the device, which is marked at c, took what the replies brought
-pub record IsAt (c s : Collection) (account : AccountState) (asked : List Ask) (place : Place) (keeping : Keeping) (talk : Talk) : Type 0 where
+pub record IsAt (c s : Collection) (account : AccountState) (asked : List Ask) (place : Place)
+    (keeping : Keeping) (talk : Talk) : Type 0 where
   pub has : HasAsked c s account asked place talk
   pub device : keeping ≡ changed (received s.head.usn (all_replied s asked)) (marked_at c)
 
@@ -104,15 +106,17 @@ IsChecked asks now result = IfErr result (λ stop. shows_bad_check stop ≡ true
 
 -- a part of a sync: what it asked, and that nothing of it commits; and where keeper and wire tell what they hold, that it leads from one
 -- place of the plan to another. If it is refused, the sync is left where it is
-pub record Advances {T : Type 0} (pulled pushed others : ℕ) (from to : Place) (met : Met) (before after : Keeping) (was now : Talk)
-    (result : Result T Stop) : Type 0 where
+pub record Advances {T : Type 0} (pulled pushed others : ℕ) (from to : Place) (met : Met)
+    (before after : Keeping) (was now : Talk) (result : Result T Stop) : Type 0 where
   pub asks : List Ask
   pub asked : AreAsked asks was now
   pub few : AreFew pulled pushed others asks
   pub plain : AllByRecursion (λ (ask : Ask). asks_commit ask ≡ false) asks
   pub checked : IsChecked asks now result
-  pub leads : (c s : Collection) (account : AccountState) (earlier : List Ask) → IsMet c s met → IsAt c s account earlier from before was
-      → IsLeft c s account (asker was.envelopes.ids) (earlier ++ asks) now × OnOk result (IsAt c s account (earlier ++ asks) to after now)
+  pub leads : (c s : Collection) (account : AccountState) (earlier : List Ask) → IsMet c s met
+      → IsAt c s account earlier from before was
+      → IsLeft c s account (asker was.envelopes.ids) (earlier ++ asks) now
+      × OnOk result (IsAt c s account (earlier ++ asks) to after now)
 
 -- a number that is at most the requests that the graves need which were not sent yet: 250 go in each
 abbrev pub AreGraveRequests : Keeping → ℕ → Type 0
@@ -141,7 +145,8 @@ abbrev pub finish_after : Asker → Collection → List Ask → Request
 finish_after who s before = request_at who s.head.moment (length before + 1) Finish
 
 -- the session committed once: at the finish, which came after these, what they made of s; and it had no reason to refuse it
-pub record HasCommitted (c s : Collection) (account : AccountState) (who : Asker) (before : List Ask) (moment : ℤ) (talk : Talk) : Type 0 where
+pub record HasCommitted (c s : Collection) (account : AccountState) (who : Asker) (before : List Ask)
+    (moment : ℤ) (talk : Talk) : Type 0 where
   pub log : Log
   pub told : talk.wire.log ≡ Some log
   pub at : ℤ
@@ -158,6 +163,8 @@ pub record Finishes (was now : Talk) (result : Result ℤ Stop) : Type 0 where
   pub asked : AreAsked asks was now
   pub few : AreFew 0 0 1 asks
   pub late : IfErr result (λ stop. comes_before_finish stop ≡ false)
-  pub leads : (c s : Collection) (account : AccountState) (earlier : List Ask) → HasAsked c s account earlier (at_end_of planned_check) was
+  pub leads : (c s : Collection) (account : AccountState) (earlier : List Ask)
+      → HasAsked c s account earlier (at_end_of planned_check) was
       → IsLeft c s account (asker was.envelopes.ids) (earlier ++ asks) now
-      × IfOk result (λ moment. (asks ≡ Finish ∷ []) × HasCommitted c s account (asker was.envelopes.ids) earlier moment now)
+      × IfOk result (λ moment. (asks ≡ Finish ∷ [])
+      × HasCommitted c s account (asker was.envelopes.ids) earlier moment now)

@@ -59,3 +59,8 @@ abbrev pub shows_bad_check : Stop → Bool
 shows_bad_check (stops.BadRow fault) = true
 shows_bad_check (stops.BadCounts client server) = true
 shows_bad_check stop = false
+
+-- whether a sync stops at too many chunks
+abbrev pub is_too_many : Stop → Bool
+is_too_many stops.TooManyChunks = true
+is_too_many stop = false

@@ -1,5 +1,5 @@
 // The requests of a sync, step by step.
-ghost use Rattle.std.specs.Prelude.{◌≡◌, ◌+◌, pos, IfOk, OnErr};
+ghost use Rattle.std.specs.Prelude.{◌≡◌, ◌+◌, ◌^◌, pos, IfOk, OnErr};
 ghost use Rattle.ak_messages.specs.declared.requests.Ask.TheVariants as asks;
 
 use ak_base::{Head, HostKey, Memory, SessionKey};
@@ -53,6 +53,7 @@ impl Envelopes {
         }) }
         ensures next { IfOk result (λ it. self.new ≡ record self.old { step = self.old.step + 1 }) }
         ensures stays { OnErr result (self.new ≡ self.old) }
+        ensures full { OnErr result (self.old.step + 1 ≡ 2 ^ 64) }
     {
         match self.step.checked_add(1) {
             Some(step) => {

@@ -1,11 +1,11 @@
 // What a sync asks after its meta, and what the device does with the replies. The keeper is marked throughout.
 ghost use Rattle.std.specs.Int.{div_ceil};
-ghost use Rattle.std.specs.Prelude.{◌≡◌, ◌+◌, ◌<◌, ◌*◌, ℕ, pos, true, if◌then◌else◌, length, IfOk, OnOk};
+ghost use Rattle.std.specs.Prelude.{◌≡◌, ◌+◌, ◌<◌, ◌≤◌, ◌*◌, ℕ, pos, true, false, if◌then◌else◌, length, IfOk, IfErr, OnOk};
 ghost use Rattle.ak_base.specs.Heads.{IsMoment, IsWithin};
 ghost use Rattle.ak_base.specs.Limits.{last_head_usn};
 ghost use Rattle.ak_exchange.specs.Loops.{HasPulledOne, HasPushedOne, HavePulled, HavePushed, HaveSentGraves, last_sent};
 ghost use Rattle.ak_exchange.specs.Phases.{Advances, AreGraveRequests, Exchanges, Finishes, HasReceived, at_end_of, at_meta};
-ghost use Rattle.ak_exchange.specs.Stops.{verdict_of};
+ghost use Rattle.ak_exchange.specs.Stops.{is_too_many, verdict_of};
 ghost use Rattle.ak_exchange.specs.declared.envelopes.Met.{Met};
 ghost use Rattle.ak_faults.specs.Causes.{GoesOn};
 ghost use Rattle.ak_keep.specs.Keepers.{IsMarkedAt, Keeping, back, is_marked};
@@ -97,6 +97,8 @@ fn exchange_chunks<K: Keeper, W: Wire>(
     ensures stays { IsMarkedAt (back (K.keeping keeper.old)) (K.keeping keeper.new) }
     ensures took { OnOk result (HasReceived met.now.meta.usn (K.keeping keeper.old) (K.keeping keeper.new)) }
     ensures keeper { GoesOn (K.health keeper.old) (K.health keeper.new) }
+    ensures many { IfErr result (λ stop. is_too_many stop ≡ true
+        → envelopes.old.step + 39_999 ≤ envelopes.new.step) }
 {
     pull(keeper, wire, envelopes, met)?;
     push(alloc, keeper, wire, envelopes, met)
@@ -232,6 +234,8 @@ pub fn pull<K: Keeper, W: Wire>(
     ensures stays { IsMarkedAt (back (K.keeping keeper.old)) (K.keeping keeper.new) }
     ensures took { OnOk result (HasReceived met.now.meta.usn (K.keeping keeper.old) (K.keeping keeper.new)) }
     ensures keeper { GoesOn (K.health keeper.old) (K.health keeper.new) }
+    ensures many { IfErr result (λ stop. is_too_many stop ≡ true
+        → envelopes.old.step + 40_000 ≤ envelopes.new.step) }
 {
     for _turn in 0..MOST_PULLED {
         if pull_chunk(keeper, wire, envelopes, met)? {
@@ -258,6 +262,8 @@ fn pull_chunk<K: Keeper, W: Wire>(
     ensures stays { IsMarkedAt (back (K.keeping keeper.old)) (K.keeping keeper.new) }
     ensures took { OnOk result (HasReceived met.now.meta.usn (K.keeping keeper.old) (K.keeping keeper.new)) }
     ensures keeper { GoesOn (K.health keeper.old) (K.health keeper.new) }
+    ensures one { OnOk result (envelopes.new.step ≡ envelopes.old.step + 1) }
+    ensures few { IfErr result (λ stop. is_too_many stop ≡ false) }
 {
     let request = envelopes.request(Ask::Chunk)?;
     let chunk = ask_chunk(wire, &request)?;
@@ -280,6 +286,8 @@ pub fn push<K: Keeper, W: Wire>(
         (record { health = W.health wire.new; wire = W.state wire.new; envelopes = envelopes.new }) result }
     ensures same { K.keeping keeper.new ≡ K.keeping keeper.old }
     ensures keeper { GoesOn (K.health keeper.old) (K.health keeper.new) }
+    ensures many { IfErr result (λ stop. is_too_many stop ≡ true
+        → envelopes.old.step + 39_999 ≤ envelopes.new.step) }
 {
     let mut from = FIRST_PLACE;
     for _turn in 0..MOST_UNFINISHED {
@@ -312,6 +320,9 @@ fn push_chunk<K: Keeper, W: Wire>(
         (record { health = W.health wire.new; wire = W.state wire.new; envelopes = envelopes.new }) result }
     ensures same { K.keeping keeper.new ≡ K.keeping keeper.old }
     ensures keeper { GoesOn (K.health keeper.old) (K.health keeper.new) }
+    ensures one { OnOk result (envelopes.new.step ≡ envelopes.old.step + 1) }
+    ensures many { IfErr result (λ stop. is_too_many stop ≡ true
+        → (may_follow ≡ false) × (envelopes.new ≡ envelopes.old)) }
 {
     let Gathered { chunk, next } = next_chunk(alloc, keeper, from)?;
     let done = chunk.done;

@@ -7,6 +7,7 @@ use Rattle.ak_faults.proofs.Healths.{goes_further, goes_nowhere}
 use Rattle.ak_keep.specs.Keepers.{back}
 use Rattle.ak_parts.proofs.Taking.{stays_marked}
 use Rattle.ak_session.specs.Plans.{planned_changes}
+use Rattle.ak_exchange.proofs.Passing.{if_many}
 use Rattle.ak_exchange.proofs.exchanges.pull.Goals as goal
 
 pub loop-turn-init : goal.loop-turn-init
@@ -15,6 +16,7 @@ loop-turn-init g c = record {
       (λ own s account asked met_is at may. none_pulled own s asked (at.has.placed may)) refl refl refl refl;
   stays = record { marked = c.requires.marked; back = refl };
   took = received_once _ _;
+  step = omega arith;
   goes = goes_nowhere _;
 }
 
@@ -65,6 +67,7 @@ loop-turn-preserved g c = record {
       c.loop-turn.invariant.stays c.in_ok-pull_chunk.ensures.stays;
   took = received_more c.args.met.now.meta.usn (g.K.Lookup.keeping c.args.keeper.now) (g.K.Lookup.keeping c.loop-turn.keeper) (g.K.Lookup.keeping c.pull_chunk.new.keeper)
       c.loop-turn.invariant.took c.in_ok-pull_chunk.ensures.took;
+  step = let so_far = c.loop-turn.invariant.step in let one = c.in_ok-pull_chunk.ensures.one in omega (arith, so_far, one);
   goes = goes_further c.loop-turn.invariant.goes c.in_ok-pull_chunk.ensures.keeper;
 }
 
@@ -73,3 +76,13 @@ returns-clause-leads g c =
     let most = c.loop-turn.auto._turn-end in
     advances_more c.loop-turn._turn 0 0 _ _ _ _ _ _ _ _ _ _ _ most (omega arith) (omega arith)
     (advances_left _ _ _ _ _ _ _ _ _ _ _ _ _ _ refl c.loop-turn.invariant.leads)
+
+pub returns-in_err-pull_chunk-clause-many : goal.returns-in_err-pull_chunk-clause-many
+returns-in_err-pull_chunk-clause-many g c =
+    if_many _ _ _ c.from_residual.ensures.1 (λ many. absurd (grind (arith, many, c.in_err-pull_chunk.ensures.few)))
+
+pub returns-clause-many : goal.returns-clause-many
+returns-clause-many g c = λ many.
+    let so_far = c.loop-turn.invariant.step in
+    let most = c.loop-turn-test.false in
+    omega (arith, so_far, most)

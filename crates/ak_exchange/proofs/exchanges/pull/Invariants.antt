@@ -1,4 +1,4 @@
-use Rattle.std.proofs.Common.{Ok}
+use Rattle.std.proofs.Common.{Ok, ◌≡◌, ◌+◌}
 use Rattle.ak_exchange.specs.Loops.{HavePulled}
 use Rattle.ak_exchange.specs.Phases.{Advances, HasReceived, at_end_of}
 use Rattle.ak_faults.specs.Causes.{GoesOn}
@@ -14,5 +14,6 @@ invariant-loop-turn g l = record {
       (record { health = g.W.End.health l.wire; wire = g.W.Wire.state l.wire; envelopes = l.envelopes }) (Ok tt);
   stays : IsMarkedAt (back (g.K.Lookup.keeping l.fn.keeper)) (g.K.Lookup.keeping l.keeper);
   took : HasReceived l.met.meta.usn (g.K.Lookup.keeping l.fn.keeper) (g.K.Lookup.keeping l.keeper);
+  step : l.envelopes.step ≡ l.fn.envelopes.step + l._turn;
   goes : GoesOn (g.K.Lookup.health l.fn.keeper) (g.K.Lookup.health l.keeper);
 }

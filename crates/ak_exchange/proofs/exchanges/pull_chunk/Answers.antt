@@ -7,6 +7,7 @@ use Rattle.ak_exchange.proofs.Places.{pulled_lead}
 use Rattle.ak_messages.specs.declared.replies.Give.TheVariants as gives
 use Rattle.ak_session.specs.Replies.{replied}
 use Rattle.ak_wires.specs.Forms.{chunk_in}
+use Rattle.ak_exchange.proofs.Passing.{few_keeper, few_memory, few_wire}
 use Rattle.ak_exchange.proofs.exchanges.pull_chunk.Goals as goal
 
 pub returns-in_err-request-clause-leads : goal.returns-in_err-request-clause-leads
@@ -41,3 +42,12 @@ pub returns-clause-took : goal.returns-clause-took
 returns-clause-took g c =
     let usn : SFits w64 c.args.met.now.meta.usn = search rules in
     (replied (gives.Chunk c.in_ok-chunk.chunk), rw (to_z-of_z w64 c.args.met.now.meta.usn usn) at c.in_ok-take_chunk.ensures.ok)
+
+pub returns-in_err-request-clause-few : goal.returns-in_err-request-clause-few
+returns-in_err-request-clause-few g c = few_memory _ c.from_residual.ensures.1
+
+pub returns-in_err-chunk-clause-few : goal.returns-in_err-chunk-clause-few
+returns-in_err-chunk-clause-few g c = few_wire _ _ c.from_residual-in_err-chunk.ensures.1
+
+pub returns-in_err-take_chunk-clause-few : goal.returns-in_err-take_chunk-clause-few
+returns-in_err-take_chunk-clause-few g c = few_keeper _ _ c.from_residual-in_err-take_chunk.ensures.1

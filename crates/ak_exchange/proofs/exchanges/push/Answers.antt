@@ -5,6 +5,9 @@ use Rattle.ak_exchange.proofs.Places.{after_chunks, leads_on, none_pushed}
 use Rattle.ak_exchange.specs.Loops.{last_sent}
 use Rattle.ak_faults.proofs.Healths.{goes_further, goes_nowhere}
 use Rattle.ak_session.specs.Plans.{planned_chunks}
+use Rattle.std.proofs.Common.{ap}
+use Rattle.ak_exchange.proofs.Passing.{if_many}
+use Rattle.ak_exchange.specs.declared.envelopes.Envelopes.{Envelopes}
 use Rattle.ak_exchange.proofs.exchanges.push.Goals as goal
 
 pub loop-turn-init : goal.loop-turn-init
@@ -12,6 +15,7 @@ loop-turn-init g c = record {
   leads = at_start _ _ _ _ _ _ _ _ _ _ tt (leads_on planned_chunks after_chunks)
       (λ own s account asked met_is at may. none_pushed own s asked (at.has.placed may)) refl refl refl refl;
   same = refl;
+  step = omega arith;
   goes = goes_nowhere _;
 }
 
@@ -46,6 +50,7 @@ loop-turn-preserved g c = record {
   leads = advances_then _ _ _ _ _ _ _ _ _ _ _ _ _ _ _ _ _ _ c.loop-turn.invariant.leads
       (pushed_on c.loop-turn._turn 1 c.loop-turn.from _ _ _ _ _ _ c.in-Some.next c.in-Some.is (c.in_ok-next.ensures.leads c.loop-turn._turn c.args.met.now));
   same = c.in_ok-next.ensures.same ∙ c.loop-turn.invariant.same;
+  step = let so_far = c.loop-turn.invariant.step in let one = c.in_ok-next.ensures.one in omega (arith, so_far, one);
   goes = goes_further c.loop-turn.invariant.goes c.in_ok-next.ensures.keeper;
 }
 
@@ -88,3 +93,22 @@ returns-in-None-2-clause-same g c = c.in_ok-push_chunk.ensures.same ∙ c.loop-t
 
 pub returns-in-None-2-clause-keeper : goal.returns-in-None-2-clause-keeper
 returns-in-None-2-clause-keeper g c = goes_further c.loop-turn.invariant.goes c.in_ok-push_chunk.ensures.keeper
+
+pub returns-in_err-next-clause-many : goal.returns-in_err-next-clause-many
+returns-in_err-next-clause-many g c =
+    if_many _ _ _ c.from_residual.ensures.1 (λ many. let none = (c.in_err-next.ensures.many many).0 in absurd (grind (arith, none)))
+
+pub returns-in_err-push_chunk-clause-many : goal.returns-in_err-push_chunk-clause-many
+returns-in_err-push_chunk-clause-many g c =
+    if_many _ _ _ c.from_residual-in_err-push_chunk.ensures.1 (λ many.
+    let so_far = c.loop-turn.invariant.step in
+    let most = c.loop-turn-test.false in
+    let same = ap (λ (e : Envelopes). e.step) (c.in_err-push_chunk.ensures.many many).1 in
+    omega (arith, so_far, most, same))
+
+pub returns-in-Some-2-clause-many : goal.returns-in-Some-2-clause-many
+returns-in-Some-2-clause-many g c = λ many.
+    let so_far = c.loop-turn.invariant.step in
+    let most = c.loop-turn-test.false in
+    let one = c.in_ok-push_chunk.ensures.one in
+    omega (arith, so_far, most, one)

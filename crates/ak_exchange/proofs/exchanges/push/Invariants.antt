@@ -1,4 +1,4 @@
-use Rattle.std.proofs.Common.{◌≡◌, Ok}
+use Rattle.std.proofs.Common.{◌≡◌, ◌+◌, Ok}
 use Rattle.ak_exchange.specs.Loops.{HavePushed}
 use Rattle.ak_exchange.specs.Phases.{Advances, at_end_of}
 use Rattle.ak_faults.specs.Causes.{GoesOn}
@@ -12,5 +12,6 @@ invariant-loop-turn g l = record {
       (record { health = g.W.End.health l.fn.wire; wire = g.W.Wire.state l.fn.wire; envelopes = l.fn.envelopes })
       (record { health = g.W.End.health l.wire; wire = g.W.Wire.state l.wire; envelopes = l.envelopes }) (Ok tt);
   same : g.K.Lookup.keeping l.keeper ≡ g.K.Lookup.keeping l.fn.keeper;
+  step : l.envelopes.step ≡ l.fn.envelopes.step + l._turn;
   goes : GoesOn (g.K.Lookup.health l.fn.keeper) (g.K.Lookup.health l.keeper);
 }

@@ -6,6 +6,7 @@ use Rattle.ak_exchange.proofs.Parts.{push_refused, push_took, pushed_few, refuse
 use Rattle.ak_exchange.proofs.Passing.{advances_kept, by_keeper, by_memory, by_wire, stays_here}
 use Rattle.ak_exchange.proofs.Places.{pushed_lead}
 use Rattle.ak_exchange.proofs.exchanges.push_chunk.Goals.{else-not-done-via-then-not-done+else-not-may_follow, else-not-done-via-else-not-done}
+use Rattle.ak_exchange.proofs.Passing.{few_keeper, few_memory, few_wire, if_few}
 use Rattle.ak_exchange.proofs.exchanges.push_chunk.Goals as goal
 
 pub returns-in_err-chunk-clause-leads : goal.returns-in_err-chunk-clause-leads
@@ -65,3 +66,12 @@ returns-clause-leads g c = λ count met.
     (record { it = c.in_ok-request.request; made = rw c.in_ok-chunk.chunk-is at c.in_ok-request.ensures.made; envelopes = c.in_ok-request.ensures.next; call = c.ask_nothing.ensures })
     _ _ _ _ false (pushed_few c.in_ok-chunk.chunk c.args.may_follow _ follows (λ is. absurd (grind (arith, is, done_is, c.if-done.false))))
     c.in_ok-ask_nothing.was (done_is ∙ c.if-done.false))
+
+pub returns-in_err-chunk-clause-many : goal.returns-in_err-chunk-clause-many
+returns-in_err-chunk-clause-many g c = if_few _ _ (few_keeper _ _ c.from_residual.ensures.1)
+
+pub returns-in_err-request-clause-many : goal.returns-in_err-request-clause-many
+returns-in_err-request-clause-many g c = if_few _ _ (few_memory _ c.from_residual-in_err-request.ensures.1)
+
+pub returns-in_err-ask_nothing-clause-many : goal.returns-in_err-ask_nothing-clause-many
+returns-in_err-ask_nothing-clause-many g c = if_few _ _ (few_wire _ _ c.from_residual-in_err-ask_nothing.ensures.1)
