@@ -10,7 +10,6 @@ use ak_filters::{FieldFilter, HintFilter, TextFilter};
 use ak_io::{Clock, Sink, Source, StdChance, StdClock, StdSink, StdSource};
 use ak_keep::{KeepFault, Keeper, MemoryKeeper};
 use ak_sqlite::SqliteKeeper;
-use std::alloc::Global;
 use std::env::Env;
 use std::io::ErrorKind;
 use std::process::ExitCode;
@@ -56,39 +55,46 @@ fn run_in<I: Source, O: Sink>(
     input: &mut I,
     out: &mut O,
 ) -> u8 {
-    if file == "-" {
-        let mut keeper = MemoryKeeper::new(rt.alloc());
-        return run_over(rt, &mut keeper, words, input, out);
-    }
-    match SqliteKeeper::over_file(rt, file) {
-        Ok(keeper) => {
-            let mut keeper = keeper;
-            run_over(rt, &mut keeper, words, input, out)
-        }
+    match run_over(rt, file, words, input, out) {
+        Ok(status) => status,
         Err(KeepFault::Failed) => KEEPER_FAILED,
         Err(KeepFault::Memory) => NO_MEMORY,
     }
 }
 
-/// Runs the command over a keeper, and answers its status.
-fn run_over<K: Keeper, I: Source, O: Sink>(
+/// The same, but that a file or memory that could not be had is a fault.
+fn run_over<I: Source, O: Sink>(
+    rt: &HostRuntime,
+    file: &str,
+    words: &[String],
+    input: &mut I,
+    out: &mut O,
+) -> Result<u8, KeepFault> {
+    if file == "-" {
+        let mut keeper = MemoryKeeper::new(rt.alloc());
+        return Ok(run_with(rt, &mut keeper, words, input, out)?);
+    }
+    let mut keeper = SqliteKeeper::over_file(rt, file)?;
+    Ok(run_with(rt, &mut keeper, words, input, out)?)
+}
+
+/// Runs the command over a keeper, and answers its status. Pages have the filters `text` and `hint`.
+fn run_with<K: Keeper, I: Source, O: Sink>(
     rt: &HostRuntime,
     keeper: &mut K,
     words: &[String],
     input: &mut I,
     out: &mut O,
-) -> u8
+) -> Result<u8, Memory>
     requires unmarked { is_marked (K.keeping keeper.old) ≡ false }
 {
     let alloc = rt.alloc();
     let mut filters: Vec<Box<dyn FieldFilter>> = Vec::new(alloc);
-    match add_filters(alloc, &mut filters) {
-        Ok(()) => {}
-        Err(Memory) => return NO_MEMORY,
-    }
+    filters.push(Box::new(alloc, TextFilter::new(alloc))?)?;
+    filters.push(Box::new(alloc, HintFilter::new(alloc))?)?;
     let mut clock = StdClock::new(rt);
     let mut chance = StdChance::new(clock.now() as u64);
-    run(
+    let status = run(
         alloc,
         words,
         input,
@@ -97,12 +103,6 @@ fn run_over<K: Keeper, I: Source, O: Sink>(
         &mut clock,
         &mut chance,
         &mut filters,
-    )
-}
-
-/// Adds the filters of pages: `text` and `hint`.
-fn add_filters(alloc: Global, filters: &mut Vec<Box<dyn FieldFilter>>) -> Result<(), Memory> {
-    filters.push(Box::new(alloc, TextFilter::new(alloc))?)?;
-    filters.push(Box::new(alloc, HintFilter::new(alloc))?)?;
-    Ok(())
+    );
+    Ok(status)
 }
