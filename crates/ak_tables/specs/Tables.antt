@@ -98,6 +98,7 @@ pub record IsConsistent (memory : MemoryState) (stored : Option Holding) (touche
 abbrev pub health_code : Coded Health
 health_code = code_by (ℕ × Bool) (coded× coded_ℕ coded_bool) (λ h. (h.faults, h.calm)) (λ p. record { faults = p.0; calm = p.1 }) (λ _. refl)
 
+-- how what is known of a keeper over tables is coded, by the code of what is held
 abbrev pub state_code : Coded Holding → Coded TableState
 state_code held =
     code_by (WithMark Holding × (Option Holding × Health)) (coded× (kept_code held) (coded× (coded_option held) health_code))
