@@ -1,5 +1,4 @@
 ghost use Rattle.std.specs.Prelude.{◌≡◌, ◌<◌, ◌≤◌, pos, [], IfOk};
-ghost use Rattle.ak_base.specs.Heads.{IsConfInRange};
 ghost use Rattle.ak_io.specs.Arrivals.{IsClockMoment};
 ghost use Rattle.ak_loops.specs.Entries.{collection_in};
 ghost use Rattle.ak_merge.specs.Commits.{IsCommitted};
@@ -36,6 +35,7 @@ impl Host {
     }
 
     /// `open [AT]`: a server whose account holds no row, and was changed last at this moment.
+    #[tactic(auto, using(crate::proofs::Empty::are_distinct))]
     fn open(&mut self, alloc: Global, rest: &str) -> Result<String, Unread> {
         let arguments = value_of(alloc, rest)?;
         let opening = empty_opening(alloc, moment_at(&arguments, 0)?)?;
@@ -79,8 +79,7 @@ fn host_key() -> Result<HostKey, Unread> {
 }
 
 /// A collection without rows.
-fn empty_opening(alloc: Global, at: i64) -> Result<Opening, Memory>
-    requires clock { IsClockMoment at }
+fn empty_opening(alloc: Global, at: i64) -> Result<Opening, Unread>
     ensures rows { IfOk result (λ it. it.rows ≡ []) }
     ensures committed { IfOk result (λ it. IsCommitted (collection_in it)) }
 {
@@ -93,15 +92,24 @@ fn empty_opening(alloc: Global, at: i64) -> Result<Opening, Memory>
         conf: settings(alloc)?,
         tags: List::new(alloc),
     };
+    opening_of(alloc, head)
+}
+
+fn opening_of(alloc: Global, head: Head) -> Result<Opening, Unread>
+    requires { head.tags ≡ [] }
+    ensures rows { IfOk result (λ it. it.rows ≡ []) }
+    ensures committed { IfOk result (λ it. IsCommitted (collection_in it)) }
+{
+    if !head.is_in_range() {
+        return Err(Unread::Bad);
+    }
     Ok(Opening {
         rows: List::new(alloc),
         head,
     })
 }
 
-fn settings(alloc: Global) -> Result<Conf, Memory>
-    ensures { IfOk result IsConfInRange }
-{
+fn settings(alloc: Global) -> Result<Conf, Memory> {
     Ok(Conf {
         new_spread: 0,
         collapse: 1_200,
