@@ -28,3 +28,4 @@ pub use laws::{
 pub use replies::{read_reply, write_reply};
 pub use requests::{read_request, write_request};
 pub use wire_faults::WireFault;
+pub use words::word_text;

@@ -4,7 +4,7 @@ ghost use Rattle.ak_wire.specs.Words.{word_text, word_of};
 use ak_messages::Word;
 
 /// The word as it is written in a reply.
-pub(crate) fn word_text(word: Word) -> &'static str
+pub fn word_text(word: Word) -> &'static str
     ensures { result.now ≡ word_text word }
 {
     match word {
