@@ -71,7 +71,7 @@ fn name_after(alloc: Global, words: &str, name: Name) -> Result<Option<Text>, Me
 }
 
 /// The word for a row of a table.
-fn table_text(table: Table) -> &'static str
+pub fn table_text(table: Table) -> &'static str
     ensures { result.now ≡ table_text table }
 {
     match table {

@@ -6,4 +6,4 @@ mod fault_texts;
 mod pieces;
 
 pub use answers::{DeskAnswer, write_answer, write_check_fault};
-pub use fault_texts::{write_desk_fault, write_line_fault};
+pub use fault_texts::{table_text, write_desk_fault, write_line_fault};
