@@ -1,0 +1,5 @@
+pub mod LinesRead
+pub mod LinesWritten
+pub mod Negatives
+pub mod Ranges
+pub mod WordsRead

@@ -1,0 +1,75 @@
+-- A text that says a line is read as that line.
+use Rattle.std.proofs.Common.{◌≡◌, ℕ, ◌≤◌, ℤ, pos, List, ◌∷◌, ◌++◌, Option, Some, option_and_then, option_map, inl, inr, refl, sym, ap, ◌∙◌, arith}
+use Rattle.std.specs.Prelude.{codes}
+use Rattle.std.proofs.lemmas.Int.{ints}
+use Rattle.std.specs.Fmt.{decimal, signed_decimal}
+use Rattle.std.specs.Int.RustNames.{unsigned_abs}
+use Rattle.ak_base.specs.Heads.{IsWithin}
+use Rattle.ak_base.specs.declared.names.Table.TheVariants as tables
+use Rattle.ak_lines.specs.Reading.{number_in, next_number}
+use Rattle.ak_lines.proofs.Numerals.{number_read}
+use Rattle.ak_lab_lines.specs.LabLines.{side_of, shown_of, signed_number, reviews_of, lab_line_of}
+use Rattle.ak_lab_lines.specs.Written.{IsShown, AreReviews, IsLabLine, side_word, shown_word, reviews_text, line_text, IsMinusZero, SaysLine}
+use Rattle.ak_lab_lines.specs.declared.lab_lines.LabLine.{LabLine}
+use Rattle.ak_lab_lines.specs.declared.lab_lines.LabLine.TheVariants as lines
+use Rattle.ak_lab_lines.specs.declared.lab_lines.Shown.{Shown}
+use Rattle.ak_lab_lines.specs.declared.lab_lines.Shown.TheVariants as shown
+use Rattle.ak_lab_lines.proofs.WordsRead.{word_read, next_word_read, side_filled, side_read, next_number_read, signed_read, minus_zero_read}
+
+reviews_within : (count : ℕ) → 1 ≤ count → count ≤ 100_000 → IsWithin (pos 1) (pos 100_000) (pos count)
+reviews_within count least most = record { low = omega (arith, ints, least); high = omega (arith, ints, most) }
+
+reviews_read : (device : List ℕ) (card ease : ℤ) (count : ℕ) → AreReviews card ease count
+    → reviews_of device (reviews_text card ease count) ≡ Some (lines.Review device card ease count)
+reviews_read device card ease count r =
+    ap (λ o. option_and_then (λ (c : ℤ × List ℕ). option_and_then (λ (e : ℤ × List ℕ). option_map (λ n. lines.Review device c.0 e.0 (unsigned_abs n)) (number_in (1, 100_000) e.1)) (next_number (1, 4) c.1)) o)
+    (next_number_read 1 9_007_199_254_740_991 card (signed_decimal ease ++ (32 ∷ decimal count)) (omega arith) r.id)
+    ∙ ap (λ o. option_and_then (λ (e : ℤ × List ℕ). option_map (λ n. lines.Review device card e.0 (unsigned_abs n)) (number_in (1, 100_000) e.1)) o)
+    (next_number_read 1 4 ease (decimal count) (omega arith) r.button)
+    ∙ ap (λ o. option_map (λ n. lines.Review device card ease (unsigned_abs n)) o)
+    (number_read 1 100_000 (pos count) (omega arith) (reviews_within count r.least r.most))
+
+shown_read : (what : Shown) → IsShown what → shown_of (shown_word what) ≡ Some what
+shown_read (shown.Rows tables.Note) h = refl
+shown_read (shown.Rows tables.Card) h = refl
+shown_read (shown.Rows tables.Review) h = refl
+shown_read (shown.Rows tables.NoteType) h = refl
+shown_read (shown.Rows tables.Deck) h = refl
+shown_read (shown.Rows tables.Options) h = refl
+shown_read (shown.Rows tables.NoteGrave) h = absurd (grind (arith, h))
+shown_read (shown.Rows tables.CardGrave) h = absurd (grind (arith, h))
+shown_read (shown.Rows tables.DeckGrave) h = absurd (grind (arith, h))
+shown_read shown.Graves h = refl
+shown_read shown.Head h = refl
+
+abbrev shift_of : Option (List ℕ × List ℕ) → Option LabLine
+shift_of o = option_and_then (λ p. option_map (lines.Shift p.0) (signed_number p.1)) o
+
+written_read : (line : LabLine) → IsLabLine line → lab_line_of (line_text line) ≡ Some line
+written_read (lines.Clock at) h = ap (option_map lines.Clock) (number_read 0 9_223_372_036_854_775_807 at (omega arith) h)
+written_read (lines.Device name) h = rw h refl
+written_read (lines.Shift device by) h =
+    ap shift_of (next_word_read device (signed_decimal by) h.0) ∙ ap (option_map (lines.Shift device)) (signed_read by h.1)
+written_read (lines.Review device card ease count) h =
+    ap (option_and_then (λ (p : List ℕ × List ℕ). reviews_of p.0 p.1)) (next_word_read device (reviews_text card ease count) h.0) ∙ reviews_read device card ease count h.1
+written_read (lines.Do device line) h = ap (option_map (λ (p : List ℕ × List ℕ). lines.Do p.0 p.1)) (next_word_read device line h)
+written_read (lines.Sync device) h = ap (option_map lines.Sync) (word_read device h)
+written_read (lines.Show side what) h =
+    ap (option_and_then (λ (p : List ℕ × List ℕ). option_map (lines.Show (side_of p.0)) (shown_of p.1))) (next_word_read (side_word side) (shown_word what) (side_filled side h.0))
+    ∙ ap (λ s. option_map (lines.Show s) (shown_of (shown_word what))) (side_read side h.0)
+    ∙ ap (option_map (lines.Show side)) (shown_read what h.1)
+written_read (lines.Count side) h =
+    ap (option_map (λ word. lines.Count (side_of word))) (word_read (side_word side) (side_filled side h)) ∙ ap (λ s. Some (lines.Count s)) (side_read side h)
+written_read (lines.Requests device) h = ap (option_map lines.Requests) (word_read device h)
+
+minus_zero_line : (text : List ℕ) (line : LabLine) → IsLabLine line → IsMinusZero text line → lab_line_of text ≡ Some line
+minus_zero_line text (lines.Shift device by) h m =
+    ap lab_line_of m.1
+    ∙ ap shift_of (next_word_read device (codes "-0") h.0)
+    ∙ ap (option_map (lines.Shift device)) minus_zero_read
+    ∙ ap (λ n. Some (lines.Shift device n)) (sym m.0)
+minus_zero_line text line h m = absurd m
+
+pub said_read : (text : List ℕ) (line : LabLine) → SaysLine text line → lab_line_of text ≡ Some line
+said_read text line (h, inl written) = ap lab_line_of written ∙ written_read line h
+said_read text line (h, inr minus_zero) = minus_zero_line text line h minus_zero

@@ -1,0 +1,36 @@
+-- What the lab prints of syncs, wire calls and counts, of names of no device, and of ties.
+use Rattle.std.specs.Prelude.{ℕ, List, ◌++◌, codes, decimal}
+use Rattle.ak_base.specs.declared.names.Name.{Name}
+use Rattle.ak_messages.specs.declared.requests.SanityCounts.{SanityCounts}
+use Rattle.ak_texts.specs.FaultTexts.{name_text}
+
+-- `sync <device>: <outcome>`
+abbrev pub sync_text : List ℕ → List ℕ → List ℕ
+sync_text device outcome = codes "sync " ++ device ++ codes ": " ++ outcome
+
+-- `requests <device>: <n>`
+abbrev pub requests_text : List ℕ → ℕ → List ℕ
+requests_text device calls = codes "requests " ++ device ++ codes ": " ++ decimal calls
+
+-- how many notes, cards and reviews
+abbrev pub rows_text : ℕ → ℕ → ℕ → List ℕ
+rows_text notes cards reviews =
+    codes "notes " ++ decimal notes ++ codes " cards " ++ decimal cards ++ codes " reviews " ++ decimal reviews
+
+-- how many graves, note types, decks and option groups
+abbrev pub others_text : SanityCounts → List ℕ
+others_text counts =
+    codes " graves " ++ decimal counts.graves ++ codes " types " ++ decimal counts.models
+    ++ codes " decks " ++ decimal counts.decks ++ codes " options " ++ decimal counts.options
+
+-- how many rows a side has, by kind
+abbrev pub counts_text : SanityCounts → List ℕ
+counts_text counts = rows_text counts.notes counts.cards counts.reviews ++ others_text counts
+
+-- `no device <name>`
+abbrev pub no_device_text : List ℕ → List ℕ
+no_device_text name = codes "no device " ++ name
+
+-- `tie <table> <id>`: two sides hold different rows of this name with equal stamps
+abbrev pub tie_text : Name → List ℕ
+tie_text name = codes "tie " ++ name_text name

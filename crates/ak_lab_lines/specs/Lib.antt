@@ -1,0 +1,4 @@
+pub mod LabLines
+pub mod LabTexts
+pub mod Reading
+pub mod Written

@@ -1,0 +1,269 @@
+ghost use Rattle.std.specs.Prelude.{◌≡◌, IfOk, IfErr, Some, None};
+ghost use Rattle.ak_lab_lines.specs.LabLines.{lab_line_of, line_of, clock_line, device_line, shift_line, review_line, reviews_of, do_line, sync_line, show_line, count_line, requests_line, side_of, shown_of};
+ghost use Rattle.ak_lab_lines.specs.Reading.{Reads, Refuses};
+ghost use Rattle.ak_lab_lines.specs.Written.{IsLabLine};
+
+use crate::LabLineFault;
+use crate::words::{is_device_name, next_number, next_word, number_in, signed_number, word_of};
+use ak_base::{Memory, Table, Text, cut};
+use std::alloc::Global;
+
+/// A line of a lab script, read. Whether a device is held is not asked, nor whether a word can be a device's name,
+/// but for the name of a new one.
+#[derive(Debug, Drop)]
+pub enum LabLine {
+    /// `clock <ms>`: sets the clock of the lab, in milliseconds.
+    Clock(i64),
+    /// `device <name>`: a new device, which begins with the server's collection.
+    Device(Text),
+    /// `shift <device> <ms>`: a device's clock is the lab's plus this, in milliseconds.
+    Shift {
+        device: Text,
+        by: i64,
+    },
+    /// `review <device> <card> <ease> <count>`: adds that many reviews of a card to a device.
+    Review {
+        device: Text,
+        card: i64,
+        ease: i64,
+        count: u64,
+    },
+    /// `do <device> <line>`: a line of the desk, obeyed on a device. It may be empty.
+    Do {
+        device: Text,
+        line: Text,
+    },
+    /// `sync <device>`
+    Sync(Text),
+    /// `show <side> <table>`
+    Show {
+        side: Side,
+        what: Shown,
+    },
+    /// `count <side>`: the numbers of rows, by kind.
+    Count(Side),
+    /// `requests <device>`: the calls of the wire in its last sync.
+    Requests(Text),
+}
+
+/// A side of a lab: whose collection is looked at.
+#[derive(Debug, Drop)]
+pub enum Side {
+    Server,
+    Device(Text),
+}
+
+/// What of a side is shown.
+#[derive(Clone, Copy, Debug, PartialEq, Eq)]
+pub enum Shown {
+    /// The rows of a table that is not one of graves.
+    Rows(Table),
+    /// The graves of notes, of cards and of decks.
+    Graves,
+    /// The conf, the creation time and the names of the tags.
+    Head,
+}
+
+/// Reads a line without its line feed, by its form alone: words with one space between, numbers without a leading
+/// zero, and the line after `do` to its end. That a line is to be skipped is not asked here.
+pub fn read_lab_line(alloc: Global, text: &str) -> Result<LabLine, LabLineFault>
+    ensures line { IfOk result (Reads (lab_line_of text.now)) }
+    ensures bad { IfErr result (Refuses (lab_line_of text.now)) }
+    ensures range { IfOk result IsLabLine }
+{
+    read_cut(alloc, text)
+}
+
+/// The line, by its first word.
+fn read_cut(alloc: Global, text: &str) -> Result<LabLine, LabLineFault>
+    ensures line { IfOk result (Reads (lab_line_of text.now)) }
+    ensures bad { IfErr result (Refuses (lab_line_of text.now)) }
+{
+    match cut(text, " ") {
+        Some((word, rest)) => read_words(alloc, word, rest),
+        None => Err(LabLineFault::BadLine),
+    }
+}
+
+/// A line of a word and what follows the space after it.
+fn read_words(alloc: Global, word: &str, text: &str) -> Result<LabLine, LabLineFault>
+    ensures line { IfOk result (Reads (line_of word.now text.now)) }
+    ensures bad { IfErr result (Refuses (line_of word.now text.now)) }
+{
+    match word {
+        "clock" => read_clock(text),
+        "device" => read_device(alloc, text),
+        "shift" => read_shift(alloc, text),
+        "review" => read_review(alloc, text),
+        "do" => read_do(alloc, text),
+        "sync" => read_sync(alloc, text),
+        "show" => read_show(alloc, text),
+        "count" => read_count(alloc, text),
+        "requests" => read_requests(alloc, text),
+        _ => Err(LabLineFault::BadLine),
+    }
+}
+
+/// What follows `clock`.
+fn read_clock(text: &str) -> Result<LabLine, LabLineFault>
+    ensures line { IfOk result (Reads (clock_line text.now)) }
+    ensures bad { IfErr result (Refuses (clock_line text.now)) }
+{
+    match number_in(0, 9_223_372_036_854_775_807, text) {
+        Some(at) => Ok(LabLine::Clock(at)),
+        None => Err(LabLineFault::BadLine),
+    }
+}
+
+/// What follows `device`.
+fn read_device(alloc: Global, text: &str) -> Result<LabLine, LabLineFault>
+    ensures line { IfOk result (Reads (device_line text.now)) }
+    ensures bad { IfErr result (Refuses (device_line text.now)) }
+{
+    if !is_device_name(text) {
+        return Err(LabLineFault::BadLine);
+    }
+    let name = Text::of(alloc, text)?;
+    Ok(LabLine::Device(name))
+}
+
+/// What follows `shift`.
+fn read_shift(alloc: Global, text: &str) -> Result<LabLine, LabLineFault>
+    ensures line { IfOk result (Reads (shift_line text.now)) }
+    ensures bad { IfErr result (Refuses (shift_line text.now)) }
+{
+    let Some((device, number)) = next_word(text) else {
+        return Err(LabLineFault::BadLine);
+    };
+    let Some(by) = signed_number(number) else {
+        return Err(LabLineFault::BadLine);
+    };
+    let device = Text::of(alloc, device)?;
+    Ok(LabLine::Shift { device, by })
+}
+
+/// What follows `review`.
+fn read_review(alloc: Global, text: &str) -> Result<LabLine, LabLineFault>
+    ensures line { IfOk result (Reads (review_line text.now)) }
+    ensures bad { IfErr result (Refuses (review_line text.now)) }
+{
+    match next_word(text) {
+        Some((device, numbers)) => read_reviews(alloc, device, numbers),
+        None => Err(LabLineFault::BadLine),
+    }
+}
+
+/// The numbers of a `review` line.
+fn read_reviews(alloc: Global, device: &str, text: &str) -> Result<LabLine, LabLineFault>
+    ensures line { IfOk result (Reads (reviews_of device.now text.now)) }
+    ensures bad { IfErr result (Refuses (reviews_of device.now text.now)) }
+{
+    let Some((card, rest)) = next_number(1, 9_007_199_254_740_991, text) else {
+        return Err(LabLineFault::BadLine);
+    };
+    let Some((ease, rest)) = next_number(1, 4, rest) else {
+        return Err(LabLineFault::BadLine);
+    };
+    let Some(count) = number_in(1, 100_000, rest) else {
+        return Err(LabLineFault::BadLine);
+    };
+    let device = Text::of(alloc, device)?;
+    Ok(LabLine::Review {
+        device,
+        card,
+        ease,
+        count: count.unsigned_abs(),
+    })
+}
+
+/// What follows `do`.
+fn read_do(alloc: Global, text: &str) -> Result<LabLine, LabLineFault>
+    ensures line { IfOk result (Reads (do_line text.now)) }
+    ensures bad { IfErr result (Refuses (do_line text.now)) }
+{
+    let Some((device, line)) = next_word(text) else {
+        return Err(LabLineFault::BadLine);
+    };
+    let device = Text::of(alloc, device)?;
+    let line = Text::of(alloc, line)?;
+    Ok(LabLine::Do { device, line })
+}
+
+/// What follows `sync`.
+fn read_sync(alloc: Global, text: &str) -> Result<LabLine, LabLineFault>
+    ensures line { IfOk result (Reads (sync_line text.now)) }
+    ensures bad { IfErr result (Refuses (sync_line text.now)) }
+{
+    let Some(device) = word_of(text) else {
+        return Err(LabLineFault::BadLine);
+    };
+    let device = Text::of(alloc, device)?;
+    Ok(LabLine::Sync(device))
+}
+
+/// What follows `show`.
+fn read_show(alloc: Global, text: &str) -> Result<LabLine, LabLineFault>
+    ensures line { IfOk result (Reads (show_line text.now)) }
+    ensures bad { IfErr result (Refuses (show_line text.now)) }
+{
+    let Some((side, table)) = next_word(text) else {
+        return Err(LabLineFault::BadLine);
+    };
+    let Some(what) = shown_of(table) else {
+        return Err(LabLineFault::BadLine);
+    };
+    let side = side_of(alloc, side)?;
+    Ok(LabLine::Show { side, what })
+}
+
+/// What follows `count`.
+fn read_count(alloc: Global, text: &str) -> Result<LabLine, LabLineFault>
+    ensures line { IfOk result (Reads (count_line text.now)) }
+    ensures bad { IfErr result (Refuses (count_line text.now)) }
+{
+    let Some(side) = word_of(text) else {
+        return Err(LabLineFault::BadLine);
+    };
+    let side = side_of(alloc, side)?;
+    Ok(LabLine::Count(side))
+}
+
+/// What follows `requests`.
+fn read_requests(alloc: Global, text: &str) -> Result<LabLine, LabLineFault>
+    ensures line { IfOk result (Reads (requests_line text.now)) }
+    ensures bad { IfErr result (Refuses (requests_line text.now)) }
+{
+    let Some(device) = word_of(text) else {
+        return Err(LabLineFault::BadLine);
+    };
+    let device = Text::of(alloc, device)?;
+    Ok(LabLine::Requests(device))
+}
+
+/// The side that a word names.
+fn side_of(alloc: Global, word: &str) -> Result<Side, Memory>
+    ensures { IfOk result (λ side. side ≡ side_of word.now) }
+{
+    if word == "server" {
+        return Ok(Side::Server);
+    }
+    let name = Text::of(alloc, word)?;
+    Ok(Side::Device(name))
+}
+
+/// What of a side a word names.
+fn shown_of(word: &str) -> Option<Shown>
+    ensures { result ≡ shown_of word.now }
+{
+    match word {
+        "notes" => Some(Shown::Rows(Table::Note)),
+        "cards" => Some(Shown::Rows(Table::Card)),
+        "reviews" => Some(Shown::Rows(Table::Review)),
+        "types" => Some(Shown::Rows(Table::NoteType)),
+        "decks" => Some(Shown::Rows(Table::Deck)),
+        "options" => Some(Shown::Rows(Table::Options)),
+        "graves" => Some(Shown::Graves),
+        "head" => Some(Shown::Head),
+        _ => None,
+    }
+}

@@ -1,0 +1,72 @@
+// What the lab prints of what its lines name.
+ghost use Rattle.std.specs.Prelude.{◌≡◌, ◌++◌, IfOk, decimal};
+ghost use Rattle.ak_lab_lines.specs.LabTexts.{sync_text, requests_text, counts_text, rows_text, others_text, no_device_text, tie_text};
+
+use ak_base::{Memory, Name, Text};
+use ak_messages::SanityCounts;
+use ak_texts::table_text;
+use std::alloc::Global;
+
+/// How a sync of a device ended.
+pub fn write_sync(alloc: Global, device: &str, outcome: &str) -> Result<Text, Memory>
+    ensures { IfOk result (λ text. text ≡ sync_text device.now outcome.now) }
+{
+    let text = format!(in alloc; "sync {device}: {outcome}")?;
+    Ok(Text::from(text))
+}
+
+/// How many calls of the wire the last sync of a device made.
+pub fn write_requests(alloc: Global, device: &str, calls: u64) -> Result<Text, Memory>
+    ensures { IfOk result (λ text. text ≡ requests_text device.now calls) }
+{
+    let text = format!(in alloc; "requests {device}: {calls}")?;
+    Ok(Text::from(text))
+}
+
+/// How many rows a side has.
+pub fn write_counts(alloc: Global, counts: &SanityCounts) -> Result<Text, Memory>
+    ensures { IfOk result (λ text. text ≡ counts_text counts.now) }
+{
+    let rows = write_rows(alloc, counts.notes, counts.cards, counts.reviews)?;
+    with_others(alloc, rows.as_str(), counts)
+}
+
+/// How many notes, cards and reviews.
+fn write_rows(alloc: Global, notes: u64, cards: u64, reviews: u64) -> Result<Text, Memory>
+    ensures { IfOk result (λ text. text ≡ rows_text notes cards reviews) }
+{
+    let text = format!(in alloc; "notes {notes} cards {cards} reviews {reviews}")?;
+    Ok(Text::from(text))
+}
+
+/// The text, and behind it how many graves, note types, decks and option groups.
+fn with_others(alloc: Global, rows: &str, counts: &SanityCounts) -> Result<Text, Memory>
+    ensures { IfOk result (λ text. text ≡ rows.now ++ others_text counts.now) }
+{
+    let graves = counts.graves;
+    let types = counts.models;
+    let decks = counts.decks;
+    let options = counts.options;
+    let text = format!(in alloc;
+        "{rows} graves {graves} types {types} decks {decks} options {options}"
+    )?;
+    Ok(Text::from(text))
+}
+
+/// The refusal of a word that names no device.
+pub fn write_no_device(alloc: Global, name: &str) -> Result<Text, Memory>
+    ensures { IfOk result (λ text. text ≡ no_device_text name.now) }
+{
+    let text = format!(in alloc; "no device {name}")?;
+    Ok(Text::from(text))
+}
+
+/// The refusal of a sync of two sides that hold different rows of this name with equal stamps.
+pub fn write_tie(alloc: Global, name: Name) -> Result<Text, Memory>
+    ensures { IfOk result (λ text. text ≡ tie_text name) }
+{
+    let table = table_text(name.table);
+    let id = name.id;
+    let text = format!(in alloc; "tie {table} {id}")?;
+    Ok(Text::from(text))
+}

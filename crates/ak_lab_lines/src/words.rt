@@ -1,0 +1,89 @@
+// The words and numbers of a line, with one space between.
+ghost use Rattle.std.specs.Prelude.{◌≡◌, ◌≤◌, IfSome, Some, None, pos};
+ghost use Rattle.std.specs.Char.{is_ascii_alphanumeric};
+ghost use Rattle.std.specs.List.{list_all};
+ghost use Rattle.std.specs.Option.{option_map};
+ghost use Rattle.ak_base.specs.Decimals.{number_of};
+ghost use Rattle.ak_base.specs.Heads.{IsWithin};
+ghost use Rattle.ak_lab_lines.specs.LabLines.{word_of, next_word, is_device_name, negated, signed_number};
+ghost use Rattle.ak_lines.specs.Reading.{number_in, next_number};
+
+use ak_base::{cut, read_number};
+
+/// The text, if it is one word.
+pub(crate) fn word_of(text: &str) -> Option<&str>
+    ensures { option_map (λ word. word.now) result ≡ word_of text.now }
+{
+    if text.is_empty() || cut(text, " ").is_some() {
+        return None;
+    }
+    Some(text)
+}
+
+/// The word before the first space, and what follows that space.
+pub(crate) fn next_word(text: &str) -> Option<(&str, &str)>
+    ensures { option_map (λ p. (p.0.now, p.1.now)) result ≡ next_word text.now }
+{
+    let (word, rest) = cut(text, " ")?;
+    if word.is_empty() {
+        return None;
+    }
+    Some((word, rest))
+}
+
+/// Whether a new device may have the name.
+pub(crate) fn is_device_name(name: &str) -> bool
+    ensures { result ≡ is_device_name name.now }
+{
+    let bytes = name.as_bytes();
+    !bytes.is_empty() && bytes.len() <= 16 && are_alphanumeric(bytes) && name != "server"
+}
+
+/// Whether each byte is an ASCII letter or digit.
+fn are_alphanumeric(bytes: &[u8]) -> bool
+    ensures { result ≡ list_all is_ascii_alphanumeric bytes.now }
+{
+    bytes.iter().all(|byte| byte.is_ascii_alphanumeric())
+}
+
+/// The number that the whole text is, if it is from `least` to `most`.
+pub(crate) fn number_in(least: u64, most: u64, text: &str) -> Option<i64>
+    requires { most ≤ 9_223_372_036_854_775_807 }
+    ensures number { result ≡ number_in (least, most) text.now }
+    ensures within { IfSome result (λ number. IsWithin (pos least) (pos most) number) }
+{
+    let number = read_number(text, most)?;
+    if number < least {
+        return None;
+    }
+    Some(number as i64)
+}
+
+/// The number before the first space, if it is from `least` to `most`, and what follows that space.
+pub(crate) fn next_number(least: u64, most: u64, text: &str) -> Option<(i64, &str)>
+    requires { most ≤ 9_223_372_036_854_775_807 }
+    ensures number { option_map (λ p. (p.0, p.1.now)) result ≡ next_number (least, most) text.now }
+    ensures within { IfSome result (λ p. IsWithin (pos least) (pos most) p.0) }
+{
+    let (word, rest) = cut(text, " ")?;
+    let number = number_in(least, most, word)?;
+    Some((number, rest))
+}
+
+/// A number that may have a `-`.
+pub(crate) fn signed_number(text: &str) -> Option<i64>
+    ensures { result ≡ signed_number text.now }
+{
+    match text.strip_prefix("-") {
+        Some(digits) => negative_number(digits),
+        None => number_in(0, 9_223_372_036_854_775_807, text),
+    }
+}
+
+/// The number whose digits follow a `-`.
+fn negative_number(digits: &str) -> Option<i64>
+    ensures { result ≡ option_map negated (number_of 9_223_372_036_854_775_808 digits.now) }
+{
+    let number = read_number(digits, 9_223_372_036_854_775_808)?;
+    Some((0 - number as i128) as i64)
+}
