@@ -5,7 +5,7 @@ ghost use Rattle.ak_cli.specs.Programs.{command_of, usage_line, Prints, Tells};
 ghost use Rattle.ak_cli.specs.declared.program_commands.ProgramCommand.TheVariants as commands;
 ghost use Rattle.ak_desk_runs.specs.DeskRuns.{EndsDesk, input_lines};
 ghost use Rattle.ak_desk_runs.specs.Inits.{EndsInit};
-ghost use Rattle.ak_desk_runs.specs.Sittings.{outside_of};
+ghost use Rattle.ak_desk_runs.specs.RunStates.{outside_of};
 ghost use Rattle.ak_desk_runs.specs.declared.command_ends.CommandEnd.{CommandEnd as End};
 ghost use Rattle.ak_faults.specs.Causes.{GoesOn, Rose};
 ghost use Rattle.ak_io.specs.Arrivals.{GivesNext, IsClockMoment};

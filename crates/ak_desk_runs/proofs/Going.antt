@@ -4,7 +4,7 @@ use Rattle.std.proofs.KnownBytes.{Appends-nil, Appends-trans}
 use Rattle.std.specs.Io.KnownBytes.{Appends}
 use Rattle.ak_desk_runs.specs.DeskRuns.{AllGo, AreLines, Goes, IsDeskRun, Stops, input_lines}
 use Rattle.ak_desk_runs.specs.RunLines.{IsSoFar, StopsThere, TakesAndGoes}
-use Rattle.ak_desk_runs.specs.Sittings.{Outside, Sitting, begun, outside_in}
+use Rattle.ak_desk_runs.specs.RunStates.{Outside, RunState, begun, outside_in}
 use Rattle.ak_desk_runs.specs.declared.command_ends.CommandEnd.{CommandEnd}
 use Rattle.ak_desk_runs.specs.declared.command_ends.CommandEnd.TheVariants as ends
 use Rattle.ak_io.proofs.Scripts.{written_lines_append}
@@ -14,20 +14,20 @@ use Rattle.ak_io.specs.declared.lines.Line.{Line}
 use Rattle.ak_io.specs.declared.lines.Line.TheVariants.{Whole, TooLong, PastInput}
 
 -- a line more went
-all_go-more : (lines : List Line) (line : Line) (s m t : Sitting) (a b : List (List ℕ)) → AllGo lines s m a → Goes line m t b → AllGo (lines ++ line ∷ []) s t (a ++ b)
+all_go-more : (lines : List Line) (line : Line) (s m t : RunState) (a b : List (List ℕ)) → AllGo lines s m a → Goes line m t b → AllGo (lines ++ line ∷ []) s t (a ++ b)
 all_go-more [] line s m t a b (same, none) goes =
-    (t, b, [], subst (λ (x : Sitting). Goes line x t b) same goes, (refl, refl), ap (λ l. l ++ b) none ∙ sym (append-nil b))
+    (t, b, [], subst (λ (x : RunState). Goes line x t b) same goes, (refl, refl), ap (λ l. l ++ b) none ∙ sym (append-nil b))
 all_go-more (first ∷ lines) line s m t a b (mid, printed, others, one, rest, is) goes =
     (mid, printed, others ++ b, one, all_go-more lines line mid m t others b rest goes, ap (λ l. l ++ b) is ∙ append_assoc printed others b)
 
 -- the line past the input's limit doesn't go
-past_stops : (s t : Sitting) (printed : List (List ℕ)) → Goes PastInput s t printed → ⊥
+past_stops : (s t : RunState) (printed : List (List ℕ)) → Goes PastInput s t printed → ⊥
 past_stops s t [] (passed, same) = cc
 past_stops s t (text ∷ []) (unpassed, turn, takes, (answer, (words, said, is, says, ends), answered)) = cc
 past_stops s t (text ∷ other ∷ more) goes = goes
 
 -- one of the lines that were left went
-lines_more : (all left left' : Option (List Line)) (gone : List Line) (line : Line) (s t : Sitting) (printed : List (List ℕ))
+lines_more : (all left left' : Option (List Line)) (gone : List Line) (line : Line) (s t : RunState) (printed : List (List ℕ))
     → AreLines all gone left → Takes left left' (Some line) → Goes line s t printed → AreLines all (gone ++ line ∷ []) left'
 lines_more None left left' gone line s t printed are takes goes = tt
 lines_more (Some all) None left' gone line s t printed are takes goes = absurd are
@@ -42,7 +42,7 @@ length_more [] line = refl
 length_more (first ∷ lines) line = let e = length_more lines line in omega (arith, e)
 
 -- a step of a run that goes on
-pub goes_on : (all left left' : Option (List Line)) (taken taken' : ℕ) (before : Outside) (s t : Sitting) (w0 w1 w2 : Option (List ℕ))
+pub goes_on : (all left left' : Option (List Line)) (taken taken' : ℕ) (before : Outside) (s t : RunState) (w0 w1 w2 : Option (List ℕ))
     → IsSoFar all left taken before s w0 w1 → taken' ≡ taken + 1 → TakesAndGoes left left' s t w1 w2 → IsSoFar all left' taken' before t w0 w2
 goes_on all left left' taken taken' before s t w0 w1 w2 so_far next (line, printed, takes, goes, written) = record {
   gone = so_far.gone ++ line ∷ [];
@@ -55,7 +55,7 @@ goes_on all left left' taken taken' before s t w0 w1 w2 so_far next (line, print
 }
 
 -- a step of a run that is its last
-pub ends_run : (end : CommandEnd) (all left : Option (List Line)) (taken : ℕ) (before : Outside) (s last : Sitting) (w0 w1 w2 : Option (List ℕ))
+pub ends_run : (end : CommandEnd) (all left : Option (List Line)) (taken : ℕ) (before : Outside) (s last : RunState) (w0 w1 w2 : Option (List ℕ))
     → IsSoFar all left taken before s w0 w1 → StopsThere end left (taken + 1) s last w1 w2 → IsDeskRun end all before (outside_in last) w0 w2
 ends_run end all left taken before s last w0 w1 w2 so_far (more, stops, written) = record {
   gone = so_far.gone;
@@ -76,7 +76,7 @@ none_gone None = tt
 none_gone (Some all) = refl
 
 -- at the start all lines are left
-pub begins_run : (input : Option (List ℕ)) (reading : Reading) (before : Outside) (s : Sitting) (w : Option (List ℕ))
+pub begins_run : (input : Option (List ℕ)) (reading : Reading) (before : Outside) (s : RunState) (w : Option (List ℕ))
     → reading ≡ record { ahead = []; room = 1_073_741_824; number = 0 } → s ≡ begun before
     → IsSoFar (input_lines input) (lines_left reading input) reading.number before s w w
 begins_run input reading before s w starts same = rw starts (record {

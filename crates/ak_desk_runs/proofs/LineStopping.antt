@@ -3,7 +3,7 @@ use Rattle.std.proofs.Common.{◌≡◌, ℕ, false, List, Some, None, Ok, Err, 
 use Rattle.ak_desk_lines.specs.declared.turns.Turn.{Turn}
 use Rattle.ak_desk_runs.specs.LineOutcomes.{TakesTurn, is_skipped_line, text_in, textless}
 use Rattle.ak_desk_runs.specs.LineStops.{ComesOut, IsLineStop, IsStopBy, IsUnsaid, TextComesOut}
-use Rattle.ak_desk_runs.specs.Sittings.{Sitting}
+use Rattle.ak_desk_runs.specs.RunStates.{RunState}
 use Rattle.ak_desk_runs.specs.declared.line_stops.LineStop.{LineStop}
 use Rattle.ak_desk_runs.specs.declared.line_stops.LineStop.TheVariants as stops
 use Rattle.ak_io.specs.declared.lines.Line.{Line}
@@ -12,8 +12,8 @@ use Rattle.ak_lines.specs.declared.line_faults.LineFault.{LineFault}
 use Rattle.ak_texts.specs.declared.answers.DeskAnswer.{DeskAnswer}
 
 -- a line without a text stops
-pub textless_stops : (line : Line) (turn : Turn) (s t : Sitting) (why : List ℕ) (stop : LineStop)
-    → is_skipped_line line ≡ false → TakesTurn line s t turn → text_in line ≡ None → why ≡ textless line → t.bench ≡ s.bench → IsStopBy why stop
+pub textless_stops : (line : Line) (turn : Turn) (s t : RunState) (why : List ℕ) (stop : LineStop)
+    → is_skipped_line line ≡ false → TakesTurn line s t turn → text_in line ≡ None → why ≡ textless line → t.work ≡ s.work → IsStopBy why stop
     → ComesOut line s t (Err stop)
 textless_stops line turn s t why (stops.Refused text) unpassed takes none is same stopped =
     (unpassed, turn, takes, inl (same, inl (none, stopped ∙ is)))
@@ -21,16 +21,16 @@ textless_stops line turn s t why stops.Failed unpassed takes none is same stoppe
 textless_stops line turn s t why stops.Memory unpassed takes none is same stopped = (unpassed, turn, takes, inl same)
 
 -- a text is accepted
-pub text_accepted : (line : Line) (turn : Turn) (s t : Sitting) (text : List ℕ) (answer : DeskAnswer)
-    → is_skipped_line line ≡ false → TakesTurn line s t turn → text_in line ≡ Some text → TextComesOut text turn s.bench t.bench (Ok answer)
+pub text_accepted : (line : Line) (turn : Turn) (s t : RunState) (text : List ℕ) (answer : DeskAnswer)
+    → is_skipped_line line ≡ false → TakesTurn line s t turn → text_in line ≡ Some text → TextComesOut text turn s.work t.work (Ok answer)
     → ComesOut line s t (Ok (Some answer))
 text_accepted line turn s t text answer unpassed takes is (inl (said, says, ended)) =
     (unpassed, turn, takes, (answer, (text, said, is, says, ended), refl))
 text_accepted line turn s t text answer unpassed takes is (inr (same, unsaid)) = absurd unsaid
 
 -- a text stops
-pub text_stops : (line : Line) (turn : Turn) (s t : Sitting) (text : List ℕ) (stop : LineStop)
-    → is_skipped_line line ≡ false → TakesTurn line s t turn → text_in line ≡ Some text → TextComesOut text turn s.bench t.bench (Err stop)
+pub text_stops : (line : Line) (turn : Turn) (s t : RunState) (text : List ℕ) (stop : LineStop)
+    → is_skipped_line line ≡ false → TakesTurn line s t turn → text_in line ≡ Some text → TextComesOut text turn s.work t.work (Err stop)
     → ComesOut line s t (Err stop)
 text_stops line turn s t text (stops.Refused why) unpassed takes is (inl (said, says, (fault, ended, told))) =
     (unpassed, turn, takes, inr (fault, (text, said, is, says, ended), told))

@@ -7,7 +7,7 @@ use Rattle.ak_desk.specs.Desks.{IsIdle}
 use Rattle.ak_desk_runs.specs.DeskRuns.{IsNext, refusal_bytes}
 use Rattle.ak_desk_runs.specs.LineOutcomes.{Accepted, EndsAs, Failed, OutOfMemory, Refused}
 use Rattle.ak_desk_runs.specs.RunLines.{IsPrinted, IsRefusalPrinted, StopsThere}
-use Rattle.ak_desk_runs.specs.Sittings.{Sitting}
+use Rattle.ak_desk_runs.specs.RunStates.{RunState}
 use Rattle.ak_desk_runs.specs.declared.command_ends.CommandEnd.{CommandEnd}
 use Rattle.ak_desk_runs.specs.declared.command_ends.CommandEnd.TheVariants as ends
 use Rattle.ak_edit.specs.declared.desk_faults.DeskFault.{DeskFault}
@@ -29,7 +29,7 @@ taken_is_next (Some lines) left' line takes =
     let first = takes_first lines left' line takes in subst (λ l. IsNext (Some l) line) (sym first.1) refl
 
 -- the input has ended
-pub stops_at_end : (left left' : Option (List Line)) (number : ℕ) (s : Sitting) (w : Option (List ℕ)) → Takes left left' None → StopsThere ends.Done left number s s w w
+pub stops_at_end : (left left' : Option (List Line)) (number : ℕ) (s : RunState) (w : Option (List ℕ)) → Takes left left' None → StopsThere ends.Done left number s s w w
 stops_at_end None left' number s w takes = ([], (tt, refl, refl), Appends-nil w)
 stops_at_end (Some lines) left' number s w takes = ([], (takes, refl, refl), Appends-nil w)
 
@@ -38,13 +38,13 @@ told_is_not_failed : (fault : DeskFault) (why : List ℕ) → desk_fault_text fa
 told_is_not_failed fault why told failed = let e : desk_fault_text desks.Failed ≡ Some why = ap desk_fault_text (sym failed) ∙ told in cc
 
 -- for the text of a refusal memory may run out
-out_for_text : (line : Line) (s t : Sitting) (why : List ℕ) → EndsAs line s t (Refused why) → EndsAs line s t OutOfMemory
+out_for_text : (line : Line) (s t : RunState) (why : List ℕ) → EndsAs line s t (Refused why) → EndsAs line s t OutOfMemory
 out_for_text line s t why (unpassed, turn, takes, inl (same, says)) = (unpassed, turn, takes, inl same)
 out_for_text line s t why (unpassed, turn, takes, inr (fault, desk, told)) =
     (unpassed, turn, takes, inr (fault, told_is_not_failed fault why told, desk))
 
 -- the text of an answer was not written whole
-pub stops_in_answer : (end : CommandEnd) (left left' : Option (List Line)) (number : ℕ) (line : Line) (s t : Sitting) (text : List ℕ) (w w' : Option (List ℕ))
+pub stops_in_answer : (end : CommandEnd) (left left' : Option (List Line)) (number : ℕ) (line : Line) (s t : RunState) (text : List ℕ) (w w' : Option (List ℕ))
     → Takes left left' (Some line) → EndsAs line s t (Accepted text) → IsPrinted text (Err end) w w' → StopsThere end left number s t w w'
 stops_in_answer ends.Done left left' number line s t text w w' takes ended printed = absurd printed
 stops_in_answer ends.Refused left left' number line s t text w w' takes ended printed = absurd printed
@@ -56,7 +56,7 @@ stops_in_answer ends.Memory left left' number line s t text w w' takes ended kep
     ([], (refl, inr (inr (text, (line, taken_is_next left left' line takes, ended)))), kept_nothing w w' kept)
 
 -- a line is refused, and that was written, or a part of it, or nothing
-pub stops_refused : (end : CommandEnd) (left left' : Option (List Line)) (number : ℕ) (line : Line) (s t : Sitting) (why : List ℕ) (w w' : Option (List ℕ))
+pub stops_refused : (end : CommandEnd) (left left' : Option (List Line)) (number : ℕ) (line : Line) (s t : RunState) (why : List ℕ) (w w' : Option (List ℕ))
     → Takes left left' (Some line) → EndsAs line s t (Refused why) → IsRefusalPrinted number why end w w' → StopsThere end left number s t w w'
 stops_refused ends.Done left left' number line s t why w w' takes ended printed = absurd printed
 stops_refused ends.Refused left left' number line s t why w w' takes ended written =
@@ -69,12 +69,12 @@ stops_refused ends.Memory left left' number line s t why w w' takes ended kept =
     ([], (refl, inr (inl (line, taken_is_next left left' line takes, out_for_text line s t why ended))), kept_nothing w w' kept)
 
 -- the keeper failed in a line
-pub stops_failed : (left left' : Option (List Line)) (number : ℕ) (line : Line) (s t : Sitting) (w : Option (List ℕ))
+pub stops_failed : (left left' : Option (List Line)) (number : ℕ) (line : Line) (s t : RunState) (w : Option (List ℕ))
     → Takes left left' (Some line) → EndsAs line s t Failed → StopsThere ends.KeeperFailed left number s t w w
 stops_failed left left' number line s t w takes ended = ([], ((line, taken_is_next left left' line takes, ended), refl), Appends-nil w)
 
 -- memory was out in a line
-pub stops_out : (left left' : Option (List Line)) (number : ℕ) (line : Line) (s t : Sitting) (w : Option (List ℕ))
+pub stops_out : (left left' : Option (List Line)) (number : ℕ) (line : Line) (s t : RunState) (w : Option (List ℕ))
     → Takes left left' (Some line) → EndsAs line s t OutOfMemory → StopsThere ends.Memory left number s t w w
 stops_out left left' number line s t w takes ended =
     ([], (refl, inr (inl (line, taken_is_next left left' line takes, ended))), Appends-nil w)

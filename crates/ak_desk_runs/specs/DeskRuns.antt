@@ -4,7 +4,7 @@ use Rattle.std.specs.Io.KnownBytes.{Appends}
 use Rattle.std.specs.Option.{option_map}
 use Rattle.ak_desk_runs.specs.CommandEnds.{IsRefusedWith}
 use Rattle.ak_desk_runs.specs.LineOutcomes.{Accepted, EndsAs, Failed, OutOfMemory, Outcome, Skipped, Refused}
-use Rattle.ak_desk_runs.specs.Sittings.{Outside, Sitting, begun, outside_in}
+use Rattle.ak_desk_runs.specs.RunStates.{Outside, RunState, begun, outside_in}
 use Rattle.ak_desk_runs.specs.declared.command_ends.CommandEnd.{CommandEnd}
 use Rattle.ak_desk_runs.specs.declared.command_ends.CommandEnd.TheVariants as ends
 use Rattle.ak_io.specs.Lines.{lines_within}
@@ -13,16 +13,16 @@ use Rattle.ak_io.specs.declared.lines.Line.{Line}
 
 -- ---- lines that go
 -- a line goes: it is skipped and prints nothing, or it is accepted and prints its answer
-abbrev pub Goes : Line → Sitting → Sitting → List (List ℕ) → Type 0
+abbrev pub Goes : Line → RunState → RunState → List (List ℕ) → Type 0
 Goes line s t [] = EndsAs line s t Skipped
 Goes line s t (text ∷ []) = EndsAs line s t (Accepted text)
 Goes line s t (text ∷ other ∷ more) = ⊥
 
 -- lines go one after another, and print what each prints
-abbrev pub AllGo : List Line → Sitting → Sitting → List (List ℕ) → Type 0
+abbrev pub AllGo : List Line → RunState → RunState → List (List ℕ) → Type 0
 AllGo [] s t printed = (t ≡ s) × (printed ≡ [])
 AllGo (line ∷ lines) s t printed =
-    (mid : Sitting) × (first : List (List ℕ)) × (others : List (List ℕ))
+    (mid : RunState) × (first : List (List ℕ)) × (others : List (List ℕ))
     × Goes line s mid first × AllGo lines mid t others × (printed ≡ first ++ others)
 
 -- ---- the line at which a run stops
@@ -33,7 +33,7 @@ IsNext (Some []) line = ⊥
 IsNext (Some (first ∷ more)) line = first ≡ line
 
 -- the next line ends so
-abbrev pub NextEnds : Option (List Line) → Sitting → Sitting → Outcome → Type 0
+abbrev pub NextEnds : Option (List Line) → RunState → RunState → Outcome → Type 0
 NextEnds left s t outcome = (line : Line) × IsNext left line × EndsAs line s t outcome
 
 -- these bytes are a front of those
@@ -50,7 +50,7 @@ refusal_bytes number text = written_lines (refusal_line (number, text) ∷ [])
 
 -- how a run stops, of which these lines are left and the next has this number: what it was before and is after it, and
 -- what it wrote of the line at which it stopped
-abbrev pub Stops : CommandEnd → Option (List Line) → ℕ → Sitting → Sitting → List ℕ → Type 0
+abbrev pub Stops : CommandEnd → Option (List Line) → ℕ → RunState → RunState → List ℕ → Type 0
 -- no line is left
 Stops ends.Done left number s t more = IfSome left (λ lines. lines ≡ []) × (t ≡ s) × (more ≡ [])
 -- the next line is refused, and that is written
@@ -82,10 +82,10 @@ pub record IsDeskRun (end : CommandEnd) (all : Option (List Line)) (before after
   -- the lines that went, those that were left, what the run was between them, and what was printed by then
   pub gone : List Line
   pub left : Option (List Line)
-  pub reached : Sitting
+  pub reached : RunState
   pub printed : List (List ℕ)
   -- what the run was at its end, and what was written of the line at which it stopped
-  pub last : Sitting
+  pub last : RunState
   pub more : List ℕ
   pub lines : AreLines all gone left
   pub goes : AllGo gone (begun before) reached printed

@@ -4,4 +4,4 @@ pub mod Inits
 pub mod LineOutcomes
 pub mod LineStops
 pub mod RunLines
-pub mod Sittings
+pub mod RunStates

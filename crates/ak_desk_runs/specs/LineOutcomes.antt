@@ -4,7 +4,7 @@ use Rattle.std.specs.List.{starts_with}
 use Rattle.std.specs.Str.{is_utf8}
 use Rattle.ak_desk_lines.specs.LineEnds.{AppliesFilters, EndsLine, counted}
 use Rattle.ak_desk_lines.specs.declared.turns.Turn.{Turn}
-use Rattle.ak_desk_runs.specs.Sittings.{Bench, Sitting, state_in}
+use Rattle.ak_desk_runs.specs.RunStates.{LineState, RunState, state_in}
 use Rattle.ak_edit.specs.declared.desk_faults.DeskFault.{DeskFault}
 use Rattle.ak_edit.specs.declared.desk_faults.DeskFault.TheVariants as desks
 use Rattle.ak_io.specs.Arrivals.{GivesNext, IsClockMoment}
@@ -61,11 +61,11 @@ GivesWord true old new word = GivesNext old new word
 GivesWord false old new word = (new ≡ old) × (word ≡ 0)
 
 -- a line takes the next moment to come, and its word of chance; it is told how many answers were accepted before
-pub record TakesTurn (line : Line) (s t : Sitting) (turn : Turn) : Type 0 where
+pub record TakesTurn (line : Line) (s t : RunState) (turn : Turn) : Type 0 where
   pub moment : GivesNext s.moments t.moments turn.at
   pub range : IsClockMoment turn.at
   pub word : GivesWord (takes_word line) s.words t.words turn.chance
-  pub done : turn.done ≡ s.bench.done
+  pub done : turn.done ≡ s.work.done
 
 -- ---- what a line does
 -- how many answers were accepted once a line of the desk ended so, if it was that many before
@@ -74,13 +74,13 @@ done_after (Ok answer) done = counted answer done
 done_after (Err fault) done = done
 
 -- this line of the desk ended so there
-pub record EndsAtDesk (said : DeskLine) (turn : Turn) (s t : Bench) (result : Result DeskAnswer DeskFault) : Type 0 where
+pub record EndsAtDesk (said : DeskLine) (turn : Turn) (s t : LineState) (result : Result DeskAnswer DeskFault) : Type 0 where
   pub ends : EndsLine said turn (state_in s) (state_in t) result
   pub filters : AppliesFilters said s.keeping s.filters t.filters result
   pub done : t.done ≡ done_after result s.done
 
 -- the line has a text that says a line of the desk, which ended so there
-abbrev pub AtDesk : Line → Turn → Bench → Bench → Result DeskAnswer DeskFault → Type 0
+abbrev pub AtDesk : Line → Turn → LineState → LineState → Result DeskAnswer DeskFault → Type 0
 AtDesk line turn s t result =
     (text : List ℕ) × (said : DeskLine) × (text_in line ≡ Some text) × SaysLine text said
     × EndsAtDesk said turn s t result
@@ -95,7 +95,7 @@ SaysNothing line why =
     (text_in line ≡ None) × (why ≡ textless line) ⊎ (text : List ℕ) × (text_in line ≡ Some text) × SaysNoLine text why
 
 -- what a line that is not skipped comes to in its turn. What says nothing leaves all as it was
-abbrev pub ComesTo : Line → Turn → Bench → Bench → Outcome → Type 0
+abbrev pub ComesTo : Line → Turn → LineState → LineState → Outcome → Type 0
 ComesTo line turn s t Skipped = ⊥
 ComesTo line turn s t (Accepted text) =
     (answer : DeskAnswer) × AtDesk line turn s t (Ok answer) × (text ≡ answer_text answer)
@@ -108,7 +108,7 @@ ComesTo line turn s t OutOfMemory =
     (t ≡ s) ⊎ (fault : DeskFault) × (fault ≢ desks.Failed) × AtDesk line turn s t (Err fault)
 
 -- how a line ends: one that is skipped changes nothing, and any other has its turn
-abbrev pub EndsAs : Line → Sitting → Sitting → Outcome → Type 0
+abbrev pub EndsAs : Line → RunState → RunState → Outcome → Type 0
 EndsAs line s t Skipped = (is_skipped_line line ≡ true) × (t ≡ s)
 EndsAs line s t outcome =
-    (is_skipped_line line ≡ false) × (turn : Turn) × TakesTurn line s t turn × ComesTo line turn s.bench t.bench outcome
+    (is_skipped_line line ≡ false) × (turn : Turn) × TakesTurn line s t turn × ComesTo line turn s.work t.work outcome

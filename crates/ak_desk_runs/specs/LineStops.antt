@@ -2,7 +2,7 @@
 use Rattle.std.specs.Prelude.{◌≡◌, ◌≢◌, ◌⊎◌, ⊤, ℕ, List, Option, Some, None, Result, Ok, Err}
 use Rattle.ak_desk_lines.specs.declared.turns.Turn.{Turn}
 use Rattle.ak_desk_runs.specs.LineOutcomes.{Accepted, EndsAs, EndsAtDesk, Failed, OutOfMemory, Skipped, Refused, SaysNoLine}
-use Rattle.ak_desk_runs.specs.Sittings.{Bench, Sitting}
+use Rattle.ak_desk_runs.specs.RunStates.{LineState, RunState}
 use Rattle.ak_desk_runs.specs.declared.line_stops.LineStop.{LineStop}
 use Rattle.ak_desk_runs.specs.declared.line_stops.LineStop.TheVariants as stops
 use Rattle.ak_edit.specs.declared.desk_faults.DeskFault.{DeskFault}
@@ -35,7 +35,7 @@ IsDeskStop fault stops.Failed = fault ≡ desks.Failed
 IsDeskStop fault stops.Memory = fault ≢ desks.Failed
 
 -- a line of the desk is answered there, or stops so
-abbrev pub SaidComesOut : DeskLine → Turn → Bench → Bench → Result DeskAnswer LineStop → Type 0
+abbrev pub SaidComesOut : DeskLine → Turn → LineState → LineState → Result DeskAnswer LineStop → Type 0
 SaidComesOut said turn s t (Ok answer) = EndsAtDesk said turn s t (Ok answer)
 SaidComesOut said turn s t (Err (stops.Refused why)) =
     (fault : DeskFault) × EndsAtDesk said turn s t (Err fault) × (desk_fault_text fault ≡ Some why)
@@ -51,13 +51,13 @@ IsUnsaid text (Err stops.Failed) = ⊥
 IsUnsaid text (Err stops.Memory) = ⊤
 
 -- a text says a line of the desk that comes out so, or it says none, or memory was out before that was known
-abbrev pub TextComesOut : List ℕ → Turn → Bench → Bench → Result DeskAnswer LineStop → Type 0
+abbrev pub TextComesOut : List ℕ → Turn → LineState → LineState → Result DeskAnswer LineStop → Type 0
 TextComesOut text turn s t result =
     ((said : DeskLine) × SaysLine text said × SaidComesOut said turn s t result)
     ⊎ (t ≡ s) × IsUnsaid text result
 
 -- a line of the input is skipped, is accepted with this answer, or stops so
-abbrev pub ComesOut : Line → Sitting → Sitting → Result (Option DeskAnswer) LineStop → Type 0
+abbrev pub ComesOut : Line → RunState → RunState → Result (Option DeskAnswer) LineStop → Type 0
 ComesOut line s t (Ok None) = EndsAs line s t Skipped
 ComesOut line s t (Ok (Some answer)) = EndsAs line s t (Accepted (answer_text answer))
 ComesOut line s t (Err (stops.Refused why)) = EndsAs line s t (Refused why)

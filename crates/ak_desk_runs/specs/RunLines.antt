@@ -2,7 +2,7 @@
 use Rattle.std.specs.Prelude.{◌≡◌, ℕ, Bool, true, false, List, length, Option, Some, Result, Ok, Err}
 use Rattle.std.specs.Io.KnownBytes.{Appends, Keeps}
 use Rattle.ak_desk_runs.specs.DeskRuns.{AllGo, AreLines, Goes, IsPart, Stops, answer_bytes, refusal_bytes}
-use Rattle.ak_desk_runs.specs.Sittings.{Outside, Sitting, begun}
+use Rattle.ak_desk_runs.specs.RunStates.{Outside, RunState, begun}
 use Rattle.ak_desk_runs.specs.declared.command_ends.CommandEnd.{CommandEnd}
 use Rattle.ak_desk_runs.specs.declared.command_ends.CommandEnd.TheVariants as ends
 use Rattle.ak_faults.specs.Causes.{Health, HasCauseOf}
@@ -31,26 +31,26 @@ IsRefusalPrinted number why ends.ReadFailed old new = ⊥
 IsRefusalPrinted number why ends.KeeperFailed old new = ⊥
 
 -- a line was taken of those that were left, it went, and what it prints was written
-abbrev pub TakesAndGoes : Option (List Line) → Option (List Line) → Sitting → Sitting
+abbrev pub TakesAndGoes : Option (List Line) → Option (List Line) → RunState → RunState
     → Option (List ℕ) → Option (List ℕ) → Type 0
 TakesAndGoes left left' s t old new =
     (line : Line) × (printed : List (List ℕ)) × Takes left left' (Some line) × Goes line s t printed
     × Appends old new (written_lines printed)
 
 -- the run stopped at the next line, and what it wrote of it
-abbrev pub StopsThere : CommandEnd → Option (List Line) → ℕ → Sitting → Sitting
+abbrev pub StopsThere : CommandEnd → Option (List Line) → ℕ → RunState → RunState
     → Option (List ℕ) → Option (List ℕ) → Type 0
 StopsThere end left number s t old new = (more : List ℕ) × Stops end left number s t more × Appends old new more
 
 -- what a step of a run comes to: a line went, none is left, or the run stopped
-abbrev pub Steps : Option (List Line) → Option (List Line) → ℕ → Sitting → Sitting
+abbrev pub Steps : Option (List Line) → Option (List Line) → ℕ → RunState → RunState
     → Option (List ℕ) → Option (List ℕ) → Result Bool CommandEnd → Type 0
 Steps left left' number s t old new (Ok true) = TakesAndGoes left left' s t old new
 Steps left left' number s t old new (Ok false) = StopsThere ends.Done left number s t old new
 Steps left left' number s t old new (Err end) = StopsThere end left number s t old new
 
 -- these lines went so far and that was written, and these are left
-pub record IsSoFar (all left : Option (List Line)) (taken : ℕ) (before : Outside) (reached : Sitting) (old now : Option (List ℕ)) : Type 0 where
+pub record IsSoFar (all left : Option (List Line)) (taken : ℕ) (before : Outside) (reached : RunState) (old now : Option (List ℕ)) : Type 0 where
   pub gone : List Line
   pub printed : List (List ℕ)
   pub number : length gone ≡ taken

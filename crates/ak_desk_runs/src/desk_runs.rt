@@ -4,7 +4,7 @@ ghost use Rattle.ak_desk.specs.Desks.{IsIdle};
 ghost use Rattle.ak_desk_runs.specs.CommandEnds.{IsOutputCaused, IsInputCaused, IsKeeperCaused};
 ghost use Rattle.ak_desk_runs.specs.DeskRuns.{EndsDesk, IsDeskRun, input_lines};
 ghost use Rattle.ak_desk_runs.specs.RunLines.{IsPrinted, IsRefusalPrinted, StepCause, Steps};
-ghost use Rattle.ak_desk_runs.specs.Sittings.{outside_of, seated};
+ghost use Rattle.ak_desk_runs.specs.RunStates.{outside_of, state_with};
 ghost use Rattle.ak_desk_runs.specs.declared.command_ends.CommandEnd.TheVariants as ends;
 ghost use Rattle.ak_faults.specs.Causes.{HasCauseOf};
 ghost use Rattle.ak_io.specs.Lines.{lines_left};
@@ -14,7 +14,7 @@ ghost use Rattle.ak_texts.specs.AnswerTexts.{answer_text};
 use crate::command_ends::{CommandEnd, refuse_command};
 use crate::line_stops::LineStop;
 use crate::obeyed_lines::obey_line;
-use crate::seats::Seat;
+use crate::progress::Progress;
 use ak_base::{Memory, Text};
 use ak_filters::FieldFilter;
 use ak_io::{
@@ -91,14 +91,14 @@ fn run_lines<K: Keeper, C: Clock, R: Chance, I: Source, O: Sink>(
         Ok(reader) => reader,
         Err(Memory) => return CommandEnd::Memory,
     };
-    let mut seat = Seat {
+    let mut progress = Progress {
         alloc,
         undo,
         done: 0,
     };
     'lines: loop {
         match run_line(
-            &mut seat,
+            &mut progress,
             &mut reader,
             keeper,
             clock,
@@ -116,7 +116,7 @@ fn run_lines<K: Keeper, C: Clock, R: Chance, I: Source, O: Sink>(
 
 /// Runs the next line. False if there is none, and the input was read to its end.
 fn run_line<K: Keeper, C: Clock, R: Chance, I: Source, O: Sink>(
-    seat: &mut Seat,
+    progress: &mut Progress,
     reader: &mut LineReader,
     keeper: &mut K,
     clock: &mut C,
@@ -129,10 +129,10 @@ fn run_line<K: Keeper, C: Clock, R: Chance, I: Source, O: Sink>(
     requires number { reader.old.number ≤ 1_073_741_824 }
     ensures steps { Steps (lines_left reader.old (I.left input.old)) (lines_left reader.new (I.left input.new))
         (reader.old.number + 1)
-        (seated (outside_of (K.keeping keeper.old) (map (λ b. meaning b) filters.old.items)
-        (C.to_come clock.old) (R.to_come chance.old)) seat.old)
-        (seated (outside_of (K.keeping keeper.new) (map (λ b. meaning b) filters.new.items)
-        (C.to_come clock.new) (R.to_come chance.new)) seat.new)
+        (state_with (outside_of (K.keeping keeper.old) (map (λ b. meaning b) filters.old.items)
+        (C.to_come clock.old) (R.to_come chance.old)) progress.old)
+        (state_with (outside_of (K.keeping keeper.new) (map (λ b. meaning b) filters.new.items)
+        (C.to_come clock.new) (R.to_come chance.new)) progress.new)
         (O.written out.old) (O.written out.new) result }
     ensures counts { result ≡ Ok true → (reader.new.number ≡ reader.old.number + 1)
         × (reader.new.number ≤ 1_073_741_824) × (reader.new.room < reader.old.room) }
@@ -148,13 +148,18 @@ fn run_line<K: Keeper, C: Clock, R: Chance, I: Source, O: Sink>(
         Err(ReadFault::Failed) => return Err(CommandEnd::ReadFailed),
         Err(ReadFault::Memory) => return Err(CommandEnd::Memory),
     };
-    match obey_line(seat, &line, keeper, clock, chance, filters) {
+    match obey_line(progress, &line, keeper, clock, chance, filters) {
         Ok(None) => Ok(true),
-        Ok(Some(answer)) => match print_answer(seat.alloc, &answer, out) {
+        Ok(Some(answer)) => match print_answer(progress.alloc, &answer, out) {
             Ok(()) => Ok(true),
             Err(end) => Err(end),
         },
-        Err(LineStop::Refused(why)) => Err(print_refused(seat.alloc, reader.number(), &why, out)),
+        Err(LineStop::Refused(why)) => Err(print_refused(
+            progress.alloc,
+            reader.number(),
+            &why,
+            out,
+        )),
         Err(LineStop::Failed) => Err(CommandEnd::KeeperFailed),
         Err(LineStop::Memory) => Err(CommandEnd::Memory),
     }

@@ -8,7 +8,7 @@ mod inits;
 mod line_stops;
 mod line_texts;
 mod obeyed_lines;
-mod seats;
+mod progress;
 mod turn_takings;
 
 pub use command_ends::CommandEnd;

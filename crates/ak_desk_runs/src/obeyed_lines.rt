@@ -2,14 +2,14 @@ ghost use Rattle.std.specs.Prelude.{◌≡◌, map};
 ghost use Rattle.ak_desk.specs.Desks.{IsIdle};
 ghost use Rattle.ak_desk_lines.specs.LineEnds.{AppliesFilters, EndsLine};
 ghost use Rattle.ak_desk_runs.specs.LineStops.{ComesOut, SaidComesOut, StopCause, TextComesOut};
-ghost use Rattle.ak_desk_runs.specs.Sittings.{bench_of, outside_of, seated};
+ghost use Rattle.ak_desk_runs.specs.RunStates.{line_state_of, outside_of, state_with};
 ghost use Rattle.ak_edit.specs.Refusals.{DeskCause};
 ghost use Rattle.ak_lines.specs.DeskLines.{IsInRange};
 ghost use Rattle.ak_study.specs.DayStarts.{IsInDay};
 
 use crate::line_stops::{LineStop, desk_stop, line_stop, stop_by};
 use crate::line_texts::{is_skipped_line, text_of};
-use crate::seats::Seat;
+use crate::progress::Progress;
 use crate::turn_takings::take_turn;
 use ak_desk::Desk;
 use ak_desk_lines::{Turn, counted, obey};
@@ -23,7 +23,7 @@ use ak_undo::UndoList;
 
 /// Does what a line of the input says, and gives its answer; none if the line is skipped.
 pub(crate) fn obey_line<K: Keeper, C: Clock, R: Chance>(
-    seat: &mut Seat,
+    progress: &mut Progress,
     line: &Line,
     keeper: &mut K,
     clock: &mut C,
@@ -32,22 +32,22 @@ pub(crate) fn obey_line<K: Keeper, C: Clock, R: Chance>(
 ) -> Result<Option<DeskAnswer>, LineStop>
     requires idle { IsIdle (K.keeping keeper.old) }
     ensures ends { ComesOut line.now
-        (seated (outside_of (K.keeping keeper.old) (map (λ b. meaning b) filters.old.items)
-        (C.to_come clock.old) (R.to_come chance.old)) seat.old)
-        (seated (outside_of (K.keeping keeper.new) (map (λ b. meaning b) filters.new.items)
-        (C.to_come clock.new) (R.to_come chance.new)) seat.new) result }
+        (state_with (outside_of (K.keeping keeper.old) (map (λ b. meaning b) filters.old.items)
+        (C.to_come clock.old) (R.to_come chance.old)) progress.old)
+        (state_with (outside_of (K.keeping keeper.new) (map (λ b. meaning b) filters.new.items)
+        (C.to_come clock.new) (R.to_come chance.new)) progress.new) result }
     ensures stays { (K.keeping keeper.new).headed ≡ (K.keeping keeper.old).headed }
     ensures cause { StopCause (K.health keeper.old) (K.health keeper.new) result }
 {
     if is_skipped_line(line) {
         return Ok(None);
     }
-    let turn = take_turn(line, seat.done, clock, chance);
+    let turn = take_turn(line, progress.done, clock, chance);
     let text = match text_of(line) {
         Ok(text) => text,
-        Err(why) => return Err(stop_by(seat.alloc, why)),
+        Err(why) => return Err(stop_by(progress.alloc, why)),
     };
-    match obey_text(seat, text, turn, keeper, filters) {
+    match obey_text(progress, text, turn, keeper, filters) {
         Ok(answer) => Ok(Some(answer)),
         Err(stop) => Err(stop),
     }
@@ -55,7 +55,7 @@ pub(crate) fn obey_line<K: Keeper, C: Clock, R: Chance>(
 
 /// Does what a text says, in its turn.
 fn obey_text<K: Keeper>(
-    seat: &mut Seat,
+    progress: &mut Progress,
     text: &str,
     turn: Turn,
     keeper: &mut K,
@@ -64,20 +64,20 @@ fn obey_text<K: Keeper>(
     requires idle { IsIdle (K.keeping keeper.old) }
     requires moment { IsInDay turn.at }
     ensures ends { TextComesOut text.now turn
-        (bench_of (K.keeping keeper.old) (map (λ b. meaning b) filters.old.items) seat.old)
-        (bench_of (K.keeping keeper.new) (map (λ b. meaning b) filters.new.items) seat.new) result }
+        (line_state_of (K.keeping keeper.old) (map (λ b. meaning b) filters.old.items) progress.old)
+        (line_state_of (K.keeping keeper.new) (map (λ b. meaning b) filters.new.items) progress.new) result }
     ensures stays { (K.keeping keeper.new).headed ≡ (K.keeping keeper.old).headed }
     ensures cause { StopCause (K.health keeper.old) (K.health keeper.new) result }
 {
-    match read_line(seat.alloc, text) {
-        Ok(said) => obey_said(seat, said, turn, keeper, filters),
-        Err(fault) => Err(line_stop(seat.alloc, &fault)),
+    match read_line(progress.alloc, text) {
+        Ok(said) => obey_said(progress, said, turn, keeper, filters),
+        Err(fault) => Err(line_stop(progress.alloc, &fault)),
     }
 }
 
 /// Does a line of the desk in its turn, and counts it if it is an answer that is accepted.
 fn obey_said<K: Keeper>(
-    seat: &mut Seat,
+    progress: &mut Progress,
     said: DeskLine,
     turn: Turn,
     keeper: &mut K,
@@ -87,17 +87,17 @@ fn obey_said<K: Keeper>(
     requires moment { IsInDay turn.at }
     requires range { IsInRange said }
     ensures ends { SaidComesOut said turn
-        (bench_of (K.keeping keeper.old) (map (λ b. meaning b) filters.old.items) seat.old)
-        (bench_of (K.keeping keeper.new) (map (λ b. meaning b) filters.new.items) seat.new) result }
+        (line_state_of (K.keeping keeper.old) (map (λ b. meaning b) filters.old.items) progress.old)
+        (line_state_of (K.keeping keeper.new) (map (λ b. meaning b) filters.new.items) progress.new) result }
     ensures stays { (K.keeping keeper.new).headed ≡ (K.keeping keeper.old).headed }
     ensures cause { StopCause (K.health keeper.old) (K.health keeper.new) result }
 {
-    match obey_at(keeper, &mut seat.undo, said, turn, filters) {
+    match obey_at(keeper, &mut progress.undo, said, turn, filters) {
         Ok(answer) => {
-            seat.done = counted(&answer, seat.done);
+            progress.done = counted(&answer, progress.done);
             Ok(answer)
         }
-        Err(fault) => Err(desk_stop(seat.alloc, &fault)),
+        Err(fault) => Err(desk_stop(progress.alloc, &fault)),
     }
 }
 
