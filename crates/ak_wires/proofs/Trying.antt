@@ -7,9 +7,9 @@ use Rattle.ak_faults.specs.Causes.{Health, GoesOn, HasCauseOf, one_more}
 use Rattle.ak_messages.specs.declared.replies.Reply.{Reply}
 use Rattle.ak_messages.specs.declared.requests.Request.{Request}
 use Rattle.ak_protocol.specs.Logs.{Event, Log, Grows, IsGrowth, IsReplyIn, with_growth}
-use Rattle.ak_protocol.proofs.Syncs.{tries_are_one_growth, tries_reply}
+use Rattle.ak_protocol.proofs.Syncs.{all_append, tries_are_one_growth, tries_reply}
 use Rattle.ak_wires.specs.Tries.{AreCalls, Tried, is_failed, silence_tried}
-use Rattle.ak_wires.specs.Wires.{WireState, Called, Carries, more, said_after, silence_after}
+use Rattle.ak_wires.specs.Wires.{WireState, Called, BringsServings, Carries, GrowsByServings, IsServing, StaysAlone, more, said_after, silence_after}
 use Rattle.ak_wires.specs.declared.wires.WireEnd.{WireEnd}
 use Rattle.ak_wires.specs.declared.wires.WireEnd.TheVariants as ends
 
@@ -55,11 +55,35 @@ carries_on (Some old) mid new request result one two =
     let again : Carries (Some one.0) new request result = subst (λ (log : Option Log). Carries log new request result) one.1 two in
     (again.0, again.1, carries_grows old one.0 again.0 request result one.2 again.2)
 
+-- ---- a wire that nothing else uses
+served_on : (old mid new : Log) (request : Request) → GrowsByServings old mid request → GrowsByServings mid new request → GrowsByServings old new request
+served_on old mid new request one two = record {
+  growth = one.growth ++ two.growth;
+  grown = two.grown ∙ ap (λ (log : Log). with_growth log two.growth) one.grown
+      ∙ ap (λ (events : List Event). record { opening = old.opening; events = events }) (append_assoc old.events one.growth two.growth);
+  servings = all_append (IsServing request) one.growth two.growth one.servings two.servings;
+}
+
+brings_on : (old mid new : Option Log) (request : Request) (result : Result Reply WireEnd) → Carries old mid request result
+    → BringsServings old mid request → BringsServings mid new request → BringsServings old new request
+brings_on None mid new request result carries one two = λ before now is told. absurd (grind (arith, is))
+brings_on (Some old) mid new request result carries one two = λ before now is told.
+    served_on before carries.0 now request (one before carries.0 is carries.1) (two carries.0 now carries.1 told)
+
+alone_on : (old mid new : WireState) (request : Request) (result : Result Reply WireEnd) → Carries old.log mid.log request result
+    → StaysAlone old mid request → StaysAlone mid new request → StaysAlone old new request
+alone_on old mid new request result carries one two = record {
+  stays = two.stays ∙ one.stays;
+  brings = λ is. brings_on old.log mid.log new.log request result carries (one.brings is) (two.brings (one.stays ∙ is));
+}
+
 -- ---- this many tries, each but the last one of which failed
 pub record TriedBy (n : ℕ) (before now : Health) (old new : WireState) (request : Request) (result : Result Reply WireEnd) : Type 0 where
   pub each : AreCalls n before now old new request result
   pub carries : Carries old.log new.log request result
   pub calls : new.calls ≡ more n old.calls
+  pub alone : StaysAlone old new request
+  pub made_with : new.made_with ≡ old.made_with
   pub lost : IsErrOf result ends.Failed → more n before.faults ≤ now.faults
   pub goes : GoesOn before now
   pub unfailed : before.calm ≡ true → IsErrOf result ends.Failed → ⊥
@@ -79,6 +103,8 @@ tried_once before now old new request result call = record {
   each = call;
   carries = call.carries;
   calls = call.calls;
+  alone = call.alone;
+  made_with = call.made_with;
   lost = call.lost.failed;
   goes = call.lost.goes;
   unfailed = call.lost.unfailed;
@@ -101,6 +127,8 @@ tried_after : (n : ℕ) (before between now : Health) (old mid new : WireState) 
 tried_after n before between now old mid new request result call again = record {
   each = (between, mid, call, again.each);
   carries = carries_on old.log mid.log new.log request result call.carries again.carries;
+  alone = alone_on old mid new request (Err ends.Failed) call.carries call.alone again.alone;
+  made_with = again.made_with ∙ call.made_with;
   calls = again.calls ∙ ap (more (suc n)) call.calls ∙ more_more (suc n) old.calls;
   lost = λ is. rose_more (suc n) before.faults between.faults now.faults (call.lost.failed refl) (again.lost is);
   goes = goes_further call.lost.goes again.goes;
@@ -147,6 +175,8 @@ tries n before now old new request result most third by = record {
   silence = by.silence ∙ third_silence n old.silence result third;
   said = by.said;
   calls = by.calls;
+  alone = by.alone;
+  made_with = by.made_with;
 }
 
 not_both : (r : Result Reply WireEnd) (n : ℕ) → is_failed r ≡ false → is_failed r ≡ true → n ≡ 3

@@ -5,7 +5,7 @@ use Rattle.ak_faults.specs.Causes.{Health, GoesOn, HasCauseOf}
 use Rattle.ak_messages.specs.declared.replies.Give.{Give}
 use Rattle.ak_messages.specs.declared.replies.Reply.{Reply}
 use Rattle.ak_messages.specs.declared.requests.Request.{Request}
-use Rattle.ak_wires.specs.Wires.{WireState, Called, Carries, more, said_after}
+use Rattle.ak_wires.specs.Wires.{WireState, Called, Carries, StaysAlone, more, said_after}
 use Rattle.ak_wires.specs.declared.asks.Unanswered.{Unanswered}
 use Rattle.ak_wires.specs.declared.asks.Unanswered.TheVariants as unanswered
 use Rattle.ak_wires.specs.declared.wires.WireEnd.{WireEnd}
@@ -47,6 +47,8 @@ pub record Tried (before now : Health) (old new : WireState) (request : Request)
   pub silence : new.silence ≡ silence_tried old.silence result
   pub said : new.said ≡ said_after request result
   pub calls : new.calls ≡ more tries old.calls
+  pub alone : StaysAlone old new request
+  pub made_with : new.made_with ≡ old.made_with
 
 -- ---- what they come to
 -- what a reply grants: its status is 200

@@ -1,12 +1,13 @@
 -- What is known of a wire, and what one call makes of it.
-use Rattle.std.specs.Prelude.{◌≡◌, ℕ, ◌+◌, ◌-◌, ◌^◌, ◌==◌, min, if◌then◌else◌, Option, Some, None, Result, Ok, Err}
+use Rattle.std.specs.List.{AllByRecursion}
+use Rattle.std.specs.Prelude.{◌≡◌, ℕ, ℤ, ◌+◌, ◌-◌, ◌^◌, ◌==◌, min, if◌then◌else◌, Bool, true, List, Option, Some, None, Result, Ok, Err}
 use Rattle.ak_faults.specs.Causes.{Health, HasCauseOf}
 use Rattle.ak_messages.specs.declared.replies.Reply.{Reply}
 use Rattle.ak_messages.specs.declared.replies.SanityReply.{SanityReply}
 use Rattle.ak_messages.specs.declared.requests.Ask.{Ask}
 use Rattle.ak_messages.specs.declared.requests.Ask.TheVariants as asks
 use Rattle.ak_messages.specs.declared.requests.Request.{Request}
-use Rattle.ak_protocol.specs.Logs.{Log, Grows}
+use Rattle.ak_protocol.specs.Logs.{Event, View, Asked, Log, Grows, with_growth}
 use Rattle.ak_wires.specs.Forms.{meta_in, sanity_in}
 use Rattle.ak_wires.specs.declared.wires.MetaSaid.{MetaSaid}
 use Rattle.ak_wires.specs.declared.wires.Said.{Said}
@@ -25,6 +26,10 @@ pub record WireState : Type 0 where
   pub said : Option Said
   -- how many calls were made. An implementation counts them in a `u64`, which stays at its last value
   pub calls : ℕ
+  -- whether it is known that while a call is under way nothing comes to the server but its request
+  pub alone : Bool
+  -- numbers that whoever made the wire gave it: they stay
+  pub made_with : List ℤ
 
 -- a count once it rose so many times. At the last `u64` it stays
 abbrev pub more : ℕ → ℕ → ℕ
@@ -35,6 +40,27 @@ more times count = min (count + times) (2 ^ 64 - 1)
 abbrev pub Carries : Option Log → Option Log → Request → Result Reply WireEnd → Type 0
 Carries None now request result = now ≡ None
 Carries (Some old) now request result = (new : Log) × (now ≡ Some new) × Grows old new request result
+
+-- an event is a serving of this request
+abbrev pub IsServing : Request → Event → Type 0
+IsServing request (View host) = ⊥
+IsServing request (Asked other now setback) = other ≡ request
+
+-- a log grew by servings of this request alone: once, or several times if it was repeated. If it was lost, there is none
+pub record GrowsByServings (old new : Log) (request : Request) : Type 0 where
+  pub growth : List Event
+  pub grown : new ≡ with_growth old growth
+  pub servings : AllByRecursion (IsServing request) growth
+
+-- the same of a wire that tells its log
+abbrev pub BringsServings : Option Log → Option Log → Request → Type 0
+BringsServings told_before told_now request = (old new : Log) → told_before ≡ Some old → told_now ≡ Some new
+    → GrowsByServings old new request
+
+-- whether nothing else comes to the server does not change. If so, the log grows by servings of this request alone
+pub record StaysAlone (old new : WireState) (request : Request) : Type 0 where
+  pub stays : new.alone ≡ old.alone
+  pub brings : old.alone ≡ true → BringsServings old.log new.log request
 
 -- what the reply to a meta says, if it was granted and has its form
 abbrev pub meta_said : Ask → Reply → Option MetaSaid
@@ -78,3 +104,5 @@ pub record Called (before now : Health) (old new : WireState) (request : Request
   pub silence : new.silence ≡ silence_after old.silence result
   pub said : new.said ≡ said_after request result
   pub calls : new.calls ≡ more 1 old.calls
+  pub alone : StaysAlone old new request
+  pub made_with : new.made_with ≡ old.made_with

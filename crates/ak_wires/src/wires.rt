@@ -9,6 +9,7 @@ use ak_messages::{Reply, Request, SanityReply, Word};
 ///
 /// While a call is under way anything may come to the server: views, requests of other accounts and other sessions,
 /// and what this session asked before, any number of times. The request itself may come not at all, or several times.
+/// Of a wire that is known to be alone nothing else comes.
 pub trait Wire: End {
     /// What is known of it: the log of the server, if it tells it, and its counts, always.
     ghost state: { Self → WireState };
