@@ -3,17 +3,17 @@ use Rattle.std.specs.Prelude.{◌≡◌, ℕ, zero, suc, ◌≤◌, ℤ, Bool, t
 use Rattle.std.proofs.Common.{refl, sym, ap, subst, arith}
 use Rattle.ak_client.specs.Endings.{IsOfGreeting}
 use Rattle.ak_client.specs.Outcomes.{outcome_at}
-use Rattle.ak_client.specs.Syncs.{HasChecked, HasGiven, HasRaised, KeepsDevice, TakesMoments, ends_before_finish, fewest_moments, most_moments}
+use Rattle.ak_client.specs.Syncs.{EndsAt, HasGiven, HasRaised, KeepsDevice, TakesMoments, ends_before_finish, fewest_moments, most_moments}
 use Rattle.ak_client.specs.declared.outcomes.Outcome.{Outcome}
 use Rattle.ak_client.specs.declared.outcomes.Outcome.TheVariants as outcomes
-use Rattle.ak_exchange.specs.Phases.{IsCheckedLast}
+use Rattle.ak_exchange.specs.Asked.{TriedAsk}
+use Rattle.ak_exchange.specs.Grants.{StopsFor}
 use Rattle.ak_exchange.specs.Stops.{comes_before_finish, keep_stop, shows_bad_check, wire_stop}
 use Rattle.ak_exchange.specs.declared.stops.Stop.{Stop}
 use Rattle.ak_exchange.specs.declared.stops.Stop.TheVariants as stops
 use Rattle.ak_keep.specs.Keepers.{Keeping}
 use Rattle.ak_keep.specs.declared.keepers.KeepFault.{KeepFault}
 use Rattle.ak_keep.specs.declared.keepers.KeepFault.TheVariants as faults
-use Rattle.ak_messages.specs.declared.requests.Ask.{Ask}
 use Rattle.ak_protocol.proofs.Commits.{not_both}
 use Rattle.ak_wires.specs.Wires.{WireState}
 use Rattle.ak_wires.specs.declared.asks.Unanswered.{Unanswered}
@@ -65,44 +65,27 @@ pub fault_not_early : (fault : KeepFault) → ends_before_finish (outcome_at (ke
 fault_not_early faults.Failed early = not_both early refl
 fault_not_early faults.Memory early = not_both early refl
 
--- ---- the sanity check
-module _ (asks : List Ask) (now : WireState) where
-  pub stop_checks : (stop : Stop) → (shows_bad_check stop ≡ true → IsCheckedLast asks stop now) → HasChecked asks now (outcome_at stop)
-  stop_checks stops.NoChanges so = tt
-  stop_checks (stops.FullSchema device server) so = tt
-  stop_checks (stops.FullSequence usn) so = tt
-  stop_checks (stops.BadRow fault) so = so refl
-  stop_checks (stops.BadCounts client server) so = so refl
-  stop_checks (stops.ClockOff device server) so = tt
-  stop_checks (stops.OwnCheck fault) so = tt
-  stop_checks stops.Stopped so = tt
-  stop_checks (stops.Refused status word seen) so = tt
-  stop_checks stops.Lost so = tt
-  stop_checks stops.BadReply so = tt
-  stop_checks stops.TooManyChunks so = tt
-  stop_checks stops.Keep so = tt
-  stop_checks stops.Memory so = tt
+-- ---- what was tried last
+module _ (tries : List TriedAsk) (now : WireState) where
+  pub stop_ends : (stop : Stop) → StopsFor tries now stop → EndsAt tries now (outcome_at stop)
+  stop_ends stops.NoChanges is = tt
+  stop_ends (stops.FullSchema device server) is = tt
+  stop_ends (stops.FullSequence usn) is = tt
+  stop_ends (stops.BadRow fault) is = is
+  stop_ends (stops.BadCounts client server) is = is
+  stop_ends (stops.ClockOff device server) is = tt
+  stop_ends (stops.OwnCheck fault) is = tt
+  stop_ends stops.Stopped is = tt
+  stop_ends (stops.Refused status word seen) is = is
+  stop_ends stops.Lost is = is
+  stop_ends stops.BadReply is = is
+  stop_ends stops.TooManyChunks is = is
+  stop_ends stops.Keep is = tt
+  stop_ends stops.Memory is = tt
 
-  pub fault_checks : (fault : KeepFault) → HasChecked asks now (outcome_at (keep_stop fault))
-  fault_checks faults.Failed = tt
-  fault_checks faults.Memory = tt
-
--- a request that is not granted, and want of memory, are no bad sanity check
-pub late_is_good : (stop : Stop) → comes_before_finish stop ≡ false → shows_bad_check stop ≡ true → ⊥
-late_is_good stops.NoChanges late bad = not_both bad refl
-late_is_good (stops.FullSchema device server) late bad = not_both bad refl
-late_is_good (stops.FullSequence usn) late bad = not_both bad refl
-late_is_good (stops.BadRow fault) late bad = not_both refl late
-late_is_good (stops.BadCounts client server) late bad = not_both refl late
-late_is_good (stops.ClockOff device server) late bad = not_both bad refl
-late_is_good (stops.OwnCheck fault) late bad = not_both bad refl
-late_is_good stops.Stopped late bad = not_both bad refl
-late_is_good (stops.Refused status word seen) late bad = not_both bad refl
-late_is_good stops.Lost late bad = not_both bad refl
-late_is_good stops.BadReply late bad = not_both bad refl
-late_is_good stops.TooManyChunks late bad = not_both bad refl
-late_is_good stops.Keep late bad = not_both bad refl
-late_is_good stops.Memory late bad = not_both bad refl
+  pub fault_ends : (fault : KeepFault) → EndsAt tries now (outcome_at (keep_stop fault))
+  fault_ends faults.Failed = tt
+  fault_ends faults.Memory = tt
 
 -- ---- the clock
 given_more : (n : ℕ) (old mid new : Option (List ℤ)) → HasGiven 1 old mid → HasGiven n mid new → HasGiven (suc n) old new

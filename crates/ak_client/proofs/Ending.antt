@@ -1,21 +1,24 @@
 -- How a sync that went on after its meta ends.
+use Rattle.std.specs.List.{AllByRecursion}
 use Rattle.std.specs.Option.{option_map}
-use Rattle.std.specs.Prelude.{◌≡◌, ℕ, ℤ, pos, ◌+◌, ◌≤◌, ◌+ℤ◌, true, false, List, [], ◌∷◌, ◌++◌, length, Option, Some, None, IfSome, Result, Ok, Err, IfOk}
+use Rattle.std.specs.Prelude.{◌≡◌, ℕ, ℤ, pos, ◌+◌, ◌≤◌, ◌+ℤ◌, true, false, is_some, List, [], ◌∷◌, ◌++◌, length, Option, Some, None, IfSome, Result, Ok, Err, IfOk}
 use Rattle.std.specs.Int.{div_ceil}
 use Rattle.std.proofs.Common.{refl, sym, ap, subst, ◌∙◌, inl, inr, arith}
 use Rattle.std.proofs.lemmas.Result.{IfErr-weaker, IfOk-weaker}
-use Rattle.ak_client.proofs.Clocks.{fault_checks, fault_not_early, late_is_good, not_early, not_finished, stop_checks}
+use Rattle.ak_client.proofs.Clocks.{fault_ends, fault_not_early, not_early, not_finished, stop_ends}
 use Rattle.ak_client.proofs.Committing.{ended}
 use Rattle.ak_client.specs.Endings.{ArePlain, Ended, Ends, Exchanged, ExchangesAll, IsGranted}
 use Rattle.ak_client.specs.Outcomes.{EndsFor, outcome_at, outcome_of}
-use Rattle.ak_client.specs.Syncs.{HasChecked, ends_before_finish}
+use Rattle.ak_client.specs.Syncs.{EndsAt, ends_before_finish}
 use Rattle.ak_client.specs.declared.outcomes.Outcome.{Outcome}
 use Rattle.ak_client.specs.declared.outcomes.Outcome.TheVariants as outcomes
 use Rattle.ak_device.proofs.Receiving.{received_nothing}
-use Rattle.ak_exchange.proofs.Tried.{asked_then, few_more, few_none, few_then}
-use Rattle.ak_exchange.specs.Asked.{Talk, asker}
-use Rattle.ak_exchange.specs.Phases.{AreGraveRequests, Exchanges, IsCheckedLast, Finishes, HasCommitted, IsAt, IsLeft, IsMet, IsReached, at_meta, holding, marked_at}
-use Rattle.ak_exchange.specs.Stops.{comes_before_finish, keep_stop, shows_bad_check}
+use Rattle.ak_exchange.proofs.Stopping.{granted_but_last, granted_then, part_stops}
+use Rattle.ak_exchange.proofs.Tried.{asked_then, asks_append, few_more, few_none, few_then}
+use Rattle.ak_exchange.specs.Asked.{Talk, asker, asks_in}
+use Rattle.ak_exchange.specs.Grants.{AllGranted, SendsRows, is_told}
+use Rattle.ak_exchange.specs.Phases.{AreGraveRequests, Exchanges, Finishes, HasCommitted, IsAt, IsLeft, IsMet, IsReached, at_meta, holding, marked_at}
+use Rattle.ak_exchange.specs.Stops.{comes_before_finish, keep_stop}
 use Rattle.ak_exchange.specs.declared.envelopes.Envelopes.{Envelopes}
 use Rattle.ak_exchange.specs.declared.envelopes.Ids.{Ids}
 use Rattle.ak_exchange.specs.declared.envelopes.Met.{Met}
@@ -31,6 +34,7 @@ use Rattle.ak_messages.specs.declared.requests.Ask.{Ask}
 use Rattle.ak_messages.specs.declared.requests.Ask.TheVariants.{Finish}
 use Rattle.ak_protocol.proofs.Commits.{not_both}
 use Rattle.ak_protocol.specs.Accounts.{AccountState}
+use Rattle.ak_session.proofs.Ranges.{all_append}
 use Rattle.ak_session.specs.Plans.{planned}
 use Rattle.ak_session.specs.Slices.{wanted_graves}
 use Rattle.ak_wires.specs.Wires.{WireState}
@@ -52,6 +56,14 @@ graves_marked keeping graves = by keeping.told
         → IfSome told (λ (w : WithMark Holding). graves ≤ div_ceil (length (wanted_graves Unsent w.current.rows)) 250)
     by None most = tt
     by (Some w) most = most
+
+-- nor whether that is told
+pub told_marked : (keeping : Keeping) → is_told keeping ≡ true → is_told (marked_here keeping) ≡ true
+told_marked keeping = by keeping.told
+  where
+    by : (told : Option (WithMark Holding)) → is_some told ≡ true → is_some (option_map marks.marked_here told) ≡ true
+    by None is = is
+    by (Some w) is = refl
 
 -- ---- up to the finish
 module _ (ids : Ids) (met : Met) (before mid : Keeping) (h0 h1 h2 : Health) (w0 w1 w2 : WireState) (envelopes last : Envelopes) where
@@ -75,12 +87,14 @@ module _ (ids : Ids) (met : Met) (before mid : Keeping) (h0 h1 h2 : Health) (w0 
   -- the exchange stopped
   pub stopped : (stop : Stop) → Exchanges met before mid was between (Err stop) → ExchangesAll ids met before mid h0 h1 w0 w1 (Err stop)
   stopped stop ex = record {
-    asks = ex.asks;
+    tries = ex.tries;
     tried = ex.asked.tried;
+    granted = ex.granted;
     graves = ex.graves;
     graves_most = ex.graves_most;
-    few = few_more ex.asks 40_000 39_999 (4 + ex.graves) 40_000 39_999 (5 + ex.graves) (omega arith) (omega arith) (omega arith) ex.few;
-    checked = ex.checked;
+    few = few_more (asks_in ex.tries) 40_000 39_999 (4 + ex.graves) 40_000 39_999 (5 + ex.graves) (omega arith) (omega arith) (omega arith) ex.few;
+    rows = ex.rows;
+    ends = (ex.granted, ex.ends);
     told = λ c s account is_met reached marked.
         let led = ex.leads c s account is_met (at_start c s account is_met reached marked) in
         record {
@@ -94,38 +108,39 @@ module _ (ids : Ids) (met : Met) (before mid : Keeping) (h0 h1 h2 : Health) (w0 
   pub asked_all : (result : Result ℤ Stop) (done : Unit {0}) → Exchanges met before mid was between (Ok done) → Finishes between now result
       → ExchangesAll ids met before mid h0 h2 w0 w2 result
   asked_all result done ex fin = record {
-    asks = ex.asks ++ fin.asks;
-    tried = (asked_then ex.asks fin.asks was between now ex.asked fin.asked).tried;
+    tries = ex.tries ++ fin.tries;
+    tried = (asked_then ex.tries fin.tries was between now ex.asked fin.asked).tried;
+    granted = granted_but_last (ex.tries ++ fin.tries) result (granted_then ex.tries fin.tries result ex.granted fin.granted);
     graves = ex.graves;
     graves_most = ex.graves_most;
-    few = few_more (ex.asks ++ fin.asks) 40_000 39_999 (4 + ex.graves + 1) 40_000 39_999 (5 + ex.graves) (omega arith) (omega arith) (omega arith)
-        (few_then ex.asks fin.asks 40_000 39_999 (4 + ex.graves) 0 0 1 ex.few fin.few);
-    checked = IfErr-weaker result (λ (stop : Stop). comes_before_finish stop ≡ false)
-        (λ (stop : Stop). shows_bad_check stop ≡ true → IsCheckedLast (ex.asks ++ fin.asks) stop w2)
-        (λ stop late bad. absurd (late_is_good stop late bad)) fin.late;
+    few = few_more (asks_in (ex.tries ++ fin.tries)) 40_000 39_999 (4 + ex.graves + 1) 40_000 39_999 (5 + ex.graves) (omega arith) (omega arith) (omega arith)
+        (few_then ex.tries fin.tries 40_000 39_999 (4 + ex.graves) 0 0 1 ex.few fin.few);
+    rows = λ told. subst (AllByRecursion SendsRows) (sym (asks_append ex.tries fin.tries))
+        (all_append SendsRows (asks_in ex.tries) (asks_in fin.tries) (ex.rows told) fin.rows);
+    ends = (granted_then ex.tries fin.tries result ex.granted fin.granted, part_stops ex.tries fin.tries w2 result fin.ends);
     told = λ c s account is_met reached marked.
         let led = ex.leads c s account is_met (at_start c s account is_met reached marked) in
-        let end : IsLeft c s account (asker ids) (ex.asks ++ fin.asks) now
-        × IfOk result (λ (moment : ℤ). (fin.asks ≡ Finish ∷ []) × HasCommitted c s account (asker ids) ex.asks moment now) =
-        subst (λ (e : Envelopes). IsLeft c s account (asker e.ids) (ex.asks ++ fin.asks) now
-        × IfOk result (λ (moment : ℤ). (fin.asks ≡ Finish ∷ []) × HasCommitted c s account (asker e.ids) ex.asks moment now))
-        ex.asked.envelopes (fin.leads c s account ex.asks led.1.0) in
-        record {
+        let end : IsLeft c s account (asker ids) (asks_in ex.tries ++ asks_in fin.tries) now
+        × IfOk result (λ (moment : ℤ). (asks_in fin.tries ≡ Finish ∷ []) × HasCommitted c s account (asker ids) (asks_in ex.tries) moment now) =
+        subst (λ (e : Envelopes). IsLeft c s account (asker e.ids) (asks_in ex.tries ++ asks_in fin.tries) now
+        × IfOk result (λ (moment : ℤ). (asks_in fin.tries ≡ Finish ∷ []) × HasCommitted c s account (asker e.ids) (asks_in ex.tries) moment now))
+        ex.asked.envelopes (fin.leads c s account (asks_in ex.tries) led.1.0) in
+        subst (λ (asks : List Ask). Exchanged c s account (asker ids) asks w2.log mid result) (sym (asks_append ex.tries fin.tries)) (record {
           shown = record { reached = end.0.reached; front = end.0.front };
           early = IfErr-weaker result (λ (stop : Stop). comes_before_finish stop ≡ false)
-              (λ (stop : Stop). ends_before_finish (outcome_at stop) ≡ true → ArePlain (ex.asks ++ fin.asks))
+              (λ (stop : Stop). ends_before_finish (outcome_at stop) ≡ true → ArePlain (asks_in ex.tries ++ asks_in fin.tries))
               (λ stop late early. absurd (not_early stop late early)) fin.late;
-          granted = IfOk-weaker result (λ (moment : ℤ). (fin.asks ≡ Finish ∷ []) × HasCommitted c s account (asker ids) ex.asks moment now)
+          granted = IfOk-weaker result (λ (moment : ℤ). (asks_in fin.tries ≡ Finish ∷ []) × HasCommitted c s account (asker ids) (asks_in ex.tries) moment now)
               (λ (moment : ℤ). IsGranted c s account (asker ids) w2.log mid moment)
               (λ moment one. record {
                 after = one.1.after;
                 committed = record { log = one.1.log; is = one.1.told; only = one.1.only };
                 moment_is = one.1.moment_is;
-                asked = ex.asks;
+                asked = asks_in ex.tries;
                 whole = led.1.0.placed;
                 device = led.1.1;
               }) end.1;
-        };
+        });
   }
 
 -- ---- up to the end
@@ -133,12 +148,14 @@ module _ (ids : Ids) (met : Met) (before mid : Keeping) (h0 h1 h2 : Health) (w0 
 pub asked_nothing : (ids : Ids) (met : Met) (before left : Keeping) (h : Health) (w : WireState) (fault : KeepFault)
     → Ends ids met before left h h w w (outcome_at (keep_stop fault))
 asked_nothing ids met before left h w fault = record {
-  asks = [];
+  tries = [];
   tried = (refl, refl);
+  granted = tt;
   graves = 0;
   graves_most = no_graves before;
   few = few_none 40_000 39_999 (5 + 0);
-  checked = fault_checks [] w fault;
+  rows = λ told. tt;
+  ends = (λ is. tt, fault_ends [] w fault);
   told = λ c s account is_met reached holds. record {
     shown = record { reached = reached; front = λ may. (planned c s, refl) };
     early = λ early. tt;
@@ -154,17 +171,19 @@ module _ (ids : Ids) (met : Met) (before marked mid left : Keeping) (h0 h1 : Hea
   Leaves outcome c s account asks = before ≡ holding c → Ended c s account (asker ids) asks w1.log left outcome
 
   ends_with : (result : Result ℤ Stop) (outcome : Outcome) → (ex : ExchangesAll ids met marked mid h0 h1 w0 w1 result)
-      → HasChecked ex.asks w1 outcome
-      → ((c s : Collection) (account : AccountState) → IsMet c s met → Exchanged c s account (asker ids) ex.asks w1.log mid result
-      → Ended c s account (asker ids) ex.asks w1.log left outcome)
+      → (outcome ≡ outcomes.Finished → AllGranted ex.tries) × EndsAt ex.tries w1 outcome
+      → ((c s : Collection) (account : AccountState) → IsMet c s met → Exchanged c s account (asker ids) (asks_in ex.tries) w1.log mid result
+      → Ended c s account (asker ids) (asks_in ex.tries) w1.log left outcome)
       → Ends ids met before left h0 h1 w0 w1 outcome
-  ends_with result outcome ex checked so = record {
-    asks = ex.asks;
+  ends_with result outcome ex ends so = record {
+    tries = ex.tries;
     tried = ex.tried;
+    granted = ex.granted;
     graves = ex.graves;
     graves_most = graves_marked before ex.graves (subst (λ (k : Keeping). AreGraveRequests k ex.graves) marks_it ex.graves_most);
     few = ex.few;
-    checked = checked;
+    rows = λ told. ex.rows (ap is_told marks_it ∙ told_marked before told);
+    ends = ends;
     told = λ c s account is_met reached holds. so c s account is_met (ex.told c s account is_met reached (marked_so c holds));
   }
 
@@ -173,14 +192,14 @@ module _ (ids : Ids) (met : Met) (before marked mid left : Keeping) (h0 h1 : Hea
       → Ends ids met before left h0 h1 w0 w1 (outcome_of result)
   ends_stopped stop result ex (inl same) =
       subst (λ (r : Result (Unit {0}) Stop). Ends ids met before left h0 h1 w0 w1 (outcome_of r)) (sym same)
-      (ends_with (Err stop) (outcome_at stop) ex (stop_checks ex.asks w1 stop ex.checked) (λ c s account is_met it. record {
+      (ends_with (Err stop) (outcome_at stop) ex (λ is. absurd (not_finished stop is), stop_ends ex.tries w1 stop ex.ends.1) (λ c s account is_met it. record {
         shown = it.shown;
         early = it.early;
         finished = λ is. absurd (not_finished stop is);
       }))
   ends_stopped stop result ex (inr (fault, same)) =
       subst (λ (r : Result (Unit {0}) Stop). Ends ids met before left h0 h1 w0 w1 (outcome_of r)) (sym same)
-      (ends_with (Err stop) (outcome_at (keep_stop fault)) ex (fault_checks ex.asks w1 fault) (λ c s account is_met it. record {
+      (ends_with (Err stop) (outcome_at (keep_stop fault)) ex (λ is. absurd (not_finished (keep_stop fault) is), fault_ends ex.tries w1 fault) (λ c s account is_met it. record {
         shown = it.shown;
         early = λ early. absurd (fault_not_early fault early);
         finished = λ is. absurd (not_finished (keep_stop fault) is);
@@ -189,7 +208,7 @@ module _ (ids : Ids) (met : Met) (before marked mid left : Keeping) (h0 h1 : Hea
   -- the device's commit was refused
   pub ends_refused : (moment : ℤ) (fault : KeepFault) → ExchangesAll ids met marked mid h0 h1 w0 w1 (Ok moment)
       → Ends ids met before left h0 h1 w0 w1 (outcome_at (keep_stop fault))
-  ends_refused moment fault ex = ends_with (Ok moment) (outcome_at (keep_stop fault)) ex (fault_checks ex.asks w1 fault) (λ c s account is_met it. record {
+  ends_refused moment fault ex = ends_with (Ok moment) (outcome_at (keep_stop fault)) ex (λ is. absurd (not_finished (keep_stop fault) is), fault_ends ex.tries w1 fault) (λ c s account is_met it. record {
     shown = it.shown;
     early = λ early. absurd (fault_not_early fault early);
     finished = λ is. absurd (not_finished (keep_stop fault) is);
@@ -199,7 +218,7 @@ module _ (ids : Ids) (met : Met) (before marked mid left : Keeping) (h0 h1 : Hea
   pub ends_finished : (moment : ℤ) → ExchangesAll ids met marked mid h0 h1 w0 w1 (Ok moment)
       → left ≡ committed (moments_set moment met.head.schema (met.meta.usn +ℤ pos 1) moment mid)
       → Ends ids met before left h0 h1 w0 w1 outcomes.Finished
-  ends_finished moment ex commits = ends_with (Ok moment) outcomes.Finished ex tt (λ c s account is_met it. record {
+  ends_finished moment ex commits = ends_with (Ok moment) outcomes.Finished ex (λ is. ex.ends.0, tt) (λ c s account is_met it. record {
     shown = it.shown;
     early = λ early. absurd (not_both early refl);
     finished = λ is. ended c s account (asker ids) w1.log met moment mid left it.granted is_met commits;

@@ -1,18 +1,30 @@
 -- What the meta of a sync makes of the log, and what its reply tells.
 use Rattle.std.specs.List.{AllByRecursion}
-use Rattle.std.specs.Prelude.{◌≡◌, ◌==◌, ℕ, ℤ, Bool, true, false, if◌then◌else◌, List, [], ◌∷◌, Option, Some, None, Result, Ok, Err, IfOk, ok_or}
-use Rattle.std.proofs.Common.{refl, sym, ap, subst, ◌∙◌, arith}
+use Rattle.std.specs.Ordering.{int_eq}
+use Rattle.std.specs.Prelude.{◌≡◌, ◌==◌, ℕ, ℤ, Bool, true, false, not, if◌then◌else◌, List, [], ◌∷◌, Option, Some, None, Result, Ok, Err, IfOk, ok_or}
+use Rattle.std.proofs.Common.{refl, sym, ap, subst, ◌∙◌, inl, inr, arith}
 use Rattle.std.proofs.lemmas.Option.{none-some, same_Some}
 use Rattle.ak_base.specs.declared.heads.Head.{Head}
+use Rattle.ak_base.specs.Limits.{last_head_usn}
+use Rattle.ak_client.proofs.Clocks.{fault_ends, stop_ends}
 use Rattle.ak_client.proofs.Growing.{timely_growth}
-use Rattle.ak_client.specs.Greetings.{GreetsTold, IsMetBy, IsMetOver, meta_of}
-use Rattle.ak_exchange.specs.Asked.{AreTried, asker}
+use Rattle.ak_client.specs.Greetings.{EndsAtDevice, EndsGreeting, GreetsTold, IsGreeting, IsMetBy, IsMetOver, are_far_apart, clock_stop, head_stop, meta_of}
+use Rattle.ak_client.specs.Outcomes.{outcome_at}
+use Rattle.ak_client.specs.Syncs.{EndsAt, meta_tried}
+use Rattle.ak_exchange.proofs.Stopping.{unanswered_stops, was_granted, was_not_granted}
+use Rattle.ak_exchange.specs.Asked.{AreTried, TriedAsk, asker}
+use Rattle.ak_exchange.specs.Grants.{IsGranted}
+use Rattle.ak_exchange.specs.Stops.{wire_stop}
 use Rattle.ak_exchange.specs.declared.envelopes.Ids.{Ids}
 use Rattle.ak_exchange.specs.declared.stops.Stop.{Stop}
+use Rattle.ak_exchange.specs.declared.stops.Stop.TheVariants as stops
 use Rattle.ak_faults.specs.Causes.{Health}
 use Rattle.ak_keep.specs.Collections.{Collection}
+use Rattle.ak_keep.specs.Keepers.{Keeping}
+use Rattle.ak_merge.specs.Edits.{second_of}
 use Rattle.ak_messages.specs.declared.replies.Give.TheVariants as gives
 use Rattle.ak_messages.specs.declared.replies.Reply.{Reply}
+use Rattle.ak_messages.specs.declared.requests.Ask.TheVariants as asks
 use Rattle.ak_protocol.proofs.Calls.{metas_are_read}
 use Rattle.ak_protocol.proofs.Syncs.{metas_leave_unused}
 use Rattle.ak_protocol.specs.Accounts.{AccountState}
@@ -108,8 +120,61 @@ module _ (ids : Ids) (account : AccountState) (old : Log) (unused : IsUnused ids
 -- ---- what a greeting knows
 -- a meta was asked, and nothing else
 pub asked_meta : (ids : Ids) (before now : Health) (was is : WireState) (result : Result MetaSaid Unanswered)
-    → Answered before now was is (meta_of ids) meta_in result → AreTried (meta_of ids ∷ []) before now was is
-asked_meta ids before now was is result call = (call.answer, now, is, call.tried, (refl, refl))
+    → (call : Answered before now was is (meta_of ids) meta_in result) → AreTried (meta_of ids ∷ []) (call.answer ∷ []) before now was is
+asked_meta ids before now was is result call = (now, is, call.tried, (refl, refl))
+
+-- a meta that was granted, and what was not
+pub meta_granted : (ids : Ids) (before now : Health) (was is : WireState) (result : Result MetaSaid Unanswered) (meta : MetaSaid)
+    → (call : Answered before now was is (meta_of ids) meta_in result) → result ≡ Ok meta → IsGranted (meta_tried call.answer)
+meta_granted ids before now was is result meta call granted =
+    (was_granted meta_in asks.Meta (λ give. refl) call.answer meta (sym call.came ∙ granted)).granted
+
+-- why a greeting ends, by its meta
+clock_ends : (tries : List TriedAsk) (now : WireState) (meta : MetaSaid) (second : ℤ) (stop : Stop) → clock_stop meta second ≡ Some stop
+    → EndsAt tries now (outcome_at stop)
+clock_ends tries now meta second stop = by (not meta.cont) (are_far_apart second meta.ts)
+  where
+    is_so : (one : Stop) → EndsAt tries now (outcome_at one) → Some one ≡ Some stop → EndsAt tries now (outcome_at stop)
+    is_so one ends is = subst (λ (s : Stop). EndsAt tries now (outcome_at s)) (same_Some one stop is) ends
+
+    by : (stopped far : Bool) → (if stopped then Some stops.Stopped else if far then Some (stops.ClockOff second meta.ts) else None) ≡ Some stop
+        → EndsAt tries now (outcome_at stop)
+    by true far is = is_so stops.Stopped tt is
+    by false true is = is_so (stops.ClockOff second meta.ts) tt is
+    by false false is = absurd (none-some stop is)
+
+head_ends : (tries : List TriedAsk) (now : WireState) (meta : MetaSaid) (head : Head) (stop : Stop) → head_stop meta head ≡ Some stop
+    → EndsAt tries now (outcome_at stop)
+head_ends tries now meta head stop = by (int_eq head.moment meta.moment) (not (int_eq head.schema meta.scm)) (int_eq meta.usn last_head_usn)
+  where
+    is_so : (one : Stop) → EndsAt tries now (outcome_at one) → Some one ≡ Some stop → EndsAt tries now (outcome_at stop)
+    is_so one ends is = subst (λ (s : Stop). EndsAt tries now (outcome_at s)) (same_Some one stop is) ends
+
+    by : (same schemas last : Bool)
+        → (if same then Some stops.NoChanges else if schemas then Some (stops.FullSchema head.schema meta.scm) else if last then Some (stops.FullSequence meta.usn) else None) ≡ Some stop
+        → EndsAt tries now (outcome_at stop)
+    by true schemas last is = is_so stops.NoChanges tt is
+    by false true last is = is_so (stops.FullSchema head.schema meta.scm) tt is
+    by false false true is = is_so (stops.FullSequence meta.usn) tt is
+    by false false false is = absurd (none-some stop is)
+
+device_ends : (tries : List TriedAsk) (now : WireState) (meta : MetaSaid) (keeping : Keeping) (stop : Stop) → EndsAtDevice meta keeping stop
+    → EndsAt tries now (outcome_at stop)
+device_ends tries now meta keeping stop (inl (fault, is)) = subst (λ (s : Stop). EndsAt tries now (outcome_at s)) (sym is) (fault_ends tries now fault)
+device_ends tries now meta keeping stop (inr (head, held, inl is)) = head_ends tries now meta head stop is
+device_ends tries now meta keeping stop (inr (head, held, inr (pass, unsound))) = subst (λ (s : Stop). EndsAt tries now (outcome_at s)) (sym unsound.1) tt
+
+pub greeting_ends : (ids : Ids) (h0 h1 : Health) (w0 w1 : WireState) (old new : Option (List ℤ)) (keeping : Keeping) (stop : Stop)
+    → (it : IsGreeting ids h0 h1 w0 w1 old new keeping (Err stop)) → EndsAt (meta_tried it.heard.answer ∷ []) w1 (outcome_at stop)
+greeting_ends ids h0 h1 w0 w1 old new keeping stop it = by it.answer refl it.ends
+  where
+    by : (answer : Result MetaSaid Unanswered) → it.answer ≡ answer → EndsGreeting answer old new keeping stop → EndsAt (meta_tried it.heard.answer ∷ []) w1 (outcome_at stop)
+    by (Err why) is ends =
+        subst (λ (s : Stop). EndsAt (meta_tried it.heard.answer ∷ []) w1 (outcome_at s)) (sym ends)
+        (stop_ends (meta_tried it.heard.answer ∷ []) w1 (wire_stop why) (unanswered_stops (meta_tried it.heard.answer ∷ []) w1 (meta_tried it.heard.answer) why ([], refl)
+        (was_not_granted meta_in asks.Meta (λ give. refl) it.heard.answer why (sym it.heard.came ∙ is))))
+    by (Ok meta) is (at, given, inl stopped) = clock_ends (meta_tried it.heard.answer ∷ []) w1 meta (second_of at) stop stopped
+    by (Ok meta) is (at, given, inr (pass, ends)) = device_ends (meta_tried it.heard.answer ∷ []) w1 meta keeping stop ends
 
 -- a greeting that stops
 pub greets_stop : (ids : Ids) (before now : Health) (was is : WireState) (result : Result MetaSaid Unanswered) (stop : Stop)

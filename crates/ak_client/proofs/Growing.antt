@@ -1,12 +1,13 @@
 -- How the log of a wire grows while requests are tried, and what that leaves of an account.
 use Rattle.std.specs.List.{AllByRecursion}
-use Rattle.std.specs.Prelude.{◌≡◌, List, [], ◌∷◌, ◌++◌, Option, Some}
+use Rattle.std.specs.Prelude.{◌≡◌, List, [], ◌∷◌, ◌++◌, Option, Some, Result}
 use Rattle.std.proofs.Common.{sym, ap, subst, ◌∙◌, append_assoc, append-nil}
 use Rattle.ak_client.specs.Syncs.{world_at}
 use Rattle.ak_exchange.specs.Asked.{AreTried}
 use Rattle.ak_faults.specs.Causes.{Health}
 use Rattle.ak_keep.specs.Collections.{Collection}
 use Rattle.ak_merge.specs.Links.{AreLinked}
+use Rattle.ak_messages.specs.declared.replies.Reply.{Reply}
 use Rattle.ak_messages.specs.declared.requests.Request.{Request}
 use Rattle.ak_protocol.proofs.Commits.{commits_lead_on}
 use Rattle.ak_protocol.proofs.ContentLaws.{lawful_stays_lawful, links_stay, some_of_all}
@@ -17,6 +18,7 @@ use Rattle.ak_protocol.specs.LawfulServers.{IsLawfulAccount}
 use Rattle.ak_protocol.specs.Logs.{Event, View, Asked, World, Log, Grows, IsTimely, MayCome, opened, world_after, with_growth, events_of}
 use Rattle.ak_session.specs.Plans.{Asker}
 use Rattle.ak_wires.specs.Wires.{Carries, WireState}
+use Rattle.ak_wires.specs.declared.wires.WireEnd.{WireEnd}
 
 -- a log grew to what is told, by what came at moments that a clock may tell
 pub record HasGrown (old : Log) (told : Option Log) : Type 0 where
@@ -33,19 +35,21 @@ timely_growth past request (View host ∷ events) all = (tt, timely_growth past 
 timely_growth past request (Asked other now setback ∷ events) all = (all.0.0, timely_growth past request events all.1)
 
 -- the log of a wire of which requests are tried grows
-pub tried_grows : (list : List Request) (h0 h1 : Health) (w0 w1 : WireState) (old : Log) → AreTried list h0 h1 w0 w1 → w0.log ≡ Some old
-    → HasGrown old w1.log
-tried_grows [] h0 h1 w0 w1 old tried is = record {
+pub tried_grows : (list : List Request) (answers : List (Result Reply WireEnd)) (h0 h1 : Health) (w0 w1 : WireState) (old : Log) → AreTried list answers h0 h1 w0 w1
+    → w0.log ≡ Some old → HasGrown old w1.log
+tried_grows [] [] h0 h1 w0 w1 old tried is = record {
   now = old;
   is = ap (λ (w : WireState). w.log) tried.1 ∙ is;
   growth = [];
   grown = ap (λ (events : List Event). record old { events = events }) (sym (append-nil old.events));
   timely = tt;
 }
-tried_grows (request ∷ more) h0 h1 w0 w1 old tried is =
-    let carried : (new : Log) × (tried.2.log ≡ Some new) × Grows old new request tried.0 =
-    subst (λ (o : Option Log). Carries o tried.2.log request tried.0) is tried.3.carries in
-    let rest = tried_grows more tried.1 h1 tried.2 w1 carried.0 tried.4 carried.1 in
+tried_grows [] (answer ∷ answers) h0 h1 w0 w1 old tried is = absurd tried
+tried_grows (request ∷ more) [] h0 h1 w0 w1 old tried is = absurd tried
+tried_grows (request ∷ more) (answer ∷ answers) h0 h1 w0 w1 old tried is =
+    let carried : (new : Log) × (tried.1.log ≡ Some new) × Grows old new request answer =
+    subst (λ (o : Option Log). Carries o tried.1.log request answer) is tried.2.carries in
+    let rest = tried_grows more answers tried.0 h1 tried.1 w1 carried.0 tried.3 carried.1 in
     record {
       now = rest.now;
       is = rest.is;

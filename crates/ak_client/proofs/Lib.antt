@@ -1,3 +1,4 @@
+pub mod Alone
 pub mod Clocks
 pub mod Committing
 pub mod Ending
@@ -7,7 +8,9 @@ pub mod Going
 pub mod Greeting
 pub mod Growing
 pub mod Healing
+pub mod Keeping
 pub mod Leading
+pub mod Losing
 pub mod Meeting
 pub mod Stating
 pub mod Syncing

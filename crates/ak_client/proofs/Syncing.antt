@@ -4,25 +4,30 @@ use Rattle.std.specs.Prelude.{◌≡◌, ℤ, pos, ◌+◌, ◌/◌, ◌≤◌, 
 use Rattle.std.proofs.Common.{refl, sym, ap, subst, ◌∙◌, append_assoc, inl, inr, arith}
 use Rattle.std.proofs.lemmas.List.{length-append}
 use Rattle.std.proofs.lemmas.Option.{same_Some}
-use Rattle.ak_client.proofs.Clocks.{not_finished, stop_checks}
+use Rattle.ak_client.proofs.Alone.{alone_stays, commits_alone, made_with_stays, requests_are_of}
+use Rattle.ak_client.proofs.Clocks.{not_finished}
 use Rattle.ak_client.proofs.Ending.{no_graves}
 use Rattle.ak_client.proofs.Fates.{at_most_once, plain_commits_nothing, stays_once, stays_unused}
+use Rattle.ak_client.proofs.Greeting.{asked_meta, greeting_ends, meta_granted}
 use Rattle.ak_client.proofs.Growing.{commits_grown, tried_grows, world_grown, own_timely}
 use Rattle.ak_client.proofs.Leading.{linked_after}
 use Rattle.ak_client.proofs.Meeting.{formed_by, is_met, may_sync}
 use Rattle.ak_client.specs.Endings.{Ended, Ends, IsEnded}
-use Rattle.ak_client.specs.Greetings.{GreetsTold, IsMetOver, IsReady, meta_of}
+use Rattle.ak_client.specs.Greetings.{GreetsTold, IsGreeting, IsMetOver, IsReady, meta_of}
 use Rattle.ak_client.specs.Outcomes.{outcome_at}
-use Rattle.ak_client.specs.Syncs.{CommitsAtMostOnce, IsShown, IsSync, IsSyncFinished, MayBegin, StaysOnce, Synced, world_at}
+use Rattle.ak_client.specs.Syncs.{CommitsAtMostOnce, EndsAt, IsShown, IsSync, IsSyncFinished, MayBegin, StaysOnce, Synced, meta_tried, world_at}
 use Rattle.ak_client.specs.declared.outcomes.Outcome.{Outcome}
+use Rattle.ak_client.specs.declared.outcomes.Outcome.TheVariants as outcomes
 use Rattle.ak_exchange.proofs.Replying.{requests_count}
+use Rattle.ak_exchange.proofs.Stopping.{but_last_then, checked_then, ends_then, many_then}
 use Rattle.ak_exchange.proofs.Tried.{few_none, tried_then}
-use Rattle.ak_exchange.specs.Asked.{AreTried, asker}
+use Rattle.ak_exchange.specs.Asked.{AreTried, TriedAsk, answers_in, asker, asks_in}
+use Rattle.ak_exchange.specs.Grants.{IsGranted, is_told}
 use Rattle.ak_exchange.specs.Phases.{AreGraveRequests, IsMet, holding, held_by}
-use Rattle.ak_exchange.specs.Stops.{shows_bad_check}
 use Rattle.ak_exchange.specs.declared.envelopes.Ids.{Ids}
 use Rattle.ak_exchange.specs.declared.envelopes.Met.{Met}
 use Rattle.ak_exchange.specs.declared.stops.Stop.{Stop}
+use Rattle.ak_exchange.specs.declared.stops.Stop.TheVariants as stops
 use Rattle.ak_faults.specs.Causes.{Health}
 use Rattle.ak_keep.specs.Collections.{Collection, Holding}
 use Rattle.ak_keep.specs.Keepers.{IsRightlyKnown, Keeping, WhereTold}
@@ -32,7 +37,7 @@ use Rattle.ak_merge.specs.Holdings.{row_under}
 use Rattle.ak_merge.specs.Joins.{AreApart}
 use Rattle.ak_merge.specs.Links.{AreLinked}
 use Rattle.ak_messages.specs.declared.requests.Ask.{Ask}
-use Rattle.ak_protocol.proofs.Commits.{not_both}
+use Rattle.ak_messages.specs.declared.requests.Request.{Request}
 use Rattle.ak_protocol.proofs.Syncs.{all_append, unused_keys_commit_nothing}
 use Rattle.ak_protocol.specs.Accounts.{AccountState}
 use Rattle.ak_protocol.specs.Commits.{CommitsGrow, EachNewer, HasFreshSchema}
@@ -43,6 +48,7 @@ use Rattle.ak_session.specs.Plans.{Asker, planned, requests_from}
 use Rattle.ak_session.specs.Sessions.{MaySync}
 use Rattle.ak_session.specs.Slices.{wanted_graves, wanted_in_chunks}
 use Rattle.ak_wires.specs.Wires.{WireState}
+use Rattle.ak_wires.specs.declared.asks.Unanswered.TheVariants as unanswered
 
 -- ---- a sync whose meta was not answered, or that was ended by it
 synced_unmet : (ids : Ids) (stop : Stop) (c : Collection) (account : AccountState) (old now : Log) (growth : List Event) (left : Keeping)
@@ -64,28 +70,37 @@ synced_unmet ids stop c account old now growth left grown timely unused = record
   finished = λ is. absurd (not_finished stop is);
 }
 
-pub unmet : (ids : Ids) (stop : Stop) (before left : Keeping) (h0 h1 : Health) (w0 w1 : WireState) → shows_bad_check stop ≡ false
-    → AreTried (meta_of ids ∷ []) h0 h1 w0 w1
+pub unmet : (ids : Ids) (stop : Stop) (before left : Keeping) (h0 h1 : Health) (w0 w1 : WireState) (old_moments new_moments : Option (List ℤ)) (read : Keeping)
+    → IsGreeting ids h0 h1 w0 w1 old_moments new_moments read (Err stop)
     → GreetsTold ids w0.log w1.log (Err stop) → IsSync ids before left h0 h1 w0 w1 (outcome_at stop)
-unmet ids stop before left h0 h1 w0 w1 good tried greets = record {
-  moment = pos 0;
-  asks = [];
-  tried = tried;
-  graves = 0;
-  graves_most = no_graves before;
-  few = few_none 40_000 39_999 (5 + 0);
-  checked = stop_checks [] w1 stop (λ bad. absurd (not_both bad good));
-  told = λ old told.
-      let grown = tried_grows (meta_of ids ∷ []) h0 h1 w0 w1 old tried told in (
-        grown.now,
-        grown.is,
-        λ c account holds may fresh.
-            let greeted = greets account old told may.unused in
-            synced_unmet ids stop c account old grown.now grown.growth left grown.grown grown.timely
-            (subst (λ (log : Log). IsUnused ids.host.digits ids.session.0 account log)
-            (same_Some greeted.0 grown.now (sym greeted.1 ∙ grown.is)) greeted.2.unused),
-      );
-}
+unmet ids stop before left h0 h1 w0 w1 old_moments new_moments read it greets =
+    let tried : AreTried (meta_of ids ∷ []) (it.heard.answer ∷ []) h0 h1 w0 w1 = asked_meta ids h0 h1 w0 w1 it.answer it.heard in
+    record {
+      meta = it.heard.answer;
+      moment = pos 0;
+      tries = [];
+      tried = tried;
+      granted = tt;
+      all_granted = λ is. absurd (not_finished stop is);
+      graves = 0;
+      graves_most = no_graves before;
+      few = few_none 40_000 39_999 (5 + 0);
+      rows = λ told. tt;
+      ends = greeting_ends ids h0 h1 w0 w1 old_moments new_moments read stop it;
+      told = λ old told.
+          let grown = tried_grows (meta_of ids ∷ []) (it.heard.answer ∷ []) h0 h1 w0 w1 old tried told in (
+            grown.now,
+            grown.is,
+            λ c account holds may fresh.
+                let greeted = greets account old told may.unused in
+                synced_unmet ids stop c account old grown.now grown.growth left grown.grown grown.timely
+                (subst (λ (log : Log). IsUnused ids.host.digits ids.session.0 account log)
+                (same_Some greeted.0 grown.now (sym greeted.1 ∙ grown.is)) greeted.2.unused),
+          );
+      alone = alone_stays (meta_of ids ∷ []) (it.heard.answer ∷ []) h0 h1 w0 w1 tried;
+      made_with = made_with_stays (meta_of ids ∷ []) (it.heard.answer ∷ []) h0 h1 w0 w1 tried;
+      commits = commits_alone (asker ids) (meta_of ids ∷ []) (it.heard.answer ∷ []) h0 h1 w0 w1 tried (refl, tt);
+    }
 
 -- ---- a sync that went on
 module _ (ids : Ids) (met : Met) (c s : Collection) (account : AccountState) (asks : List Ask) (old mid : Log) (later : List Event) (left : Keeping)
@@ -212,33 +227,65 @@ module _ (ids : Ids) (met : Met) (c s : Collection) (account : AccountState) (as
 told_of : (keeping : Keeping) (c : Collection) (P : Holding → Type 0) → keeping ≡ holding c → WhereTold keeping P → P (held_by c)
 told_of keeping c P is told = subst (λ (k : Keeping). WhereTold k P) is told
 
-pub went_on : (ids : Ids) (met : Met) (before kept left : Keeping) (h0 h1 h2 : Health) (w0 w1 w2 : WireState) (outcome : Outcome)
-    → AreTried (meta_of ids ∷ []) h0 h1 w0 w1 → GreetsTold ids w0.log w1.log (Ok met) → WhereTold before (λ h. IsReady h met)
+-- what was tried last is so with the meta before it
+ends_after : (first : TriedAsk) (tries : List TriedAsk) (wire : WireState) (outcome : Outcome) → EndsAt tries wire outcome → EndsAt (first ∷ tries) wire outcome
+ends_after first tries wire outcomes.Finished ends = tt
+ends_after first tries wire outcomes.NoChanges ends = tt
+ends_after first tries wire (outcomes.FullSchema device server) ends = tt
+ends_after first tries wire (outcomes.FullSequence usn) ends = tt
+ends_after first tries wire (outcomes.BadRow fault) ends = checked_then (first ∷ []) tries (stops.BadRow fault) wire ends
+ends_after first tries wire (outcomes.BadCounts client server) ends = checked_then (first ∷ []) tries (stops.BadCounts client server) wire ends
+ends_after first tries wire (outcomes.ClockOff device server) ends = tt
+ends_after first tries wire (outcomes.OwnCheck fault) ends = tt
+ends_after first tries wire outcomes.Stopped ends = tt
+ends_after first tries wire (outcomes.Refused status word seen) ends = ends_then (first ∷ []) tries (unanswered.Refused status word seen) ends
+ends_after first tries wire outcomes.Lost ends = ends_then (first ∷ []) tries unanswered.Lost ends
+ends_after first tries wire outcomes.BadReply ends = ends_then (first ∷ []) tries unanswered.BadReply ends
+ends_after first tries wire outcomes.TooManyChunks ends = many_then (first ∷ []) tries ends
+ends_after first tries wire outcomes.Keep ends = tt
+ends_after first tries wire outcomes.Memory ends = tt
+
+pub went_on : (ids : Ids) (met : Met) (before kept left : Keeping) (h0 h1 h2 : Health) (w0 w1 w2 : WireState) (old_moments new_moments : Option (List ℤ)) (read : Keeping)
+    (outcome : Outcome) → IsGreeting ids h0 h1 w0 w1 old_moments new_moments read (Ok met) → GreetsTold ids w0.log w1.log (Ok met) → WhereTold before (λ h. IsReady h met)
     → IsRightlyKnown before → kept ≡ before → Ends ids met kept left h1 h2 w1 w2 outcome → IsSync ids before left h0 h2 w0 w2 outcome
-went_on ids met before kept left h0 h1 h2 w0 w1 w2 outcome tried greets ready known same ends = record {
-  moment = met.meta.moment;
-  asks = ends.asks;
-  tried = tried_then (meta_of ids ∷ []) (requests_from (asker ids) met.meta.moment 1 ends.asks) h0 h1 h2 w0 w1 w2 tried ends.tried;
-  graves = ends.graves;
-  graves_most = subst (λ (k : Keeping). AreGraveRequests k ends.graves) same ends.graves_most;
-  few = ends.few;
-  checked = ends.checked;
-  told = λ old told.
-      let first = tried_grows (meta_of ids ∷ []) h0 h1 w0 w1 old tried told in
-      let then_on = tried_grows (requests_from (asker ids) met.meta.moment 1 ends.asks) h1 h2 w1 w2 first.now ends.tried first.is in (
-        with_growth first.now then_on.growth,
-        then_on.is ∙ ap (λ (log : Log). Some log) then_on.grown,
-        λ c account holds may fresh.
-            let greeted = greets account old told may.unused in
-            let met_over : IsMetOver (asker ids) account old first.now greeted.2.met.0 =
-            subst (λ (log : Log). IsMetOver (asker ids) account old log greeted.2.met.0)
-            (same_Some greeted.0 first.now (sym greeted.1 ∙ first.is)) greeted.2.met.1 in
-            let ready_so : IsReady (held_by c) met = told_of before c (λ h. IsReady h met) holds ready in
-            let both : IsMet c greeted.2.met.0 met = is_met c greeted.2.met.0 met ready_so greeted.2.met.2 in
-            synced_met ids met c greeted.2.met.0 account ends.asks old first.now then_on.growth left outcome then_on.timely may fresh met_over both
-            (may_sync (asker ids) c greeted.2.met.0 account old first.now then_on.growth met may met_over fresh (formed_by c before holds known) ready_so greeted.2.met.2)
-            (subst (λ (o : Option Log). Ended c greeted.2.met.0 account (asker ids) ends.asks o left outcome)
-            (then_on.is ∙ ap (λ (log : Log). Some log) then_on.grown)
-            (ends.told c greeted.2.met.0 account both (first.now, first.is, met_over.under_way) (same ∙ holds))),
-      );
-}
+went_on ids met before kept left h0 h1 h2 w0 w1 w2 old_moments new_moments read outcome it greets ready known same ends =
+    let first_tried : AreTried (meta_of ids ∷ []) (it.heard.answer ∷ []) h0 h1 w0 w1 = asked_meta ids h0 h1 w0 w1 it.answer it.heard in
+    let list : List Request = requests_from (asker ids) met.meta.moment 1 (asks_in ends.tries) in
+    let all_tried : AreTried (meta_of ids ∷ list) (it.heard.answer ∷ answers_in ends.tries) h0 h2 w0 w2 =
+    tried_then (meta_of ids ∷ []) list (it.heard.answer ∷ []) (answers_in ends.tries) h0 h1 h2 w0 w1 w2 first_tried ends.tried in
+    let granted : IsGranted (meta_tried it.heard.answer) = meta_granted ids h0 h1 w0 w1 it.answer met.meta it.heard it.goes_on in
+    record {
+      meta = it.heard.answer;
+      moment = met.meta.moment;
+      tries = ends.tries;
+      tried = all_tried;
+      granted = but_last_then (meta_tried it.heard.answer ∷ []) ends.tries (granted, tt) ends.granted;
+      all_granted = λ is. (granted, ends.ends.0 is);
+      graves = ends.graves;
+      graves_most = subst (λ (k : Keeping). AreGraveRequests k ends.graves) same ends.graves_most;
+      few = ends.few;
+      rows = λ told. ends.rows (ap is_told same ∙ told);
+      ends = ends_after (meta_tried it.heard.answer) ends.tries w2 outcome ends.ends.1;
+      told = λ old told.
+          let first = tried_grows (meta_of ids ∷ []) (it.heard.answer ∷ []) h0 h1 w0 w1 old first_tried told in
+          let then_on = tried_grows list (answers_in ends.tries) h1 h2 w1 w2 first.now ends.tried first.is in (
+            with_growth first.now then_on.growth,
+            then_on.is ∙ ap (λ (log : Log). Some log) then_on.grown,
+            λ c account holds may fresh.
+                let greeted = greets account old told may.unused in
+                let met_over : IsMetOver (asker ids) account old first.now greeted.2.met.0 =
+                subst (λ (log : Log). IsMetOver (asker ids) account old log greeted.2.met.0)
+                (same_Some greeted.0 first.now (sym greeted.1 ∙ first.is)) greeted.2.met.1 in
+                let ready_so : IsReady (held_by c) met = told_of before c (λ h. IsReady h met) holds ready in
+                let both : IsMet c greeted.2.met.0 met = is_met c greeted.2.met.0 met ready_so greeted.2.met.2 in
+                synced_met ids met c greeted.2.met.0 account (asks_in ends.tries) old first.now then_on.growth left outcome then_on.timely may fresh met_over both
+                (may_sync (asker ids) c greeted.2.met.0 account old first.now then_on.growth met may met_over fresh (formed_by c before holds known) ready_so greeted.2.met.2)
+                (subst (λ (o : Option Log). Ended c greeted.2.met.0 account (asker ids) (asks_in ends.tries) o left outcome)
+                (then_on.is ∙ ap (λ (log : Log). Some log) then_on.grown)
+                (ends.told c greeted.2.met.0 account both (first.now, first.is, met_over.under_way) (same ∙ holds))),
+          );
+      alone = alone_stays (meta_of ids ∷ list) (it.heard.answer ∷ answers_in ends.tries) h0 h2 w0 w2 all_tried;
+      made_with = made_with_stays (meta_of ids ∷ list) (it.heard.answer ∷ answers_in ends.tries) h0 h2 w0 w2 all_tried;
+      commits = commits_alone (asker ids) (meta_of ids ∷ list) (it.heard.answer ∷ answers_in ends.tries) h0 h2 w0 w2 all_tried
+          (refl, requests_are_of (asker ids) met.meta.moment 1 (asks_in ends.tries));
+    }

@@ -145,22 +145,10 @@ stopped_by : (o : Option Stop) (stop : Stop) → stop_or_go o ≡ Err stop → o
 stopped_by None stop is = grind (arith, is)
 stopped_by (Some own) stop is = grind (arith, is)
 
--- what the heads and the rows say, where the keeper tells them
+-- what the heads and the rows say
 pub ends_by_heads : (keeping : Keeping) (meta : MetaSaid) (head : Head) (stop : Stop) → WhereTold keeping (λ h. h.head ≡ Some head)
     → Err stop ≡ stop_or_go (head_stop meta head) → EndsAtDevice meta keeping stop
-ends_by_heads keeping meta head stop told is = inr (by keeping.told told)
-  where
-    held : (rows : Rows) (o : Option Head) → o ≡ Some head → IfSome o (λ (own : Head). (head_stop meta own ≡ Some stop)
-        ⊎ ((head_stop meta own ≡ None) × ((fault : CheckFault) × (stop ≡ stops.OwnCheck fault) × (first_fault rows ≡ Some fault))))
-    held rows None own = tt
-    held rows (Some other) own =
-        inl (ap (head_stop meta) (same_Some other head own) ∙ stopped_by (head_stop meta head) stop (sym is))
-
-    by : (t : Option (WithMark Holding)) → IfSome t (λ (w : WithMark Holding). w.current.head ≡ Some head)
-        → IfSome t (λ (w : WithMark Holding). IfSome w.current.head (λ (own : Head). (head_stop meta own ≡ Some stop)
-        ⊎ ((head_stop meta own ≡ None) × ((fault : CheckFault) × (stop ≡ stops.OwnCheck fault) × (first_fault w.current.rows ≡ Some fault)))))
-    by None own = tt
-    by (Some w) own = held w.current.rows w.current.head own
+ends_by_heads keeping meta head stop told is = inr (head, told, inl (stopped_by (head_stop meta head) stop (sym is)))
 
 pub ends_by_rows : (keeping read : Keeping) (meta : MetaSaid) (head : Head) (stop : Stop) → read ≡ keeping → WhereTold keeping (λ h. h.head ≡ Some head)
     → head_stop meta head ≡ None
@@ -169,19 +157,7 @@ pub ends_by_rows : (keeping read : Keeping) (meta : MetaSaid) (head : Head) (sto
     → EndsAtDevice meta keeping stop
 ends_by_rows keeping read meta head stop same told pass (inl refused) = inl refused
 ends_by_rows keeping read meta head stop same told pass (inr (fault, own, unsound)) =
-    inr (by keeping.told told (subst (λ (k : Keeping). WhereTold k (λ h. first_fault h.rows ≡ Some fault)) same unsound))
-  where
-    held : (rows : Rows) (o : Option Head) → o ≡ Some head → first_fault rows ≡ Some fault → IfSome o (λ (own : Head). (head_stop meta own ≡ Some stop)
-        ⊎ ((head_stop meta own ≡ None) × ((fault : CheckFault) × (stop ≡ stops.OwnCheck fault) × (first_fault rows ≡ Some fault))))
-    held rows None is bad = tt
-    held rows (Some other) is bad = inr (ap (head_stop meta) (same_Some other head is) ∙ pass, (fault, own, bad))
-
-    by : (t : Option (WithMark Holding)) → IfSome t (λ (w : WithMark Holding). w.current.head ≡ Some head)
-        → IfSome t (λ (w : WithMark Holding). first_fault w.current.rows ≡ Some fault)
-        → IfSome t (λ (w : WithMark Holding). IfSome w.current.head (λ (own : Head). (head_stop meta own ≡ Some stop)
-        ⊎ ((head_stop meta own ≡ None) × ((fault : CheckFault) × (stop ≡ stops.OwnCheck fault) × (first_fault w.current.rows ≡ Some fault)))))
-    by None is bad = tt
-    by (Some w) is bad = held w.current.rows w.current.head is bad
+    inr (head, told, inr (pass, (fault, own, subst (λ (k : Keeping). WhereTold k (λ h. first_fault h.rows ≡ Some fault)) same unsound)))
 
 -- the greeting, once its meta was granted and the clock gave this moment
 module _ (ids : Ids) (h0 h1 : Health) (w0 w1 : WireState) (old new : Option (List ℤ)) (keeping : Keeping) (meta : MetaSaid) (stop : Stop)

@@ -2,12 +2,13 @@
 use Rattle.std.specs.List.{AllByRecursion}
 use Rattle.std.specs.Prelude.{◌≡◌, ℕ, ℤ, pos, ◌+◌, ◌≤◌, ◌+ℤ◌, true, false, List, [], ◌∷◌, ◌++◌, Option, Some, Result, IfOk, IfErr}
 use Rattle.ak_client.specs.Outcomes.{outcome_at}
-use Rattle.ak_client.specs.Syncs.{HasChecked, ends_before_finish, fewest_moments, most_moments, world_at}
+use Rattle.ak_client.specs.Syncs.{EndsAt, ends_before_finish, fewest_moments, most_moments, world_at}
 use Rattle.ak_client.specs.declared.outcomes.Outcome.{Outcome}
 use Rattle.ak_client.specs.declared.outcomes.Outcome.TheVariants as outcomes
 use Rattle.ak_device.specs.Devices.{Settles, received}
-use Rattle.ak_exchange.specs.Asked.{AreFew, AreTried, asker}
-use Rattle.ak_exchange.specs.Phases.{AreGraveRequests, IsCheckedLast, IsMet, IsReached, holding, marked_at}
+use Rattle.ak_exchange.specs.Asked.{AreFew, AreTried, TriedAsk, answers_in, asker, asks_in}
+use Rattle.ak_exchange.specs.Grants.{AllGranted, AllGrantedButLast, AreGranted, SendsRows, StopsFor, is_told}
+use Rattle.ak_exchange.specs.Phases.{AreGraveRequests, IsMet, IsReached, holding, marked_at}
 use Rattle.ak_exchange.specs.Stops.{shows_bad_check}
 use Rattle.ak_exchange.specs.declared.envelopes.Ids.{Ids}
 use Rattle.ak_exchange.specs.declared.envelopes.Met.{Met}
@@ -35,18 +36,21 @@ pub record IsOfGreeting (stop : Stop) : Type 0 where
 abbrev pub ArePlain : List Ask → Type 0
 ArePlain asks = AllByRecursion (λ (ask : Ask). asks_commit ask ≡ false) asks
 
--- what is asked after a meta of a wire, whatever keeper and wire are: each request is tried at most 3 times, there are few, and this holds
--- of them. Of the device's c and what was committed as s, which the meta told, that holds then
+-- what is asked after a meta of a wire, whatever keeper and wire are: each request is tried at most 3 times, there are few, each but the last
+-- was granted, and this holds of them. Of the device's c and what was committed as s, which the meta told, that holds then
 pub record AsksAfter (ids : Ids) (met : Met) (before : Keeping) (health_before health_now : Health) (old now : WireState)
-    (Checks : List Ask → Type 0) (Leaves : Collection → Collection → AccountState → List Ask → Type 0) : Type 0 where
-  pub asks : List Ask
-  pub tried : AreTried (requests_from (asker ids) met.meta.moment 1 asks) health_before health_now old now
+    (Ends : List TriedAsk → Type 0) (Leaves : Collection → Collection → AccountState → List Ask → Type 0) : Type 0 where
+  pub tries : List TriedAsk
+  pub tried : AreTried (requests_from (asker ids) met.meta.moment 1 (asks_in tries)) (answers_in tries)
+      health_before health_now old now
+  pub granted : AllGrantedButLast tries
   pub graves : ℕ
   pub graves_most : AreGraveRequests before graves
-  pub few : AreFew 40_000 39_999 (5 + graves) asks
-  pub checked : Checks asks
+  pub few : AreFew 40_000 39_999 (5 + graves) (asks_in tries)
+  pub rows : is_told before ≡ true → AllByRecursion SendsRows (asks_in tries)
+  pub ends : Ends tries
   pub told : (c s : Collection) (account : AccountState) → IsMet c s met → IsReached (asker ids) account s [] old.log
-      → Leaves c s account asks
+      → Leaves c s account (asks_in tries)
 
 -- the log shows that a sync of the device's c asked these after its meta, over s: a front of its plan if the two may sync
 pub record IsShownAfter (c s : Collection) (account : AccountState) (who : Asker) (asks : List Ask)
@@ -83,7 +87,7 @@ pub record Exchanged (c s : Collection) (account : AccountState) (who : Asker) (
 abbrev pub ExchangesAll : Ids → Met → Keeping → Keeping → Health → Health → WireState → WireState → Result ℤ Stop → Type 0
 ExchangesAll ids met before left health_before health_now old now result =
     AsksAfter ids met before health_before health_now old now
-    (λ (asks : List Ask). IfErr result (λ (stop : Stop). shows_bad_check stop ≡ true → IsCheckedLast asks stop now))
+    (λ (tries : List TriedAsk). AreGranted tries result × IfErr result (StopsFor tries now))
     (λ (c s : Collection) (account : AccountState) (asks : List Ask). before ≡ marked_at c
     → Exchanged c s account (asker ids) asks now.log left result)
 
@@ -112,6 +116,6 @@ pub record Ended (c s : Collection) (account : AccountState) (who : Asker) (asks
 abbrev pub Ends : Ids → Met → Keeping → Keeping → Health → Health → WireState → WireState → Outcome → Type 0
 Ends ids met before left health_before health_now old now outcome =
     AsksAfter ids met before health_before health_now old now
-    (λ (asks : List Ask). HasChecked asks now outcome)
+    (λ (tries : List TriedAsk). (outcome ≡ outcomes.Finished → AllGranted tries) × EndsAt tries now outcome)
     (λ (c s : Collection) (account : AccountState) (asks : List Ask). before ≡ holding c
     → Ended c s account (asker ids) asks now.log left outcome)

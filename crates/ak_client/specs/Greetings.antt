@@ -1,7 +1,7 @@
 -- How a sync begins: what it tests once its meta was answered, and what it knows then.
 use Rattle.std.specs.List.{AllByRecursion}
 use Rattle.std.specs.Ordering.{int_eq}
-use Rattle.std.specs.Prelude.{◌≡◌, ◌≢◌, ℤ, pos, ◌+ℤ◌, ◌<ℤ◌, ◌||◌, Bool, not, int_lt, if◌then◌else◌, List, [], ◌++◌, Option, Some, None, IfSome, Result, Ok, Err, IfOk, IfErr, ◌⊎◌}
+use Rattle.std.specs.Prelude.{◌≡◌, ◌≢◌, ℤ, pos, ◌+ℤ◌, ◌<ℤ◌, ◌||◌, Bool, not, int_lt, if◌then◌else◌, List, [], ◌++◌, Option, Some, None, Result, Ok, Err, IfOk, IfErr, ◌⊎◌}
 use Rattle.ak_base.specs.Limits.{last_head_usn}
 use Rattle.ak_base.specs.declared.heads.Head.{Head}
 use Rattle.ak_exchange.specs.Asked.{asker}
@@ -55,13 +55,15 @@ head_stop meta head =
     else None
 
 -- ---- why a greeting ends
--- once the clocks let it go on: the keeper refused, the two heads do not let it, or else the device's rows are not sound
+-- once the clocks let it go on: the keeper refused; or the two heads do not let it, by the one that the device holds; or else the device's rows
+-- are not sound
 abbrev pub EndsAtDevice : MetaSaid → Keeping → Stop → Type 0
 EndsAtDevice meta keeping stop =
     ((fault : KeepFault) × (stop ≡ keep_stop fault))
-    ⊎ WhereTold keeping (λ h. IfSome h.head (λ head. (head_stop meta head ≡ Some stop)
-    ⊎ ((head_stop meta head ≡ None)
-    × ((fault : CheckFault) × (stop ≡ stops.OwnCheck fault) × (first_fault h.rows ≡ Some fault)))))
+    ⊎ ((head : Head) × WhereTold keeping (λ h. h.head ≡ Some head)
+    × ((head_stop meta head ≡ Some stop)
+    ⊎ ((head_stop meta head ≡ None) × ((fault : CheckFault) × (stop ≡ stops.OwnCheck fault)
+    × WhereTold keeping (λ h. first_fault h.rows ≡ Some fault)))))
 
 -- the meta was not granted; or the server or the clocks, by the moment that the clock gave, do not let it go on; or else the device does not
 abbrev pub EndsGreeting : Result MetaSaid Unanswered → Option (List ℤ) → Option (List ℤ) → Keeping → Stop → Type 0

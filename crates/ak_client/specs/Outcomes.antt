@@ -1,11 +1,13 @@
 -- What an outcome says.
-use Rattle.std.specs.Prelude.{◌≡◌, Result, Ok, Err, ◌⊎◌}
+use Rattle.std.specs.Prelude.{◌≡◌, ◌≢◌, ◌≤◌, ℕ, true, Result, Ok, Err, ◌⊎◌}
 use Rattle.ak_client.specs.declared.outcomes.Outcome.{Outcome}
 use Rattle.ak_client.specs.declared.outcomes.Outcome.TheVariants as outcomes
 use Rattle.ak_exchange.specs.Stops.{keep_stop}
 use Rattle.ak_exchange.specs.declared.stops.Stop.{Stop}
 use Rattle.ak_exchange.specs.declared.stops.Stop.TheVariants as stops
+use Rattle.ak_faults.specs.Causes.{GoesOn, Health, Rose}
 use Rattle.ak_keep.specs.declared.keepers.KeepFault.{KeepFault}
+use Rattle.ak_wires.specs.Wires.{more}
 
 -- the outcome of a sync that stopped
 abbrev pub outcome_at : Stop → Outcome
@@ -32,3 +34,15 @@ outcome_of (Err stop) = outcome_at stop
 -- a sync that is stopped so ends for that reason, or because the keeper refused what was left to do
 abbrev pub EndsFor : Stop → Result (Unit {0}) Stop → Type 0
 EndsFor stop result = (result ≡ Err stop) ⊎ ((fault : KeepFault) × (result ≡ Err (keep_stop fault)))
+
+-- an outcome comes only if the count of faults of an end to the outside rose meanwhile, and never of an end that is calm
+pub record HasOutcomeCause (outcome : Outcome) (before now : Health) (result : Outcome) : Type 0 where
+  pub goes : GoesOn before now
+  pub failed : result ≡ outcome → Rose before now
+  pub unfailed : before.calm ≡ true → result ≢ outcome
+
+-- the outcome of a request whose three tries all got no answer: the wire's count rose at each, and so many calls in a row failed: 3, or 3
+-- more than before the sync if none was answered in it
+pub record HasLostThrice (before now : Health) (silence_before silence : ℕ) (result : Outcome) : Type 0 where
+  pub faults : result ≡ outcomes.Lost → more 3 before.faults ≤ now.faults
+  pub silent : result ≡ outcomes.Lost → (silence ≡ 3) ⊎ (silence ≡ more 3 silence_before)

@@ -1,12 +1,13 @@
 -- What a sync asks and what it leaves, over a keeper that tells the device's collection c and a wire that tells the log of a server.
 use Rattle.std.specs.List.{AllByRecursion}
-use Rattle.std.specs.Prelude.{◌≡◌, ℕ, zero, suc, ℤ, pos, ◌+◌, ◌/◌, ◌≤◌, ◌+ℤ◌, Bool, true, false, List, [], ◌∷◌, ◌++◌, length, Option, Some, IfSome, ⊤, ◌⊎◌}
+use Rattle.std.specs.Prelude.{◌≡◌, ℕ, zero, suc, ℤ, pos, ◌+◌, ◌/◌, ◌≤◌, ◌+ℤ◌, Bool, true, false, List, [], ◌∷◌, ◌++◌, length, Option, Some, IfSome, Result, ⊤, ◌⊎◌}
 use Rattle.ak_client.specs.Greetings.{meta_of}
 use Rattle.ak_client.specs.declared.outcomes.Outcome.{Outcome}
 use Rattle.ak_client.specs.declared.outcomes.Outcome.TheVariants as outcomes
 use Rattle.ak_device.specs.Devices.{RaisesMoments}
-use Rattle.ak_exchange.specs.Asked.{AreFew, AreTried, asker}
-use Rattle.ak_exchange.specs.Phases.{AreGraveRequests, IsCheckedLast, holding}
+use Rattle.ak_exchange.specs.Asked.{AreFew, AreTried, TriedAsk, answers_in, asker, asks_in}
+use Rattle.ak_exchange.specs.Grants.{AllGranted, AllGrantedButLast, AreTooMany, EndsUnanswered, IsCheckedLast, SendsRows, is_told}
+use Rattle.ak_exchange.specs.Phases.{AreGraveRequests, holding}
 use Rattle.ak_exchange.specs.declared.envelopes.Ids.{Ids}
 use Rattle.ak_exchange.specs.declared.stops.Stop.TheVariants as stops
 use Rattle.ak_faults.specs.Causes.{Health}
@@ -18,7 +19,9 @@ use Rattle.ak_merge.specs.Exchanges.{HoldsJoin, AreExchanged}
 use Rattle.ak_merge.specs.Holdings.{row_under}
 use Rattle.ak_merge.specs.Joins.{AreApart}
 use Rattle.ak_merge.specs.Links.{AreLinked}
+use Rattle.ak_messages.specs.declared.replies.Reply.{Reply}
 use Rattle.ak_messages.specs.declared.requests.Ask.{Ask}
+use Rattle.ak_messages.specs.declared.requests.Ask.TheVariants as asks
 use Rattle.ak_protocol.specs.Accounts.{AccountState}
 use Rattle.ak_protocol.specs.Commits.{CommitsGrow, EachNewer, HasFreshSchema}
 use Rattle.ak_protocol.specs.LawfulServers.{IsLawfulAccount}
@@ -28,6 +31,8 @@ use Rattle.ak_protocol.specs.Syncs.{IsUnderWay, IsUnused, world_of}
 use Rattle.ak_session.specs.Plans.{Asker, planned, requests_from}
 use Rattle.ak_session.specs.Slices.{wanted_graves, wanted_in_chunks}
 use Rattle.ak_wires.specs.Wires.{WireState}
+use Rattle.ak_wires.specs.declared.asks.Unanswered.TheVariants as unanswered
+use Rattle.ak_wires.specs.declared.wires.WireEnd.{WireEnd}
 
 -- ---- before a sync
 -- the account of a sync, as the log of its wire leaves it
@@ -150,28 +155,72 @@ abbrev pub SyncsTold : Ids → ℤ → List Ask → Keeping → Keeping → Opti
 SyncsTold ids moment asks before left told_before told_now outcome = (old : Log) → told_before ≡ Some old
     → (now : Log) × (told_now ≡ Some now) × Syncs ids moment asks before left old now outcome
 
--- a sync that ends at a bad sanity check asked for that last, and the reply found so
-abbrev pub HasChecked : List Ask → WireState → Outcome → Type 0
-HasChecked asks now (outcomes.BadRow fault) = IsCheckedLast asks (stops.BadRow fault) now
-HasChecked asks now (outcomes.BadCounts client server) = IsCheckedLast asks (stops.BadCounts client server) now
-HasChecked asks now outcome = ⊤
+-- ---- a wire that nothing else uses
+-- a server to which nothing came but what the sync of this asker asked: all that was committed meanwhile is of this session. If it committed
+-- nothing, what is committed stays; and if it committed, that was over what was committed before, and is what is committed now
+pub record CommitsAlone (who : Asker) (account : AccountState) (old now : Log) : Type 0 where
+  pub commits : (world_at who account now).commits
+      ≡ commits_of who.session.0 (world_at who account now).commits ++ (world_at who account old).commits
+  pub stays : commits_of who.session.0 (world_at who account now).commits ≡ []
+      → (world_at who account now).state.committed ≡ (world_at who account old).state.committed
+  pub one : (it : Commit) → commits_of who.session.0 (world_at who account now).commits ≡ it ∷ []
+      → (it.before ≡ (world_at who account old).state.committed) × (it.after ≡ (world_at who account now).state.committed)
+
+-- the same of whatever log the wire tells, if nothing but metas has the session key in it
+abbrev pub CommitsAloneTold : Asker → Option Log → Option Log → Type 0
+CommitsAloneTold who told_before told_now = (old now : Log) (account : AccountState) → told_before ≡ Some old → told_now ≡ Some now
+    → IsUnused who.host.digits who.session.0 account old → CommitsAlone who account old now
+
+-- ---- over any keeper and wire
+-- the meta of a sync, and what it was answered
+abbrev pub meta_tried : Result Reply WireEnd → TriedAsk
+meta_tried answer = record { ask = asks.Meta; answer = answer }
+
+-- why a sync ended after what it tried: at a bad sanity check, at what was not granted, or at too many chunks. The other reasons are told
+-- by the meta, the clock and the keeper
+abbrev pub EndsAt : List TriedAsk → WireState → Outcome → Type 0
+EndsAt tries now outcomes.Finished = ⊤
+EndsAt tries now outcomes.NoChanges = ⊤
+EndsAt tries now (outcomes.FullSchema device server) = ⊤
+EndsAt tries now (outcomes.FullSequence usn) = ⊤
+EndsAt tries now (outcomes.BadRow fault) = IsCheckedLast tries (stops.BadRow fault) now
+EndsAt tries now (outcomes.BadCounts client server) = IsCheckedLast tries (stops.BadCounts client server) now
+EndsAt tries now (outcomes.ClockOff device server) = ⊤
+EndsAt tries now (outcomes.OwnCheck fault) = ⊤
+EndsAt tries now outcomes.Stopped = ⊤
+EndsAt tries now (outcomes.Refused status word seen) = EndsUnanswered tries (unanswered.Refused status word seen)
+EndsAt tries now outcomes.Lost = EndsUnanswered tries unanswered.Lost
+EndsAt tries now outcomes.BadReply = EndsUnanswered tries unanswered.BadReply
+EndsAt tries now outcomes.TooManyChunks = AreTooMany tries
+EndsAt tries now outcomes.Keep = ⊤
+EndsAt tries now outcomes.Memory = ⊤
 
 -- what a sync does over any keeper and wire, whose health and state go from the one to the other
 pub record IsSync (ids : Ids) (before left : Keeping) (health_before health_now : Health) (old now : WireState)
     (outcome : Outcome) : Type 0 where
-  -- the moment that its meta told, and what it asked after it
+  -- what its meta was answered, the moment that this told, and what it asked after it
+  pub meta : Result Reply WireEnd
   pub moment : ℤ
-  pub asks : List Ask
+  pub tries : List TriedAsk
   -- it asked its meta and these, step by step, one after the other. Each was tried at most 3 times
-  pub tried : AreTried (meta_of ids ∷ requests_from (asker ids) moment 1 asks) health_before health_now old now
+  pub tried : AreTried (meta_of ids ∷ requests_from (asker ids) moment 1 (asks_in tries)) (meta ∷ answers_in tries)
+      health_before health_now old now
+  -- each was granted before the next was asked, and all were if it is finished. A chunk that is granted and is not the last one has a row
+  pub granted : AllGrantedButLast (meta_tried meta ∷ tries)
+  pub all_granted : outcome ≡ outcomes.Finished → AllGranted (meta_tried meta ∷ tries)
   -- it asked for at most 40,000 chunks, and sent at most 39,999 that are not the last one. It asked at most 5 others and those for graves: 250
   -- go in each
   pub graves : ℕ
   pub graves_most : AreGraveRequests before graves
-  pub few : AreFew 40_000 39_999 (5 + graves) asks
-  pub checked : HasChecked asks now outcome
+  pub few : AreFew 40_000 39_999 (5 + graves) (asks_in tries)
+  pub rows : is_told before ≡ true → AllByRecursion SendsRows (asks_in tries)
+  pub ends : EndsAt (meta_tried meta ∷ tries) now outcome
   -- and what that makes of what keeper and wire tell
-  pub told : SyncsTold ids moment asks before left old.log now.log outcome
+  pub told : SyncsTold ids moment (asks_in tries) before left old.log now.log outcome
+  -- what is known of the wire from the start stays
+  pub alone : now.alone ≡ old.alone
+  pub made_with : now.made_with ≡ old.made_with
+  pub commits : old.alone ≡ true → CommitsAloneTold (asker ids) old.log now.log
 
 -- ---- what it takes of its clock
 -- the moment that a clock gives once it gave so many others, and what it has still to give then

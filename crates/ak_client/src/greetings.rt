@@ -1,14 +1,13 @@
-ghost use Rattle.std.specs.Prelude.{◌≡◌, ◌≤ℤ◌, ◌<ℤ◌, ◌∷◌, [], ℤ, pos, true, false, Some, None, IfOk, IfErr, OnOk, ◌⊎◌};
+ghost use Rattle.std.specs.Prelude.{◌≡◌, ◌≤ℤ◌, ◌<ℤ◌, ℤ, pos, true, false, Some, None, IfOk, IfErr, OnOk, ◌⊎◌};
 ghost use Rattle.ak_base.specs.Heads.{IsHeadInRange, IsWithin};
 ghost use Rattle.ak_base.specs.Limits.{last_head_usn};
 ghost use Rattle.ak_client.specs.Endings.{IsOfGreeting};
-ghost use Rattle.ak_client.specs.Greetings.{GreetsTold, IsGreeting, IsReady, are_far_apart, clock_stop, head_stop, meta_of};
+ghost use Rattle.ak_client.specs.Greetings.{GreetsTold, IsGreeting, IsReady, are_far_apart, clock_stop, head_stop};
 ghost use Rattle.ak_client.specs.Outcomes.{outcome_at};
 ghost use Rattle.ak_client.specs.Syncs.{HasGiven, TakesMoments};
-ghost use Rattle.ak_exchange.specs.Asked.{AreTried};
-ghost use Rattle.ak_exchange.specs.Stops.{keep_stop, shows_bad_check, stop_or_go};
+ghost use Rattle.ak_exchange.specs.Stops.{is_keep, keep_stop, shows_bad_check, stop_or_go};
 ghost use Rattle.ak_exchange.specs.declared.stops.Stop.TheVariants as stops;
-ghost use Rattle.ak_faults.specs.Causes.{GoesOn};
+ghost use Rattle.ak_faults.specs.Causes.{HasCauseOf};
 ghost use Rattle.ak_io.specs.Arrivals.{GivesNext, IsClockMoment};
 ghost use Rattle.ak_keep.specs.Keepers.{IsRightlyKnown, WhereTold};
 ghost use Rattle.ak_keep.specs.declared.keepers.KeepFault.{KeepFault};
@@ -40,10 +39,6 @@ pub(crate) fn greet<K: Keeper, W: Wire, C: Clock>(
     // Where the wire tells its log, what is known of the server.
     ensures greets { GreetsTold ids (W.state wire.old).log (W.state wire.new).log result }
 
-    // It asks its meta, and nothing else.
-    ensures tried { AreTried (meta_of ids ∷ []) (W.health wire.old) (W.health wire.new)
-        (W.state wire.old) (W.state wire.new) }
-
     // If the sync may go on, the device's head, and that moments, schema moments, numbers and the check let it.
     ensures ready { IfOk result (λ met. WhereTold (K.keeping keeper.old) (λ h. IsReady h met)) }
     ensures low { IfOk result (λ met. pos 0 ≤ℤ met.meta.usn) }
@@ -65,7 +60,7 @@ pub(crate) fn greet<K: Keeper, W: Wire, C: Clock>(
     ensures once { OnOk result (HasGiven 1 (C.to_come clock.old) (C.to_come clock.new)) }
     ensures clock { IfErr result (λ stop.
         TakesMoments 0 (C.to_come clock.old) (C.to_come clock.new) (outcome_at stop)) }
-    ensures keeper { GoesOn (K.health keeper.old) (K.health keeper.new) }
+    ensures keeper { HasCauseOf stops.Keep (K.health keeper.old) (K.health keeper.new) result }
 {
     let request = meta_request(ids);
     let meta = ask_meta(wire, &request)?;
@@ -95,6 +90,7 @@ fn test_clocks(meta: MetaSaid, second: i64) -> Result<(), Stop>
     requires { IsWithin (pos 0) (pos 4_294_967_294) second }
     ensures stop { result ≡ stop_or_go (clock_stop meta second) }
     ensures early { IfErr result IsOfGreeting }
+    ensures unkept { IfErr result (λ stop. is_keep stop ≡ false) }
 {
     if !meta.cont {
         return Err(Stop::Stopped);
@@ -120,6 +116,7 @@ fn are_far_apart(device: i64, server: i64) -> bool
 fn test_heads(meta: MetaSaid, head: &Head) -> Result<(), Stop>
     ensures stop { result ≡ stop_or_go (head_stop meta head.now) }
     ensures early { IfErr result IsOfGreeting }
+    ensures unkept { IfErr result (λ stop. is_keep stop ≡ false) }
 {
     if head.moment == meta.moment {
         return Err(Stop::NoChanges);
@@ -144,7 +141,7 @@ fn test_rows<K: Keeper>(keeper: &mut K) -> Result<(), Stop>
         ⊎ ((fault : CheckFault) × (stop ≡ stops.OwnCheck fault)
         × WhereTold (K.keeping keeper.old) (λ h. first_fault h.rows ≡ Some fault))) }
     ensures early { IfErr result IsOfGreeting }
-    ensures keeper { GoesOn (K.health keeper.old) (K.health keeper.new) }
+    ensures keeper { HasCauseOf stops.Keep (K.health keeper.old) (K.health keeper.new) result }
 {
     match check(keeper)? {
         Some(fault) => Err(Stop::OwnCheck(fault)),

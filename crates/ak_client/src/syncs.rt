@@ -2,9 +2,12 @@ ghost use Rattle.std.specs.Prelude.{◌≡◌, ◌≤ℤ◌, ◌<ℤ◌, pos, []
 ghost use Rattle.ak_base.specs.Heads.{IsHeadInRange, IsMoment};
 ghost use Rattle.ak_base.specs.Limits.{last_head_usn};
 ghost use Rattle.ak_client.specs.Endings.{Ends, ExchangesAll};
-ghost use Rattle.ak_client.specs.Outcomes.{EndsFor, outcome_of};
+ghost use Rattle.ak_client.specs.Outcomes.{EndsFor, HasLostThrice, HasOutcomeCause, outcome_of};
 ghost use Rattle.ak_client.specs.Syncs.{IsSync, KeepsDevice, TakesMoments};
-ghost use Rattle.ak_faults.specs.Causes.{GoesOn};
+ghost use Rattle.ak_client.specs.declared.outcomes.Outcome.TheVariants as outcomes;
+ghost use Rattle.ak_exchange.specs.Stops.{is_keep};
+ghost use Rattle.ak_exchange.specs.declared.stops.Stop.TheVariants as stops;
+ghost use Rattle.ak_faults.specs.Causes.{GoesOn, HasCauseOf};
 ghost use Rattle.ak_keep.specs.Keepers.{IsMarkedAt, WhereTold, back, is_marked};
 
 use crate::greetings::greet;
@@ -40,11 +43,21 @@ pub fn sync_over<K: Keeper, W: Wire, C: Clock>(
     ensures device { KeepsDevice 1 (K.keeping keeper.old) (K.keeping keeper.new)
         (C.to_come clock.old) (C.to_come clock.new) result }
     ensures unmarked { is_marked (K.keeping keeper.new) ≡ false }
+
+    // A head is held after it, however it ends.
+    ensures held { (K.keeping keeper.new).headed.current ≡ true }
     ensures undo { undo.new ≡ [] }
 
     // It takes one moment of the clock once its meta is granted, and another after a bad sanity check.
     ensures clock { TakesMoments 0 (C.to_come clock.old) (C.to_come clock.new) result }
     ensures keeper { GoesOn (K.health keeper.old) (K.health keeper.new) }
+
+    // It ends because the keeper failed, or because a request was lost, only if the count of faults of the keeper, or of the wire, rose; it
+    // rose at each of three tries.
+    ensures kept { HasOutcomeCause outcomes.Keep (K.health keeper.old) (K.health keeper.new) result }
+    ensures lost { HasOutcomeCause outcomes.Lost (W.health wire.old) (W.health wire.new) result }
+    ensures thrice { HasLostThrice (W.health wire.old) (W.health wire.new)
+        (W.state wire.old).silence (W.state wire.new).silence result }
     ensures wire { GoesOn (W.health wire.old) (W.health wire.new) }
     ensures reading { GoesOn (W.state wire.old).reading (W.state wire.new).reading }
 {
@@ -68,8 +81,9 @@ fn sync_device<K: Keeper, W: Wire, C: Clock>(
     ensures device { KeepsDevice 1 (K.keeping keeper.old) (K.keeping keeper.new)
         (C.to_come clock.old) (C.to_come clock.new) (outcome_of result) }
     ensures unmarked { is_marked (K.keeping keeper.new) ≡ false }
+    ensures held { (K.keeping keeper.new).headed.current ≡ true }
     ensures clock { TakesMoments 0 (C.to_come clock.old) (C.to_come clock.new) (outcome_of result) }
-    ensures keeper { GoesOn (K.health keeper.old) (K.health keeper.new) }
+    ensures keeper { HasCauseOf stops.Keep (K.health keeper.old) (K.health keeper.new) result }
 {
     let met = greet(keeper, wire, clock, ids)?;
     sync_met(alloc, keeper, wire, clock, ids, &met)
@@ -96,7 +110,8 @@ fn sync_met<K: Keeper, W: Wire, C: Clock>(
         (C.to_come clock.old) (C.to_come clock.new) (outcome_of result) }
     ensures clock { TakesMoments 1 (C.to_come clock.old) (C.to_come clock.new) (outcome_of result) }
     ensures unmarked { is_marked (K.keeping keeper.new) ≡ false }
-    ensures keeper { GoesOn (K.health keeper.old) (K.health keeper.new) }
+    ensures held { (K.keeping keeper.new).headed.current ≡ true }
+    ensures keeper { HasCauseOf stops.Keep (K.health keeper.old) (K.health keeper.new) result }
 {
     keeper.mark()?;
     match exchange_all(alloc, keeper, wire, ids, met) {
@@ -126,7 +141,7 @@ fn exchange_all<K: Keeper, W: Wire>(
     ensures stays { IsMarkedAt (back (K.keeping keeper.old)) (K.keeping keeper.new) }
     ensures held { IfOk result (λ moment. (K.keeping keeper.new).headed.current ≡ true) }
     ensures moment { IfOk result IsMoment }
-    ensures keeper { GoesOn (K.health keeper.old) (K.health keeper.new) }
+    ensures keeper { HasCauseOf stops.Keep (K.health keeper.old) (K.health keeper.new) result }
 {
     let mut envelopes = Envelopes {
         ids,
@@ -150,7 +165,9 @@ pub(crate) fn after_stop<K: Keeper, C: Clock>(
         (C.to_come clock.old) (C.to_come clock.new) (outcome_of result) }
     ensures clock { TakesMoments 1 (C.to_come clock.old) (C.to_come clock.new) (outcome_of result) }
     ensures unmarked { is_marked (K.keeping keeper.new) ≡ false }
+    ensures held { (K.keeping keeper.new).headed.current ≡ true }
     ensures keeper { GoesOn (K.health keeper.old) (K.health keeper.new) }
+    ensures cause { is_keep stop ≡ false → HasCauseOf stops.Keep (K.health keeper.old) (K.health keeper.new) result }
 {
     if !shows_bad_check(stop) {
         return Err(stop);

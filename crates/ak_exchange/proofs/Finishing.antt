@@ -9,8 +9,9 @@ use Rattle.ak_exchange.proofs.Parts.{IsAsked}
 use Rattle.ak_exchange.proofs.Passing.{asked_one}
 use Rattle.ak_exchange.proofs.Places.{after_check}
 use Rattle.ak_exchange.proofs.Stepping.{one_more, step_is}
+use Rattle.ak_exchange.proofs.Stopping.{by_memory, by_wire, none_granted, one_but_last, refused_after_stops, refused_stops, was_granted, was_not_granted}
 use Rattle.ak_exchange.proofs.Tried.{asked_none, few_none}
-use Rattle.ak_exchange.specs.Asked.{AreFew, Talk, asker, request_at}
+use Rattle.ak_exchange.specs.Asked.{AreFew, Talk, TriedAsk, asker, request_at}
 use Rattle.ak_exchange.specs.Phases.{Finishes, HasAsked, HasCommitted, IsLeft, IsReached, at_end_of, finish_after}
 use Rattle.ak_exchange.specs.Stops.{comes_before_finish, wire_stop}
 use Rattle.ak_exchange.specs.declared.stops.Stop.{Stop}
@@ -80,9 +81,12 @@ no_moment (Err stop) why P is = tt
 pub finishes_unasked : (was now : Talk) (result : Result ℤ Stop) → IsErrAnd result (λ (stop : Stop). stop ≡ stops.Memory)
     → now.health ≡ was.health → now.wire ≡ was.wire → now.envelopes ≡ was.envelopes → Finishes was now result
 finishes_unasked was now result is health wire envelopes = record {
-  asks = [];
+  tries = [];
   asked = asked_none was now health wire envelopes;
   few = few_none 0 0 1;
+  granted = none_granted result;
+  rows = tt;
+  ends = refused_stops [] now.wire result (by_memory result is);
   late = late_memory result is;
   leads = λ c s account earlier has. (
     record {
@@ -148,11 +152,19 @@ module _ (was now : Talk) (given : Result ℤ Unanswered) (at : IsAsked was now 
     pub finish_committed : (moment : ℤ) → given ≡ Ok moment → HasCommitted c s account who earlier moment now
     finish_committed moment is = committed moment (subst (λ (r : Result ℤ Unanswered). IfOk r Given) is called.1)
 
-  pub finishes_refused : (result : Result ℤ Stop) (why : Unanswered) → IsErrAnd result (λ (stop : Stop). stop ≡ wire_stop why) → Finishes was now result
-  finishes_refused result why is = record {
-    asks = asks.Finish ∷ [];
+  abbrev tried_finish : TriedAsk
+  tried_finish = record { ask = asks.Finish; answer = at.call.answer }
+
+  pub finishes_refused : (result : Result ℤ Stop) (why : Unanswered) → given ≡ Err why → IsErrAnd result (λ (stop : Stop). stop ≡ wire_stop why)
+      → Finishes was now result
+  finishes_refused result why came is = record {
+    tries = tried_finish ∷ [];
     asked = asked_one was now asks.Finish at.it moment_in given at.made at.envelopes at.call;
     few = finish_few;
+    rows = (tt, tt);
+    granted = one_but_last tried_finish result (λ (stop : Stop). stop ≡ wire_stop why) is;
+    ends = refused_after_stops (tried_finish ∷ []) now.wire tried_finish given result ([], refl)
+        (λ other was_so. was_not_granted moment_in asks.Finish (λ give. refl) at.call.answer other (sym at.call.came ∙ was_so)) (by_wire given result why came is);
     late = late_wire result why is;
     leads = λ c s account earlier has. (
       finish_left c s account earlier has,
@@ -162,9 +174,12 @@ module _ (was now : Talk) (given : Result ℤ Unanswered) (at : IsAsked was now 
 
   pub finishes_granted : (moment : ℤ) → given ≡ Ok moment → Finishes was now (Ok moment)
   finishes_granted moment is = record {
-    asks = asks.Finish ∷ [];
+    tries = tried_finish ∷ [];
     asked = asked_one was now asks.Finish at.it moment_in given at.made at.envelopes at.call;
     few = finish_few;
+    rows = (tt, tt);
+    granted = ((was_granted moment_in asks.Finish (λ give. refl) at.call.answer moment (sym at.call.came ∙ is)).granted, tt);
+    ends = tt;
     late = tt;
     leads = λ c s account earlier has. (finish_left c s account earlier has, (refl, finish_committed c s account earlier has moment is));
   }

@@ -1,5 +1,6 @@
 pub mod Asking
 pub mod Chunking
+pub mod Faults
 pub mod Finishing
 pub mod Granted
 pub mod Held
@@ -8,4 +9,5 @@ pub mod Passing
 pub mod Places
 pub mod Replying
 pub mod Stepping
+pub mod Stopping
 pub mod Tried

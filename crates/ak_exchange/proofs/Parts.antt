@@ -1,8 +1,9 @@
 -- The parts of a sync that ask one request: refused once it was asked, and granted.
 use Rattle.std.specs.Int.{div_ceil}
-use Rattle.std.specs.Option.{option_map}
-use Rattle.std.specs.Prelude.{◌≡◌, ℕ, pos, ◌≤ℤ◌, ◌+◌, ◌*◌, ◌%◌, ◌<◌, ◌≤◌, ◌&&◌, ℤ, cond, not, Bool, true, false, List, [], ◌∷◌, ◌++◌, length, Option, Some, None, option_and_then, Result, Ok, Err, IsErr, IfSome, ok_or, ◌==◌, if◌then◌else◌}
+use Rattle.std.specs.Option.{option_map, option_map_or}
+use Rattle.std.specs.Prelude.{◌≡◌, ℕ, pos, ◌≤ℤ◌, ◌+◌, ◌*◌, ◌%◌, ◌<◌, ◌≤◌, ◌&&◌, ℤ, cond, not, nat_lt, Bool, true, false, is_some, List, [], ◌∷◌, ◌++◌, length, count_by, Option, Some, None, option_and_then, Result, Ok, Err, IsErr, IsErrAnd, IfSome, ok_or, ◌==◌, if◌then◌else◌, ⊤}
 use Rattle.std.proofs.lemmas.List.{length-append}
+use Rattle.std.proofs.lemmas.List.Sums.{sum_by-append}
 use Rattle.std.proofs.lemmas.Nat.{div-add-mod', mod_below}
 use Rattle.std.proofs.lemmas.Option.{none-some, same_Some}
 use Rattle.std.proofs.Common.{refl, sym, ap, subst, ◌∙◌, append_assoc, arith}
@@ -14,10 +15,13 @@ use Rattle.ak_device.proofs.Receiving.{received_nothing}
 use Rattle.ak_device.specs.Devices.{IsNextToSend, Settles, changes_to_send, received}
 use Rattle.ak_exchange.proofs.Granted.{changes_are, chunk_are, graves_are}
 use Rattle.ak_exchange.proofs.Held.{changes_at, replied_quietly, rows_at, told_at}
-use Rattle.ak_exchange.proofs.Passing.{IsRefused, advances_to, asked_one, left_one, refused_after, took_after}
-use Rattle.ak_exchange.proofs.Places.{after_changes, after_chunks, after_graves, after_pushes, after_start, leads_on, next_graves, no_graves_yet, next_pull, next_push, part_sent, pulled_one, push_request, pushed_full, pushed_last, sent_graves}
-use Rattle.ak_exchange.specs.Asked.{AreFew, Talk, asker, request_at}
-use Rattle.ak_exchange.specs.Loops.{HasPulledOne, HasPushedOne, HavePulled, HavePushed, HaveSentGraves, last_sent, rows_to_push}
+use Rattle.ak_exchange.proofs.Passing.{advances_kept, advances_more, advances_passed, advances_then, advances_to, asked_one, both_tried, left_one, one_tried, refused_after, same_tried, stays_here, took_after}
+use Rattle.ak_exchange.proofs.Places.{after_changes, after_chunks, after_graves, after_pushes, after_start, leads_on, next_graves, no_graves_yet, next_pull, next_push, part_sent, pulled_lead, pulled_one, push_request, pushed_full, pushed_last, pushed_lead, sent_graves}
+use Rattle.ak_exchange.proofs.Stopping.{Gave, IsRefused, IsRefusedAfter, check_stops, was_granted}
+use Rattle.ak_exchange.proofs.Tried.{asks_append}
+use Rattle.ak_exchange.specs.Asked.{AreFew, Talk, TriedAsk, asker, asks_in, request_at, sends_unfinished}
+use Rattle.ak_exchange.specs.Grants.{SendsRows, brings_unfinished, came_unfinished, is_told}
+use Rattle.ak_exchange.specs.Loops.{HasPulledOne, HasPushedOne, HavePulled, HavePushed, HaveSentGraves, PullsOne, PushesOne, SendsOne, last_sent, rows_to_push}
 use Rattle.ak_exchange.specs.Phases.{Advances, AreGraveRequests, Exchanges, HasReceived, IsAt, IsMet, Place, at_end_of, at_meta, held_by}
 use Rattle.ak_exchange.specs.Stops.{verdict_of}
 use Rattle.ak_exchange.specs.declared.envelopes.Met.{Met}
@@ -72,6 +76,14 @@ received_met c s met give own before after met_is same took =
     ∙ ap (λ (usn : ℤ). changed (received usn (replied own)) before) met_is.usn
     ∙ ap (λ (g : Give). changed (received s.head.usn (replied g)) before) (sym same)
 
+-- a keeper that tells what it holds tells it still, once that was changed
+pub tells_still : (step : Holding → Holding) (before after : Keeping) → after ≡ changed step before → is_told before ≡ true → is_told after ≡ true
+tells_still step before after took is = ap is_told took ∙ by before.told is
+  where
+    by : (t : Option (WithMark Holding)) → is_some t ≡ true → is_some (option_map (marks.changed step) t) ≡ true
+    by None is = is
+    by (Some w) is = refl
+
 -- ---- the start
 module _ (met : Met) (before : Keeping) (was now : Talk) (given : Result GraveIds Unanswered)
     (at : IsAsked was now (asks.Start met.head.usn met.head.moment) graves_in given) where
@@ -92,16 +104,16 @@ module _ (met : Met) (before : Keeping) (was now : Talk) (given : Result GraveId
   start_next c s account asked met_is place may =
       let ahead = after_start c s in (ahead.0, start_is c s asked ahead.0 met_is (place.has.placed may) ∙ ahead.1)
 
-  pub start_refused : {T : Type 0} (after : Keeping) (result : Result T Stop) → IsRefused result → Advances 0 0 1 at_meta start_place met before after was now result
+  pub start_refused : {T : Type 0} (after : Keeping) (result : Result T Stop) → IsRefusedAfter given result → Advances 0 0 1 at_meta start_place met before after was now result
   start_refused after result is =
       refused_after was now (asks.Start met.head.usn met.head.moment) at.it graves_in given at.made at.envelopes at.call refl refl refl
-      0 0 1 start_few at_meta met before start_next start_place after result is
+      0 0 1 start_few at_meta met before start_next (λ give. refl) (λ told. tt) start_place after result is
 
   pub start_took : {T : Type 0} (after : Keeping) (x : T) (ids : GraveIds) → given ≡ Ok ids
       → after ≡ changed (received met.meta.usn (replied (gives.Graves ids))) before → Advances 0 0 1 at_meta start_place met before after was now (Ok x)
   start_took after x ids came took =
       took_after was now (asks.Start met.head.usn met.head.moment) at.it graves_in given at.made at.envelopes at.call refl refl refl
-      0 0 1 start_few at_meta met before start_next start_place after x ids came
+      0 0 1 start_few at_meta met before start_next (λ give. refl) (λ told. tt) start_place after x ids came (tells_still (received met.meta.usn (replied (gives.Graves ids))) before after took)
       (λ c s asked met_is is. received_met c s met (answer_to s asked (asks.Start met.head.usn met.head.moment)) (gives.Graves ids) before after met_is
       (graves_are (answer_to s asked (asks.Start met.head.usn met.head.moment)) ids is).0 took)
       (λ c s account asked met_is place is may. start_is c s asked [] met_is (place.has.placed may))
@@ -118,17 +130,17 @@ module _ (met : Met) (keeping : Keeping) (was now : Talk) (given : Result (Unit 
       let ahead = next_graves k list c s asked less (place.has.placed may) in
       (ahead.0, ap (λ (i : GraveIds). asked ++ asks.ApplyGraves i ∷ ahead.0) ids_are ∙ ahead.1)
 
-  pub graves_refused : {T : Type 0} (result : Result T Stop) → IsRefused result
+  pub graves_refused : {T : Type 0} (result : Result T Stop) → IsRefusedAfter given result
       → Advances 0 0 1 (HaveSentGraves k list) (HaveSentGraves (k + 1) list) met keeping keeping was now result
   graves_refused result is =
       refused_after was now (asks.ApplyGraves ids) at.it nothing_in given at.made at.envelopes at.call refl refl refl
-      0 0 1 graves_few (HaveSentGraves k list) met keeping graves_next (HaveSentGraves (k + 1) list) keeping result is
+      0 0 1 graves_few (HaveSentGraves k list) met keeping graves_next (λ give. refl) (λ told. tt) (HaveSentGraves (k + 1) list) keeping result is
 
   pub graves_took : {T : Type 0} (x : T) (done : Unit {0}) → given ≡ Ok done
       → Advances 0 0 1 (HaveSentGraves k list) (HaveSentGraves (k + 1) list) met keeping keeping was now (Ok x)
   graves_took x done came =
       took_after was now (asks.ApplyGraves ids) at.it nothing_in given at.made at.envelopes at.call refl refl refl
-      0 0 1 graves_few (HaveSentGraves k list) met keeping graves_next (HaveSentGraves (k + 1) list) keeping x done came
+      0 0 1 graves_few (HaveSentGraves k list) met keeping graves_next (λ give. refl) (λ told. tt) (HaveSentGraves (k + 1) list) keeping x done came (λ told. told)
       (λ c s asked met_is is. received_nothing s.head.usn keeping)
       (λ c s account asked met_is place is may.
       subst (λ (i : GraveIds). HaveSentGraves (k + 1) list c s (asked ++ asks.ApplyGraves i ∷ [])) (sym ids_are)
@@ -165,23 +177,32 @@ module _ (met : Met) (before : Keeping) (was now : Talk) (given : Result Changes
             ∙ ahead.1,
       )
 
-  pub changes_refused : {T : Type 0} (after : Keeping) (result : Result T Stop) → IsRefused result
+  pub changes_refused : {T : Type 0} (after : Keeping) (result : Result T Stop) → IsRefusedAfter given result
       → Advances 0 0 1 (at_end_of planned_graves) (at_end_of planned_changes) met before after was now result
   changes_refused after result is =
       refused_after was now (asks.ApplyChanges changes) at.it changes_in given at.made at.envelopes at.call refl refl refl
-      0 0 1 changes_few (at_end_of planned_graves) met before changes_next (at_end_of planned_changes) after result is
+      0 0 1 changes_few (at_end_of planned_graves) met before changes_next (λ give. refl) (λ told. tt) (at_end_of planned_changes) after result is
 
   pub changes_took : {T : Type 0} (after : Keeping) (x : T) (came : Changes) → given ≡ Ok came
       → after ≡ changed (received met.meta.usn (replied (gives.Changes came))) before
       → Advances 0 0 1 (at_end_of planned_graves) (at_end_of planned_changes) met before after was now (Ok x)
   changes_took after x came granted took =
       took_after was now (asks.ApplyChanges changes) at.it changes_in given at.made at.envelopes at.call refl refl refl
-      0 0 1 changes_few (at_end_of planned_graves) met before changes_next (at_end_of planned_changes) after x came granted
+      0 0 1 changes_few (at_end_of planned_graves) met before changes_next (λ give. refl) (λ told. tt) (at_end_of planned_changes) after x came granted (tells_still (received met.meta.usn (replied (gives.Changes came))) before after took)
       (λ c s asked met_is is. received_met c s met (answer_to s asked (asks.ApplyChanges changes)) (gives.Changes came) before after met_is
       (changes_are (answer_to s asked (asks.ApplyChanges changes)) came is).0 took)
       (λ c s account asked met_is place is may. changes_end c s asked [] (place.has.placed may) (changes_made c s account asked met_is place may))
 
 -- ---- a chunk that comes
+pub counted_one : {X : Type 0} (p : X → Bool) (x : X) → p x ≡ true → 1 ≤ count_by p (x ∷ [])
+counted_one p x is = subst (λ (b : Bool). 1 ≤ 0 + cond b 1 0) (sym is) (omega arith)
+
+brought : (answer : Result Reply WireEnd) (chunk : Chunk) → Gave chunk_in asks.Chunk (λ give. refl) answer chunk → chunk.done ≡ false → brings_unfinished answer ≡ true
+brought answer chunk gave unfinished =
+    ap brings_unfinished gave.granted.is
+    ∙ ap (λ (o : Option Chunk). option_map_or (λ (c : Chunk). not c.done) o false) gave.gave
+    ∙ ap not unfinished
+
 module _ (met : Met) (before : Keeping) (was now : Talk) (given : Result Chunk Unanswered) (k : ℕ) (at : IsAsked was now asks.Chunk chunk_in given) where
   pull_few : AreFew 1 0 0 (asks.Chunk ∷ [])
   pull_few = record { asked = omega arith; sent = omega arith; rest = omega arith }
@@ -190,39 +211,57 @@ module _ (met : Met) (before : Keeping) (was now : Talk) (given : Result Chunk U
       → MaySync c s → (rest : List Ask) × (asked ++ asks.Chunk ∷ rest ≡ planned c s)
   pull_next c s account asked met_is place may = next_pull k c s asked (place.has.placed may)
 
-  pub pull_refused : {T : Type 0} (to : Place) (after : Keeping) (result : Result T Stop) → IsRefused result
+  pub pull_refused : {T : Type 0} (to : Place) (after : Keeping) (result : Result T Stop) → IsRefusedAfter given result
       → Advances 1 0 0 (HavePulled k) to met before after was now result
   pull_refused to after result is =
       refused_after was now asks.Chunk at.it chunk_in given at.made at.envelopes at.call refl refl refl
-      1 0 0 pull_few (HavePulled k) met before pull_next to after result is
+      1 0 0 pull_few (HavePulled k) met before pull_next (λ give. refl) (λ told. tt) to after result is
 
-  pub pull_took : {T : Type 0} (after : Keeping) (x : T) (chunk : Chunk) → given ≡ Ok chunk
+  pub pull_took : (after : Keeping) (chunk : Chunk) → given ≡ Ok chunk
       → after ≡ changed (received met.meta.usn (replied (gives.Chunk chunk))) before
-      → Advances 1 0 0 (HavePulled k) (HasPulledOne k chunk.done) met before after was now (Ok x)
-  pull_took after x chunk granted took =
-      took_after was now asks.Chunk at.it chunk_in given at.made at.envelopes at.call refl refl refl
-      1 0 0 pull_few (HavePulled k) met before pull_next (HasPulledOne k chunk.done) after x chunk granted
+      → PullsOne k met before after was now (Ok chunk.done)
+  pull_took after chunk granted took =
+      let made = one_tried was now asks.Chunk at.it chunk_in given at.made at.envelopes at.call refl refl refl
+      1 0 0 pull_few (HavePulled k) met before pull_next (λ give. refl) (λ told. tt) (HasPulledOne k chunk.done) after chunk.done chunk granted
+      (tells_still (received met.meta.usn (replied (gives.Chunk chunk))) before after took)
       (λ c s asked met_is is. received_met c s met (answer_to s asked asks.Chunk) (gives.Chunk chunk) before after met_is
       (chunk_are (answer_to s asked asks.Chunk) chunk is).0 took)
-      (λ c s account asked met_is place is may. pulled_one k c s asked chunk may (place.has.placed may) (chunk_are (answer_to s asked asks.Chunk) chunk is).0)
+      (λ c s account asked met_is place is may. pulled_one k c s asked chunk may (place.has.placed may) (chunk_are (answer_to s asked asks.Chunk) chunk is).0) in
+      record {
+        leads = made.0;
+        unfinished = λ unfinished. subst (λ (l : List TriedAsk). 1 ≤ count_by came_unfinished l) (sym made.1)
+            (counted_one came_unfinished (record { ask = asks.Chunk; answer = at.call.answer })
+            (brought at.call.answer chunk (was_granted chunk_in asks.Chunk (λ give. refl) at.call.answer chunk (sym at.call.came ∙ granted)) unfinished));
+      }
+
+  pub pull_left : (after : Keeping) (result : Result Bool Stop) → IsRefusedAfter given result → PullsOne k met before after was now result
+  pull_left after (Ok done) is = absurd is
+  pull_left after (Err stop) is = record { leads = pull_refused (λ c s asked. ⊤) after (Err stop) is; unfinished = tt }
+
+-- nothing was asked
+pub pull_stays : (k : ℕ) (met : Met) (before after : Keeping) (was now : Talk) (result : Result Bool Stop)
+    → now.health ≡ was.health → now.wire ≡ was.wire → now.envelopes ≡ was.envelopes → IsRefused result → PullsOne k met before after was now result
+pull_stays k met before after was now (Ok done) health wire envelopes is = absurd is
+pull_stays k met before after was now (Err stop) health wire envelopes is = record {
+  leads = stays_here 1 0 0 (HavePulled k) (λ c s asked. ⊤) met before after was now (Err stop) (pulled_lead k) health wire envelopes is;
+  unfinished = tt;
+}
 
 -- ---- a chunk that is sent
 -- how many requests it is
-pub pushed_few : (chunk : Chunk) (may_follow : Bool) (others : ℕ) → (chunk.done ≡ false → may_follow ≡ true) → (chunk.done ≡ true → 1 ≤ others)
-    → AreFew 0 (if may_follow then 1 else 0) others (asks.ApplyChunk chunk ∷ [])
-pushed_few chunk may_follow others unfinished last = by chunk.done refl
+pub pushed_few : (chunk : Chunk) → AreFew 0 (if chunk.done then 0 else 1) (if chunk.done then 1 else 0) (asks.ApplyChunk chunk ∷ [])
+pushed_few chunk = by chunk.done refl
   where
-    by : (b : Bool) → chunk.done ≡ b → AreFew 0 (if may_follow then 1 else 0) others (asks.ApplyChunk chunk ∷ [])
-    by true is = let one = last is in record {
+    by : (b : Bool) → chunk.done ≡ b → AreFew 0 (if b then 0 else 1) (if b then 1 else 0) (asks.ApplyChunk chunk ∷ [])
+    by true is = record {
       asked = omega arith;
-      sent = subst (λ (b : Bool). 0 + cond (not b) 1 0 ≤ (if may_follow then 1 else 0)) (sym is) (omega arith);
-      rest = subst (λ (b : Bool). 0 + cond (true && not (not b)) 1 0 ≤ others) (sym is) (omega (arith, one));
+      sent = subst (λ (b : Bool). 0 + cond (not b) 1 0 ≤ 0) (sym is) (omega arith);
+      rest = subst (λ (b : Bool). 0 + cond (true && not (not b)) 1 0 ≤ 1) (sym is) (omega arith);
     }
-    by false is = let follows = unfinished is in record {
+    by false is = record {
       asked = omega arith;
-      sent = subst (λ (b : Bool). 0 + cond (not b) 1 0 ≤ (if may_follow then 1 else 0)) (sym is)
-          (subst (λ (m : Bool). 1 ≤ (if m then 1 else 0)) (sym follows) (omega arith));
-      rest = subst (λ (b : Bool). 0 + cond (true && not (not b)) 1 0 ≤ others) (sym is) (omega arith);
+      sent = subst (λ (b : Bool). 0 + cond (not b) 1 0 ≤ 1) (sym is) (omega arith);
+      rest = subst (λ (b : Bool). 0 + cond (true && not (not b)) 1 0 ≤ 0) (sym is) (omega arith);
     }
 
 pub last_sent_most : (result : Result (Option Name) Stop) → last_sent result ≤ 1
@@ -230,9 +269,20 @@ last_sent_most (Ok None) = omega arith
 last_sent_most (Ok (Some next)) = omega arith
 last_sent_most (Err stop) = omega arith
 
-pub refused_sent : (result : Result (Option Name) Stop) → IsRefused result → last_sent result ≡ 1
-refused_sent (Ok next) is = absurd is
-refused_sent (Err stop) is = refl
+-- a chunk that is sent and is not the last one is that of 250 rows
+sends_these : (chunk : Chunk) (from next : Name) (keeping : Keeping) → WhereTold keeping (λ h. IsNextToSend h.rows from chunk next)
+    → is_told keeping ≡ true → SendsRows (asks.ApplyChunk chunk)
+sends_these chunk from next keeping told is = by keeping.told told is
+  where
+    full : (rows : Rows) → IsNextToSend rows from chunk next → SendsRows (asks.ApplyChunk chunk)
+    full rows made unfinished =
+        let short = made.slice.short in
+        let long : nat_lt (length made.part) 250 ≡ false = sym (ap (λ (x : Chunk). x.done) made.chunk_is) ∙ unfinished in
+        (made.part, made.chunk_is, grind (arith, short, long))
+
+    by : (t : Option (WithMark Holding)) → IfSome t (λ w. IsNextToSend w.current.rows from chunk next) → is_some t ≡ true → SendsRows (asks.ApplyChunk chunk)
+    by None told is = absurd (grind (arith, is))
+    by (Some w) told is = full w.current.rows told
 
 module _ (met : Met) (keeping : Keeping) (was now : Talk) (given : Result (Unit {0}) Unanswered) (k : ℕ) (from next : Name) (chunk : Chunk)
     (told : WhereTold keeping (λ h. IsNextToSend h.rows from chunk next)) (at : IsAsked was now (asks.ApplyChunk chunk) nothing_in given) where
@@ -260,11 +310,17 @@ module _ (met : Met) (keeping : Keeping) (was now : Talk) (given : Result (Unit 
             ∙ ahead.1,
       )
 
-  pub push_refused : {T : Type 0} (q o : ℕ) (to : Place) (result : Result T Stop) → AreFew 0 q o (asks.ApplyChunk chunk ∷ []) → IsRefused result
-      → Advances 0 q o (HavePushed k from) to met keeping keeping was now result
-  push_refused q o to result few is =
-      refused_after was now (asks.ApplyChunk chunk) at.it nothing_in given at.made at.envelopes at.call refl refl refl
-      0 q o few (HavePushed k from) met keeping push_next to keeping result is
+  abbrev sends_rows : is_told keeping ≡ true → SendsRows (asks.ApplyChunk chunk)
+  sends_rows = sends_these chunk from next keeping told
+
+  pub push_refused : (result : Result (Unit {0}) Stop) → IsRefusedAfter given result → SendsOne chunk k from next met keeping was now result
+  push_refused (Ok done) is = absurd is
+  push_refused (Err stop) is = record {
+    leads = refused_after was now (asks.ApplyChunk chunk) at.it nothing_in given at.made at.envelopes at.call refl refl refl
+        0 (if chunk.done then 0 else 1) (if chunk.done then 1 else 0) (pushed_few chunk) (HavePushed k from) met keeping push_next (λ give. refl) sends_rows
+        (HasPushedOne k (if chunk.done then None else Some next)) keeping (Err stop) is;
+    unfinished = tt;
+  }
 
   -- it was the last one, or the next begins after it
   push_place : (c s : Collection) (account : AccountState) (asked : List Ask) → IsAt c s account asked (HavePushed k from) keeping was → MaySync c s
@@ -280,13 +336,82 @@ module _ (met : Met) (keeping : Keeping) (was now : Talk) (given : Result (Unit 
       subst (λ (x : Chunk). HavePushed (k + 1) next c s (asked ++ asks.ApplyChunk x ∷ [])) (sym made.chunk_is)
       (pushed_full k from next c s asked at_k made.part made.slice (sym (ap (λ (x : Chunk). x.done) made.chunk_is) ∙ is))
 
-  pub push_took : {T : Type 0} (q o : ℕ) (x : T) (done : Unit {0}) (last : Bool) → AreFew 0 q o (asks.ApplyChunk chunk ∷ []) → given ≡ Ok done → chunk.done ≡ last
-      → Advances 0 q o (HavePushed k from) (HasPushedOne k (if last then None else Some next)) met keeping keeping was now (Ok x)
-  push_took q o x done last few came is =
-      took_after was now (asks.ApplyChunk chunk) at.it nothing_in given at.made at.envelopes at.call refl refl refl
-      0 q o few (HavePushed k from) met keeping push_next (HasPushedOne k (if last then None else Some next)) keeping x done came
+  pub push_took : (done : Unit {0}) → given ≡ Ok done → SendsOne chunk k from next met keeping was now (Ok tt)
+  push_took done came =
+      let made = one_tried was now (asks.ApplyChunk chunk) at.it nothing_in given at.made at.envelopes at.call refl refl refl
+      0 (if chunk.done then 0 else 1) (if chunk.done then 1 else 0) (pushed_few chunk) (HavePushed k from) met keeping push_next (λ give. refl) sends_rows
+      (HasPushedOne k (if chunk.done then None else Some next)) keeping tt done came (λ told. told)
       (λ c s asked met_is told_is. received_nothing s.head.usn keeping)
-      (λ c s account asked met_is place told_is may. push_place c s account asked place may last is)
+      (λ c s account asked met_is place told_is may. push_place c s account asked place may chunk.done refl) in
+      record {
+        leads = made.0;
+        unfinished = λ unfinished. subst (λ (l : List TriedAsk). 1 ≤ count_by sends_unfinished (asks_in l)) (sym made.1)
+            (counted_one sends_unfinished (asks.ApplyChunk chunk) (ap not unfinished));
+      }
+
+-- nothing was sent
+pub push_stays : (chunk : Chunk) (k : ℕ) (from next : Name) (met : Met) (keeping : Keeping) (was now : Talk) (result : Result (Unit {0}) Stop)
+    → now.health ≡ was.health → now.wire ≡ was.wire → now.envelopes ≡ was.envelopes → IsRefused result → SendsOne chunk k from next met keeping was now result
+push_stays chunk k from next met keeping was now (Ok done) health wire envelopes is = absurd is
+push_stays chunk k from next met keeping was now (Err stop) health wire envelopes is = record {
+  leads = stays_here 0 (if chunk.done then 0 else 1) (if chunk.done then 1 else 0) (HavePushed k from) (HasPushedOne k (if chunk.done then None else Some next))
+      met keeping keeping was now (Err stop) (pushed_lead k from) health wire envelopes is;
+  unfinished = tt;
+}
+
+-- a chunk was sent, or refused
+pub pushes_left : (chunk : Chunk) (k : ℕ) (from next : Name) (met : Met) (k0 k1 : Keeping) (was now : Talk) (e : Stop) (result : Result (Option Name) Stop) → k1 ≡ k0
+    → IsErrAnd result (λ (stop : Stop). stop ≡ e) → SendsOne chunk k from next met k0 was now (Err e) → PushesOne k from met k0 k1 was now result
+pushes_left chunk k from next met k0 k1 was now e (Ok it) same is one = absurd is
+pushes_left chunk k from next met k0 k1 was now e (Err stop) same is one = record {
+  leads = advances_kept 0 1 1 (HavePushed k from) (λ c s asked. ⊤) met k0 k1 was now (Err stop) same
+      (advances_more 0 (if chunk.done then 0 else 1) (if chunk.done then 1 else 0) 0 1 1 (HavePushed k from) (λ c s asked. ⊤) met k0 k0 was now (Err stop)
+      (omega arith) (at_most_one chunk.done 0 1 (omega arith) (omega arith)) (at_most_one chunk.done 1 0 (omega arith) (omega arith))
+      (advances_passed 0 (if chunk.done then 0 else 1) (if chunk.done then 1 else 0) (HavePushed k from) (HasPushedOne k (if chunk.done then None else Some next))
+      (λ c s asked. ⊤) met k0 k0 was now e (Err stop) is one.leads));
+  unfinished = tt;
+}
+  where
+    at_most_one : (b : Bool) (m n : ℕ) → m ≤ 1 → n ≤ 1 → (if b then m else n) ≤ 1
+    at_most_one true m n one two = one
+    at_most_one false m n one two = two
+
+pub pushes_none : (k : ℕ) (from : Name) (met : Met) (k0 k1 : Keeping) (was now : Talk) (result : Result (Option Name) Stop)
+    → now.health ≡ was.health → now.wire ≡ was.wire → now.envelopes ≡ was.envelopes → IsRefused result → PushesOne k from met k0 k1 was now result
+pushes_none k from met k0 k1 was now (Ok it) health wire envelopes is = absurd is
+pushes_none k from met k0 k1 was now (Err stop) health wire envelopes is = record {
+  leads = stays_here 0 1 1 (HavePushed k from) (λ c s asked. ⊤) met k0 k1 was now (Err stop) (pushed_lead k from) health wire envelopes is;
+  unfinished = tt;
+}
+
+pub pushes_took : (chunk : Chunk) (k : ℕ) (from next : Name) (met : Met) (k0 k1 : Keeping) (was now : Talk) (done : Bool) → k1 ≡ k0 → chunk.done ≡ done
+    → SendsOne chunk k from next met k0 was now (Ok tt) → PushesOne k from met k0 k1 was now (Ok (if done then None else Some next))
+pushes_took chunk k from next met k0 k1 was now true same is one = record {
+  leads = advances_kept 0 1 1 (HavePushed k from) (HasPushedOne k None) met k0 k1 was now (Ok None) same
+      (advances_to 0 1 1 (HavePushed k from) (HasPushedOne k None) (HasPushedOne k None) met k0 k0 was now tt None (λ c s asked may at. at)
+      (advances_more 0 0 1 0 1 1 (HavePushed k from) (HasPushedOne k None) met k0 k0 was now (Ok tt) (omega arith) (omega arith) (omega arith)
+      (subst (λ (b : Bool). Advances 0 (if b then 0 else 1) (if b then 1 else 0) (HavePushed k from) (HasPushedOne k (if b then None else Some next)) met k0 k0 was now (Ok tt)) is one.leads)));
+  unfinished = tt;
+}
+pushes_took chunk k from next met k0 k1 was now false same is one = followed k1 same
+  where
+    moved : (b : Bool) → chunk.done ≡ b → (it : Advances {T = Unit {0}} 0 (if b then 0 else 1) (if b then 1 else 0) (HavePushed k from) (HasPushedOne k (if b then None else Some next)) met k0 k0 was now (Ok tt))
+        × (b ≡ false → 1 ≤ count_by sends_unfinished (asks_in it.tries))
+    moved b eq = subst (λ (d : Bool). (it : Advances {T = Unit {0}} 0 (if d then 0 else 1) (if d then 1 else 0) (HavePushed k from) (HasPushedOne k (if d then None else Some next)) met k0 k0 was now (Ok tt))
+        × (d ≡ false → 1 ≤ count_by sends_unfinished (asks_in it.tries))) eq (one.leads, one.unfinished)
+
+    followed : (k2 : Keeping) → k2 ≡ k0 → PushesOne k from met k0 k2 was now (Ok (Some next))
+    followed k2 eq = subst (λ (kept : Keeping). PushesOne k from met k0 kept was now (Ok (Some next))) (sym eq) sent_it
+      where
+        sent_it : PushesOne k from met k0 k0 was now (Ok (Some next))
+        sent_it =
+            let one_more = moved false is in
+            let made = same_tried 0 1 0 (HavePushed k from) (HasPushedOne k (Some next)) (HasPushedOne k (Some next)) met k0 k0 was now (tt {0}) (Some next)
+            (λ c s asked may at. at) one_more.0 in
+            record {
+              leads = made.0;
+              unfinished = subst (λ (l : List TriedAsk). 1 ≤ count_by sends_unfinished (asks_in l)) (sym made.1) (one_more.1 refl);
+            }
 
 -- ---- the sanity check
 abbrev Checking : Type 0
@@ -351,17 +476,17 @@ module _ (met : Met) (keeping : Keeping) (was now : Talk) (given : Result Sanity
         ∙ sym (append_assoc (planned_pushes c s) (asks.SanityCheck2 (counts_of (device_rows c s (planned_pushes c s))) ∷ []) (asks.Finish ∷ [])),
   )
 
-  pub check_refused : {T : Type 0} (to : Place) (result : Result T Stop) → IsRefused result
+  pub check_refused : {T : Type 0} (to : Place) (result : Result T Stop) → IsRefusedAfter given result
       → Advances 0 0 1 (at_end_of planned_pushes) to met keeping keeping was now result
   check_refused to result is =
       refused_after was now (asks.SanityCheck2 counts) at.it verdict_in given at.made at.envelopes at.call refl refl refl
-      0 0 1 check_few (at_end_of planned_pushes) met keeping check_next to keeping result is
+      0 0 1 check_few (at_end_of planned_pushes) met keeping check_next (λ give. refl) (λ told. tt) to keeping result is
 
   pub check_took : {T : Type 0} (x : T) (reply : SanityReply) → given ≡ Ok reply
       → Advances 0 0 1 (at_end_of planned_pushes) (at_end_of planned_check) met keeping keeping was now (Ok x)
   check_took x reply came =
       took_after was now (asks.SanityCheck2 counts) at.it verdict_in given at.made at.envelopes at.call refl refl refl
-      0 0 1 check_few (at_end_of planned_pushes) met keeping check_next (at_end_of planned_check) keeping x reply came
+      0 0 1 check_few (at_end_of planned_pushes) met keeping check_next (λ give. refl) (λ told. tt) (at_end_of planned_check) keeping x reply came (λ told. told)
       (λ c s asked met_is is. received_nothing s.head.usn keeping)
       (λ c s account asked met_is place is may. check_end c s account asked [] place may)
 
@@ -370,22 +495,28 @@ module _ (met : Met) (keeping : Keeping) (was now : Talk) (given : Result Sanity
       → Advances 0 0 1 (at_end_of planned_pushes) (at_end_of planned_check) met keeping keeping was now result
   check_ends (Ok x) reply came is = check_took x reply came
   check_ends (Err stop) reply came is = record {
-    asks = asks.SanityCheck2 counts ∷ [];
+    tries = record { ask = asks.SanityCheck2 counts; answer = at.call.answer } ∷ [];
     asked = asked_one was now (asks.SanityCheck2 counts) at.it verdict_in given at.made at.envelopes at.call;
     few = check_few;
+    granted = tt;
+    rows = λ is_told_so. ((tt, tt), tt);
     plain = (refl, tt);
-    checked = λ bad.
+    ends =
         let said = said_check at.it counts (ap (λ (r : Request). r.ask) at.made) at.call.answer reply (sym at.call.came ∙ came) in
-        record {
-          before = [];
+        let gave = was_granted verdict_in (asks.SanityCheck2 counts) (λ give. refl) at.call.answer reply (sym at.call.came ∙ came) in
+        check_stops (record { ask = asks.SanityCheck2 counts; answer = at.call.answer } ∷ []) now.wire stop (record {
+          it = record { ask = asks.SanityCheck2 counts; answer = at.call.answer };
+          last = ([], refl);
           counts = counts;
-          last = refl;
+          asks = refl;
+          granted = gave.granted;
+          reply = reply;
+          gave = gave.gave;
           said = said.0;
           is = at.call.tried.said ∙ said.1;
-          reply = reply;
           found = said.2;
           verdict = sym is;
-        };
+        });
     leads = λ c s account earlier met_is place. (
       left_one was now (asks.SanityCheck2 counts) at.it verdict_in given at.made at.envelopes at.call refl refl refl
           0 0 1 check_few (at_end_of planned_pushes) met keeping check_next c s account earlier met_is place,
@@ -393,21 +524,74 @@ module _ (met : Met) (keeping : Keeping) (was now : Talk) (given : Result Sanity
     );
   }
 
--- ---- turns of chunks that are sent
-pub pushed_end : (k q : ℕ) (from : Name) (met : Met) (k0 k1 : Keeping) (t0 t1 : Talk) (next : Option Name) → next ≡ None
-    → Advances 0 q (last_sent (Ok next)) (HavePushed k from) (HasPushedOne k next) met k0 k1 t0 t1 (Ok next)
-    → Advances {T = Unit {0}} 0 q 1 (HavePushed k from) (at_end_of planned_pushes) met k0 k1 t0 t1 (Ok tt)
-pushed_end k q from met k0 k1 t0 t1 None is one =
-    advances_to 0 q 1 (HavePushed k from) (at_end_of planned_pushes) (at_end_of planned_pushes) met k0 k1 t0 t1 None tt (λ c s asked may at. at) one
-pushed_end k q from met k0 k1 t0 t1 (Some next) is one = absurd (grind (arith, is))
+-- ---- turns of chunks
+-- a loop came so far, and so many chunks that are not the last one came, or were sent
+pub record HasTurned (p q : ℕ) (from to : Place) (met : Met) (k0 k1 : Keeping) (t0 t1 : Talk) (turns : ℕ) (counted : List TriedAsk → ℕ) : Type 0 where
+  pub leads : Advances {T = Unit {0}} p q 0 from to met k0 k1 t0 t1 (Ok tt)
+  pub many : turns ≤ counted leads.tries
 
-pub pushed_on : (k q : ℕ) (from : Name) (met : Met) (k0 k1 : Keeping) (t0 t1 : Talk) (next : Option Name) (name : Name) → next ≡ Some name
-    → Advances 0 q (last_sent (Ok next)) (HavePushed k from) (HasPushedOne k next) met k0 k1 t0 t1 (Ok next)
-    → Advances {T = Unit {0}} 0 q 0 (HavePushed k from) (HavePushed (k + 1) name) met k0 k1 t0 t1 (Ok tt)
-pushed_on k q from met k0 k1 t0 t1 None name is one = absurd (none-some name is)
-pushed_on k q from met k0 k1 t0 t1 (Some next) name is one =
-    advances_to 0 q 0 (HavePushed k from) (HavePushed (k + 1) next) (HavePushed (k + 1) name) met k0 k1 t0 t1 (Some next) tt
-    (λ c s asked may at. subst (λ (n : Name). HavePushed (k + 1) n c s asked) (same_Some next name is) at) one
+abbrev pub came : List TriedAsk → ℕ
+came tries = count_by came_unfinished tries
+
+abbrev pub sent : List TriedAsk → ℕ
+sent tries = count_by sends_unfinished (asks_in tries)
+
+came_then : (a b : List TriedAsk) (m n : ℕ) → m ≤ came a → n ≤ came b → m + n ≤ came (a ++ b)
+came_then a b m n one two = let both = sum_by-append (λ (x : TriedAsk). cond (came_unfinished x) 1 0) a b in omega (arith, both, one, two)
+
+sent_then : (a b : List TriedAsk) (m n : ℕ) → m ≤ sent a → n ≤ sent b → m + n ≤ sent (a ++ b)
+sent_then a b m n one two = subst (λ (l : List Ask). m + n ≤ count_by sends_unfinished l) (sym (asks_append a b)) (of (asks_in a) (asks_in b) one two)
+  where
+    of : (x y : List Ask) → m ≤ count_by sends_unfinished x → n ≤ count_by sends_unfinished y → m + n ≤ count_by sends_unfinished (x ++ y)
+    of x y one two = let both = sum_by-append (λ (ask : Ask). cond (sends_unfinished ask) 1 0) x y in omega (arith, both, one, two)
+
+-- another chunk came, and it is not the last one
+pub pulled_on : (turns : ℕ) (from : Place) (met : Met) (k0 k1 k2 : Keeping) (t0 t1 t2 : Talk) (done : Bool) → done ≡ false
+    → HasTurned turns 0 from (HavePulled turns) met k0 k1 t0 t1 turns came → PullsOne turns met k1 k2 t1 t2 (Ok done)
+    → HasTurned (turns + 1) 0 from (HavePulled (turns + 1)) met k0 k2 t0 t2 (turns + 1) came
+pulled_on turns from met k0 k1 k2 t0 t1 t2 true is one two = absurd (grind (arith, is))
+pulled_on turns from met k0 k1 k2 t0 t1 t2 false is one two =
+    let last = same_tried 1 0 0 (HavePulled turns) (HavePulled (turns + 1)) (HavePulled (turns + 1)) met k1 k2 t1 t2 false (tt {0}) (λ c s asked may at. at) two.leads in
+    let made = both_tried turns 0 0 1 0 0 from (HavePulled turns) (HavePulled (turns + 1)) met k0 k1 k2 t0 t1 t2 tt (Ok (tt {0})) one.leads last.0 in
+    record {
+      leads = made.0;
+      many = subst (λ (l : List TriedAsk). turns + 1 ≤ came l) (sym (made.1 ∙ ap (λ (l : List TriedAsk). one.leads.tries ++ l) last.1))
+          (came_then one.leads.tries two.leads.tries turns 1 one.many (two.unfinished refl));
+    }
+
+-- another chunk was sent, and it is the last one
+pub pushed_end : (k : ℕ) (from : Name) (met : Met) (k0 k1 : Keeping) (t0 t1 : Talk) (next : Option Name) → next ≡ None
+    → PushesOne k from met k0 k1 t0 t1 (Ok next)
+    → Advances {T = Unit {0}} 0 1 1 (HavePushed k from) (at_end_of planned_pushes) met k0 k1 t0 t1 (Ok tt)
+pushed_end k from met k0 k1 t0 t1 None is one =
+    advances_to 0 1 1 (HavePushed k from) (at_end_of planned_pushes) (at_end_of planned_pushes) met k0 k1 t0 t1 None tt (λ c s asked may at. at) one.leads
+pushed_end k from met k0 k1 t0 t1 (Some next) is one = absurd (grind (arith, is))
+
+-- or it is not
+pub pushed_on : (turns : ℕ) (from : Name) (start : Place) (met : Met) (k0 k1 k2 : Keeping) (t0 t1 t2 : Talk) (next : Option Name) (name : Name) → next ≡ Some name
+    → HasTurned 0 turns start (HavePushed turns from) met k0 k1 t0 t1 turns sent → PushesOne turns from met k1 k2 t1 t2 (Ok next)
+    → HasTurned 0 (turns + 1) start (HavePushed (turns + 1) name) met k0 k2 t0 t2 (turns + 1) sent
+pushed_on turns from start met k0 k1 k2 t0 t1 t2 None name is one two = absurd (none-some name is)
+pushed_on turns from start met k0 k1 k2 t0 t1 t2 (Some next) name is one two =
+    let last = same_tried 0 1 0 (HavePushed turns from) (HavePushed (turns + 1) next) (HavePushed (turns + 1) name) met k1 k2 t1 t2 (Some next) (tt {0})
+    (λ c s asked may at. subst (λ (n : Name). HavePushed (turns + 1) n c s asked) (same_Some next name is) at) two.leads in
+    let made = both_tried 0 turns 0 0 1 0 start (HavePushed turns from) (HavePushed (turns + 1) name) met k0 k1 k2 t0 t1 t2 tt (Ok (tt {0})) one.leads last.0 in
+    record {
+      leads = made.0;
+      many = subst (λ (l : List TriedAsk). turns + 1 ≤ sent l) (sym (made.1 ∙ ap (λ (l : List TriedAsk). one.leads.tries ++ l) last.1))
+          (sent_then one.leads.tries two.leads.tries turns 1 one.many two.unfinished);
+    }
+
+-- the last chunk of all was sent, or refused
+pub last_pushed : (turns : ℕ) (from next : Name) (chunk : Chunk) (start : Place) (met : Met) (k0 k1 k2 : Keeping) (t0 t1 t2 : Talk) (result : Result (Unit {0}) Stop)
+    → k2 ≡ k1 → chunk.done ≡ true → HasTurned 0 turns start (HavePushed turns from) met k0 k1 t0 t1 turns sent → SendsOne chunk turns from next met k1 t1 t2 result
+    → Advances 0 turns 1 start (at_end_of planned_pushes) met k0 k2 t0 t2 result
+last_pushed turns from next chunk start met k0 k1 k2 t0 t1 t2 result same is one two =
+    subst (λ (k : Keeping). Advances 0 turns 1 start (at_end_of planned_pushes) met k0 k t0 t2 result) (sym same)
+    (advances_more 0 (turns + 0) 1 0 turns 1 start (at_end_of planned_pushes) met k0 k1 t0 t2 result (omega arith) (omega arith) (omega arith)
+    (advances_then 0 turns 0 0 0 1 start (HavePushed turns from) (at_end_of planned_pushes) met k0 k1 k1 t0 t1 t2 tt result one.leads
+    (subst (λ (b : Bool). Advances 0 (if b then 0 else 1) (if b then 1 else 0) (HavePushed turns from) (HasPushedOne turns (if b then None else Some next)) met k1 k1 t1 t2 result)
+    is two.leads)))
 
 -- ---- how many requests the graves need
 pub no_grave_requests : (k : Keeping) → AreGraveRequests k 0
@@ -474,13 +658,15 @@ pub exchanges_refused : (to : Place) (met : Met) (k0 k1 k2 : Keeping) (t0 t1 : T
     → AreGraveRequests k0 graves → IsErr result → Advances 40_000 39_999 (4 + graves) at_meta to met k0 k1 t0 t1 result → Exchanges met k0 k2 t0 t1 result
 exchanges_refused to met k0 k1 k2 t0 t1 (Ok x) graves most is one = absurd (grind (arith, is))
 exchanges_refused to met k0 k1 k2 t0 t1 (Err stop) graves most is one = record {
-  asks = one.asks;
+  tries = one.tries;
   asked = one.asked;
   graves = graves;
   graves_most = most;
   few = one.few;
+  granted = one.granted;
+  rows = λ told. (one.rows told).0;
   plain = one.plain;
-  checked = one.checked;
+  ends = one.ends;
   leads = λ c s account met_is at. ((one.leads c s account [] met_is at).0, tt);
 }
 
@@ -488,13 +674,15 @@ pub exchanges_settled : (met : Met) (k0 k1 k2 : Keeping) (t0 t1 : Talk) (graves 
     → Advances {T = Unit {0}} 40_000 39_999 (4 + graves) at_meta (at_end_of planned_check) met k0 k1 t0 t1 (Ok tt) → Settles met.meta.usn k1 k2
     → Exchanges met k0 k2 t0 t1 (Ok tt)
 exchanges_settled met k0 k1 k2 t0 t1 graves most one settled = record {
-  asks = one.asks;
+  tries = one.tries;
   asked = one.asked;
   graves = graves;
   graves_most = most;
   few = one.few;
+  granted = one.granted;
+  rows = λ told. (one.rows told).0;
   plain = one.plain;
-  checked = tt;
+  ends = tt;
   leads = λ c s account met_is at.
       let there = one.leads c s account [] met_is at in (
         there.0,

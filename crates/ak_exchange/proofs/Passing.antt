@@ -1,13 +1,16 @@
 -- A part of a sync leads from one place of its plan to another.
-use Rattle.std.specs.Prelude.{◌≡◌, ℕ, ◌+◌, ◌≤◌, ℤ, true, false, List, [], ◌∷◌, ◌++◌, Option, Some, Result, Ok, Err, IsErrAnd, IfOk, IfErr, OnOk}
+use Rattle.std.specs.List.{AllByRecursion}
+use Rattle.std.specs.Prelude.{◌≡◌, ℕ, ◌+◌, ◌≤◌, ℤ, true, false, is_some, List, [], ◌∷◌, ◌++◌, Option, Some, Result, Ok, Err, IsErrAnd, IfOk, IfErr, OnOk, ◌⊎◌}
 use Rattle.std.proofs.Common.{refl, sym, ap, subst, ◌∙◌, append_assoc, append-nil, arith}
 use Rattle.std.proofs.lemmas.List.{length-append}
 use Rattle.ak_exchange.proofs.Replying.{replies_go_on}
 use Rattle.ak_exchange.proofs.Stepping.{asks_one}
-use Rattle.ak_exchange.proofs.Tried.{asked_none, asked_then, few_more, few_none, few_then}
-use Rattle.ak_exchange.specs.Asked.{AreAsked, AreFew, AreTried, Talk, asker, request_at}
-use Rattle.ak_exchange.specs.Phases.{Advances, HasAsked, IsAt, IsChecked, IsCheckedLast, IsLeft, IsMet, IsReached, Place, marked_at}
-use Rattle.ak_exchange.specs.Stops.{is_too_many, keep_stop, shows_bad_check, wire_stop}
+use Rattle.ak_exchange.proofs.Stopping.{IsRefused, IsRefusedAfter, all_but_last, granted_then, is_quiet, none_granted, not_ok, one_but_last, part_stops, quiet_stops, refused_after_stops, refused_stops, rows_then, was_granted, was_not_granted}
+use Rattle.ak_exchange.proofs.Tried.{asked_none, asked_then, asks_append, few_more, few_none, few_then}
+use Rattle.ak_exchange.specs.Asked.{AreAsked, AreFew, AreTried, Talk, TriedAsk, asker, asks_in, request_at}
+use Rattle.ak_exchange.specs.Grants.{AreGranted, AreTooMany, IsLast, SendsRows, StopsFor, is_in_form, is_told}
+use Rattle.ak_exchange.specs.Phases.{Advances, HasAsked, IsAt, IsLeft, IsMet, IsReached, Place, marked_at}
+use Rattle.ak_exchange.specs.Stops.{wire_stop}
 use Rattle.ak_exchange.specs.declared.envelopes.Envelopes.{Envelopes}
 use Rattle.ak_exchange.specs.declared.envelopes.Met.{Met}
 use Rattle.ak_exchange.specs.declared.stops.Stop.{Stop}
@@ -16,12 +19,9 @@ use Rattle.ak_device.proofs.Receiving.{received_then}
 use Rattle.ak_device.specs.Devices.{received}
 use Rattle.ak_keep.specs.Collections.{Collection}
 use Rattle.ak_keep.specs.Keepers.{Keeping, changed}
-use Rattle.ak_keep.specs.declared.keepers.KeepFault.{KeepFault}
-use Rattle.ak_keep.specs.declared.keepers.KeepFault.TheVariants as faults
 use Rattle.ak_merge.specs.Commits.{Received}
 use Rattle.ak_messages.specs.declared.replies.Give.{Give}
 use Rattle.ak_messages.specs.declared.requests.Ask.{Ask}
-use Rattle.ak_messages.specs.declared.requests.Ask.TheVariants as asks
 use Rattle.ak_messages.specs.declared.requests.Request.{Request}
 use Rattle.ak_protocol.specs.Accounts.{AccountState}
 use Rattle.ak_session.proofs.Ranges.{all_append}
@@ -33,86 +33,9 @@ use Rattle.ak_session.specs.Sessions.{MaySync}
 use Rattle.ak_wires.specs.Tries.{Answered}
 use Rattle.ak_wires.specs.Wires.{WireState}
 use Rattle.ak_wires.specs.declared.asks.Unanswered.{Unanswered}
-use Rattle.ak_wires.specs.declared.asks.Unanswered.TheVariants as unanswered
 
 abbrev IsPlain : Ask → Type 0
 IsPlain ask = asks_commit ask ≡ false
-
--- ---- what a part that was refused did not do
--- a part was refused, and not by a sanity check
-abbrev pub IsRefused : {T : Type 0} → Result T Stop → Type 0
-IsRefused result = IsErrAnd result (λ (stop : Stop). shows_bad_check stop ≡ false)
-
-refused_as : {T : Type 0} (result : Result T Stop) (why : Stop) → shows_bad_check why ≡ false → IsErrAnd result (λ (stop : Stop). stop ≡ why) → IsRefused result
-refused_as (Ok x) why plain is = is
-refused_as (Err stop) why plain is = ap shows_bad_check is ∙ plain
-
-pub by_memory : {T : Type 0} (result : Result T Stop) → IsErrAnd result (λ (stop : Stop). stop ≡ stops.Memory) → IsRefused result
-by_memory result is = refused_as result stops.Memory refl is
-
-pub by_wire : {T : Type 0} (result : Result T Stop) (why : Unanswered) → IsErrAnd result (λ (stop : Stop). stop ≡ wire_stop why) → IsRefused result
-by_wire result why is = refused_as result (wire_stop why) (each why) is
-  where
-    each : (u : Unanswered) → shows_bad_check (wire_stop u) ≡ false
-    each unanswered.Lost = refl
-    each unanswered.BadReply = refl
-    each (unanswered.Refused status word seen) = refl
-    each unanswered.Memory = refl
-
-pub by_keeper : {T : Type 0} (result : Result T Stop) (fault : KeepFault) → IsErrAnd result (λ (stop : Stop). stop ≡ keep_stop fault) → IsRefused result
-by_keeper result fault is = refused_as result (keep_stop fault) (each fault) is
-  where
-    each : (f : KeepFault) → shows_bad_check (keep_stop f) ≡ false
-    each faults.Failed = refl
-    each faults.Memory = refl
-
-pub not_ok : {T : Type 0} (result : Result T Stop) (P : Type 0) → IsRefused result → OnOk result P
-not_ok (Ok x) P is = absurd is
-not_ok (Err e) P is = tt
-
-not_checked : {T : Type 0} (result : Result T Stop) (asks : List Ask) (now : Talk) → IsRefused result → IsChecked asks now result
-not_checked (Ok x) asks now is = tt
-not_checked (Err stop) asks now is = λ bad. absurd (grind (arith, is, bad))
-
--- ---- too many chunks
-few_as : {T : Type 0} (result : Result T Stop) (why : Stop) → is_too_many why ≡ false → IsErrAnd result (λ (stop : Stop). stop ≡ why)
-    → IfErr result (λ (stop : Stop). is_too_many stop ≡ false)
-few_as (Ok x) why few is = tt
-few_as (Err stop) why few is = ap is_too_many is ∙ few
-
-pub few_memory : {T : Type 0} (result : Result T Stop) → IsErrAnd result (λ (stop : Stop). stop ≡ stops.Memory)
-    → IfErr result (λ (stop : Stop). is_too_many stop ≡ false)
-few_memory result is = few_as result stops.Memory refl is
-
-pub few_wire : {T : Type 0} (result : Result T Stop) (why : Unanswered) → IsErrAnd result (λ (stop : Stop). stop ≡ wire_stop why)
-    → IfErr result (λ (stop : Stop). is_too_many stop ≡ false)
-few_wire result why is = few_as result (wire_stop why) (each why) is
-  where
-    each : (u : Unanswered) → is_too_many (wire_stop u) ≡ false
-    each unanswered.Lost = refl
-    each unanswered.BadReply = refl
-    each (unanswered.Refused status word seen) = refl
-    each unanswered.Memory = refl
-
-pub few_keeper : {T : Type 0} (result : Result T Stop) (fault : KeepFault) → IsErrAnd result (λ (stop : Stop). stop ≡ keep_stop fault)
-    → IfErr result (λ (stop : Stop). is_too_many stop ≡ false)
-few_keeper result fault is = few_as result (keep_stop fault) (each fault) is
-  where
-    each : (f : KeepFault) → is_too_many (keep_stop f) ≡ false
-    each faults.Failed = refl
-    each faults.Memory = refl
-
--- what is not refused for that says nothing of it
-pub if_few : {T : Type 0} (result : Result T Stop) (P : Type 0) → IfErr result (λ (stop : Stop). is_too_many stop ≡ false)
-    → IfErr result (λ (stop : Stop). is_too_many stop ≡ true → P)
-if_few (Ok x) P few = tt
-if_few (Err stop) P few = λ many. absurd (grind (arith, few, many))
-
--- what was refused for that, and handed on
-pub if_many : {T : Type 0} (result : Result T Stop) (e : Stop) (P : Type 0) → IsErrAnd result (λ (stop : Stop). stop ≡ e)
-    → (is_too_many e ≡ true → P) → IfErr result (λ (stop : Stop). is_too_many stop ≡ true → P)
-if_many (Ok x) e P is so = tt
-if_many (Err stop) e P is so = λ many. so (sym (ap is_too_many is) ∙ many)
 
 -- ---- nothing was asked
 -- a place is within the plan
@@ -132,63 +55,62 @@ pub stays_here : {T : Type 0} (pulled pushed others : ℕ) (from to : Place) (me
     → LeadsOn from → now.health ≡ was.health → now.wire ≡ was.wire → now.envelopes ≡ was.envelopes → IsRefused result
     → Advances pulled pushed others from to met before after was now result
 stays_here pulled pushed others from to met before after was now result on health wire envelopes is = record {
-  asks = [];
+  tries = [];
   asked = asked_none was now health wire envelopes;
   few = few_none pulled pushed others;
+  granted = none_granted result;
+  rows = λ told. (tt, not_ok result (λ (stop : Stop). is_quiet stop ≡ true) (is_told after ≡ true) is);
   plain = tt;
-  checked = not_checked result [] now is;
+  ends = refused_stops [] now.wire result is;
   leads = λ c s account earlier met_is at. (
     subst (λ (l : List Ask). IsLeft c s account (asker was.envelopes.ids) l now) (sym (append-nil earlier))
         (left_here from on c s account earlier was now at.has wire),
-    not_ok result (IsAt c s account (earlier ++ []) to after now) is,
+    not_ok result (λ (stop : Stop). is_quiet stop ≡ true) (IsAt c s account (earlier ++ []) to after now) is,
   );
 }
 
 -- ---- one part after another
-checked_after : (a b : List Ask) (stop : Stop) (wire : WireState) → IsCheckedLast b stop wire → IsCheckedLast (a ++ b) stop wire
-checked_after a b stop wire it = record {
-  before = a ++ it.before;
-  counts = it.counts;
-  last = ap (λ (l : List Ask). a ++ l) it.last ∙ sym (append_assoc a it.before (asks.SanityCheck2 it.counts ∷ []));
-  said = it.said;
-  is = it.is;
-  reply = it.reply;
-  found = it.found;
-  verdict = it.verdict;
-}
-
-checked_then : {T : Type 0} (a b : List Ask) (now : Talk) (result : Result T Stop) → IsChecked b now result → IsChecked (a ++ b) now result
-checked_then a b now (Ok x) checked = tt
-checked_then a b now (Err stop) checked = λ bad. checked_after a b stop now.wire (checked bad)
-
 pub advances_then : {T U : Type 0} (p q o p2 q2 o2 : ℕ) (from mid to : Place) (met : Met) (k0 k1 k2 : Keeping) (t0 t1 t2 : Talk) (x : T) (result : Result U Stop)
     → Advances p q o from mid met k0 k1 t0 t1 (Ok x) → Advances p2 q2 o2 mid to met k1 k2 t1 t2 result
     → Advances (p + p2) (q + q2) (o + o2) from to met k0 k2 t0 t2 result
 advances_then p q o p2 q2 o2 from mid to met k0 k1 k2 t0 t1 t2 x result one two = record {
-  asks = one.asks ++ two.asks;
-  asked = asked_then one.asks two.asks t0 t1 t2 one.asked two.asked;
-  few = few_then one.asks two.asks p q o p2 q2 o2 one.few two.few;
-  plain = all_append IsPlain one.asks two.asks one.plain two.plain;
-  checked = checked_then one.asks two.asks t2 result two.checked;
+  tries = one.tries ++ two.tries;
+  asked = asked_then one.tries two.tries t0 t1 t2 one.asked two.asked;
+  few = few_then one.tries two.tries p q o p2 q2 o2 one.few two.few;
+  granted = granted_then one.tries two.tries result one.granted two.granted;
+  rows = rows_then k0 k1 k2 one.tries two.tries x result one.rows two.rows;
+  plain = subst (AllByRecursion IsPlain) (sym (asks_append one.tries two.tries)) (all_append IsPlain (asks_in one.tries) (asks_in two.tries) one.plain two.plain);
+  ends = part_stops one.tries two.tries t2.wire result two.ends;
   leads = λ c s account earlier met_is at.
-      let there = two.leads c s account (earlier ++ one.asks) met_is (one.leads c s account earlier met_is at).1 in
+      let there = two.leads c s account (earlier ++ asks_in one.tries) met_is (one.leads c s account earlier met_is at).1 in
       subst (λ (l : List Ask). IsLeft c s account (asker t0.envelopes.ids) l t2 × OnOk result (IsAt c s account l to k2 t2))
-      (append_assoc earlier one.asks two.asks) (
-        subst (λ (e : Envelopes). IsLeft c s account (asker e.ids) ((earlier ++ one.asks) ++ two.asks) t2) one.asked.envelopes there.0,
+      (append_assoc earlier (asks_in one.tries) (asks_in two.tries)
+      ∙ ap (λ (l : List Ask). earlier ++ l) (sym (asks_append one.tries two.tries))) (
+        subst (λ (e : Envelopes). IsLeft c s account (asker e.ids) ((earlier ++ asks_in one.tries) ++ asks_in two.tries) t2) one.asked.envelopes there.0,
         there.1,
       );
 }
+
+-- with what both tried
+pub both_tried : {T U : Type 0} (p q o p2 q2 o2 : ℕ) (from mid to : Place) (met : Met) (k0 k1 k2 : Keeping) (t0 t1 t2 : Talk) (x : T) (result : Result U Stop)
+    → (one : Advances p q o from mid met k0 k1 t0 t1 (Ok x)) → (two : Advances p2 q2 o2 mid to met k1 k2 t1 t2 result)
+    → (it : Advances (p + p2) (q + q2) (o + o2) from to met k0 k2 t0 t2 result) × (it.tries ≡ one.tries ++ two.tries)
+unfolding advances_then
+both_tried p q o p2 q2 o2 from mid to met k0 k1 k2 t0 t1 t2 x result one two =
+    (advances_then p q o p2 q2 o2 from mid to met k0 k1 k2 t0 t1 t2 x result one two, refl)
 
 -- the same place, told in other words
 pub advances_to : {T U : Type 0} (p q o : ℕ) (from mid to : Place) (met : Met) (k0 k1 : Keeping) (t0 t1 : Talk) (x : T) (y : U)
     → ((c s : Collection) (asked : List Ask) → MaySync c s → mid c s asked → to c s asked)
     → Advances p q o from mid met k0 k1 t0 t1 (Ok x) → Advances p q o from to met k0 k1 t0 t1 (Ok y)
 advances_to p q o from mid to met k0 k1 t0 t1 x y so one = record {
-  asks = one.asks;
+  tries = one.tries;
   asked = one.asked;
   few = one.few;
+  granted = one.granted;
+  rows = one.rows;
   plain = one.plain;
-  checked = tt;
+  ends = tt;
   leads = λ c s account earlier met_is at.
       let there = one.leads c s account earlier met_is at in (
         there.0,
@@ -197,23 +119,32 @@ advances_to p q o from mid to met k0 k1 t0 t1 x y so one = record {
             base = there.1.has.base;
             step = there.1.has.step;
             reached = there.1.has.reached;
-            placed = λ may. so c s (earlier ++ one.asks) may (there.1.has.placed may);
+            placed = λ may. so c s (earlier ++ asks_in one.tries) may (there.1.has.placed may);
           };
           device = there.1.device;
         },
       );
 }
 
+-- with what was tried
+pub same_tried : {T U : Type 0} (p q o : ℕ) (from mid to : Place) (met : Met) (k0 k1 : Keeping) (t0 t1 : Talk) (x : T) (y : U)
+    → ((c s : Collection) (asked : List Ask) → MaySync c s → mid c s asked → to c s asked)
+    → (one : Advances p q o from mid met k0 k1 t0 t1 (Ok x)) → (it : Advances p q o from to met k0 k1 t0 t1 (Ok y)) × (it.tries ≡ one.tries)
+unfolding advances_to
+same_tried p q o from mid to met k0 k1 t0 t1 x y so one = (advances_to p q o from mid to met k0 k1 t0 t1 x y so one, refl)
+
 -- nothing was asked, and nothing was refused
 pub at_start : {T : Type 0} (p q o : ℕ) (from to : Place) (met : Met) (k0 k1 : Keeping) (was now : Talk) (x : T) → LeadsOn from
     → ((c s : Collection) (account : AccountState) (asked : List Ask) → IsMet c s met → IsAt c s account asked from k0 was → MaySync c s → to c s asked)
     → k1 ≡ k0 → now.health ≡ was.health → now.wire ≡ was.wire → now.envelopes ≡ was.envelopes → Advances p q o from to met k0 k1 was now (Ok x)
 at_start p q o from to met k0 k1 was now x on so kept health wire envelopes = record {
-  asks = [];
+  tries = [];
   asked = asked_none was now health wire envelopes;
   few = few_none p q o;
+  granted = tt;
+  rows = λ told. (tt, ap is_told kept ∙ told);
   plain = tt;
-  checked = tt;
+  ends = tt;
   leads = λ c s account earlier met_is at.
       subst (λ (l : List Ask). IsLeft c s account (asker was.envelopes.ids) l now × IsAt c s account l to k1 now) (sym (append-nil earlier)) (
         left_here from on c s account earlier was now at.has wire,
@@ -236,11 +167,13 @@ pub advances_place : {T : Type 0} (p q o : ℕ) (from mid to : Place) (met : Met
     → Advances p q o from mid met k0 k1 t0 t1 result → Advances p q o from to met k0 k1 t0 t1 result
 advances_place p q o from mid to met k0 k1 t0 t1 (Ok x) so one = advances_to p q o from mid to met k0 k1 t0 t1 x x so one
 advances_place p q o from mid to met k0 k1 t0 t1 (Err stop) so one = record {
-  asks = one.asks;
+  tries = one.tries;
   asked = one.asked;
   few = one.few;
+  granted = one.granted;
+  rows = one.rows;
   plain = one.plain;
-  checked = one.checked;
+  ends = one.ends;
   leads = λ c s account earlier met_is at. ((one.leads c s account earlier met_is at).0, tt);
 }
 
@@ -248,37 +181,69 @@ advances_place p q o from mid to met k0 k1 t0 t1 (Err stop) so one = record {
 pub advances_more : {T : Type 0} (p q o p2 q2 o2 : ℕ) (from to : Place) (met : Met) (k0 k1 : Keeping) (t0 t1 : Talk) (result : Result T Stop)
     → p ≤ p2 → q ≤ q2 → o ≤ o2 → Advances p q o from to met k0 k1 t0 t1 result → Advances p2 q2 o2 from to met k0 k1 t0 t1 result
 advances_more p q o p2 q2 o2 from to met k0 k1 t0 t1 result pulled pushed others one = record {
-  asks = one.asks;
+  tries = one.tries;
   asked = one.asked;
-  few = few_more one.asks p q o p2 q2 o2 pulled pushed others one.few;
+  few = few_more (asks_in one.tries) p q o p2 q2 o2 pulled pushed others one.few;
+  granted = one.granted;
+  rows = one.rows;
   plain = one.plain;
-  checked = one.checked;
+  ends = one.ends;
   leads = one.leads;
 }
+
+-- a part that went well, and then stopped all the same, for a reason that what it asked shows
+advances_stopped : {T U : Type 0} (p q o : ℕ) (from mid to : Place) (met : Met) (k0 k1 k2 : Keeping) (t0 t1 : Talk) (x : T) (result : Result U Stop)
+    → (one : Advances p q o from mid met k0 k1 t0 t1 (Ok x)) → IsErrAnd result (StopsFor one.tries t1.wire) → Advances p q o from to met k0 k2 t0 t1 result
+advances_stopped {U = U} p q o from mid to met k0 k1 k2 t0 t1 x result one is = record {
+  tries = one.tries;
+  asked = one.asked;
+  few = one.few;
+  granted = refused_granted result is;
+  rows = λ told. ((one.rows told).0, not_ok result (StopsFor one.tries t1.wire) (is_told k2 ≡ true) is);
+  plain = one.plain;
+  ends = if_refused result is;
+  leads = λ c s account earlier met_is at. (
+    (one.leads c s account earlier met_is at).0,
+    not_ok result (StopsFor one.tries t1.wire) (IsAt c s account (earlier ++ asks_in one.tries) to k2 t1) is,
+  );
+}
+  where
+    refused_granted : (r : Result U Stop) → IsErrAnd r (StopsFor one.tries t1.wire) → AreGranted one.tries r
+    refused_granted (Ok y) is = absurd is
+    refused_granted (Err stop) is = all_but_last one.tries one.granted
+
+    if_refused : (r : Result U Stop) → IsErrAnd r (StopsFor one.tries t1.wire) → IfErr r (StopsFor one.tries t1.wire)
+    if_refused (Ok y) is = tt
+    if_refused (Err stop) is = is
 
 -- a part that went well, and then was refused all the same
 pub advances_left : {T U : Type 0} (p q o : ℕ) (from mid to : Place) (met : Met) (k0 k1 k2 : Keeping) (t0 t1 : Talk) (x : T) (result : Result U Stop) → IsRefused result
     → Advances p q o from mid met k0 k1 t0 t1 (Ok x) → Advances p q o from to met k0 k2 t0 t1 result
-advances_left p q o from mid to met k0 k1 k2 t0 t1 x result is one = record {
-  asks = one.asks;
-  asked = one.asked;
-  few = one.few;
-  plain = one.plain;
-  checked = not_checked result one.asks t1 is;
-  leads = λ c s account earlier met_is at.
-      ((one.leads c s account earlier met_is at).0, not_ok result (IsAt c s account (earlier ++ one.asks) to k2 t1) is);
-}
+advances_left {U = U} p q o from mid to met k0 k1 k2 t0 t1 x result is one =
+    advances_stopped p q o from mid to met k0 k1 k2 t0 t1 x result one (each result is)
+  where
+    each : (r : Result U Stop) → IsRefused r → IsErrAnd r (StopsFor one.tries t1.wire)
+    each (Ok y) is = is
+    each (Err stop) is = quiet_stops one.tries t1.wire stop is
+
+-- a part that went well, and asked for too much
+pub advances_many : {T U : Type 0} (p q o : ℕ) (from mid to : Place) (met : Met) (k0 k1 k2 : Keeping) (t0 t1 : Talk) (x : T)
+    → (one : Advances p q o from mid met k0 k1 t0 t1 (Ok x)) → AreTooMany one.tries → Advances {T = U} p q o from to met k0 k2 t0 t1 (Err stops.TooManyChunks)
+advances_many p q o from mid to met k0 k1 k2 t0 t1 x one many =
+    advances_stopped p q o from mid to met k0 k1 k2 t0 t1 x (Err stops.TooManyChunks) one many
 
 -- a refusal that was handed on
 pub advances_passed : {T U : Type 0} (p q o : ℕ) (from mid to : Place) (met : Met) (k0 k1 : Keeping) (t0 t1 : Talk) (e : Stop) (result : Result U Stop)
     → IsErrAnd result (λ (stop : Stop). stop ≡ e) → Advances {T = T} p q o from mid met k0 k1 t0 t1 (Err e) → Advances p q o from to met k0 k1 t0 t1 result
 advances_passed p q o from mid to met k0 k1 t0 t1 e (Ok x) is one = absurd is
 advances_passed p q o from mid to met k0 k1 t0 t1 e (Err stop) is one = record {
-  asks = one.asks;
+  tries = one.tries;
   asked = one.asked;
   few = one.few;
+  granted = one.granted;
+  rows = one.rows;
   plain = one.plain;
-  checked = λ bad. subst (λ (x : Stop). IsCheckedLast one.asks x t1.wire) (sym is) (one.checked (sym (ap shows_bad_check is) ∙ bad));
+  ends = subst (StopsFor one.tries t1.wire) (sym is) one.ends;
   leads = λ c s account earlier met_is at. ((one.leads c s account earlier met_is at).0, tt);
 }
 
@@ -292,13 +257,19 @@ module _ {G : Type 0} (was now : Talk) (ask : Ask) (it : Request) (part : Give �
     (made : it ≡ request_at (asker was.envelopes.ids) was.envelopes.base (was.envelopes.step + 1) ask)
     (envelopes : now.envelopes ≡ record was.envelopes { step = was.envelopes.step + 1 })
     (call : Answered was.health now.health was.wire now.wire it part given) where
-  -- it was asked
-  pub asked_one : AreAsked (ask ∷ []) was now
+  -- it was tried
+  abbrev pub tried_one : TriedAsk
+  tried_one = record { ask = ask; answer = call.answer }
+
+  pub asked_one : AreAsked (tried_one ∷ []) was now
   asked_one = record {
-    tried = subst (λ (r : Request). AreTried (r ∷ []) was.health now.health was.wire now.wire) made
-        (call.answer, now.health, now.wire, call.tried, (refl, refl));
+    tried = subst (λ (r : Request). AreTried (r ∷ []) (call.answer ∷ []) was.health now.health was.wire now.wire) made
+        (now.health, now.wire, call.tried, (refl, refl));
     envelopes = envelopes;
   }
+
+  abbrev pub last_one : IsLast tried_one (tried_one ∷ [])
+  last_one = ([], refl)
 
   module _ (later : is_meta ask ≡ false) (reads : is_download ask ≡ false) (plain : asks_commit ask ≡ false) where
     -- the sync is still under way, and what its reply gives is what the session answers
@@ -333,43 +304,62 @@ module _ {G : Type 0} (was now : Talk) (ask : Ask) (it : Request) (part : Give �
         front = λ may. let rest = next c s account asked met_is at may in (rest.0, append_assoc asked (ask ∷ []) rest.0 ∙ rest.1);
       }
 
-      -- the part was refused once it had asked this
-      pub refused_after : {T : Type 0} (to : Place) (after : Keeping) (result : Result T Stop) → IsRefused result
-          → Advances p q o from to met before after was now result
-      refused_after to after result is = record {
-        asks = ask ∷ [];
-        asked = asked_one;
-        few = few;
-        plain = (plain, tt);
-        checked = not_checked result (ask ∷ []) now is;
-        leads = λ c s account earlier met_is at.
-            (left_one c s account earlier met_is at, not_ok result (IsAt c s account (earlier ++ ask ∷ []) to after now) is);
-      }
+      module _ (form : (give : Give) → is_in_form ask give ≡ is_some (part give)) (sends : is_told before ≡ true → SendsRows ask) where
+        abbrev Why : Stop → Type 0
+        Why stop = (is_quiet stop ≡ true) ⊎ ((why : Unanswered) × (given ≡ Err why) × (stop ≡ wire_stop why))
 
-      -- it was given this, the device took it, and that leads to a place
-      pub took_after : {T : Type 0} (to : Place) (after : Keeping) (x : T) (g : G) → given ≡ Ok g
-          → ((c s : Collection) (asked : List Ask) → IsMet c s met → part (answer_to s asked ask) ≡ Some g
-          → after ≡ changed (received s.head.usn (replied (answer_to s asked ask))) before)
-          → ((c s : Collection) (account : AccountState) (asked : List Ask) → IsMet c s met → IsAt c s account asked from before was
-          → part (answer_to s asked ask) ≡ Some g → MaySync c s → to c s (asked ++ ask ∷ []))
-          → Advances p q o from to met before after was now (Ok x)
-      took_after to after x g came took leads = record {
-        asks = ask ∷ [];
-        asked = asked_one;
-        few = few;
-        plain = (plain, tt);
-        checked = tt;
-        leads = λ c s account earlier met_is at.
-            let told : part (answer_to s earlier ask) ≡ Some g =
-            subst (λ (r : Result G Unanswered). IfOk r (λ (it : G). part (answer_to s earlier ask) ≡ Some it)) came
-            (shown_one c s account earlier from at.has).1 in (
-              left_one c s account earlier met_is at,
-              record {
-                has = has_one c s account earlier from to at.has (leads c s account earlier met_is at told);
-                device = took c s earlier met_is told
-                    ∙ ap (changed (received s.head.usn (replied (answer_to s earlier ask)))) at.device
-                    ∙ received_then s.head.usn (all_replied s earlier) (replied (answer_to s earlier ask)) (marked_at c)
-                    ∙ ap (λ (came : Received). changed (received s.head.usn came) (marked_at c)) (sym (replies_go_on s earlier ask));
-              },
-            );
-      }
+        -- the part was refused once it had asked this
+        pub refused_after : {T : Type 0} (to : Place) (after : Keeping) (result : Result T Stop) → IsRefusedAfter given result
+            → Advances p q o from to met before after was now result
+        refused_after {T} to after result is = record {
+          tries = tried_one ∷ [];
+          asked = asked_one;
+          few = few;
+          granted = one_but_last tried_one result Why is;
+          rows = λ told. ((sends told, tt), not_ok result Why (is_told after ≡ true) is);
+          plain = (plain, tt);
+          ends = refused_after_stops (tried_one ∷ []) now.wire tried_one given result last_one
+              (λ why came. was_not_granted part ask form call.answer why (sym call.came ∙ came)) is;
+          leads = λ c s account earlier met_is at.
+              (left_one c s account earlier met_is at, not_ok result Why (IsAt c s account (earlier ++ ask ∷ []) to after now) is);
+        }
+
+        -- it was given this, the device took it, and that leads to a place
+        pub took_after : {T : Type 0} (to : Place) (after : Keeping) (x : T) (g : G) → given ≡ Ok g → (is_told before ≡ true → is_told after ≡ true)
+            → ((c s : Collection) (asked : List Ask) → IsMet c s met → part (answer_to s asked ask) ≡ Some g
+            → after ≡ changed (received s.head.usn (replied (answer_to s asked ask))) before)
+            → ((c s : Collection) (account : AccountState) (asked : List Ask) → IsMet c s met → IsAt c s account asked from before was
+            → part (answer_to s asked ask) ≡ Some g → MaySync c s → to c s (asked ++ ask ∷ []))
+            → Advances p q o from to met before after was now (Ok x)
+        took_after to after x g came tells took leads = record {
+          tries = tried_one ∷ [];
+          asked = asked_one;
+          few = few;
+          granted = ((was_granted part ask form call.answer g (sym call.came ∙ came)).granted, tt);
+          rows = λ told. ((sends told, tt), tells told);
+          plain = (plain, tt);
+          ends = tt;
+          leads = λ c s account earlier met_is at.
+              let told : part (answer_to s earlier ask) ≡ Some g =
+              subst (λ (r : Result G Unanswered). IfOk r (λ (it : G). part (answer_to s earlier ask) ≡ Some it)) came
+              (shown_one c s account earlier from at.has).1 in (
+                left_one c s account earlier met_is at,
+                record {
+                  has = has_one c s account earlier from to at.has (leads c s account earlier met_is at told);
+                  device = took c s earlier met_is told
+                      ∙ ap (changed (received s.head.usn (replied (answer_to s earlier ask)))) at.device
+                      ∙ received_then s.head.usn (all_replied s earlier) (replied (answer_to s earlier ask)) (marked_at c)
+                      ∙ ap (λ (came : Received). changed (received s.head.usn came) (marked_at c)) (sym (replies_go_on s earlier ask));
+                },
+              );
+        }
+
+        -- with what was tried
+        pub one_tried : {T : Type 0} (to : Place) (after : Keeping) (x : T) (g : G) → given ≡ Ok g → (is_told before ≡ true → is_told after ≡ true)
+            → ((c s : Collection) (asked : List Ask) → IsMet c s met → part (answer_to s asked ask) ≡ Some g
+            → after ≡ changed (received s.head.usn (replied (answer_to s asked ask))) before)
+            → ((c s : Collection) (account : AccountState) (asked : List Ask) → IsMet c s met → IsAt c s account asked from before was
+            → part (answer_to s asked ask) ≡ Some g → MaySync c s → to c s (asked ++ ask ∷ []))
+            → (it : Advances p q o from to met before after was now (Ok x)) × (it.tries ≡ tried_one ∷ [])
+        unfolding took_after
+        one_tried to after x g came tells took leads = (took_after to after x g came tells took leads, refl)

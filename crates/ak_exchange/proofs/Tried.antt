@@ -1,34 +1,58 @@
 -- Requests that were asked one after the other: two lists of them make one.
-use Rattle.std.specs.Prelude.{◌≡◌, ℕ, suc, ◌+◌, ◌≤◌, ℤ, Bool, cond, List, [], ◌∷◌, ◌++◌, length, count_by}
-use Rattle.std.proofs.Common.{sym, ap, subst, ◌∙◌, arith}
-use Rattle.std.proofs.lemmas.List.{length-append}
+use Rattle.std.specs.Prelude.{◌≡◌, ℕ, suc, ◌+◌, ◌≤◌, ℤ, Bool, cond, List, [], ◌∷◌, ◌++◌, length, count_by, Result}
+use Rattle.std.proofs.Common.{refl, sym, ap, subst, ◌∙◌, arith}
+use Rattle.std.proofs.lemmas.List.{length-append, map-append}
 use Rattle.std.proofs.lemmas.List.Sums.{sum_by-append}
-use Rattle.ak_exchange.specs.Asked.{AreAsked, AreFew, AreTried, Talk, asker, asks_chunk, is_other, request_at, sends_unfinished}
+use Rattle.ak_exchange.specs.Asked.{AreAsked, AreFew, AreTried, Talk, TriedAsk, answers_in, asker, asks_chunk, asks_in, is_other, request_at, sends_unfinished}
 use Rattle.ak_exchange.specs.declared.envelopes.Envelopes.{Envelopes}
 use Rattle.ak_faults.proofs.Healths.{goes_further, goes_nowhere}
 use Rattle.ak_faults.specs.Causes.{GoesOn, Health}
+use Rattle.ak_messages.specs.declared.replies.Reply.{Reply}
 use Rattle.ak_messages.specs.declared.requests.Ask.{Ask}
 use Rattle.ak_messages.specs.declared.requests.Request.{Request}
 use Rattle.ak_session.specs.Plans.{Asker, requests_from}
 use Rattle.ak_wires.specs.Wires.{WireState}
+use Rattle.ak_wires.specs.declared.wires.WireEnd.{WireEnd}
+
+abbrev Answer : Type 0
+Answer = Result Reply WireEnd
+
+-- ---- lists
+pub asks_append : (a b : List TriedAsk) → asks_in (a ++ b) ≡ asks_in a ++ asks_in b
+asks_append a b = map-append (λ (it : TriedAsk). it.ask) a b
+
+pub answers_append : (a b : List TriedAsk) → answers_in (a ++ b) ≡ answers_in a ++ answers_in b
+answers_append a b = map-append (λ (it : TriedAsk). it.answer) a b
+
+pub asks_count : (a : List TriedAsk) → length (asks_in a) ≡ length a
+asks_count [] = refl
+asks_count (it ∷ more) = ap suc (asks_count more)
 
 -- ---- requests
-pub tried_then : (a b : List Request) (h0 h1 h2 : Health) (w0 w1 w2 : WireState) → AreTried a h0 h1 w0 w1 → AreTried b h1 h2 w1 w2
-    → AreTried (a ++ b) h0 h2 w0 w2
-tried_then [] b h0 h1 h2 w0 w1 w2 one two =
-    subst (λ (h : Health). AreTried b h h2 w0 w2) one.0 (subst (λ (w : WireState). AreTried b h1 h2 w w2) one.1 two)
-tried_then (request ∷ more) b h0 h1 h2 w0 w1 w2 one two =
-    (one.0, one.1, one.2, one.3, tried_then more b one.1 h1 h2 one.2 w1 w2 one.4 two)
+pub tried_then : (a b : List Request) (x y : List Answer) (h0 h1 h2 : Health) (w0 w1 w2 : WireState) → AreTried a x h0 h1 w0 w1 → AreTried b y h1 h2 w1 w2
+    → AreTried (a ++ b) (x ++ y) h0 h2 w0 w2
+tried_then [] b [] y h0 h1 h2 w0 w1 w2 one two =
+    subst (λ (h : Health). AreTried b y h h2 w0 w2) one.0 (subst (λ (w : WireState). AreTried b y h1 h2 w w2) one.1 two)
+tried_then [] b (answer ∷ x) y h0 h1 h2 w0 w1 w2 one two = absurd one
+tried_then (request ∷ more) b [] y h0 h1 h2 w0 w1 w2 one two = absurd one
+tried_then (request ∷ more) b (answer ∷ x) y h0 h1 h2 w0 w1 w2 one two =
+    (one.0, one.1, one.2, tried_then more b x y one.0 h1 h2 one.1 w1 w2 one.3 two)
 
 -- the count of faults of a wire never falls, and neither does that of its bad answers
-pub tried_goes : (list : List Request) (h0 h1 : Health) (w0 w1 : WireState) → AreTried list h0 h1 w0 w1 → GoesOn h0 h1
-tried_goes [] h0 h1 w0 w1 tried = subst (λ (h : Health). GoesOn h0 h) (sym tried.0) (goes_nowhere h0)
-tried_goes (request ∷ more) h0 h1 w0 w1 tried = goes_further tried.3.goes (tried_goes more tried.1 h1 tried.2 w1 tried.4)
+pub tried_goes : (list : List Request) (answers : List Answer) (h0 h1 : Health) (w0 w1 : WireState) → AreTried list answers h0 h1 w0 w1 → GoesOn h0 h1
+tried_goes [] [] h0 h1 w0 w1 tried = subst (λ (h : Health). GoesOn h0 h) (sym tried.0) (goes_nowhere h0)
+tried_goes [] (answer ∷ answers) h0 h1 w0 w1 tried = absurd tried
+tried_goes (request ∷ more) [] h0 h1 w0 w1 tried = absurd tried
+tried_goes (request ∷ more) (answer ∷ answers) h0 h1 w0 w1 tried = goes_further tried.2.goes (tried_goes more answers tried.0 h1 tried.1 w1 tried.3)
 
-pub tried_reads : (list : List Request) (h0 h1 : Health) (w0 w1 : WireState) → AreTried list h0 h1 w0 w1 → GoesOn w0.reading w1.reading
-tried_reads [] h0 h1 w0 w1 tried =
+pub tried_reads : (list : List Request) (answers : List Answer) (h0 h1 : Health) (w0 w1 : WireState) → AreTried list answers h0 h1 w0 w1
+    → GoesOn w0.reading w1.reading
+tried_reads [] [] h0 h1 w0 w1 tried =
     subst (λ (w : WireState). GoesOn w0.reading w.reading) (sym tried.1) (goes_nowhere w0.reading)
-tried_reads (request ∷ more) h0 h1 w0 w1 tried = goes_further tried.3.unread.goes (tried_reads more tried.1 h1 tried.2 w1 tried.4)
+tried_reads [] (answer ∷ answers) h0 h1 w0 w1 tried = absurd tried
+tried_reads (request ∷ more) [] h0 h1 w0 w1 tried = absurd tried
+tried_reads (request ∷ more) (answer ∷ answers) h0 h1 w0 w1 tried =
+    goes_further tried.2.unread.goes (tried_reads more answers tried.0 h1 tried.1 w1 tried.3)
 
 -- the requests of two lists of asks
 pub requests_append : (who : Asker) (base : ℤ) (step : ℕ) (a b : List Ask)
@@ -47,24 +71,29 @@ asked_none was now health wire envelopes = record {
       envelopes ∙ ap (λ (n : ℕ). record was.envelopes { step = n }) same;
 }
 
-pub asked_then : (a b : List Ask) (was mid now : Talk) → AreAsked a was mid → AreAsked b mid now → AreAsked (a ++ b) was now
+pub asked_then : (a b : List TriedAsk) (was mid now : Talk) → AreAsked a was mid → AreAsked b mid now → AreAsked (a ++ b) was now
 asked_then a b was mid now one two = record {
-  tried = subst (λ (l : List Request). AreTried l was.health now.health was.wire now.wire)
-      (sym (requests_append (asker was.envelopes.ids) was.envelopes.base (was.envelopes.step + 1) a b))
-      (tried_then (requests_from (asker was.envelopes.ids) was.envelopes.base (was.envelopes.step + 1) a)
-      (requests_from (asker was.envelopes.ids) was.envelopes.base (was.envelopes.step + 1 + length a) b)
-      was.health mid.health now.health was.wire mid.wire now.wire one.tried
-      (subst (λ (n : ℕ). AreTried (requests_from (asker was.envelopes.ids) was.envelopes.base n b) mid.health now.health mid.wire now.wire)
+  tried = subst (λ (l : List Request). AreTried l (answers_in (a ++ b)) was.health now.health was.wire now.wire)
+      (sym (ap (requests_from (asker was.envelopes.ids) was.envelopes.base (was.envelopes.step + 1)) (asks_append a b)
+      ∙ requests_append (asker was.envelopes.ids) was.envelopes.base (was.envelopes.step + 1) (asks_in a) (asks_in b)))
+      (subst (λ (x : List Answer). AreTried
+      (requests_from (asker was.envelopes.ids) was.envelopes.base (was.envelopes.step + 1) (asks_in a)
+      ++ requests_from (asker was.envelopes.ids) was.envelopes.base (was.envelopes.step + 1 + length (asks_in a)) (asks_in b))
+      x was.health now.health was.wire now.wire) (sym (answers_append a b))
+      (tried_then (requests_from (asker was.envelopes.ids) was.envelopes.base (was.envelopes.step + 1) (asks_in a))
+      (requests_from (asker was.envelopes.ids) was.envelopes.base (was.envelopes.step + 1 + length (asks_in a)) (asks_in b))
+      (answers_in a) (answers_in b) was.health mid.health now.health was.wire mid.wire now.wire one.tried
+      (subst (λ (n : ℕ). AreTried (requests_from (asker was.envelopes.ids) was.envelopes.base n (asks_in b)) (answers_in b) mid.health now.health mid.wire now.wire)
       (turned was.envelopes.step)
-      (subst (λ (e : Envelopes). AreTried (requests_from (asker e.ids) e.base (e.step + 1) b) mid.health now.health mid.wire now.wire) one.envelopes
-      two.tried)));
+      (subst (λ (e : Envelopes). AreTried (requests_from (asker e.ids) e.base (e.step + 1) (asks_in b)) (answers_in b) mid.health now.health mid.wire now.wire)
+      one.envelopes two.tried))));
   envelopes = two.envelopes
       ∙ ap (λ (e : Envelopes). record e { step = e.step + length b }) one.envelopes
       ∙ ap (λ (n : ℕ). record was.envelopes { step = n }) (sums was.envelopes.step);
 }
   where
-    turned : (n : ℕ) → n + length a + 1 ≡ n + 1 + length a
-    turned n = omega arith
+    turned : (n : ℕ) → n + length a + 1 ≡ n + 1 + length (asks_in a)
+    turned n = let same = asks_count a in omega (arith, same)
 
     sums : (n : ℕ) → n + length a + length b ≡ n + length (a ++ b)
     sums n = let both = length-append a b in omega (arith, both)
@@ -73,12 +102,17 @@ asked_then a b was mid now one two = record {
 counts_then : (p : Ask → Bool) (a b : List Ask) (m n : ℕ) → count_by p a ≤ m → count_by p b ≤ n → count_by p (a ++ b) ≤ m + n
 counts_then p a b m n one two = let both = sum_by-append (λ (x : Ask). cond (p x) 1 0) a b in omega (arith, both, one, two)
 
-pub few_then : (a b : List Ask) (p q o p2 q2 o2 : ℕ) → AreFew p q o a → AreFew p2 q2 o2 b → AreFew (p + p2) (q + q2) (o + o2) (a ++ b)
-few_then a b p q o p2 q2 o2 one two = record {
+few_both : (a b : List Ask) (p q o p2 q2 o2 : ℕ) → AreFew p q o a → AreFew p2 q2 o2 b → AreFew (p + p2) (q + q2) (o + o2) (a ++ b)
+few_both a b p q o p2 q2 o2 one two = record {
   asked = counts_then asks_chunk a b p p2 one.asked two.asked;
   sent = counts_then sends_unfinished a b q q2 one.sent two.sent;
   rest = counts_then is_other a b o o2 one.rest two.rest;
 }
+
+pub few_then : (a b : List TriedAsk) (p q o p2 q2 o2 : ℕ) → AreFew p q o (asks_in a) → AreFew p2 q2 o2 (asks_in b)
+    → AreFew (p + p2) (q + q2) (o + o2) (asks_in (a ++ b))
+few_then a b p q o p2 q2 o2 one two =
+    subst (AreFew (p + p2) (q + q2) (o + o2)) (sym (asks_append a b)) (few_both (asks_in a) (asks_in b) p q o p2 q2 o2 one two)
 
 -- at most so many are at most more
 pub few_more : (a : List Ask) (p q o p2 q2 o2 : ℕ) → p ≤ p2 → q ≤ q2 → o ≤ o2 → AreFew p q o a → AreFew p2 q2 o2 a

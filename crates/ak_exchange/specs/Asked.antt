@@ -1,5 +1,5 @@
 -- What a sync asked of its wire, whatever wire it is: in which order, how often each request was tried, and how many there were.
-use Rattle.std.specs.Prelude.{◌≡◌, ℕ, ℤ, ◌+◌, ◌≤◌, Bool, false, not, ◌&&◌, List, [], ◌∷◌, length, count_by, Result}
+use Rattle.std.specs.Prelude.{◌≡◌, ℕ, ℤ, ◌+◌, ◌≤◌, Bool, false, not, ◌&&◌, List, [], ◌∷◌, map, length, count_by, Result}
 use Rattle.ak_exchange.specs.declared.envelopes.Envelopes.{Envelopes}
 use Rattle.ak_exchange.specs.declared.envelopes.Ids.{Ids}
 use Rattle.ak_faults.specs.Causes.{Health}
@@ -23,12 +23,27 @@ asker ids = record { host = ids.host; session = ids.session }
 abbrev pub request_at : Asker → ℤ → ℕ → Ask → Request
 request_at who base step ask = record { host = who.host; session = who.session; step = step; base = base; ask = ask }
 
--- these requests were asked of a wire, one after the other; each was tried at most 3 times
-abbrev pub AreTried : List Request → Health → Health → WireState → WireState → Type 0
-AreTried [] before now old new = (now ≡ before) × (new ≡ old)
-AreTried (request ∷ more) before now old new =
-    (answer : Result Reply WireEnd) × (between : Health) × (mid : WireState)
-    × Tried before between old mid request answer × AreTried more between now mid new
+-- an ask whose request was tried, and what the last try answered
+pub record TriedAsk : Type 0 where
+  pub ask : Ask
+  pub answer : Result Reply WireEnd
+
+-- what was asked
+abbrev pub asks_in : List TriedAsk → List Ask
+asks_in tries = map (λ (it : TriedAsk). it.ask) tries
+
+-- what each was answered
+abbrev pub answers_in : List TriedAsk → List (Result Reply WireEnd)
+answers_in tries = map (λ (it : TriedAsk). it.answer) tries
+
+-- these requests were asked of a wire, one after the other, and so answered; each was tried at most 3 times
+abbrev pub AreTried : List Request → List (Result Reply WireEnd) → Health → Health → WireState → WireState → Type 0
+AreTried [] [] before now old new = (now ≡ before) × (new ≡ old)
+AreTried [] (answer ∷ answers) before now old new = ⊥
+AreTried (request ∷ more) [] before now old new = ⊥
+AreTried (request ∷ more) (answer ∷ answers) before now old new =
+    (between : Health) × (mid : WireState)
+    × Tried before between old mid request answer × AreTried more answers between now mid new
 
 -- a sync and its wire: how many of its calls failed, what is known of it, and the envelopes of the next request
 pub record Talk : Type 0 where
@@ -36,11 +51,11 @@ pub record Talk : Type 0 where
   pub wire : WireState
   pub envelopes : Envelopes
 
--- these were asked from one talk to another: the steps go on from the last one, over the same base
-pub record AreAsked (asks : List Ask) (was now : Talk) : Type 0 where
-  pub tried : AreTried (requests_from (asker was.envelopes.ids) was.envelopes.base (was.envelopes.step + 1) asks)
-      was.health now.health was.wire now.wire
-  pub envelopes : now.envelopes ≡ record was.envelopes { step = was.envelopes.step + length asks }
+-- these were tried from one talk to another: the steps go on from the last one, over the same base
+pub record AreAsked (tries : List TriedAsk) (was now : Talk) : Type 0 where
+  pub tried : AreTried (requests_from (asker was.envelopes.ids) was.envelopes.base (was.envelopes.step + 1) (asks_in tries))
+      (answers_in tries) was.health now.health was.wire now.wire
+  pub envelopes : now.envelopes ≡ record was.envelopes { step = was.envelopes.step + length tries }
 
 -- ---- how many there are
 -- a request for a chunk

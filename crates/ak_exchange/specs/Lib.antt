@@ -1,4 +1,5 @@
 pub mod Asked
+pub mod Grants
 pub mod Loops
 pub mod Phases
 pub mod Stops

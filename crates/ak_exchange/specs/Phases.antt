@@ -1,9 +1,10 @@
 -- How far a sync came: what it asked, what the log of its wire shows of it, and what the device took.
 use Rattle.std.specs.Int.{div_ceil}
 use Rattle.std.specs.List.{AllByRecursion}
-use Rattle.std.specs.Prelude.{◌≡◌, ℕ, ℤ, ◌+◌, ◌≤◌, false, true, List, [], ◌∷◌, ◌++◌, length, Option, Some, None, Result, Err, OnOk, IfOk, IfErr}
-use Rattle.ak_exchange.specs.Asked.{AreAsked, AreFew, Talk, asker, request_at}
-use Rattle.ak_exchange.specs.Stops.{comes_before_finish, shows_bad_check, verdict_of}
+use Rattle.std.specs.Prelude.{◌≡◌, ℕ, ℤ, ◌+◌, ◌≤◌, false, true, List, [], ◌∷◌, ◌++◌, length, Option, Some, None, Result, OnOk, IfOk, IfErr}
+use Rattle.ak_exchange.specs.Asked.{AreAsked, AreFew, Talk, TriedAsk, asker, asks_in, request_at}
+use Rattle.ak_exchange.specs.Grants.{AreGranted, EachSendsRows, SendsRows, StopsFor, is_told}
+use Rattle.ak_exchange.specs.Stops.{comes_before_finish}
 use Rattle.ak_exchange.specs.declared.envelopes.Met.{Met}
 use Rattle.ak_exchange.specs.declared.stops.Stop.{Stop}
 use Rattle.ak_device.specs.Devices.{Settles, received}
@@ -12,10 +13,8 @@ use Rattle.ak_keep.specs.Keepers.{Keeping, WhereTold, all_known, changed}
 use Rattle.ak_keep.specs.declared.keepers.Wanted.TheVariants.{Unsent}
 use Rattle.ak_merge.specs.Commits.{Received}
 use Rattle.ak_messages.specs.declared.requests.Ask.{Ask}
-use Rattle.ak_messages.specs.declared.requests.Ask.TheVariants.{Finish, SanityCheck2}
-use Rattle.ak_messages.specs.declared.replies.SanityReply.{SanityReply}
+use Rattle.ak_messages.specs.declared.requests.Ask.TheVariants.{Finish}
 use Rattle.ak_messages.specs.declared.requests.Request.{Request}
-use Rattle.ak_messages.specs.declared.requests.SanityCounts.{SanityCounts}
 use Rattle.ak_protocol.specs.Accounts.{AccountState}
 use Rattle.ak_protocol.specs.Logs.{Log, commits_of}
 use Rattle.ak_protocol.specs.Syncs.{IsUnderWay, world_of}
@@ -25,8 +24,6 @@ use Rattle.ak_session.specs.Replies.{all_replied}
 use Rattle.ak_session.specs.Requests.{asks_commit}
 use Rattle.ak_session.specs.Sessions.{MaySync}
 use Rattle.ak_session.specs.Slices.{wanted_graves}
-use Rattle.ak_wires.specs.Wires.{WireState}
-use Rattle.ak_wires.specs.declared.wires.Said.{Said}
 
 -- ---- the device
 -- what a keeper holds if it holds this collection
@@ -89,34 +86,21 @@ pub record IsLeft (c s : Collection) (account : AccountState) (who : Asker) (ask
   pub front : MaySync c s → (rest : List Ask) × (asked ++ rest ≡ planned c s)
 
 -- ---- parts
--- the last that was asked is a sanity check, and this is what its reply showed
-pub record IsCheckedLast (asks : List Ask) (stop : Stop) (wire : WireState) : Type 0 where
-  pub before : List Ask
-  pub counts : SanityCounts
-  pub last : asks ≡ before ++ SanityCheck2 counts ∷ []
-  pub said : Said
-  pub is : wire.said ≡ Some said
-  pub reply : SanityReply
-  pub found : said.sanity ≡ Some reply
-  pub verdict : verdict_of reply ≡ Err stop
-
--- a part that stops at a bad sanity check asked one, and its reply showed it
-abbrev pub IsChecked : {T : Type 0} → List Ask → Talk → Result T Stop → Type 0
-IsChecked asks now result = IfErr result (λ stop. shows_bad_check stop ≡ true → IsCheckedLast asks stop now.wire)
-
 -- a part of a sync: what it asked, and that nothing of it commits; and where keeper and wire tell what they hold, that it leads from one
 -- place of the plan to another. If it is refused, the sync is left where it is
 pub record Advances {T : Type 0} (pulled pushed others : ℕ) (from to : Place) (met : Met)
     (before after : Keeping) (was now : Talk) (result : Result T Stop) : Type 0 where
-  pub asks : List Ask
-  pub asked : AreAsked asks was now
-  pub few : AreFew pulled pushed others asks
-  pub plain : AllByRecursion (λ (ask : Ask). asks_commit ask ≡ false) asks
-  pub checked : IsChecked asks now result
+  pub tries : List TriedAsk
+  pub asked : AreAsked tries was now
+  pub few : AreFew pulled pushed others (asks_in tries)
+  pub granted : AreGranted tries result
+  pub rows : EachSendsRows before after tries result
+  pub plain : AllByRecursion (λ (ask : Ask). asks_commit ask ≡ false) (asks_in tries)
+  pub ends : IfErr result (StopsFor tries now.wire)
   pub leads : (c s : Collection) (account : AccountState) (earlier : List Ask) → IsMet c s met
       → IsAt c s account earlier from before was
-      → IsLeft c s account (asker was.envelopes.ids) (earlier ++ asks) now
-      × OnOk result (IsAt c s account (earlier ++ asks) to after now)
+      → IsLeft c s account (asker was.envelopes.ids) (earlier ++ asks_in tries) now
+      × OnOk result (IsAt c s account (earlier ++ asks_in tries) to after now)
 
 -- a number that is at most the requests that the graves need which were not sent yet: 250 go in each
 abbrev pub AreGraveRequests : Keeping → ℕ → Type 0
@@ -126,18 +110,20 @@ AreGraveRequests keeping graves = WhereTold keeping (λ h. graves ≤ div_ceil (
 -- what a sync asks between its meta and its finish; and where keeper and wire tell what they hold, that it was left in its plan, or that all
 -- of the plan but the finish was asked, and the device took what the replies brought and settled what it had sent
 pub record Exchanges (met : Met) (before after : Keeping) (was now : Talk) (result : Result (Unit {0}) Stop) : Type 0 where
-  pub asks : List Ask
-  pub asked : AreAsked asks was now
+  pub tries : List TriedAsk
+  pub asked : AreAsked tries was now
   -- at most 40,000 chunks each way; the start, the changes, the last chunk that is sent and the sanity check are others
   pub graves : ℕ
   pub graves_most : AreGraveRequests before graves
-  pub few : AreFew 40_000 39_999 (4 + graves) asks
-  pub plain : AllByRecursion (λ (ask : Ask). asks_commit ask ≡ false) asks
-  pub checked : IsChecked asks now result
+  pub few : AreFew 40_000 39_999 (4 + graves) (asks_in tries)
+  pub granted : AreGranted tries result
+  pub rows : is_told before ≡ true → AllByRecursion SendsRows (asks_in tries)
+  pub plain : AllByRecursion (λ (ask : Ask). asks_commit ask ≡ false) (asks_in tries)
+  pub ends : IfErr result (StopsFor tries now.wire)
   pub leads : (c s : Collection) (account : AccountState) → IsMet c s met → IsAt c s account [] at_meta before was
-      → IsLeft c s account (asker was.envelopes.ids) asks now
-      × OnOk result (HasAsked c s account asks (at_end_of planned_check) now
-      × Settles s.head.usn (changed (received s.head.usn (all_replied s asks)) (marked_at c)) after)
+      → IsLeft c s account (asker was.envelopes.ids) (asks_in tries) now
+      × OnOk result (HasAsked c s account (asks_in tries) (at_end_of planned_check) now
+      × Settles s.head.usn (changed (received s.head.usn (all_replied s (asks_in tries))) (marked_at c)) after)
 
 -- ---- the finish
 -- the finish of a sync that asked these after its meta
@@ -159,12 +145,15 @@ pub record HasCommitted (c s : Collection) (account : AccountState) (who : Asker
 
 -- a finish: what it asked; and where the wire tells its log, that the sync was left, or that its session committed
 pub record Finishes (was now : Talk) (result : Result ℤ Stop) : Type 0 where
-  pub asks : List Ask
-  pub asked : AreAsked asks was now
-  pub few : AreFew 0 0 1 asks
+  pub tries : List TriedAsk
+  pub asked : AreAsked tries was now
+  pub few : AreFew 0 0 1 (asks_in tries)
+  pub granted : AreGranted tries result
+  pub rows : AllByRecursion SendsRows (asks_in tries)
+  pub ends : IfErr result (StopsFor tries now.wire)
   pub late : IfErr result (λ stop. comes_before_finish stop ≡ false)
   pub leads : (c s : Collection) (account : AccountState) (earlier : List Ask)
       → HasAsked c s account earlier (at_end_of planned_check) was
-      → IsLeft c s account (asker was.envelopes.ids) (earlier ++ asks) now
-      × IfOk result (λ moment. (asks ≡ Finish ∷ [])
+      → IsLeft c s account (asker was.envelopes.ids) (earlier ++ asks_in tries) now
+      × IfOk result (λ moment. (asks_in tries ≡ Finish ∷ [])
       × HasCommitted c s account (asker was.envelopes.ids) earlier moment now)

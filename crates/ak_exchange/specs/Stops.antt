@@ -60,7 +60,7 @@ shows_bad_check (stops.BadRow fault) = true
 shows_bad_check (stops.BadCounts client server) = true
 shows_bad_check stop = false
 
--- whether a sync stops at too many chunks
-abbrev pub is_too_many : Stop → Bool
-is_too_many stops.TooManyChunks = true
-is_too_many stop = false
+-- whether a sync stops because the keeper failed
+abbrev pub is_keep : Stop → Bool
+is_keep stops.Keep = true
+is_keep stop = false

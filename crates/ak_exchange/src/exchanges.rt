@@ -1,14 +1,16 @@
 // What a sync asks after its meta, and what the device does with the replies. The keeper is marked throughout.
 ghost use Rattle.std.specs.Int.{div_ceil};
-ghost use Rattle.std.specs.Prelude.{◌≡◌, ◌+◌, ◌<◌, ◌≤◌, ◌*◌, ℕ, pos, true, false, if◌then◌else◌, length, IfOk, IfErr, OnOk};
+ghost use Rattle.std.specs.Prelude.{◌≡◌, ◌+◌, ◌<◌, ◌*◌, ℕ, pos, true, false, length, IfOk, IfErr, OnOk};
 ghost use Rattle.ak_base.specs.Heads.{IsMoment, IsWithin};
 ghost use Rattle.ak_base.specs.Limits.{last_head_usn};
-ghost use Rattle.ak_exchange.specs.Loops.{HasPulledOne, HasPushedOne, HavePulled, HavePushed, HaveSentGraves, last_sent};
+ghost use Rattle.ak_device.specs.Devices.{IsNextToSend};
+ghost use Rattle.ak_exchange.specs.Loops.{HaveSentGraves, PullsOne, PushesOne, SendsOne};
 ghost use Rattle.ak_exchange.specs.Phases.{Advances, AreGraveRequests, Exchanges, Finishes, HasReceived, at_end_of, at_meta};
-ghost use Rattle.ak_exchange.specs.Stops.{is_too_many, verdict_of};
+ghost use Rattle.ak_exchange.specs.Stops.{is_keep, verdict_of};
 ghost use Rattle.ak_exchange.specs.declared.envelopes.Met.{Met};
-ghost use Rattle.ak_faults.specs.Causes.{GoesOn};
-ghost use Rattle.ak_keep.specs.Keepers.{IsMarkedAt, Keeping, back, is_marked};
+ghost use Rattle.ak_exchange.specs.declared.stops.Stop.TheVariants as stops;
+ghost use Rattle.ak_faults.specs.Causes.{HasCauseOf};
+ghost use Rattle.ak_keep.specs.Keepers.{IsMarkedAt, Keeping, WhereTold, back, is_marked};
 ghost use Rattle.ak_session.specs.Plans.{planned_start, planned_graves, planned_changes, planned_chunks, planned_pushes, planned_check};
 
 use crate::envelopes::{Envelopes, Met};
@@ -19,7 +21,7 @@ use ak_device::{
     unsent_changes,
 };
 use ak_keep::{Keeper, Wanted};
-use ak_messages::{Ask, SanityReply};
+use ak_messages::{Ask, Chunk, SanityReply};
 use ak_parts::{counts_of, wanted_graves};
 use ak_wires::{Wire, ask_changes, ask_chunk, ask_graves, ask_moment, ask_nothing, ask_sanity};
 use std::alloc::Global;
@@ -47,7 +49,7 @@ pub fn exchange<K: Keeper, W: Wire>(
         (record { health = W.health wire.new; wire = W.state wire.new; envelopes = envelopes.new }) result }
     ensures stays { IsMarkedAt (back (K.keeping keeper.old)) (K.keeping keeper.new) }
     ensures held { OnOk result ((K.keeping keeper.new).headed.current ≡ true) }
-    ensures keeper { GoesOn (K.health keeper.old) (K.health keeper.new) }
+    ensures keeper { HasCauseOf stops.Keep (K.health keeper.old) (K.health keeper.new) result }
 {
     exchange_first(alloc, keeper, wire, envelopes, met)?;
     exchange_chunks(alloc, keeper, wire, envelopes, met)?;
@@ -73,7 +75,7 @@ fn exchange_first<K: Keeper, W: Wire>(
         (record { health = W.health wire.new; wire = W.state wire.new; envelopes = envelopes.new }) result }
     ensures stays { IsMarkedAt (back (K.keeping keeper.old)) (K.keeping keeper.new) }
     ensures took { OnOk result (HasReceived met.now.meta.usn (K.keeping keeper.old) (K.keeping keeper.new)) }
-    ensures keeper { GoesOn (K.health keeper.old) (K.health keeper.new) }
+    ensures keeper { HasCauseOf stops.Keep (K.health keeper.old) (K.health keeper.new) result }
 {
     start(keeper, wire, envelopes, met)?;
     send_graves(alloc, keeper, wire, envelopes, met)?;
@@ -96,9 +98,7 @@ fn exchange_chunks<K: Keeper, W: Wire>(
         (record { health = W.health wire.new; wire = W.state wire.new; envelopes = envelopes.new }) result }
     ensures stays { IsMarkedAt (back (K.keeping keeper.old)) (K.keeping keeper.new) }
     ensures took { OnOk result (HasReceived met.now.meta.usn (K.keeping keeper.old) (K.keeping keeper.new)) }
-    ensures keeper { GoesOn (K.health keeper.old) (K.health keeper.new) }
-    ensures many { IfErr result (λ stop. is_too_many stop ≡ true
-        → envelopes.old.step + 39_999 ≤ envelopes.new.step) }
+    ensures keeper { HasCauseOf stops.Keep (K.health keeper.old) (K.health keeper.new) result }
 {
     pull(keeper, wire, envelopes, met)?;
     push(alloc, keeper, wire, envelopes, met)
@@ -119,7 +119,7 @@ pub fn start<K: Keeper, W: Wire>(
         (record { health = W.health wire.new; wire = W.state wire.new; envelopes = envelopes.new }) result }
     ensures stays { IsMarkedAt (back (K.keeping keeper.old)) (K.keeping keeper.new) }
     ensures took { OnOk result (HasReceived met.now.meta.usn (K.keeping keeper.old) (K.keeping keeper.new)) }
-    ensures keeper { GoesOn (K.health keeper.old) (K.health keeper.new) }
+    ensures keeper { HasCauseOf stops.Keep (K.health keeper.old) (K.health keeper.new) result }
 {
     let request = envelopes.request(Ask::Start {
         min_usn: met.head.usn,
@@ -146,7 +146,7 @@ pub fn send_graves<K: Keeper, W: Wire>(
         (record { health = W.health wire.old; wire = W.state wire.old; envelopes = envelopes.old })
         (record { health = W.health wire.new; wire = W.state wire.new; envelopes = envelopes.new }) result }
     ensures same { K.keeping keeper.new ≡ K.keeping keeper.old }
-    ensures keeper { GoesOn (K.health keeper.old) (K.health keeper.new) }
+    ensures keeper { HasCauseOf stops.Keep (K.health keeper.old) (K.health keeper.new) result }
 {
     let graves = wanted_graves(keeper, Wanted::Unsent)?;
     send_parts(alloc, wire, envelopes, graves.as_slice())
@@ -164,6 +164,7 @@ fn send_parts<W: Wire>(
         (HaveSentGraves 0 graves.now) (HaveSentGraves (div_ceil (length graves.now) 250) graves.now) met keeping keeping
         (record { health = W.health wire.old; wire = W.state wire.old; envelopes = envelopes.old })
         (record { health = W.health wire.new; wire = W.state wire.new; envelopes = envelopes.new }) result }
+    ensures unkept { IfErr result (λ stop. is_keep stop ≡ false) }
 {
     let parts = graves.len().div_ceil(250);
     for part in 0..parts {
@@ -185,6 +186,7 @@ fn send_part<W: Wire>(
         → Advances 0 0 1 (HaveSentGraves part graves.now) (HaveSentGraves (part + 1) graves.now) met keeping keeping
         (record { health = W.health wire.old; wire = W.state wire.old; envelopes = envelopes.old })
         (record { health = W.health wire.new; wire = W.state wire.new; envelopes = envelopes.new }) result }
+    ensures unkept { IfErr result (λ stop. is_keep stop ≡ false) }
 {
     let ids = graves_part(alloc, graves, part)?;
     let request = envelopes.request(Ask::ApplyGraves(ids))?;
@@ -209,7 +211,7 @@ pub fn exchange_changes<K: Keeper, W: Wire>(
         (record { health = W.health wire.new; wire = W.state wire.new; envelopes = envelopes.new }) result }
     ensures stays { IsMarkedAt (back (K.keeping keeper.old)) (K.keeping keeper.new) }
     ensures took { OnOk result (HasReceived met.now.meta.usn (K.keeping keeper.old) (K.keeping keeper.new)) }
-    ensures keeper { GoesOn (K.health keeper.old) (K.health keeper.new) }
+    ensures keeper { HasCauseOf stops.Keep (K.health keeper.old) (K.health keeper.new) result }
 {
     let changes = unsent_changes(alloc, keeper, met.meta.moment)?;
     let request = envelopes.request(Ask::ApplyChanges(changes))?;
@@ -233,9 +235,7 @@ pub fn pull<K: Keeper, W: Wire>(
         (record { health = W.health wire.new; wire = W.state wire.new; envelopes = envelopes.new }) result }
     ensures stays { IsMarkedAt (back (K.keeping keeper.old)) (K.keeping keeper.new) }
     ensures took { OnOk result (HasReceived met.now.meta.usn (K.keeping keeper.old) (K.keeping keeper.new)) }
-    ensures keeper { GoesOn (K.health keeper.old) (K.health keeper.new) }
-    ensures many { IfErr result (λ stop. is_too_many stop ≡ true
-        → envelopes.old.step + 40_000 ≤ envelopes.new.step) }
+    ensures keeper { HasCauseOf stops.Keep (K.health keeper.old) (K.health keeper.new) result }
 {
     for _turn in 0..MOST_PULLED {
         if pull_chunk(keeper, wire, envelopes, met)? {
@@ -254,16 +254,12 @@ fn pull_chunk<K: Keeper, W: Wire>(
 ) -> Result<bool, Stop>
     requires marked { is_marked (K.keeping keeper.old) ≡ true }
     requires number { IsWithin (pos 0) last_head_usn met.now.meta.usn }
-    ensures leads { (count : ℕ) → Advances 1 0 0 (HavePulled count)
-        (λ c s asked. IfOk result (λ done. HasPulledOne count done c s asked)) met.now
-        (K.keeping keeper.old) (K.keeping keeper.new)
+    ensures leads { (count : ℕ) → PullsOne count met.now (K.keeping keeper.old) (K.keeping keeper.new)
         (record { health = W.health wire.old; wire = W.state wire.old; envelopes = envelopes.old })
         (record { health = W.health wire.new; wire = W.state wire.new; envelopes = envelopes.new }) result }
     ensures stays { IsMarkedAt (back (K.keeping keeper.old)) (K.keeping keeper.new) }
     ensures took { OnOk result (HasReceived met.now.meta.usn (K.keeping keeper.old) (K.keeping keeper.new)) }
-    ensures keeper { GoesOn (K.health keeper.old) (K.health keeper.new) }
-    ensures one { OnOk result (envelopes.new.step ≡ envelopes.old.step + 1) }
-    ensures few { IfErr result (λ stop. is_too_many stop ≡ false) }
+    ensures keeper { HasCauseOf stops.Keep (K.health keeper.old) (K.health keeper.new) result }
 {
     let request = envelopes.request(Ask::Chunk)?;
     let chunk = ask_chunk(wire, &request)?;
@@ -285,54 +281,55 @@ pub fn push<K: Keeper, W: Wire>(
         (record { health = W.health wire.old; wire = W.state wire.old; envelopes = envelopes.old })
         (record { health = W.health wire.new; wire = W.state wire.new; envelopes = envelopes.new }) result }
     ensures same { K.keeping keeper.new ≡ K.keeping keeper.old }
-    ensures keeper { GoesOn (K.health keeper.old) (K.health keeper.new) }
-    ensures many { IfErr result (λ stop. is_too_many stop ≡ true
-        → envelopes.old.step + 39_999 ≤ envelopes.new.step) }
+    ensures keeper { HasCauseOf stops.Keep (K.health keeper.old) (K.health keeper.new) result }
 {
     let mut from = FIRST_PLACE;
     for _turn in 0..MOST_UNFINISHED {
-        match push_chunk(alloc, keeper, wire, envelopes, from, true)? {
+        match push_chunk(alloc, keeper, wire, envelopes, from)? {
             Some(next) => from = next,
             None => return Ok(()),
         }
     }
-    match push_chunk(alloc, keeper, wire, envelopes, from, false)? {
-        Some(_) => Err(Stop::TooManyChunks),
-        None => Ok(()),
+    let Gathered { chunk, next: _ } = next_chunk(alloc, keeper, from)?;
+    if !chunk.done {
+        drop(chunk);
+        return Err(Stop::TooManyChunks);
     }
+    send_chunk(wire, envelopes, chunk)
 }
 
-/// Sends the chunk that begins at this place, and answers where the next one begins, if there is one. If none may follow, it
-/// is sent only if it is the last one.
+/// Sends the chunk that begins at this place, and answers where the next one begins, if there is one.
 fn push_chunk<K: Keeper, W: Wire>(
     alloc: Global,
     keeper: &mut K,
     wire: &mut W,
     envelopes: &mut Envelopes,
     from: Name,
-    may_follow: bool,
 ) -> Result<Option<Name>, Stop>
-    ensures leads { (count : ℕ) (met : Met)
-        → Advances 0 (if may_follow then 1 else 0) (last_sent result) (HavePushed count from)
-        (λ c s asked. IfOk result (λ next. HasPushedOne count next c s asked)) met
-        (K.keeping keeper.old) (K.keeping keeper.new)
+    ensures leads { (count : ℕ) (met : Met) → PushesOne count from met (K.keeping keeper.old) (K.keeping keeper.new)
         (record { health = W.health wire.old; wire = W.state wire.old; envelopes = envelopes.old })
         (record { health = W.health wire.new; wire = W.state wire.new; envelopes = envelopes.new }) result }
     ensures same { K.keeping keeper.new ≡ K.keeping keeper.old }
-    ensures keeper { GoesOn (K.health keeper.old) (K.health keeper.new) }
-    ensures one { OnOk result (envelopes.new.step ≡ envelopes.old.step + 1) }
-    ensures many { IfErr result (λ stop. is_too_many stop ≡ true
-        → (may_follow ≡ false) × (envelopes.new ≡ envelopes.old)) }
+    ensures keeper { HasCauseOf stops.Keep (K.health keeper.old) (K.health keeper.new) result }
 {
     let Gathered { chunk, next } = next_chunk(alloc, keeper, from)?;
     let done = chunk.done;
-    if !done && !may_follow {
-        drop(chunk);
-        return Err(Stop::TooManyChunks);
-    }
+    send_chunk(wire, envelopes, chunk)?;
+    if done { Ok(None) } else { Ok(Some(next)) }
+}
+
+/// Sends this chunk.
+fn send_chunk<W: Wire>(wire: &mut W, envelopes: &mut Envelopes, chunk: Chunk) -> Result<(), Stop>
+    ensures leads { (count : ℕ) (from next : Name) (met : Met) (keeping : Keeping)
+        → WhereTold keeping (λ h. IsNextToSend h.rows from chunk next)
+        → SendsOne chunk count from next met keeping
+        (record { health = W.health wire.old; wire = W.state wire.old; envelopes = envelopes.old })
+        (record { health = W.health wire.new; wire = W.state wire.new; envelopes = envelopes.new }) result }
+    ensures unkept { IfErr result (λ stop. is_keep stop ≡ false) }
+{
     let request = envelopes.request(Ask::ApplyChunk(chunk))?;
     ask_nothing(wire, &request)?;
-    if done { Ok(None) } else { Ok(Some(next)) }
+    Ok(())
 }
 
 /// Asks whether both sides hold the same, and whether that is sound.
@@ -348,7 +345,7 @@ pub fn compare<K: Keeper, W: Wire>(
         (record { health = W.health wire.old; wire = W.state wire.old; envelopes = envelopes.old })
         (record { health = W.health wire.new; wire = W.state wire.new; envelopes = envelopes.new }) result }
     ensures same { K.keeping keeper.new ≡ K.keeping keeper.old }
-    ensures keeper { GoesOn (K.health keeper.old) (K.health keeper.new) }
+    ensures keeper { HasCauseOf stops.Keep (K.health keeper.old) (K.health keeper.new) result }
 {
     let counts = counts_of(keeper)?;
     let request = envelopes.request(Ask::SanityCheck2(counts))?;

@@ -7,9 +7,11 @@ use Rattle.ak_client.proofs.Testing.{below_last, ends_by_heads, ends_by_rows, ex
 use Rattle.ak_client.specs.Greetings.{GreetsTold, IsGreeting, clock_stop, head_stop}
 use Rattle.ak_client.specs.Outcomes.{outcome_at}
 use Rattle.ak_client.specs.Syncs.{TakesMoments}
+use Rattle.ak_exchange.proofs.Faults.{cause_keeper, cause_ok, cause_passed, cause_unkept, cause_wire}
 use Rattle.ak_exchange.specs.Stops.{keep_stop, shows_bad_check, wire_stop}
 use Rattle.ak_exchange.specs.declared.envelopes.Met.{Met}
 use Rattle.ak_exchange.specs.declared.stops.Stop.{Stop}
+use Rattle.ak_faults.proofs.Healths.{cause_after, goes_further, goes_nowhere}
 use Rattle.ak_keep.specs.Keepers.{Keeping, WhereTold}
 use Rattle.ak_merge.specs.Edits.{second_of}
 use Rattle.ak_merge.specs.Soundness.{first_fault}
@@ -166,3 +168,24 @@ pub returns-clause-heard : goal.returns-clause-heard
 returns-clause-heard g c =
     greeting_goes_on c.args.ids (g.W.End.health c.args.wire.now) (g.W.End.health c.ask_meta.new.wire) (g.W.Wire.state c.args.wire.now) (g.W.Wire.state c.ask_meta.new.wire) (g.C.Clock.to_come c.args.clock.now) (g.C.Clock.to_come c.now-at.new.self) (g.K.Lookup.keeping c.args.keeper.now) (record { meta = c.in_ok-meta.meta; head = c.in_ok-head.head })
     (subst (λ (request : Request). Answered (g.W.End.health c.args.wire.now) (g.W.End.health c.ask_meta.new.wire) (g.W.Wire.state c.args.wire.now) (g.W.Wire.state c.ask_meta.new.wire) request meta_in (Ok c.in_ok-meta.meta)) c.meta_request-request.ensures c.in_ok-meta.ensures)
+
+pub returns-in_err-meta-clause-keeper : goal.returns-in_err-meta-clause-keeper
+returns-in_err-meta-clause-keeper g c = cause_wire _ _ (goes_nowhere _) c.from_residual.ensures.1
+
+pub returns-in_err-test_clocks-clause-keeper : goal.returns-in_err-test_clocks-clause-keeper
+returns-in_err-test_clocks-clause-keeper g c =
+    cause_passed {U = Unit {0}} _ _ (cause_unkept _ (goes_nowhere _) c.in_err-test_clocks.ensures.unkept) c.from_residual-in_err-test_clocks.ensures.1
+
+pub returns-in_err-head-clause-keeper : goal.returns-in_err-head-clause-keeper
+returns-in_err-head-clause-keeper g c = cause_keeper _ _ c.in_err-head.ensures.reads.cause c.from_residual-in_err-head.ensures.1
+
+pub returns-in_err-test_heads-clause-keeper : goal.returns-in_err-test_heads-clause-keeper
+returns-in_err-test_heads-clause-keeper g c =
+    cause_passed {U = Unit {0}} _ _ (cause_unkept _ c.in_ok-head.ensures.reads.cause.goes c.in_err-test_heads.ensures.unkept) c.from_residual-in_err-test_heads.ensures.1
+
+pub returns-in_err-test_rows-clause-keeper : goal.returns-in_err-test_rows-clause-keeper
+returns-in_err-test_rows-clause-keeper g c =
+    cause_after c.in_ok-head.ensures.reads.cause.goes (cause_passed _ _ c.in_err-test_rows.ensures.keeper c.from_residual-in_err-test_rows.ensures.1)
+
+pub returns-clause-keeper : goal.returns-clause-keeper
+returns-clause-keeper g c = cause_ok _ (goes_further c.in_ok-head.ensures.reads.cause.goes c.in_ok-test_rows.ensures.keeper.goes)

@@ -2,8 +2,10 @@ use Rattle.std.specs.Prelude.{ℤ, Result}
 use Rattle.std.proofs.Common.{rules, w64, SFits}
 use Rattle.std.proofs.lemmas.Int.{to_z-of_z}
 use Rattle.ak_client.proofs.Ending.{asked_all, stopped}
+use Rattle.ak_client.proofs.Keeping.{finish_unkept}
 use Rattle.ak_client.proofs.Testing.{exits}
 use Rattle.ak_client.specs.Endings.{ExchangesAll}
+use Rattle.ak_exchange.proofs.Faults.{cause_passed, cause_unkept}
 use Rattle.ak_exchange.specs.declared.stops.Stop.{Stop}
 use Rattle.ak_client.proofs.syncs.exchange_all.Goals as goal
 
@@ -28,3 +30,9 @@ returns-clause-exchanges g c =
     (g.W.Wire.state c.args.wire.now) (g.W.Wire.state c.exchange.new.wire) (g.W.Wire.state c.finish.new.wire)
     c.exchange.new.envelopes c.finish.new.envelopes c.finish.result c.in_ok-exchange.field-0
     (rw (to_z-of_z w64 c.args.met.now.meta.moment fits) at c.in_ok-exchange.ensures.exchanges) c.finish.ensures.leads
+
+pub returns-in_err-exchange-clause-keeper : goal.returns-in_err-exchange-clause-keeper
+returns-in_err-exchange-clause-keeper g c = cause_passed _ _ c.in_err-exchange.ensures.keeper c.from_residual.ensures.1
+
+pub returns-clause-keeper : goal.returns-clause-keeper
+returns-clause-keeper g c = cause_unkept _ c.in_ok-exchange.ensures.keeper.goes (finish_unkept c.finish.result c.finish.ensures.leads.late)

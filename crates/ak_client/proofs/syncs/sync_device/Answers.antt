@@ -5,7 +5,9 @@ use Rattle.ak_client.proofs.Syncing.{unmet, went_on}
 use Rattle.ak_client.proofs.Testing.{exits, heads_told}
 use Rattle.ak_client.specs.Outcomes.{outcome_of}
 use Rattle.ak_client.specs.Syncs.{IsSync, KeepsDevice}
+use Rattle.ak_exchange.proofs.Faults.{cause_passed}
 use Rattle.ak_exchange.specs.declared.stops.Stop.{Stop}
+use Rattle.ak_faults.proofs.Healths.{cause_after}
 use Rattle.ak_keep.specs.Keepers.{Keeping}
 use Rattle.ak_client.proofs.syncs.sync_device.Goals as goal
 
@@ -17,14 +19,14 @@ returns-in_err-met-clause-syncs g c =
     c.from_residual.ensures.1
     (unmet c.args.ids c.in_err-met.field-0.0 (g.K.Lookup.keeping c.args.keeper.now) (g.K.Lookup.keeping c.greet.new.keeper)
     (g.W.End.health c.args.wire.now) (g.W.End.health c.greet.new.wire) (g.W.Wire.state c.args.wire.now) (g.W.Wire.state c.greet.new.wire)
-    c.in_err-met.ensures.early c.in_err-met.ensures.tried c.in_err-met.ensures.greets)
+    _ _ (g.K.Lookup.keeping c.args.keeper.now) c.in_err-met.ensures.heard c.in_err-met.ensures.greets)
 
 pub returns-clause-syncs : goal.returns-clause-syncs
 returns-clause-syncs g c =
     went_on c.args.ids c.in_ok-met.met (g.K.Lookup.keeping c.args.keeper.now) (g.K.Lookup.keeping c.greet.new.keeper) (g.K.Lookup.keeping c.sync_met.new.keeper)
     (g.W.End.health c.args.wire.now) (g.W.End.health c.greet.new.wire) (g.W.End.health c.sync_met.new.wire)
-    (g.W.Wire.state c.args.wire.now) (g.W.Wire.state c.greet.new.wire) (g.W.Wire.state c.sync_met.new.wire) (outcome_of c.sync_met.result)
-    c.in_ok-met.ensures.tried c.in_ok-met.ensures.greets c.in_ok-met.ensures.ready c.in_ok-met.ensures.known c.in_ok-met.ensures.same c.sync_met.ensures.ends
+    (g.W.Wire.state c.args.wire.now) (g.W.Wire.state c.greet.new.wire) (g.W.Wire.state c.sync_met.new.wire)
+    _ _ (g.K.Lookup.keeping c.args.keeper.now) (outcome_of c.sync_met.result) c.in_ok-met.ensures.heard c.in_ok-met.ensures.greets c.in_ok-met.ensures.ready c.in_ok-met.ensures.known c.in_ok-met.ensures.same c.sync_met.ensures.ends
 
 pub returns-clause-device : goal.returns-clause-device
 returns-clause-device g c =
@@ -42,3 +44,9 @@ returns-clause-clock g c =
 pub sync_met-requires-clause-own : goal.sync_met-requires-clause-own
 sync_met-requires-clause-own g c =
     heads_told (g.K.Lookup.keeping c.args.keeper.now) (g.K.Lookup.keeping c.greet.new.keeper) c.in_ok-met.met c.in_ok-met.ensures.same c.in_ok-met.ensures.ready
+
+pub returns-in_err-met-clause-keeper : goal.returns-in_err-met-clause-keeper
+returns-in_err-met-clause-keeper g c = cause_passed _ _ c.in_err-met.ensures.keeper c.from_residual.ensures.1
+
+pub returns-clause-keeper : goal.returns-clause-keeper
+returns-clause-keeper g c = cause_after c.in_ok-met.ensures.keeper.goes c.sync_met.ensures.keeper

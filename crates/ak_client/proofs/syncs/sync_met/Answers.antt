@@ -8,8 +8,11 @@ use Rattle.ak_client.proofs.Testing.{exits}
 use Rattle.ak_client.specs.Endings.{Ends}
 use Rattle.ak_client.specs.Outcomes.{outcome_of}
 use Rattle.ak_client.specs.Syncs.{TakesMoments}
+use Rattle.ak_client.proofs.Keeping.{cause_stopped}
+use Rattle.ak_exchange.proofs.Faults.{cause_keeper, cause_ok}
 use Rattle.ak_exchange.specs.Stops.{keep_stop}
 use Rattle.ak_exchange.specs.declared.stops.Stop.{Stop}
+use Rattle.ak_faults.proofs.Healths.{cause_after, goes_further}
 use Rattle.ak_client.proofs.syncs.sync_met.Goals as goal
 
 pub returns-in_err-mark-clause-ends : goal.returns-in_err-mark-clause-ends
@@ -68,3 +71,20 @@ returns-in-Err-clause-ends g c =
     (g.K.Lookup.keeping c.exchange_all.new.keeper) (g.K.Lookup.keeping c.after_stop.new.keeper)
     (g.W.End.health c.args.wire.now) (g.W.End.health c.exchange_all.new.wire) (g.W.Wire.state c.args.wire.now) (g.W.Wire.state c.exchange_all.new.wire)
     c.in_ok-mark.ensures.ok c.in-Err.stop c.after_stop.result c.in-Err.ensures.exchanges c.after_stop.ensures.ends
+
+pub returns-in_err-mark-clause-keeper : goal.returns-in_err-mark-clause-keeper
+returns-in_err-mark-clause-keeper g c = cause_keeper _ _ c.in_err-mark.ensures.cause c.from_residual.ensures.1
+
+pub returns-in_err-commit_at-in-Ok-clause-keeper : goal.returns-in_err-commit_at-in-Ok-clause-keeper
+returns-in_err-commit_at-in-Ok-clause-keeper g c =
+    cause_after (goes_further c.in_ok-mark.ensures.cause.goes c.in-Ok.ensures.keeper.goes)
+    (cause_keeper _ _ c.in_err-commit_at-in-Ok.ensures.cause c.from_residual-in_err-commit_at-in-Ok.ensures.1)
+
+pub returns-in_ok-commit_at-in-Ok-clause-keeper : goal.returns-in_ok-commit_at-in-Ok-clause-keeper
+returns-in_ok-commit_at-in-Ok-clause-keeper g c =
+    cause_ok _ (goes_further (goes_further c.in_ok-mark.ensures.cause.goes c.in-Ok.ensures.keeper.goes) c.in_ok-commit_at-in-Ok.ensures.cause.goes)
+
+pub returns-in-Err-clause-keeper : goal.returns-in-Err-clause-keeper
+returns-in-Err-clause-keeper g c =
+    cause_stopped c.in-Err.stop c.after_stop.result c.in_ok-mark.ensures.cause.goes c.in-Err.ensures.keeper
+    (goes_further c.back.ensures.goes c.after_stop.ensures.keeper) (λ other. cause_after c.back.ensures.goes (c.after_stop.ensures.cause other))

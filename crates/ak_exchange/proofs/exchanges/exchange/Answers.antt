@@ -1,9 +1,11 @@
 use Rattle.std.proofs.Common.{◌+◌, sym, subst, rules, arith, w64, SFits}
 use Rattle.std.proofs.lemmas.Int.{to_z-of_z}
+use Rattle.ak_exchange.proofs.Faults.{cause_keeper, cause_ok, cause_passed}
 use Rattle.ak_exchange.proofs.Parts.{exchanges_refused, exchanges_settled}
-use Rattle.ak_exchange.proofs.Passing.{advances_left, advances_more, advances_passed, advances_then, by_keeper}
+use Rattle.ak_exchange.proofs.Passing.{advances_left, advances_more, advances_passed, advances_then}
+use Rattle.ak_exchange.proofs.Stopping.{by_keeper}
 use Rattle.ak_exchange.specs.Phases.{at_meta}
-use Rattle.ak_faults.proofs.Healths.{goes_further}
+use Rattle.ak_faults.proofs.Healths.{cause_after, goes_further}
 use Rattle.ak_keep.specs.Keepers.{IsMarkedAt, Keeping, back}
 use Rattle.ak_parts.proofs.Taking.{stays_marked}
 use Rattle.ak_exchange.proofs.exchanges.exchange.Goals as goal
@@ -32,7 +34,9 @@ returns-in_err-exchange_chunks-clause-stays g c =
     c.in_ok-exchange_first.ensures.stays c.in_err-exchange_chunks.ensures.stays
 
 pub returns-in_err-exchange_chunks-clause-keeper : goal.returns-in_err-exchange_chunks-clause-keeper
-returns-in_err-exchange_chunks-clause-keeper g c = goes_further c.in_ok-exchange_first.ensures.keeper c.in_err-exchange_chunks.ensures.keeper
+returns-in_err-exchange_chunks-clause-keeper g c =
+    cause_after c.in_ok-exchange_first.ensures.keeper.goes
+    (cause_passed _ _ c.in_err-exchange_chunks.ensures.keeper c.from_residual-in_err-exchange_chunks.ensures.1)
 
 pub compare-requires : goal.compare-requires
 compare-requires g c = record { marked = c.in_ok-exchange_chunks.ensures.stays.marked }
@@ -54,7 +58,8 @@ returns-in_err-compare-clause-stays g c =
 
 pub returns-in_err-compare-clause-keeper : goal.returns-in_err-compare-clause-keeper
 returns-in_err-compare-clause-keeper g c =
-    goes_further (goes_further c.in_ok-exchange_first.ensures.keeper c.in_ok-exchange_chunks.ensures.keeper) c.in_err-compare.ensures.keeper
+    cause_after (goes_further c.in_ok-exchange_first.ensures.keeper.goes c.in_ok-exchange_chunks.ensures.keeper.goes)
+    (cause_passed _ _ c.in_err-compare.ensures.keeper c.from_residual-in_err-compare.ensures.1)
 
 pub returns-in_err-settle-clause-exchanges : goal.returns-in_err-settle-clause-exchanges
 returns-in_err-settle-clause-exchanges g c =
@@ -75,3 +80,16 @@ returns-clause-exchanges g c =
     (advances_then _ _ _ _ _ _ _ _ _ _ _ _ _ _ _ _ _ _
     (advances_then _ _ _ _ _ _ _ _ _ _ _ _ _ _ _ _ _ _ first.2 c.in_ok-exchange_chunks.ensures.leads) c.in_ok-compare.ensures.leads))
     (rw (to_z-of_z w64 c.args.met.now.meta.usn usn) at c.in_ok-settle.ensures.ok)
+
+pub returns-in_err-exchange_first-clause-keeper : goal.returns-in_err-exchange_first-clause-keeper
+returns-in_err-exchange_first-clause-keeper g c = cause_passed _ _ c.in_err-exchange_first.ensures.keeper c.from_residual.ensures.1
+
+pub returns-in_err-settle-clause-keeper : goal.returns-in_err-settle-clause-keeper
+returns-in_err-settle-clause-keeper g c =
+    cause_after (goes_further (goes_further c.in_ok-exchange_first.ensures.keeper.goes c.in_ok-exchange_chunks.ensures.keeper.goes) c.in_ok-compare.ensures.keeper.goes)
+    (cause_keeper _ _ c.in_err-settle.ensures.cause c.from_residual-in_err-settle.ensures.1)
+
+pub returns-clause-keeper : goal.returns-clause-keeper
+returns-clause-keeper g c =
+    cause_ok _ (goes_further (goes_further (goes_further c.in_ok-exchange_first.ensures.keeper.goes c.in_ok-exchange_chunks.ensures.keeper.goes) c.in_ok-compare.ensures.keeper.goes)
+    c.in_ok-settle.ensures.cause.goes)

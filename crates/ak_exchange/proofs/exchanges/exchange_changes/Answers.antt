@@ -3,7 +3,10 @@ use Rattle.std.proofs.lemmas.Int.{to_z-of_z}
 use Rattle.ak_device.specs.Devices.{received}
 use Rattle.ak_exchange.proofs.Granted.{changes_are, granted_give}
 use Rattle.ak_exchange.proofs.Parts.{changes_refused, changes_took}
-use Rattle.ak_exchange.proofs.Passing.{by_keeper, by_memory, by_wire, stays_here}
+use Rattle.ak_exchange.proofs.Faults.{cause_keeper, cause_memory, cause_ok, cause_wire}
+use Rattle.ak_exchange.proofs.Passing.{stays_here}
+use Rattle.ak_exchange.proofs.Stopping.{by_keeper, by_memory, by_wire, keeper_after}
+use Rattle.ak_faults.proofs.Healths.{cause_after, goes_further}
 use Rattle.ak_exchange.proofs.Places.{after_graves, leads_on}
 use Rattle.ak_keep.specs.Keepers.{changed}
 use Rattle.ak_messages.specs.declared.replies.Give.TheVariants as gives
@@ -27,7 +30,7 @@ returns-in_err-came-clause-leads g c =
     changes_refused c.args.met.now (g.K.Lookup.keeping c.args.keeper.now) _ _ c.ask_changes.result c.in_ok-changes.changes
     (rw (to_z-of_z w64 c.args.met.now.meta.moment moment) at c.in_ok-changes.ensures.reads.told)
     (record { it = c.in_ok-request.request; made = c.in_ok-request.ensures.made; envelopes = c.in_ok-request.ensures.next; call = c.ask_changes.ensures })
-    _ _ (by_wire _ _ c.from_residual-in_err-came.ensures.1)
+    _ _ (by_wire _ _ _ c.in_err-came.was c.from_residual-in_err-came.ensures.1)
 
 pub take_changes-requires-clause-taken : goal.take_changes-requires-clause-taken
 take_changes-requires-clause-taken g c =
@@ -40,7 +43,7 @@ returns-in_err-take_changes-clause-leads g c =
     changes_refused c.args.met.now (g.K.Lookup.keeping c.args.keeper.now) _ _ c.ask_changes.result c.in_ok-changes.changes
     (rw (to_z-of_z w64 c.args.met.now.meta.moment moment) at c.in_ok-changes.ensures.reads.told)
     (record { it = c.in_ok-request.request; made = c.in_ok-request.ensures.made; envelopes = c.in_ok-request.ensures.next; call = c.ask_changes.ensures })
-    _ _ (by_keeper _ _ c.from_residual-in_err-take_changes.ensures.1)
+    _ _ (keeper_after _ _ _ c.from_residual-in_err-take_changes.ensures.1)
 
 pub returns-clause-leads : goal.returns-clause-leads
 returns-clause-leads g c =
@@ -60,3 +63,19 @@ returns-clause-took g c =
       (rw (to_z-of_z w64 c.args.met.now.meta.usn usn) at c.in_ok-take_changes.ensures.ok)
           ∙ ap (changed (received c.args.met.now.meta.usn (replied (gives.Changes c.in_ok-came.came)))) c.in_ok-changes.ensures.reads.same,
     )
+
+pub returns-in_err-changes-clause-keeper : goal.returns-in_err-changes-clause-keeper
+returns-in_err-changes-clause-keeper g c = cause_keeper _ _ c.in_err-changes.ensures.reads.cause c.from_residual.ensures.1
+
+pub returns-in_err-request-clause-keeper : goal.returns-in_err-request-clause-keeper
+returns-in_err-request-clause-keeper g c = cause_memory _ c.in_ok-changes.ensures.reads.cause.goes c.from_residual-in_err-request.ensures.1
+
+pub returns-in_err-came-clause-keeper : goal.returns-in_err-came-clause-keeper
+returns-in_err-came-clause-keeper g c = cause_wire _ _ c.in_ok-changes.ensures.reads.cause.goes c.from_residual-in_err-came.ensures.1
+
+pub returns-in_err-take_changes-clause-keeper : goal.returns-in_err-take_changes-clause-keeper
+returns-in_err-take_changes-clause-keeper g c =
+    cause_after c.in_ok-changes.ensures.reads.cause.goes (cause_keeper _ _ c.in_err-take_changes.ensures.cause c.from_residual-in_err-take_changes.ensures.1)
+
+pub returns-clause-keeper : goal.returns-clause-keeper
+returns-clause-keeper g c = cause_ok _ (goes_further c.in_ok-changes.ensures.reads.cause.goes c.in_ok-take_changes.ensures.cause.goes)

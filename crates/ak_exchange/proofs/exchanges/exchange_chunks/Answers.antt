@@ -1,13 +1,9 @@
 use Rattle.std.proofs.Common.{sym, subst, arith, Result, Ok, Err, OnOk}
+use Rattle.ak_exchange.proofs.Faults.{cause_passed}
 use Rattle.ak_exchange.proofs.Passing.{advances_more, advances_passed, advances_then}
 use Rattle.ak_exchange.specs.Phases.{HasReceived}
-use Rattle.ak_faults.proofs.Healths.{goes_further}
+use Rattle.ak_faults.proofs.Healths.{cause_after}
 use Rattle.ak_keep.specs.Keepers.{IsMarkedAt, Keeping, back}
-use Rattle.std.proofs.Common.{◌≡◌, ◌+◌, ◌≤◌, ℕ, true, ap, IfErr}
-use Rattle.ak_exchange.proofs.Passing.{if_many}
-use Rattle.ak_exchange.specs.Stops.{is_too_many}
-use Rattle.ak_exchange.specs.declared.envelopes.Envelopes.{Envelopes}
-use Rattle.ak_exchange.specs.declared.stops.Stop.{Stop}
 use Rattle.ak_exchange.proofs.exchanges.exchange_chunks.Goals as goal
 
 all_ok : {T E P : Type 0} (r : Result T E) → P → OnOk r P
@@ -32,18 +28,7 @@ returns-clause-took g c =
     (subst (λ (k : Keeping). HasReceived c.args.met.now.meta.usn (g.K.Lookup.keeping c.args.keeper.now) k) (sym c.push.ensures.same) c.in_ok-pull.ensures.took)
 
 pub returns-clause-keeper : goal.returns-clause-keeper
-returns-clause-keeper g c = goes_further c.in_ok-pull.ensures.keeper c.push.ensures.keeper
+returns-clause-keeper g c = cause_after c.in_ok-pull.ensures.keeper.goes c.push.ensures.keeper
 
-pub returns-in_err-pull-clause-many : goal.returns-in_err-pull-clause-many
-returns-in_err-pull-clause-many g c =
-    if_many _ _ _ c.from_residual.ensures.1 (λ many. let steps = c.in_err-pull.ensures.many many in omega (arith, steps))
-
-many_after : (result : Result (Unit {0}) Stop) (n m k : ℕ) → n ≤ m → IfErr result (λ (stop : Stop). is_too_many stop ≡ true → m + 39999 ≤ k)
-    → IfErr result (λ (stop : Stop). is_too_many stop ≡ true → n + 39999 ≤ k)
-many_after (Ok x) n m k le is = tt
-many_after (Err stop) n m k le is = λ many. let steps = is many in omega (arith, le, steps)
-
-pub returns-clause-many : goal.returns-clause-many
-returns-clause-many g c =
-    let rose = ap (λ (e : Envelopes). e.step) c.in_ok-pull.ensures.leads.asked.envelopes in
-    many_after c.push.result c.args.envelopes.now.step c.pull.new.envelopes.step c.push.new.envelopes.step (omega (arith, rose)) c.push.ensures.many
+pub returns-in_err-pull-clause-keeper : goal.returns-in_err-pull-clause-keeper
+returns-in_err-pull-clause-keeper g c = cause_passed _ _ c.in_err-pull.ensures.keeper c.from_residual.ensures.1

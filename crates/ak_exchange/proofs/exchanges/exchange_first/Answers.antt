@@ -1,9 +1,10 @@
 use Rattle.std.proofs.Common.{◌+◌, ap, sym, subst, ◌∙◌, arith}
+use Rattle.ak_exchange.proofs.Faults.{cause_passed}
 use Rattle.ak_exchange.proofs.Held.{received_held, received_more}
 use Rattle.ak_exchange.proofs.Parts.{no_grave_requests, requests_before}
 use Rattle.ak_exchange.proofs.Passing.{advances_more, advances_passed, advances_then}
 use Rattle.ak_exchange.specs.Phases.{HasReceived}
-use Rattle.ak_faults.proofs.Healths.{goes_further}
+use Rattle.ak_faults.proofs.Healths.{cause_after, goes_further}
 use Rattle.ak_keep.specs.Keepers.{IsMarkedAt, Keeping, back, is_marked}
 use Rattle.ak_parts.proofs.Parted.{if_ok}
 use Rattle.ak_parts.proofs.Taking.{stays_marked}
@@ -33,7 +34,8 @@ returns-in_err-send_graves-clause-stays g c =
     subst (λ (k : Keeping). IsMarkedAt (back (g.K.Lookup.keeping c.args.keeper.now)) k) (sym c.in_err-send_graves.ensures.same) c.in_ok-start.ensures.stays
 
 pub returns-in_err-send_graves-clause-keeper : goal.returns-in_err-send_graves-clause-keeper
-returns-in_err-send_graves-clause-keeper g c = goes_further c.in_ok-start.ensures.keeper c.in_err-send_graves.ensures.keeper
+returns-in_err-send_graves-clause-keeper g c =
+    cause_after c.in_ok-start.ensures.keeper.goes (cause_passed _ _ c.in_err-send_graves.ensures.keeper c.from_residual-in_err-send_graves.ensures.1)
 
 pub exchange_changes-requires-clause-marked : goal.exchange_changes-requires-clause-marked
 exchange_changes-requires-clause-marked g c = ap is_marked c.in_ok-send_graves.ensures.same ∙ c.in_ok-start.ensures.stays.marked
@@ -62,7 +64,7 @@ returns-clause-stays g c =
 
 pub returns-clause-keeper : goal.returns-clause-keeper
 returns-clause-keeper g c =
-    goes_further (goes_further c.in_ok-start.ensures.keeper c.in_ok-send_graves.ensures.keeper) c.exchange_changes.ensures.keeper
+    cause_after (goes_further c.in_ok-start.ensures.keeper.goes c.in_ok-send_graves.ensures.keeper.goes) c.exchange_changes.ensures.keeper
 
 pub returns-clause-took : goal.returns-clause-took
 returns-clause-took g c =
@@ -72,3 +74,6 @@ returns-clause-took g c =
     (subst (λ (k : Keeping). HasReceived c.args.met.now.meta.usn (g.K.Lookup.keeping c.args.keeper.now) k) (sym c.in_ok-send_graves.ensures.same) c.in_ok-start.ensures.took)
     took)
     c.exchange_changes.ensures.took
+
+pub returns-in_err-start-clause-keeper : goal.returns-in_err-start-clause-keeper
+returns-in_err-start-clause-keeper g c = cause_passed _ _ c.in_err-start.ensures.keeper c.from_residual.ensures.1

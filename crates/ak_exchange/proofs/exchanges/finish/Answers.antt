@@ -12,7 +12,7 @@ pub returns-in_err-moment-clause-leads : goal.returns-in_err-moment-clause-leads
 returns-in_err-moment-clause-leads g c =
     finishes_refused _ _ c.ask_moment.result
     (record { it = c.in_ok-request.request; made = c.in_ok-request.ensures.made; envelopes = c.in_ok-request.ensures.next; call = c.ask_moment.ensures })
-    _ _ c.from_residual-in_err-moment.ensures.1
+    _ _ c.in_err-moment.was c.from_residual-in_err-moment.ensures.1
 
 pub returns-clause-leads : goal.returns-clause-leads
 returns-clause-leads g c =

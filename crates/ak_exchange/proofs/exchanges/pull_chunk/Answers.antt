@@ -1,24 +1,24 @@
 use Rattle.std.proofs.Common.{refl, rules, w64, SFits}
 use Rattle.std.proofs.lemmas.Int.{to_z-of_z}
 use Rattle.ak_exchange.proofs.Granted.{chunk_are, granted_give}
-use Rattle.ak_exchange.proofs.Parts.{pull_refused, pull_took}
-use Rattle.ak_exchange.proofs.Passing.{by_keeper, by_memory, by_wire, stays_here}
-use Rattle.ak_exchange.proofs.Places.{pulled_lead}
+use Rattle.ak_exchange.proofs.Parts.{pull_left, pull_stays, pull_took}
+use Rattle.ak_exchange.proofs.Faults.{cause_keeper, cause_memory, cause_ok, cause_wire}
+use Rattle.ak_exchange.proofs.Stopping.{by_memory, by_wire, keeper_after}
+use Rattle.ak_faults.proofs.Healths.{goes_nowhere}
 use Rattle.ak_messages.specs.declared.replies.Give.TheVariants as gives
 use Rattle.ak_session.specs.Replies.{replied}
 use Rattle.ak_wires.specs.Forms.{chunk_in}
-use Rattle.ak_exchange.proofs.Passing.{few_keeper, few_memory, few_wire}
 use Rattle.ak_exchange.proofs.exchanges.pull_chunk.Goals as goal
 
 pub returns-in_err-request-clause-leads : goal.returns-in_err-request-clause-leads
 returns-in_err-request-clause-leads g c = λ count.
-    stays_here _ _ _ _ _ _ _ _ _ _ _ (pulled_lead count) refl refl c.in_err-request.ensures.stays (by_memory _ c.from_residual.ensures.1)
+    pull_stays count _ _ _ _ _ _ refl refl c.in_err-request.ensures.stays (by_memory _ c.from_residual.ensures.1)
 
 pub returns-in_err-chunk-clause-leads : goal.returns-in_err-chunk-clause-leads
 returns-in_err-chunk-clause-leads g c = λ count.
-    pull_refused c.args.met.now (g.K.Lookup.keeping c.args.keeper.now) _ _ c.ask_chunk.result count
+    pull_left c.args.met.now (g.K.Lookup.keeping c.args.keeper.now) _ _ c.ask_chunk.result count
     (record { it = c.in_ok-request.request; made = c.in_ok-request.ensures.made; envelopes = c.in_ok-request.ensures.next; call = c.ask_chunk.ensures })
-    _ _ _ (by_wire _ _ c.from_residual-in_err-chunk.ensures.1)
+    _ _ (by_wire _ _ _ c.in_err-chunk.was c.from_residual-in_err-chunk.ensures.1)
 
 pub take_chunk-requires-clause-taken : goal.take_chunk-requires-clause-taken
 take_chunk-requires-clause-taken g c =
@@ -27,27 +27,30 @@ take_chunk-requires-clause-taken g c =
 
 pub returns-in_err-take_chunk-clause-leads : goal.returns-in_err-take_chunk-clause-leads
 returns-in_err-take_chunk-clause-leads g c = λ count.
-    pull_refused c.args.met.now (g.K.Lookup.keeping c.args.keeper.now) _ _ c.ask_chunk.result count
+    pull_left c.args.met.now (g.K.Lookup.keeping c.args.keeper.now) _ _ c.ask_chunk.result count
     (record { it = c.in_ok-request.request; made = c.in_ok-request.ensures.made; envelopes = c.in_ok-request.ensures.next; call = c.ask_chunk.ensures })
-    _ _ _ (by_keeper _ _ c.from_residual-in_err-take_chunk.ensures.1)
+    _ _ (keeper_after _ _ _ c.from_residual-in_err-take_chunk.ensures.1)
 
 pub returns-clause-leads : goal.returns-clause-leads
 returns-clause-leads g c = λ count.
     let usn : SFits w64 c.args.met.now.meta.usn = search rules in
     pull_took c.args.met.now (g.K.Lookup.keeping c.args.keeper.now) _ _ c.ask_chunk.result count
     (record { it = c.in_ok-request.request; made = c.in_ok-request.ensures.made; envelopes = c.in_ok-request.ensures.next; call = c.ask_chunk.ensures })
-    _ _ c.in_ok-chunk.chunk c.in_ok-chunk.was (rw (to_z-of_z w64 c.args.met.now.meta.usn usn) at c.in_ok-take_chunk.ensures.ok)
+    _ c.in_ok-chunk.chunk c.in_ok-chunk.was (rw (to_z-of_z w64 c.args.met.now.meta.usn usn) at c.in_ok-take_chunk.ensures.ok)
 
 pub returns-clause-took : goal.returns-clause-took
 returns-clause-took g c =
     let usn : SFits w64 c.args.met.now.meta.usn = search rules in
     (replied (gives.Chunk c.in_ok-chunk.chunk), rw (to_z-of_z w64 c.args.met.now.meta.usn usn) at c.in_ok-take_chunk.ensures.ok)
 
-pub returns-in_err-request-clause-few : goal.returns-in_err-request-clause-few
-returns-in_err-request-clause-few g c = few_memory _ c.from_residual.ensures.1
+pub returns-in_err-request-clause-keeper : goal.returns-in_err-request-clause-keeper
+returns-in_err-request-clause-keeper g c = cause_memory _ (goes_nowhere _) c.from_residual.ensures.1
 
-pub returns-in_err-chunk-clause-few : goal.returns-in_err-chunk-clause-few
-returns-in_err-chunk-clause-few g c = few_wire _ _ c.from_residual-in_err-chunk.ensures.1
+pub returns-in_err-chunk-clause-keeper : goal.returns-in_err-chunk-clause-keeper
+returns-in_err-chunk-clause-keeper g c = cause_wire _ _ (goes_nowhere _) c.from_residual-in_err-chunk.ensures.1
 
-pub returns-in_err-take_chunk-clause-few : goal.returns-in_err-take_chunk-clause-few
-returns-in_err-take_chunk-clause-few g c = few_keeper _ _ c.from_residual-in_err-take_chunk.ensures.1
+pub returns-in_err-take_chunk-clause-keeper : goal.returns-in_err-take_chunk-clause-keeper
+returns-in_err-take_chunk-clause-keeper g c = cause_keeper _ _ c.in_err-take_chunk.ensures.cause c.from_residual-in_err-take_chunk.ensures.1
+
+pub returns-clause-keeper : goal.returns-clause-keeper
+returns-clause-keeper g c = cause_ok _ c.in_ok-take_chunk.ensures.cause.goes

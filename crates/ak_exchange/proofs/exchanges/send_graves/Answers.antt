@@ -2,7 +2,9 @@ use Rattle.std.proofs.Common.{◌≡◌, ◌+◌, List, length, refl, sym, subst
 use Rattle.std.specs.Int.{div_ceil}
 use Rattle.ak_base.specs.declared.rows.Row.{Row}
 use Rattle.ak_exchange.proofs.Parts.{grave_requests, graves_at, no_grave_requests}
-use Rattle.ak_exchange.proofs.Passing.{advances_more, advances_place, advances_then, at_start, by_keeper, stays_here}
+use Rattle.ak_exchange.proofs.Faults.{cause_keeper, cause_unkept}
+use Rattle.ak_exchange.proofs.Passing.{advances_more, advances_place, advances_then, at_start, stays_here}
+use Rattle.ak_exchange.proofs.Stopping.{by_keeper}
 use Rattle.ak_exchange.proofs.Places.{after_start, all_graves, leads_on}
 use Rattle.ak_keep.specs.Keepers.{WhereTold}
 use Rattle.ak_keep.specs.declared.keepers.Wanted.TheVariants.{Unsent}
@@ -31,3 +33,9 @@ returns-clause-leads g c =
           c.in_ok-graves.ensures.reads.same refl refl refl)
           (c.send_parts.ensures.leads c.args.met.now (g.K.Lookup.keeping c.wanted_graves.new.keeper)))),
     )
+
+pub returns-in_err-graves-clause-keeper : goal.returns-in_err-graves-clause-keeper
+returns-in_err-graves-clause-keeper g c = cause_keeper _ _ c.in_err-graves.ensures.reads.cause c.from_residual.ensures.1
+
+pub returns-clause-keeper : goal.returns-clause-keeper
+returns-clause-keeper g c = cause_unkept _ c.in_ok-graves.ensures.reads.cause.goes c.send_parts.ensures.unkept

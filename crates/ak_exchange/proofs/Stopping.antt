@@ -1,0 +1,307 @@
+-- Why a part of a sync stopped, and what it was granted before.
+use Rattle.std.specs.List.{AllByRecursion}
+use Rattle.std.specs.Prelude.{◌≡◌, ◌≢◌, ◌==◌, ℕ, ◌+◌, ◌≤◌, Bool, true, false, is_some, cond, if◌then◌else◌, List, [], ◌∷◌, ◌++◌, count_by, Option, Some, None, Result, Ok, Err, IsErrAnd, IfErr, OnOk, ok_or, ◌⊎◌}
+use Rattle.std.proofs.Common.{refl, sym, ap, subst, ◌∙◌, inl, inr, append_assoc, arith}
+use Rattle.std.proofs.lemmas.List.Sums.{sum_by-append}
+use Rattle.ak_exchange.proofs.Faults.{IsUnkept}
+use Rattle.ak_exchange.proofs.Tried.{asks_append}
+use Rattle.ak_exchange.specs.Asked.{TriedAsk, asks_in, sends_unfinished}
+use Rattle.ak_exchange.specs.Grants.{AllGranted, AllGrantedButLast, AreGranted, AreTooMany, EachSendsRows, EndsUnanswered, IsCheckedLast, IsGranted, IsLast, IsNotGranted, SendsRows, StopsFor, came_unfinished, is_in_form, is_told}
+use Rattle.ak_exchange.specs.Stops.{check_stop, is_keep, keep_stop, shows_bad_check, verdict_of, wire_stop}
+use Rattle.ak_exchange.specs.declared.stops.Stop.{Stop}
+use Rattle.ak_exchange.specs.declared.stops.Stop.TheVariants as stops
+use Rattle.ak_keep.specs.Keepers.{Keeping}
+use Rattle.ak_keep.specs.declared.keepers.KeepFault.{KeepFault}
+use Rattle.ak_keep.specs.declared.keepers.KeepFault.TheVariants as faults
+use Rattle.ak_merge.specs.declared.checks.CheckFault.{CheckFault}
+use Rattle.ak_messages.specs.declared.replies.Give.{Give}
+use Rattle.ak_messages.specs.declared.replies.Reply.{Reply}
+use Rattle.ak_messages.specs.declared.replies.SanityReply.{SanityReply}
+use Rattle.ak_messages.specs.declared.requests.Ask.{Ask}
+use Rattle.ak_session.proofs.Ranges.{all_append}
+use Rattle.ak_wires.specs.Tries.{granted_in, in_form}
+use Rattle.ak_wires.specs.Wires.{WireState}
+use Rattle.ak_wires.specs.declared.asks.Unanswered.{Unanswered}
+use Rattle.ak_wires.specs.declared.asks.Unanswered.TheVariants as unanswered
+use Rattle.ak_wires.specs.declared.wires.WireEnd.{WireEnd}
+use Rattle.ak_wires.specs.declared.wires.WireEnd.TheVariants as ends
+
+-- ---- a part that was refused
+-- by the keeper, or for want of memory
+abbrev pub is_quiet : Stop → Bool
+is_quiet stops.Keep = true
+is_quiet stops.Memory = true
+is_quiet stop = false
+
+-- a part was refused, and not by what it asked
+abbrev pub IsRefused : {T : Type 0} → Result T Stop → Type 0
+IsRefused result = IsErrAnd result (λ (stop : Stop). is_quiet stop ≡ true)
+
+-- or because what it asked was not granted
+abbrev pub IsRefusedAfter : {T G : Type 0} → Result G Unanswered → Result T Stop → Type 0
+IsRefusedAfter given result = IsErrAnd result (λ (stop : Stop). (is_quiet stop ≡ true) ⊎ ((why : Unanswered) × (given ≡ Err why) × (stop ≡ wire_stop why)))
+
+refused_as : {T : Type 0} (result : Result T Stop) (why : Stop) → is_quiet why ≡ true → IsErrAnd result (λ (stop : Stop). stop ≡ why) → IsRefused result
+refused_as (Ok x) why quiet is = is
+refused_as (Err stop) why quiet is = ap is_quiet is ∙ quiet
+
+pub by_memory : {T : Type 0} (result : Result T Stop) → IsErrAnd result (λ (stop : Stop). stop ≡ stops.Memory) → IsRefused result
+by_memory result is = refused_as result stops.Memory refl is
+
+pub by_keeper : {T : Type 0} (result : Result T Stop) (fault : KeepFault) → IsErrAnd result (λ (stop : Stop). stop ≡ keep_stop fault) → IsRefused result
+by_keeper result fault is = refused_as result (keep_stop fault) (each fault) is
+  where
+    each : (f : KeepFault) → is_quiet (keep_stop f) ≡ true
+    each faults.Failed = refl
+    each faults.Memory = refl
+
+pub keeper_after : {T G : Type 0} (given : Result G Unanswered) (result : Result T Stop) (fault : KeepFault) → IsErrAnd result (λ (stop : Stop). stop ≡ keep_stop fault)
+    → IsRefusedAfter given result
+keeper_after given result fault is = weaker result (by_keeper result fault is)
+  where
+    weaker : {T : Type 0} (r : Result T Stop) → IsRefused r → IsRefusedAfter given r
+    weaker (Ok x) quiet = quiet
+    weaker (Err stop) quiet = inl quiet
+
+pub by_wire : {T G : Type 0} (given : Result G Unanswered) (result : Result T Stop) (why : Unanswered) → given ≡ Err why
+    → IsErrAnd result (λ (stop : Stop). stop ≡ wire_stop why) → IsRefusedAfter given result
+by_wire given (Ok x) why came is = is
+by_wire given (Err stop) why came is = inr (why, came, is)
+
+pub not_ok : {T : Type 0} (result : Result T Stop) (Q : Stop → Type 0) (P : Type 0) → IsErrAnd result Q → OnOk result P
+not_ok (Ok x) Q P is = absurd is
+not_ok (Err e) Q P is = tt
+
+-- ---- what a refusal says
+pub quiet_stops : (tries : List TriedAsk) (wire : WireState) (stop : Stop) → is_quiet stop ≡ true → StopsFor tries wire stop
+quiet_stops tries wire stops.Keep quiet = tt
+quiet_stops tries wire stops.Memory quiet = tt
+quiet_stops tries wire stops.NoChanges quiet = absurd (grind (arith, quiet))
+quiet_stops tries wire (stops.FullSchema device server) quiet = absurd (grind (arith, quiet))
+quiet_stops tries wire (stops.FullSequence usn) quiet = absurd (grind (arith, quiet))
+quiet_stops tries wire (stops.BadRow fault) quiet = absurd (grind (arith, quiet))
+quiet_stops tries wire (stops.BadCounts client server) quiet = absurd (grind (arith, quiet))
+quiet_stops tries wire (stops.ClockOff device server) quiet = absurd (grind (arith, quiet))
+quiet_stops tries wire (stops.OwnCheck fault) quiet = absurd (grind (arith, quiet))
+quiet_stops tries wire stops.Stopped quiet = absurd (grind (arith, quiet))
+quiet_stops tries wire (stops.Refused status word seen) quiet = absurd (grind (arith, quiet))
+quiet_stops tries wire stops.Lost quiet = absurd (grind (arith, quiet))
+quiet_stops tries wire stops.BadReply quiet = absurd (grind (arith, quiet))
+quiet_stops tries wire stops.TooManyChunks quiet = absurd (grind (arith, quiet))
+
+pub refused_stops : {T : Type 0} (tries : List TriedAsk) (wire : WireState) (result : Result T Stop) → IsRefused result → IfErr result (StopsFor tries wire)
+refused_stops tries wire (Ok x) is = tt
+refused_stops tries wire (Err stop) is = quiet_stops tries wire stop is
+
+pub unanswered_stops : (tries : List TriedAsk) (wire : WireState) (it : TriedAsk) (why : Unanswered) → IsLast it tries → IsNotGranted it why
+    → StopsFor tries wire (wire_stop why)
+unanswered_stops tries wire it unanswered.Lost last is = (it, last, is)
+unanswered_stops tries wire it unanswered.BadReply last is = (it, last, is)
+unanswered_stops tries wire it (unanswered.Refused status word seen) last is = (it, last, is)
+unanswered_stops tries wire it unanswered.Memory last is = tt
+
+pub refused_after_stops : {T G : Type 0} (tries : List TriedAsk) (wire : WireState) (it : TriedAsk) (given : Result G Unanswered) (result : Result T Stop)
+    → IsLast it tries → ((why : Unanswered) → given ≡ Err why → IsNotGranted it why) → IsRefusedAfter given result → IfErr result (StopsFor tries wire)
+refused_after_stops tries wire it given (Ok x) last so is = tt
+refused_after_stops tries wire it given (Err stop) last so (inl quiet) = quiet_stops tries wire stop quiet
+refused_after_stops tries wire it given (Err stop) last so (inr (why, came, is)) =
+    subst (StopsFor tries wire) (sym is) (unanswered_stops tries wire it why last (so why came))
+
+-- ---- what an answer comes to
+status_is : (status : ℕ) → (status == 200) ≡ true → status ≡ 200
+status_is status is = grind (arith, is)
+
+status_differs : (status : ℕ) → (status == 200) ≡ false → status ≢ 200
+status_differs status is same = grind (arith, is, same)
+
+same_why : {T : Type 0} (one other : Unanswered) → (let refused : Result T Unanswered = Err one in refused ≡ Err other) → one ≡ other
+same_why one other is = grind (arith, is)
+
+err-ok : {T : Type 0} (why : Unanswered) (it : T) → Err why ≡ Ok it → ⊥
+err-ok why it is = grind (arith, is)
+
+ok-err : {T : Type 0} (it : T) (why : Unanswered) → Ok it ≡ Err why → ⊥
+ok-err it why is = grind (arith, is)
+
+same_ok : {T : Type 0} (one other : T) → (let granted : Result T Unanswered = Ok one in granted ≡ Ok other) → one ≡ other
+same_ok one other is = grind (arith, is)
+
+module _ {G : Type 0} (part : Give → Option G) (ask : Ask) (form : (give : Give) → is_in_form ask give ≡ is_some (part give)) where
+  abbrev tried : Result Reply WireEnd → TriedAsk
+  tried answer = record { ask = ask; answer = answer }
+
+  -- granted
+  pub record Gave (answer : Result Reply WireEnd) (it : G) : Type 0 where
+    pub granted : IsGranted (tried answer)
+    pub gave : part granted.reply.give ≡ Some it
+
+  pub was_granted : (answer : Result Reply WireEnd) (it : G) → in_form part (granted_in answer) ≡ Ok it → Gave answer it
+  was_granted (Ok reply) it is = by (reply.status == 200) refl is
+    where
+      given : (o : Option G) → part reply.give ≡ o → ok_or o unanswered.BadReply ≡ Ok it → part reply.give ≡ Some it
+      given None shown same = absurd (err-ok unanswered.BadReply it same)
+      given (Some g) shown same = shown ∙ ap (λ (x : G). Some x) (same_ok g it same)
+
+      by : (b : Bool) → (reply.status == 200) ≡ b
+          → in_form part (if b then Ok reply.give else Err (unanswered.Refused reply.status reply.word reply.seen)) ≡ Ok it → Gave (Ok reply) it
+      by true status same =
+          let gave = given (part reply.give) refl same in
+          record {
+            granted = record { reply = reply; is = refl; status = status_is reply.status status; form = form reply.give ∙ ap (λ (o : Option G). is_some o) gave };
+            gave = gave;
+          }
+      by false status same = absurd (err-ok (unanswered.Refused reply.status reply.word reply.seen) it same)
+  was_granted (Err ends.Failed) it is = absurd (err-ok unanswered.Lost it is)
+  was_granted (Err ends.BadReply) it is = absurd (err-ok unanswered.BadReply it is)
+  was_granted (Err ends.Memory) it is = absurd (err-ok unanswered.Memory it is)
+
+  -- not granted
+  pub was_not_granted : (answer : Result Reply WireEnd) (why : Unanswered) → in_form part (granted_in answer) ≡ Err why → IsNotGranted (tried answer) why
+  was_not_granted (Ok reply) why is = by (reply.status == 200) refl is
+    where
+      given : (o : Option G) → part reply.give ≡ o → (reply.status == 200) ≡ true → ok_or o unanswered.BadReply ≡ Err why → IsNotGranted (tried (Ok reply)) why
+      given None shown status same = subst (IsNotGranted (tried (Ok reply))) (same_why unanswered.BadReply why same)
+          (inr (reply, refl, status_is reply.status status, form reply.give ∙ ap (λ (o : Option G). is_some o) shown))
+      given (Some g) shown status same = absurd (ok-err g why same)
+
+      by : (b : Bool) → (reply.status == 200) ≡ b
+          → in_form part (if b then Ok reply.give else Err (unanswered.Refused reply.status reply.word reply.seen)) ≡ Err why → IsNotGranted (tried (Ok reply)) why
+      by true status same = given (part reply.give) refl status same
+      by false status same = subst (IsNotGranted (tried (Ok reply))) (same_why (unanswered.Refused reply.status reply.word reply.seen) why same)
+          (reply, refl, status_differs reply.status status, refl, refl, refl)
+  was_not_granted (Err ends.Failed) why is = subst (IsNotGranted (tried (Err ends.Failed))) (same_why unanswered.Lost why is) refl
+  was_not_granted (Err ends.BadReply) why is = subst (IsNotGranted (tried (Err ends.BadReply))) (same_why unanswered.BadReply why is) (inl refl)
+  was_not_granted (Err ends.Memory) why is = subst (IsNotGranted (tried (Err ends.Memory))) (same_why unanswered.Memory why is) refl
+
+-- ---- one part after another
+pub last_then : (a b : List TriedAsk) (it : TriedAsk) → IsLast it b → IsLast it (a ++ b)
+last_then a b it (before, is) = (a ++ before, ap (λ (l : List TriedAsk). a ++ l) is ∙ sym (append_assoc a before (it ∷ [])))
+
+pub ends_then : (a b : List TriedAsk) (why : Unanswered) → EndsUnanswered b why → EndsUnanswered (a ++ b) why
+ends_then a b why (it, last, is) = (it, last_then a b it last, is)
+
+pub checked_then : (a b : List TriedAsk) (stop : Stop) (wire : WireState) → IsCheckedLast b stop wire → IsCheckedLast (a ++ b) stop wire
+checked_then a b stop wire it = record {
+  it = it.it;
+  last = last_then a b it.it it.last;
+  counts = it.counts;
+  asks = it.asks;
+  granted = it.granted;
+  reply = it.reply;
+  gave = it.gave;
+  said = it.said;
+  is = it.is;
+  found = it.found;
+  verdict = it.verdict;
+}
+
+pub many_then : (a b : List TriedAsk) → AreTooMany b → AreTooMany (a ++ b)
+many_then a b (inl came) = let both = sum_by-append (λ (x : TriedAsk). cond (came_unfinished x) 1 0) a b in inl (omega (arith, both, came))
+many_then a b (inr sent) = inr (subst (λ (l : List Ask). 39_999 ≤ count_by sends_unfinished l) (sym (asks_append a b)) (after (asks_in a) (asks_in b) sent))
+  where
+    after : (x y : List Ask) → 39_999 ≤ count_by sends_unfinished y → 39_999 ≤ count_by sends_unfinished (x ++ y)
+    after x y is = let both = sum_by-append (λ (ask : Ask). cond (sends_unfinished ask) 1 0) x y in omega (arith, both, is)
+
+stops_then : (a b : List TriedAsk) (wire : WireState) (stop : Stop) → StopsFor b wire stop → StopsFor (a ++ b) wire stop
+stops_then a b wire (stops.BadRow fault) is = checked_then a b (stops.BadRow fault) wire is
+stops_then a b wire (stops.BadCounts client server) is = checked_then a b (stops.BadCounts client server) wire is
+stops_then a b wire (stops.Refused status word seen) is = ends_then a b (unanswered.Refused status word seen) is
+stops_then a b wire stops.Lost is = ends_then a b unanswered.Lost is
+stops_then a b wire stops.BadReply is = ends_then a b unanswered.BadReply is
+stops_then a b wire stops.TooManyChunks is = many_then a b is
+stops_then a b wire stops.Keep is = tt
+stops_then a b wire stops.Memory is = tt
+stops_then a b wire stops.NoChanges is = is
+stops_then a b wire (stops.FullSchema device server) is = is
+stops_then a b wire (stops.FullSequence usn) is = is
+stops_then a b wire (stops.ClockOff device server) is = is
+stops_then a b wire (stops.OwnCheck fault) is = is
+stops_then a b wire stops.Stopped is = is
+
+pub part_stops : {T : Type 0} (a b : List TriedAsk) (wire : WireState) (result : Result T Stop) → IfErr result (StopsFor b wire) → IfErr result (StopsFor (a ++ b) wire)
+part_stops a b wire (Ok x) is = tt
+part_stops a b wire (Err stop) is = stops_then a b wire stop is
+
+pub all_but_last : (a : List TriedAsk) → AllGranted a → AllGrantedButLast a
+all_but_last [] all = tt
+all_but_last (one ∷ []) all = tt
+all_but_last (one ∷ next ∷ more) all = (all.0, all_but_last (next ∷ more) all.1)
+
+pub but_last_then : (a b : List TriedAsk) → AllGranted a → AllGrantedButLast b → AllGrantedButLast (a ++ b)
+but_last_then [] b one two = two
+but_last_then (it ∷ []) [] one two = tt
+but_last_then (it ∷ []) (next ∷ more) one two = (one.0, two)
+but_last_then (it ∷ next ∷ more) b one two = (one.0, but_last_then (next ∷ more) b one.1 two)
+
+pub granted_but_last : {T E : Type 0} (a : List TriedAsk) (result : Result T E) → AreGranted a result → AllGrantedButLast a
+granted_but_last a (Ok x) all = all_but_last a all
+granted_but_last a (Err e) all = all
+
+pub granted_then : {T E : Type 0} (a b : List TriedAsk) (result : Result T E) → AllGranted a → AreGranted b result → AreGranted (a ++ b) result
+granted_then a b (Ok x) one two = all_append IsGranted a b one two
+granted_then a b (Err stop) one two = but_last_then a b one two
+
+pub none_granted : {T E : Type 0} (result : Result T E) → AreGranted [] result
+none_granted (Ok x) = tt
+none_granted (Err e) = tt
+
+pub one_but_last : {T E : Type 0} (it : TriedAsk) (result : Result T E) (Q : E → Type 0) → IsErrAnd result Q → AreGranted (it ∷ []) result
+one_but_last it (Ok x) Q is = absurd is
+one_but_last it (Err e) Q is = tt
+
+pub rows_then : {T U : Type 0} (k0 k1 k2 : Keeping) (a b : List TriedAsk) (x : T) (result : Result U Stop) → EachSendsRows k0 k1 a (Ok x) → EachSendsRows k1 k2 b result
+    → EachSendsRows k0 k2 (a ++ b) result
+rows_then {T} k0 k1 k2 a b x result one two told =
+    let first = one told in
+    let then_on = two first.1 in
+    (subst (AllByRecursion SendsRows) (sym (asks_append a b)) (all_append SendsRows (asks_in a) (asks_in b) first.0 then_on.0), then_on.1)
+
+-- ---- a sanity check
+verdict_is_bad : (reply : SanityReply) (stop : Stop) → verdict_of reply ≡ Err stop → shows_bad_check stop ≡ true
+verdict_is_bad reply stop is = by reply.good is
+  where
+    same : (one other : Stop) → (let refused : Result (Unit {0}) Stop = Err one in refused ≡ Err other) → one ≡ other
+    same one other is = grind (arith, is)
+
+    not_err : (let good : Result (Unit {0}) Stop = Ok (tt {0}) in good ≡ Err stop) → ⊥
+    not_err is = grind (arith, is)
+
+    bad : (o : Option CheckFault) → shows_bad_check (check_stop o reply.client reply.server) ≡ true
+    bad None = refl
+    bad (Some fault) = refl
+
+    by : (b : Bool) → (let found : Result (Unit {0}) Stop = if b then Ok (tt {0}) else Err (check_stop reply.fault reply.client reply.server) in found ≡ Err stop)
+        → shows_bad_check stop ≡ true
+    by true shown = absurd (not_err shown)
+    by false shown = ap shows_bad_check (sym (same (check_stop reply.fault reply.client reply.server) stop shown)) ∙ bad reply.fault
+
+checked_stops : (tries : List TriedAsk) (wire : WireState) (stop : Stop) → shows_bad_check stop ≡ true → IsCheckedLast tries stop wire → StopsFor tries wire stop
+checked_stops tries wire (stops.BadRow fault) bad is = is
+checked_stops tries wire (stops.BadCounts client server) bad is = is
+checked_stops tries wire stops.Keep bad is = absurd (grind (arith, bad))
+checked_stops tries wire stops.Memory bad is = absurd (grind (arith, bad))
+checked_stops tries wire stops.NoChanges bad is = absurd (grind (arith, bad))
+checked_stops tries wire (stops.FullSchema device server) bad is = absurd (grind (arith, bad))
+checked_stops tries wire (stops.FullSequence usn) bad is = absurd (grind (arith, bad))
+checked_stops tries wire (stops.ClockOff device server) bad is = absurd (grind (arith, bad))
+checked_stops tries wire (stops.OwnCheck fault) bad is = absurd (grind (arith, bad))
+checked_stops tries wire stops.Stopped bad is = absurd (grind (arith, bad))
+checked_stops tries wire (stops.Refused status word seen) bad is = absurd (grind (arith, bad))
+checked_stops tries wire stops.Lost bad is = absurd (grind (arith, bad))
+checked_stops tries wire stops.BadReply bad is = absurd (grind (arith, bad))
+checked_stops tries wire stops.TooManyChunks bad is = absurd (grind (arith, bad))
+
+pub check_stops : (tries : List TriedAsk) (wire : WireState) (stop : Stop) → IsCheckedLast tries stop wire → StopsFor tries wire stop
+check_stops tries wire stop is = checked_stops tries wire stop (verdict_is_bad is.reply stop is.verdict) is
+
+-- a sanity check does not stop a sync because the keeper failed
+pub unkept_verdict : (reply : SanityReply) (result : Result (Unit {0}) Stop) → result ≡ verdict_of reply → IsUnkept result
+unkept_verdict reply result is = subst (λ (r : Result (Unit {0}) Stop). IsUnkept r) (sym is) (by reply.good)
+  where
+    bad : (o : Option CheckFault) → is_keep (check_stop o reply.client reply.server) ≡ false
+    bad None = refl
+    bad (Some fault) = refl
+
+    by : (b : Bool) → IsUnkept {T = Unit {0}} (if b then Ok (tt {0}) else Err (check_stop reply.fault reply.client reply.server))
+    by true = tt
+    by false = bad reply.fault

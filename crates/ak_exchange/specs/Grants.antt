@@ -1,0 +1,140 @@
+-- What was granted, and why a sync stopped at what it tried last.
+use Rattle.std.specs.List.{AllByRecursion}
+use Rattle.std.specs.Option.{option_map_or}
+use Rattle.std.specs.Prelude.{◌≡◌, ◌≢◌, ◌≤◌, ◌&&◌, Bool, false, true, not, is_some, List, [], ◌∷◌, ◌++◌, length, count_by, Some, Result, Ok, Err, OnOk, ◌⊎◌, ⊤}
+use Rattle.ak_base.specs.declared.rows.Row.{Row}
+use Rattle.ak_exchange.specs.Asked.{TriedAsk, asks_chunk, asks_in, sends_unfinished}
+use Rattle.ak_exchange.specs.Stops.{verdict_of}
+use Rattle.ak_exchange.specs.declared.stops.Stop.{Stop}
+use Rattle.ak_exchange.specs.declared.stops.Stop.TheVariants as stops
+use Rattle.ak_keep.specs.Keepers.{Keeping}
+use Rattle.ak_messages.specs.declared.replies.Give.{Give}
+use Rattle.ak_messages.specs.declared.replies.Reply.{Reply}
+use Rattle.ak_messages.specs.declared.replies.SanityReply.{SanityReply}
+use Rattle.ak_messages.specs.declared.requests.Ask.{Ask}
+use Rattle.ak_messages.specs.declared.requests.Ask.TheVariants as asks
+use Rattle.ak_messages.specs.declared.requests.Chunk.{Chunk}
+use Rattle.ak_messages.specs.declared.requests.SanityCounts.{SanityCounts}
+use Rattle.ak_session.specs.Messages.{chunk_of}
+use Rattle.ak_wires.specs.Forms.{changes_in, chunk_in, graves_in, meta_in, moment_in, nothing_in, verdict_in}
+use Rattle.ak_wires.specs.Wires.{WireState}
+use Rattle.ak_wires.specs.declared.asks.Unanswered.{Unanswered}
+use Rattle.ak_wires.specs.declared.asks.Unanswered.TheVariants as unanswered
+use Rattle.ak_wires.specs.declared.wires.Said.{Said}
+use Rattle.ak_wires.specs.declared.wires.WireEnd.{WireEnd}
+use Rattle.ak_wires.specs.declared.wires.WireEnd.TheVariants as ends
+
+-- ---- what was granted
+-- whether what is given has the form of what was asked. A sync asks for no whole collection
+abbrev pub is_in_form : Ask → Give → Bool
+is_in_form asks.Meta give = is_some (meta_in give)
+is_in_form (asks.Start usn moment) give = is_some (graves_in give)
+is_in_form (asks.ApplyGraves ids) give = is_some (nothing_in give)
+is_in_form (asks.ApplyChanges changes) give = is_some (changes_in give)
+is_in_form asks.Chunk give = is_some (chunk_in give)
+is_in_form (asks.ApplyChunk chunk) give = is_some (nothing_in give)
+is_in_form (asks.SanityCheck2 counts) give = is_some (verdict_in give)
+is_in_form asks.Finish give = is_some (moment_in give)
+is_in_form (asks.Upload whole) give = false
+is_in_form asks.Download give = false
+
+-- what was asked was granted: the answer is a reply with status 200, and it has the form of what was asked
+pub record IsGranted (it : TriedAsk) : Type 0 where
+  pub reply : Reply
+  pub is : it.answer ≡ Ok reply
+  pub status : reply.status ≡ 200
+  pub form : is_in_form it.ask reply.give ≡ true
+
+-- each of these was granted
+abbrev pub AllGranted : List TriedAsk → Type 0
+AllGranted tries = AllByRecursion IsGranted tries
+
+-- each but the last was granted before the next was asked
+abbrev pub AllGrantedButLast : List TriedAsk → Type 0
+AllGrantedButLast [] = ⊤
+AllGrantedButLast (one ∷ []) = ⊤
+AllGrantedButLast (one ∷ next ∷ more) = IsGranted one × AllGrantedButLast (next ∷ more)
+
+-- each was granted if the part that asked them went well, and otherwise each but the last
+abbrev pub AreGranted : {T E : Type 0} → List TriedAsk → Result T E → Type 0
+AreGranted tries (Ok it) = AllGranted tries
+AreGranted tries (Err stop) = AllGrantedButLast tries
+
+-- ---- chunks that are sent
+-- whether a keeper tells what it holds
+abbrev pub is_told : Keeping → Bool
+is_told keeping = is_some keeping.told
+
+-- a chunk that is sent and is not the last one is that of 250 rows
+abbrev pub SendsRows : Ask → Type 0
+SendsRows (asks.ApplyChunk chunk) = chunk.done ≡ false → (rows : List Row) × (chunk ≡ chunk_of rows) × (length rows ≡ 250)
+SendsRows ask = ⊤
+
+-- the same of each of these, where the keeper tells what it holds; if the part that asked them went well, it tells that still
+abbrev pub EachSendsRows : {T : Type 0} → Keeping → Keeping → List TriedAsk → Result T Stop → Type 0
+EachSendsRows before after tries result = is_told before ≡ true
+    → AllByRecursion SendsRows (asks_in tries) × OnOk result (is_told after ≡ true)
+
+-- ---- why a sync stopped
+-- this was tried last
+abbrev pub IsLast : TriedAsk → List TriedAsk → Type 0
+IsLast it tries = (before : List TriedAsk) × (tries ≡ before ++ it ∷ [])
+
+-- why something was not granted: each of three tries got no answer; the answer could not be read, or had not the form of what was asked; or
+-- it had another status
+abbrev pub IsNotGranted : TriedAsk → Unanswered → Type 0
+IsNotGranted it unanswered.Lost = it.answer ≡ Err ends.Failed
+IsNotGranted it unanswered.BadReply = (it.answer ≡ Err ends.BadReply)
+    ⊎ ((reply : Reply) × (it.answer ≡ Ok reply) × (reply.status ≡ 200) × (is_in_form it.ask reply.give ≡ false))
+IsNotGranted it (unanswered.Refused status word seen) = (reply : Reply) × (it.answer ≡ Ok reply) × (reply.status ≢ 200)
+    × (status ≡ reply.status) × (word ≡ reply.word) × (seen ≡ reply.seen)
+IsNotGranted it unanswered.Memory = it.answer ≡ Err ends.Memory
+
+-- the last that was tried was not granted, for this reason
+abbrev pub EndsUnanswered : List TriedAsk → Unanswered → Type 0
+EndsUnanswered tries why = (it : TriedAsk) × IsLast it tries × IsNotGranted it why
+
+-- the last that was tried is a sanity check, and this is what its reply showed
+pub record IsCheckedLast (tries : List TriedAsk) (stop : Stop) (wire : WireState) : Type 0 where
+  pub it : TriedAsk
+  pub last : IsLast it tries
+  pub counts : SanityCounts
+  pub asks : it.ask ≡ asks.SanityCheck2 counts
+  pub granted : IsGranted it
+  pub reply : SanityReply
+  pub gave : verdict_in granted.reply.give ≡ Some reply
+  pub said : Said
+  pub is : wire.said ≡ Some said
+  pub found : said.sanity ≡ Some reply
+  pub verdict : verdict_of reply ≡ Err stop
+
+-- whether an answer gives a chunk that is not the last one
+abbrev pub brings_unfinished : Result Reply WireEnd → Bool
+brings_unfinished (Ok reply) = option_map_or (λ (chunk : Chunk). not chunk.done) (chunk_in reply.give) false
+brings_unfinished (Err end) = false
+
+-- whether a chunk came that is not the last one
+abbrev pub came_unfinished : TriedAsk → Bool
+came_unfinished it = asks_chunk it.ask && brings_unfinished it.answer
+
+-- 40,000 chunks came that are not the last one, or 39,999 were sent that are not
+abbrev pub AreTooMany : List TriedAsk → Type 0
+AreTooMany tries = (40_000 ≤ count_by came_unfinished tries) ⊎ (39_999 ≤ count_by sends_unfinished (asks_in tries))
+
+-- why an exchange stopped, by what was tried. A keeper's fault and want of memory may come at any time; the reasons that are none here come
+-- before an exchange
+abbrev pub StopsFor : List TriedAsk → WireState → Stop → Type 0
+StopsFor tries wire (stops.BadRow fault) = IsCheckedLast tries (stops.BadRow fault) wire
+StopsFor tries wire (stops.BadCounts client server) = IsCheckedLast tries (stops.BadCounts client server) wire
+StopsFor tries wire (stops.Refused status word seen) = EndsUnanswered tries (unanswered.Refused status word seen)
+StopsFor tries wire stops.Lost = EndsUnanswered tries unanswered.Lost
+StopsFor tries wire stops.BadReply = EndsUnanswered tries unanswered.BadReply
+StopsFor tries wire stops.TooManyChunks = AreTooMany tries
+StopsFor tries wire stops.Keep = ⊤
+StopsFor tries wire stops.Memory = ⊤
+StopsFor tries wire stops.NoChanges = ⊥
+StopsFor tries wire (stops.FullSchema device server) = ⊥
+StopsFor tries wire (stops.FullSequence usn) = ⊥
+StopsFor tries wire (stops.ClockOff device server) = ⊥
+StopsFor tries wire (stops.OwnCheck fault) = ⊥
+StopsFor tries wire stops.Stopped = ⊥
