@@ -2,7 +2,7 @@
 use Rattle.std.specs.Prelude.{◌≡◌, ◌||◌, Bool, true, false, ℕ, ℤ, List, Result, Ok, Err, IfOk}
 use Rattle.std.proofs.Common.{refl, inl, inr, subst, arith}
 use Rattle.ak_base.specs.declared.errors.Memory.{Memory}
-use Rattle.ak_loops.specs.Betweens.{ComesBetween}
+use Rattle.ak_loops.specs.Betweens.{ComesBetween, StaysIdle}
 use Rattle.ak_loops.specs.Entries.{LoggedState}
 use Rattle.ak_loops.specs.LoggedServers.{IsServed}
 use Rattle.ak_loops.specs.LoopWires.{Acting, Delivers, Fares, ServesInARow, ServesUpTo, times_of}
@@ -25,17 +25,19 @@ reply_lost old new request now reply true loses repeats none is row = absurd (gr
 reply_lost old new request now reply false loses true none is row = (is, (reply, row))
 reply_lost old new request now reply false loses false none is row = (is, (reply, row))
 
-module _ {B : Type 0} (acts : Acting B) (call : ℕ) (mishaps : List Mishap) (was became : B) (old met : LoggedState) (request : Request) (now : ℤ)
-    (acted : acts call request.session.0 was became old met) (before : ComesBetween request.session.0 old met) where
+module _ {B : Type 0} (acts : Acting B) (idle : B → Bool) (call : ℕ) (mishaps : List Mishap) (was became : B) (old met : LoggedState) (request : Request) (now : ℤ)
+    (acted : acts call request.session.0 was became old met) (before : ComesBetween request.session.0 old met)
+    (quiet : StaysIdle (idle was) (idle became) old met) where
   pub delivered : (new : LoggedState) (result : Result Reply WireEnd) (lost : Bool) (times : ℕ) → lost ≡ is_lost call mishaps → times ≡ servings call mishaps
-      → Fares lost times met new request now result → Delivers acts call mishaps was became old new request now result
+      → Fares lost times met new request now result → Delivers acts idle call mishaps was became old new request now result
   delivered new result lost times lost_so times_so fares = record {
     met = met;
     acted = acted;
     before = before;
+    quiet = quiet;
     fares = inl (subst (λ (b : Bool). Fares b (servings call mishaps) met new request now result) lost_so
         (subst (λ (n : ℕ). Fares lost n met new request now result) times_so fares));
   }
 
-  pub not_delivered : Delivers acts call mishaps was became old met request now (Err ends.Memory)
-  not_delivered = record { met = met; acted = acted; before = before; fares = inr (refl, refl) }
+  pub not_delivered : Delivers acts idle call mishaps was became old met request now (Err ends.Memory)
+  not_delivered = record { met = met; acted = acted; before = before; quiet = quiet; fares = inr (refl, refl) }

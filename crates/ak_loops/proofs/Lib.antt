@@ -1,8 +1,11 @@
+mod Alone
+mod Calling
 mod Carrying
 mod Failing
 mod Growing
 mod InARow
-mod Logging
+mod Kept
+pub mod Logging
 mod Losing
 mod Served
 mod Troubles

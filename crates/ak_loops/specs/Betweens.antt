@@ -1,6 +1,6 @@
 -- What may come to a server before a request.
 use Rattle.std.specs.List.{AllByRecursion}
-use Rattle.std.specs.Prelude.{◌≡◌, ℕ, List, ⊤}
+use Rattle.std.specs.Prelude.{◌≡◌, ℕ, Bool, true, List, ⊤}
 use Rattle.ak_io.specs.Arrivals.{IsClockMoment}
 use Rattle.ak_loops.specs.Entries.{LoggedState, log_in}
 use Rattle.ak_protocol.specs.Logs.{Event, View, Asked, HasAsked, with_growth}
@@ -18,3 +18,8 @@ pub record ComesBetween (session : ℕ) (old new : LoggedState) : Type 0 where
   pub growth : List Event
   pub grown : log_in new ≡ with_growth (log_in old) growth
   pub may : AllByRecursion (MayComeBetween (log_in old).events session) growth
+
+-- whether it is known of somebody that they do nothing never changes. If so, the server is as it was
+pub record StaysIdle (was now : Bool) (old new : LoggedState) : Type 0 where
+  pub stays : now ≡ was
+  pub nothing : was ≡ true → new ≡ old

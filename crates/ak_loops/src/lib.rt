@@ -6,6 +6,7 @@ mod between_laws;
 mod betweens;
 mod call_counts;
 mod deliveries;
+mod filled_keepers;
 mod logged_servers;
 mod logs;
 mod loop_wires;
@@ -13,6 +14,7 @@ mod mishaps;
 
 pub use between_laws::{openings_are_told, others_may_act};
 pub use betweens::{Between, NothingBetween};
+pub use filled_keepers::keeper_with;
 pub use logged_servers::LoggedServer;
 pub use logs::{Entry, Log, Logged, Trouble};
 pub use loop_wires::LoopWire;

@@ -1,19 +1,11 @@
-ghost use Rattle.std.specs.List.{All, IsDistinct};
-ghost use Rattle.std.specs.Ordering.{eq_by_cmp};
-ghost use Rattle.std.specs.Prelude.{◌≡◌, ◌<◌, false, None, map, vec_capacity, vec_len, IfOk, OnOk};
-ghost use Rattle.ak_base.specs.Heads.{IsHeadInRange};
-ghost use Rattle.ak_base.specs.Names.{name_cmp};
-ghost use Rattle.ak_base.specs.Rows.{IsChecked, name_of};
-ghost use Rattle.ak_keep.specs.Collections.{made_of};
-ghost use Rattle.ak_keep.specs.Keepers.{KeepCause, all_known, is_marked};
-ghost use Rattle.ak_keep.specs.MemoryKeepers.{health_of};
+ghost use Rattle.std.specs.Prelude.{◌≡◌, ◌<◌, vec_capacity, vec_len, IfOk, OnOk};
 ghost use Rattle.ak_loops.specs.Entries.{entry_of};
-ghost use Rattle.ak_loops.specs.LoggedServers.{HoldsOpening};
 ghost use Rattle.ak_loops.specs.declared.logs.Logged.TheVariants as logged;
 
+use crate::filled_keepers::keeper_with;
 use crate::logs::{Entry, Log, Logged, Trouble, trouble_of};
 use ak_base::{Head, HostKey, List, Memory, Row, Table, Text};
-use ak_keep::{KeepFault, Keeper, MemoryKeeper};
+use ak_keep::{KeepFault, MemoryKeeper};
 use ak_messages::{Reply, Request};
 use ak_openings::Opening;
 use ak_server::Server;
@@ -74,7 +66,7 @@ impl LoggedServer {
         requires lawful { IsCommitted (collection_in opening) }
         ensures { IfOk result (λ made. made ≡ begins_with host.digits opening) }
     {
-        let keeper = keeper_of(alloc, &opening)?;
+        let keeper = keeper_with(alloc, copy_opening(&opening)?)?;
         let mut server = Server::new(alloc);
         match server.add(name, host, keeper) {
             Ok(()) => Ok(LoggedServer {
@@ -192,35 +184,13 @@ impl LoggedServer {
     }
 }
 
-/// A keeper in memory that holds a copy of a collection, and that is not marked. Its calls don't fail.
-fn keeper_of(alloc: Global, opening: &Opening) -> Result<MemoryKeeper, Memory>
-    requires checked { All IsChecked opening.now.rows }
-    requires distinct { IsDistinct (eq_by_cmp name_cmp) (map name_of opening.now.rows) }
-    requires range { IsHeadInRange opening.now.head }
-    ensures { IfOk result (HoldsOpening opening.now) }
+/// An equal collection of its own.
+fn copy_opening(opening: &Opening) -> Result<Opening, Memory>
+    ensures { IfOk result (λ made. made ≡ opening.now) }
 {
     let rows = copy_rows(&opening.rows)?;
     let head = opening.head.copy()?;
-    let mut keeper = MemoryKeeper::new(alloc);
-    match fill(&mut keeper, rows, head) {
-        Ok(()) => Ok(keeper),
-        Err(_) => Err(Memory),
-    }
-}
-
-/// Puts a collection into a keeper that is not marked.
-fn fill(keeper: &mut MemoryKeeper, rows: List<Row>, head: Head) -> Result<(), KeepFault>
-    requires unmarked { is_marked (all_known keeper.old.kept) ≡ false }
-    requires checked { All IsChecked rows }
-    requires distinct { IsDistinct (eq_by_cmp name_cmp) (map name_of rows) }
-    requires range { IsHeadInRange head }
-    ensures ok { OnOk result (keeper.new.kept ≡ record { current = made_of rows head; mark = None }) }
-    ensures fails { keeper.new.fails ≡ keeper.old.fails }
-    ensures cause { KeepCause (health_of keeper.old) (health_of keeper.new) result }
-{
-    keeper.mark()?;
-    keeper.replace_all(rows, head)?;
-    keeper.commit()
+    Ok(Opening { rows, head })
 }
 
 /// An equal list of rows of its own.

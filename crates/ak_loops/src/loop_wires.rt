@@ -23,8 +23,10 @@ pub struct LoopWire<B> {
 }
 
 impl<B: Between> LoopWire<B> {
-    ghost use Rattle.std.specs.Prelude.{◌≡◌};
-    ghost use Rattle.ak_loops.specs.LoopWires.{Delivers, no_calls};
+    ghost use Rattle.std.specs.Prelude.{◌≡◌, ℤ, List};
+    ghost use Rattle.ak_loops.specs.Entries.{LoggedState, log_in};
+    ghost use Rattle.ak_loops.specs.LoopWires.{Delivers, IsServedBy, given_with, no_calls};
+    ghost use Rattle.ak_protocol.specs.Logs.{Event, with_growth};
 
     /// A wire to this server, whose clock stays at this moment, in milliseconds.
     pub fn new(server: LoggedServer, moment: i64, mishaps: List<Mishap>, between: B) -> LoopWire<B>
@@ -55,13 +57,18 @@ impl<B: Between> LoopWire<B> {
     pub fn into_parts(self) -> (LoggedServer, B)
         ensures server { result.0 ≡ self.server }
         ensures between { result.1 ≡ self.between }
+
+        // Whoever made the wire with a server knows from what the wire keeps and from the log what was added there.
+        ensures kept { (old : LoggedState) (moment : ℤ) (growth : List Event)
+            → given_with self.moment self.server ≡ given_with moment old
+            → log_in self.server ≡ with_growth (log_in old) growth → IsServedBy moment growth old result.0 }
     {
         (self.server, self.between)
     }
 
     /// Lets the others act, and serves the request as the mishaps of the call say.
     fn deliver(&mut self, request: &Request) -> Result<Reply, WireEnd>
-        ensures delivers { Delivers B.acts self.old.counts.calls self.old.mishaps self.old.between self.new.between
+        ensures delivers { Delivers B.acts B.idle self.old.counts.calls self.old.mishaps self.old.between self.new.between
             self.old.server self.new.server request.now self.old.moment result }
         ensures moment { self.new.moment ≡ self.old.moment }
         ensures mishaps { self.new.mishaps ≡ self.old.mishaps }
@@ -93,7 +100,7 @@ impl<B: Between> Wire for LoopWire<B> {
     ghost use Rattle.ak_loops.specs.LoopWires.{Delivers, counts_after, health_over, state_over};
     ghost use Rattle.ak_wires.specs.Wires.{Called};
 
-    ghost state = { λ wire. state_over wire.server wire.counts };
+    ghost state = { λ wire. state_over wire.server wire.counts wire.moment (B.idle wire.between) };
 
     fn bad(&self) -> u64 {
         0
@@ -110,9 +117,11 @@ impl<B: Between> Wire for LoopWire<B> {
     /// Sends a request. If memory suffices, it fails exactly if a mishap of this call loses the request or its reply.
     fn call(&mut self, request: &Request) -> Result<Reply, WireEnd>
         ensures called { Called (health_over self.old.counts self.old.mishaps)
-            (health_over self.new.counts self.new.mishaps) (state_over self.old.server self.old.counts)
-            (state_over self.new.server self.new.counts) request.now result }
-        ensures delivers { Delivers B.acts self.old.counts.calls self.old.mishaps self.old.between self.new.between
+            (health_over self.new.counts self.new.mishaps)
+            (state_over self.old.server self.old.counts self.old.moment (B.idle self.old.between))
+            (state_over self.new.server self.new.counts self.new.moment (B.idle self.new.between))
+            request.now result }
+        ensures delivers { Delivers B.acts B.idle self.old.counts.calls self.old.mishaps self.old.between self.new.between
             self.old.server self.new.server request.now self.old.moment result }
         ensures counts { self.new.counts ≡ counts_after self.old.counts request.now result }
         ensures moment { self.new.moment ≡ self.old.moment }
