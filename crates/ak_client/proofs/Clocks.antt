@@ -2,7 +2,7 @@
 use Rattle.std.specs.Prelude.{◌≡◌, ℕ, zero, suc, ◌≤◌, ℤ, Bool, true, false, List, Option}
 use Rattle.std.proofs.Common.{refl, sym, ap, subst, arith}
 use Rattle.ak_client.specs.Endings.{IsOfGreeting}
-use Rattle.ak_client.specs.Outcomes.{outcome_at}
+use Rattle.ak_client.specs.Outcomes.{is_told_by_meta, outcome_at}
 use Rattle.ak_client.specs.Syncs.{EndsAt, HasGiven, HasRaised, KeepsDevice, TakesMoments, ends_before_finish, fewest_moments, most_moments}
 use Rattle.ak_client.specs.declared.outcomes.Outcome.{Outcome}
 use Rattle.ak_client.specs.declared.outcomes.Outcome.TheVariants as outcomes
@@ -86,6 +86,33 @@ module _ (tries : List TriedAsk) (now : WireState) where
   pub fault_ends : (fault : KeepFault) → EndsAt tries now (outcome_at (keep_stop fault))
   fault_ends faults.Failed = tt
   fault_ends faults.Memory = tt
+
+-- what an exchange stops for is not told by the meta
+pub stop_told : (tries : List TriedAsk) (wire : WireState) (stop : Stop) → StopsFor tries wire stop → is_told_by_meta (outcome_at stop) ≡ false
+stop_told tries wire stops.NoChanges is = absurd is
+stop_told tries wire (stops.FullSchema device server) is = absurd is
+stop_told tries wire (stops.FullSequence usn) is = absurd is
+stop_told tries wire (stops.BadRow fault) is = refl
+stop_told tries wire (stops.BadCounts client server) is = refl
+stop_told tries wire (stops.ClockOff device server) is = absurd is
+stop_told tries wire (stops.OwnCheck fault) is = absurd is
+stop_told tries wire stops.Stopped is = absurd is
+stop_told tries wire (stops.Refused status word seen) is = refl
+stop_told tries wire stops.Lost is = refl
+stop_told tries wire stops.BadReply is = refl
+stop_told tries wire stops.TooManyChunks is = refl
+stop_told tries wire stops.Keep is = refl
+stop_told tries wire stops.Memory is = refl
+
+pub fault_told : (fault : KeepFault) → is_told_by_meta (outcome_at (keep_stop fault)) ≡ false
+fault_told faults.Failed = refl
+fault_told faults.Memory = refl
+
+pub unanswered_told : (why : Unanswered) → is_told_by_meta (outcome_at (wire_stop why)) ≡ false
+unanswered_told unanswered.Lost = refl
+unanswered_told unanswered.BadReply = refl
+unanswered_told (unanswered.Refused status word seen) = refl
+unanswered_told unanswered.Memory = refl
 
 -- ---- the clock
 given_more : (n : ℕ) (old mid new : Option (List ℤ)) → HasGiven 1 old mid → HasGiven n mid new → HasGiven (suc n) old new

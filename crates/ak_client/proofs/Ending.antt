@@ -5,10 +5,10 @@ use Rattle.std.specs.Prelude.{◌≡◌, ℕ, ℤ, pos, ◌+◌, ◌≤◌, ◌+
 use Rattle.std.specs.Int.{div_ceil}
 use Rattle.std.proofs.Common.{refl, sym, ap, subst, ◌∙◌, inl, inr, arith}
 use Rattle.std.proofs.lemmas.Result.{IfErr-weaker, IfOk-weaker}
-use Rattle.ak_client.proofs.Clocks.{fault_ends, fault_not_early, not_early, not_finished, stop_ends}
+use Rattle.ak_client.proofs.Clocks.{fault_ends, fault_not_early, fault_told, not_early, not_finished, stop_ends, stop_told}
 use Rattle.ak_client.proofs.Committing.{ended}
 use Rattle.ak_client.specs.Endings.{ArePlain, Ended, Ends, Exchanged, ExchangesAll, IsGranted}
-use Rattle.ak_client.specs.Outcomes.{EndsFor, outcome_at, outcome_of}
+use Rattle.ak_client.specs.Outcomes.{EndsFor, is_told_by_meta, outcome_at, outcome_of}
 use Rattle.ak_client.specs.Syncs.{EndsAt, ends_before_finish}
 use Rattle.ak_client.specs.declared.outcomes.Outcome.{Outcome}
 use Rattle.ak_client.specs.declared.outcomes.Outcome.TheVariants as outcomes
@@ -155,7 +155,7 @@ asked_nothing ids met before left h w fault = record {
   graves_most = no_graves before;
   few = few_none 40_000 39_999 (5 + 0);
   rows = λ told. tt;
-  ends = (λ is. tt, fault_ends [] w fault);
+  ends = (λ is. tt, fault_ends [] w fault, fault_told fault);
   told = λ c s account is_met reached holds. record {
     shown = record { reached = reached; front = λ may. (planned c s, refl) };
     early = λ early. tt;
@@ -171,7 +171,7 @@ module _ (ids : Ids) (met : Met) (before marked mid left : Keeping) (h0 h1 : Hea
   Leaves outcome c s account asks = before ≡ holding c → Ended c s account (asker ids) asks w1.log left outcome
 
   ends_with : (result : Result ℤ Stop) (outcome : Outcome) → (ex : ExchangesAll ids met marked mid h0 h1 w0 w1 result)
-      → (outcome ≡ outcomes.Finished → AllGranted ex.tries) × EndsAt ex.tries w1 outcome
+      → (outcome ≡ outcomes.Finished → AllGranted ex.tries) × EndsAt ex.tries w1 outcome × (is_told_by_meta outcome ≡ false)
       → ((c s : Collection) (account : AccountState) → IsMet c s met → Exchanged c s account (asker ids) (asks_in ex.tries) w1.log mid result
       → Ended c s account (asker ids) (asks_in ex.tries) w1.log left outcome)
       → Ends ids met before left h0 h1 w0 w1 outcome
@@ -192,14 +192,14 @@ module _ (ids : Ids) (met : Met) (before marked mid left : Keeping) (h0 h1 : Hea
       → Ends ids met before left h0 h1 w0 w1 (outcome_of result)
   ends_stopped stop result ex (inl same) =
       subst (λ (r : Result (Unit {0}) Stop). Ends ids met before left h0 h1 w0 w1 (outcome_of r)) (sym same)
-      (ends_with (Err stop) (outcome_at stop) ex (λ is. absurd (not_finished stop is), stop_ends ex.tries w1 stop ex.ends.1) (λ c s account is_met it. record {
+      (ends_with (Err stop) (outcome_at stop) ex (λ is. absurd (not_finished stop is), stop_ends ex.tries w1 stop ex.ends.1, stop_told ex.tries w1 stop ex.ends.1) (λ c s account is_met it. record {
         shown = it.shown;
         early = it.early;
         finished = λ is. absurd (not_finished stop is);
       }))
   ends_stopped stop result ex (inr (fault, same)) =
       subst (λ (r : Result (Unit {0}) Stop). Ends ids met before left h0 h1 w0 w1 (outcome_of r)) (sym same)
-      (ends_with (Err stop) (outcome_at (keep_stop fault)) ex (λ is. absurd (not_finished (keep_stop fault) is), fault_ends ex.tries w1 fault) (λ c s account is_met it. record {
+      (ends_with (Err stop) (outcome_at (keep_stop fault)) ex (λ is. absurd (not_finished (keep_stop fault) is), fault_ends ex.tries w1 fault, fault_told fault) (λ c s account is_met it. record {
         shown = it.shown;
         early = λ early. absurd (fault_not_early fault early);
         finished = λ is. absurd (not_finished (keep_stop fault) is);
@@ -208,7 +208,7 @@ module _ (ids : Ids) (met : Met) (before marked mid left : Keeping) (h0 h1 : Hea
   -- the device's commit was refused
   pub ends_refused : (moment : ℤ) (fault : KeepFault) → ExchangesAll ids met marked mid h0 h1 w0 w1 (Ok moment)
       → Ends ids met before left h0 h1 w0 w1 (outcome_at (keep_stop fault))
-  ends_refused moment fault ex = ends_with (Ok moment) (outcome_at (keep_stop fault)) ex (λ is. absurd (not_finished (keep_stop fault) is), fault_ends ex.tries w1 fault) (λ c s account is_met it. record {
+  ends_refused moment fault ex = ends_with (Ok moment) (outcome_at (keep_stop fault)) ex (λ is. absurd (not_finished (keep_stop fault) is), fault_ends ex.tries w1 fault, fault_told fault) (λ c s account is_met it. record {
     shown = it.shown;
     early = λ early. absurd (fault_not_early fault early);
     finished = λ is. absurd (not_finished (keep_stop fault) is);
@@ -218,7 +218,7 @@ module _ (ids : Ids) (met : Met) (before marked mid left : Keeping) (h0 h1 : Hea
   pub ends_finished : (moment : ℤ) → ExchangesAll ids met marked mid h0 h1 w0 w1 (Ok moment)
       → left ≡ committed (moments_set moment met.head.schema (met.meta.usn +ℤ pos 1) moment mid)
       → Ends ids met before left h0 h1 w0 w1 outcomes.Finished
-  ends_finished moment ex commits = ends_with (Ok moment) outcomes.Finished ex (λ is. ex.ends.0, tt) (λ c s account is_met it. record {
+  ends_finished moment ex commits = ends_with (Ok moment) outcomes.Finished ex (λ is. ex.ends.0, tt, refl) (λ c s account is_met it. record {
     shown = it.shown;
     early = λ early. absurd (not_both early refl);
     finished = λ is. ended c s account (asker ids) w1.log met moment mid left it.granted is_met commits;

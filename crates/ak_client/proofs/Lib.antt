@@ -1,4 +1,5 @@
 pub mod Alone
+pub mod Causes
 pub mod Clocks
 pub mod Committing
 pub mod Ending

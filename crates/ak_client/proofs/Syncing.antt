@@ -1,10 +1,11 @@
 -- What a whole sync asks and leaves.
 use Rattle.std.specs.List.{AllByRecursion}
-use Rattle.std.specs.Prelude.{◌≡◌, ℤ, pos, ◌+◌, ◌/◌, ◌≤◌, false, List, [], ◌∷◌, ◌++◌, length, Option, Some, Ok, Err}
+use Rattle.std.specs.Prelude.{◌≡◌, ℤ, pos, ◌+◌, ◌/◌, ◌≤◌, false, List, [], ◌∷◌, ◌++◌, length, Option, Some, None, Ok, Err}
 use Rattle.std.proofs.Common.{refl, sym, ap, subst, ◌∙◌, append_assoc, inl, inr, arith}
 use Rattle.std.proofs.lemmas.List.{length-append}
 use Rattle.std.proofs.lemmas.Option.{same_Some}
 use Rattle.ak_client.proofs.Alone.{alone_stays, commits_alone, made_with_stays, requests_are_of}
+use Rattle.ak_client.proofs.Causes.{met_because, unmet_because}
 use Rattle.ak_client.proofs.Clocks.{not_finished}
 use Rattle.ak_client.proofs.Ending.{no_graves}
 use Rattle.ak_client.proofs.Fates.{at_most_once, plain_commits_nothing, stays_once, stays_unused}
@@ -13,9 +14,9 @@ use Rattle.ak_client.proofs.Growing.{commits_grown, tried_grows, world_grown, ow
 use Rattle.ak_client.proofs.Leading.{linked_after}
 use Rattle.ak_client.proofs.Meeting.{formed_by, is_met, may_sync}
 use Rattle.ak_client.specs.Endings.{Ended, Ends, IsEnded}
-use Rattle.ak_client.specs.Greetings.{GreetsTold, IsGreeting, IsMetOver, IsReady, meta_of}
+use Rattle.ak_client.specs.Greetings.{GreetsTold, IsGreeting, IsMetOver, IsReady, clock_stop, meta_of}
 use Rattle.ak_client.specs.Outcomes.{outcome_at}
-use Rattle.ak_client.specs.Syncs.{CommitsAtMostOnce, EndsAt, IsShown, IsSync, IsSyncFinished, MayBegin, StaysOnce, Synced, meta_tried, world_at}
+use Rattle.ak_client.specs.Syncs.{CommitsAtMostOnce, EndsAt, IsShown, IsSync, IsSyncEnded, IsSyncFinished, MayBegin, StaysOnce, Synced, meta_tried, world_at}
 use Rattle.ak_client.specs.declared.outcomes.Outcome.{Outcome}
 use Rattle.ak_client.specs.declared.outcomes.Outcome.TheVariants as outcomes
 use Rattle.ak_exchange.proofs.Replying.{requests_count}
@@ -29,9 +30,11 @@ use Rattle.ak_exchange.specs.declared.envelopes.Met.{Met}
 use Rattle.ak_exchange.specs.declared.stops.Stop.{Stop}
 use Rattle.ak_exchange.specs.declared.stops.Stop.TheVariants as stops
 use Rattle.ak_faults.specs.Causes.{Health}
+use Rattle.ak_io.specs.Arrivals.{GivesNext}
 use Rattle.ak_keep.specs.Collections.{Collection, Holding}
 use Rattle.ak_keep.specs.Keepers.{IsRightlyKnown, Keeping, WhereTold}
 use Rattle.ak_keep.specs.declared.keepers.Wanted.TheVariants.{From, Unsent}
+use Rattle.ak_merge.specs.Edits.{second_of}
 use Rattle.ak_merge.specs.Exchanges.{AreExchanged, HoldsJoin}
 use Rattle.ak_merge.specs.Holdings.{row_under}
 use Rattle.ak_merge.specs.Joins.{AreApart}
@@ -101,6 +104,16 @@ unmet ids stop before left h0 h1 w0 w1 old_moments new_moments read it greets =
       made_with = made_with_stays (meta_of ids ∷ []) (it.heard.answer ∷ []) h0 h1 w0 w1 tried;
       commits = commits_alone (asker ids) (meta_of ids ∷ []) (it.heard.answer ∷ []) h0 h1 w0 w1 tried (refl, tt);
     }
+
+-- and why
+pub unmet_ended : (ids : Ids) (stop : Stop) (before left : Keeping) (h0 h1 : Health) (w0 w1 : WireState) (old_moments new_moments : Option (List ℤ))
+    → IsGreeting ids h0 h1 w0 w1 old_moments new_moments before (Err stop)
+    → GreetsTold ids w0.log w1.log (Err stop) → IsSyncEnded ids before left h0 h1 w0 w1 old_moments (outcome_at stop)
+unfolding unmet
+unmet_ended ids stop before left h0 h1 w0 w1 old_moments new_moments it greets = record {
+  sync = unmet ids stop before left h0 h1 w0 w1 old_moments new_moments before it greets;
+  because = unmet_because ids h0 h1 w0 w1 old_moments new_moments before stop it (pos 0);
+}
 
 -- ---- a sync that went on
 module _ (ids : Ids) (met : Met) (c s : Collection) (account : AccountState) (asks : List Ask) (old mid : Log) (later : List Event) (left : Keeping)
@@ -289,3 +302,14 @@ went_on ids met before kept left h0 h1 h2 w0 w1 w2 old_moments new_moments read 
       commits = commits_alone (asker ids) (meta_of ids ∷ list) (it.heard.answer ∷ answers_in ends.tries) h0 h2 w0 w2 all_tried
           (refl, requests_are_of (asker ids) met.meta.moment 1 (asks_in ends.tries));
     }
+
+-- and why it ended
+pub met_ended : (ids : Ids) (met : Met) (before kept left : Keeping) (h0 h1 h2 : Health) (w0 w1 w2 : WireState) (old_moments new_moments : Option (List ℤ))
+    (outcome : Outcome) → IsGreeting ids h0 h1 w0 w1 old_moments new_moments before (Ok met) → GreetsTold ids w0.log w1.log (Ok met)
+    → WhereTold before (λ h. IsReady h met) → (at : ℤ) × GivesNext old_moments new_moments at × (clock_stop met.meta (second_of at) ≡ None)
+    → IsRightlyKnown before → kept ≡ before → Ends ids met kept left h1 h2 w1 w2 outcome → IsSyncEnded ids before left h0 h2 w0 w2 old_moments outcome
+unfolding went_on
+met_ended ids met before kept left h0 h1 h2 w0 w1 w2 old_moments new_moments outcome it greets ready clocks known same ends = record {
+  sync = went_on ids met before kept left h0 h1 h2 w0 w1 w2 old_moments new_moments before outcome it greets ready known same ends;
+  because = met_because ids h0 h1 w0 w1 old_moments new_moments before met ends.tries outcome it ready clocks ends.ends.2;
+}

@@ -129,7 +129,7 @@ ready_where keeping meta head pass usn = by keeping.told
     by None held sound = tt
     by (Some w) held sound =
         let heads = heads_pass meta head pass in
-        record { head = held; differ = heads.0; schema = heads.1; number = below_last meta.usn usn heads.2; sound = sound }
+        record { head = held; pass = pass; differ = heads.0; schema = heads.1; number = below_last meta.usn usn heads.2; sound = sound }
 
 -- the head that was read is that of the device
 pub heads_told : (before now : Keeping) (met : Met) → now ≡ before → WhereTold before (λ h. IsReady h met) → WhereTold now (λ h. h.head ≡ Some met.head)

@@ -1,7 +1,7 @@
 -- What a sync that goes on after its meta asks and leaves.
 use Rattle.std.specs.List.{AllByRecursion}
 use Rattle.std.specs.Prelude.{◌≡◌, ℕ, ℤ, pos, ◌+◌, ◌≤◌, ◌+ℤ◌, true, false, List, [], ◌∷◌, ◌++◌, Option, Some, Result, IfOk, IfErr}
-use Rattle.ak_client.specs.Outcomes.{outcome_at}
+use Rattle.ak_client.specs.Outcomes.{is_told_by_meta, outcome_at}
 use Rattle.ak_client.specs.Syncs.{EndsAt, ends_before_finish, fewest_moments, most_moments, world_at}
 use Rattle.ak_client.specs.declared.outcomes.Outcome.{Outcome}
 use Rattle.ak_client.specs.declared.outcomes.Outcome.TheVariants as outcomes
@@ -116,6 +116,7 @@ pub record Ended (c s : Collection) (account : AccountState) (who : Asker) (asks
 abbrev pub Ends : Ids → Met → Keeping → Keeping → Health → Health → WireState → WireState → Outcome → Type 0
 Ends ids met before left health_before health_now old now outcome =
     AsksAfter ids met before health_before health_now old now
-    (λ (tries : List TriedAsk). (outcome ≡ outcomes.Finished → AllGranted tries) × EndsAt tries now outcome)
+    (λ (tries : List TriedAsk). (outcome ≡ outcomes.Finished → AllGranted tries) × EndsAt tries now outcome
+    × (is_told_by_meta outcome ≡ false))
     (λ (c s : Collection) (account : AccountState) (asks : List Ask). before ≡ holding c
     → Ended c s account (asker ids) asks now.log left outcome)

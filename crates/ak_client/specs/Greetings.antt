@@ -111,6 +111,7 @@ GreetsTold ids told_before told_now result = (account : AccountState) (old : Log
 -- what a greeting knows of the device once the sync may go on: the head that it holds, and that it may sync by the meta
 pub record IsReady (h : Holding) (met : Met) : Type 0 where
   pub head : h.head ≡ Some met.head
+  pub pass : head_stop met.meta met.head ≡ None
   pub differ : met.head.moment ≢ met.meta.moment
   pub schema : met.head.schema ≡ met.meta.scm
   pub number : met.meta.usn <ℤ last_head_usn

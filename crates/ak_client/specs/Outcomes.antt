@@ -1,5 +1,5 @@
 -- What an outcome says.
-use Rattle.std.specs.Prelude.{◌≡◌, ◌≢◌, ◌≤◌, ℕ, true, Result, Ok, Err, ◌⊎◌}
+use Rattle.std.specs.Prelude.{◌≡◌, ◌≢◌, ◌≤◌, ℕ, ℤ, Bool, true, false, Option, Some, Result, Ok, Err, ◌⊎◌}
 use Rattle.ak_client.specs.declared.outcomes.Outcome.{Outcome}
 use Rattle.ak_client.specs.declared.outcomes.Outcome.TheVariants as outcomes
 use Rattle.ak_exchange.specs.Stops.{keep_stop}
@@ -7,7 +7,9 @@ use Rattle.ak_exchange.specs.declared.stops.Stop.{Stop}
 use Rattle.ak_exchange.specs.declared.stops.Stop.TheVariants as stops
 use Rattle.ak_faults.specs.Causes.{GoesOn, Health, Rose}
 use Rattle.ak_keep.specs.declared.keepers.KeepFault.{KeepFault}
+use Rattle.ak_messages.specs.declared.replies.Word.{Word}
 use Rattle.ak_wires.specs.Wires.{more}
+use Rattle.ak_wires.specs.declared.wires.Said.{Said}
 
 -- the outcome of a sync that stopped
 abbrev pub outcome_at : Stop → Outcome
@@ -46,3 +48,29 @@ pub record HasOutcomeCause (outcome : Outcome) (before now : Health) (result : O
 pub record HasLostThrice (before now : Health) (silence_before silence : ℕ) (result : Outcome) : Type 0 where
   pub faults : result ≡ outcomes.Lost → more 3 before.faults ≤ now.faults
   pub silent : result ≡ outcomes.Lost → (silence ≡ 3) ⊎ (silence ≡ more 3 silence_before)
+
+-- the outcome of a request that was not granted, by what the reply of the last call said: its status, which is not 200, its word and the
+-- moment that was seen; or, if it could not be read, the count of such answers rose, and otherwise it has status 200 but not its form
+pub record ShowsRefusal (reading_before reading : Health) (said : Option Said) (result : Outcome) : Type 0 where
+  pub refused : (status : ℕ) (word : Word) (seen : ℤ) → result ≡ outcomes.Refused status word seen
+      → (it : Said) × (said ≡ Some it) × (it.status ≡ status) × (it.word ≡ word) × (it.seen ≡ seen) × (status ≢ 200)
+  pub unread : result ≡ outcomes.BadReply
+      → Rose reading_before reading ⊎ ((it : Said) × (said ≡ Some it) × (it.status ≡ 200))
+
+-- whether an outcome is told by the meta, the clocks and the device alone, before anything else is asked
+abbrev pub is_told_by_meta : Outcome → Bool
+is_told_by_meta outcomes.Finished = false
+is_told_by_meta outcomes.NoChanges = true
+is_told_by_meta (outcomes.FullSchema device server) = true
+is_told_by_meta (outcomes.FullSequence usn) = true
+is_told_by_meta (outcomes.BadRow fault) = false
+is_told_by_meta (outcomes.BadCounts client server) = false
+is_told_by_meta (outcomes.ClockOff device server) = true
+is_told_by_meta (outcomes.OwnCheck fault) = true
+is_told_by_meta outcomes.Stopped = true
+is_told_by_meta (outcomes.Refused status word seen) = false
+is_told_by_meta outcomes.Lost = false
+is_told_by_meta outcomes.BadReply = false
+is_told_by_meta outcomes.TooManyChunks = false
+is_told_by_meta outcomes.Keep = false
+is_told_by_meta outcomes.Memory = false

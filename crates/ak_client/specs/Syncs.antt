@@ -1,7 +1,10 @@
 -- What a sync asks and what it leaves, over a keeper that tells the device's collection c and a wire that tells the log of a server.
 use Rattle.std.specs.List.{AllByRecursion}
-use Rattle.std.specs.Prelude.{◌≡◌, ℕ, zero, suc, ℤ, pos, ◌+◌, ◌/◌, ◌≤◌, ◌+ℤ◌, Bool, true, false, List, [], ◌∷◌, ◌++◌, length, Option, Some, IfSome, Result, ⊤, ◌⊎◌}
-use Rattle.ak_client.specs.Greetings.{meta_of}
+use Rattle.std.specs.Option.{option_map, option_or}
+use Rattle.std.specs.Prelude.{◌≡◌, ℕ, zero, suc, ℤ, pos, ◌+◌, ◌/◌, ◌≤◌, ◌+ℤ◌, ◌==◌, Bool, true, false, if◌then◌else◌, List, [], ◌∷◌, ◌++◌, length, Option, Some, None, IfSome, option_and_then, Result, Ok, Err, ⊤, ◌⊎◌}
+use Rattle.ak_base.specs.declared.heads.Head.{Head}
+use Rattle.ak_client.specs.Greetings.{clock_stop, head_stop, meta_of}
+use Rattle.ak_client.specs.Outcomes.{is_told_by_meta, outcome_at}
 use Rattle.ak_client.specs.declared.outcomes.Outcome.{Outcome}
 use Rattle.ak_client.specs.declared.outcomes.Outcome.TheVariants as outcomes
 use Rattle.ak_device.specs.Devices.{RaisesMoments}
@@ -9,16 +12,22 @@ use Rattle.ak_exchange.specs.Asked.{AreFew, AreTried, TriedAsk, answers_in, aske
 use Rattle.ak_exchange.specs.Grants.{AllGranted, AllGrantedButLast, AreTooMany, EndsUnanswered, IsCheckedLast, SendsRows, is_told}
 use Rattle.ak_exchange.specs.Phases.{AreGraveRequests, holding}
 use Rattle.ak_exchange.specs.declared.envelopes.Ids.{Ids}
+use Rattle.ak_exchange.specs.Stops.{keep_stop}
+use Rattle.ak_exchange.specs.declared.stops.Stop.{Stop}
 use Rattle.ak_exchange.specs.declared.stops.Stop.TheVariants as stops
 use Rattle.ak_faults.specs.Causes.{Health}
 use Rattle.ak_io.specs.Arrivals.{GivesNext, IsClockMoment}
-use Rattle.ak_keep.specs.Collections.{Collection}
+use Rattle.ak_keep.specs.Collections.{Collection, Holding}
 use Rattle.ak_keep.specs.Keepers.{Keeping, WhereTold}
+use Rattle.ak_keep.specs.declared.keepers.KeepFault.{KeepFault}
 use Rattle.ak_keep.specs.declared.keepers.Wanted.TheVariants.{From, Unsent}
+use Rattle.ak_merge.specs.Edits.{second_of}
 use Rattle.ak_merge.specs.Exchanges.{HoldsJoin, AreExchanged}
 use Rattle.ak_merge.specs.Holdings.{row_under}
 use Rattle.ak_merge.specs.Joins.{AreApart}
 use Rattle.ak_merge.specs.Links.{AreLinked}
+use Rattle.ak_merge.specs.Soundness.{first_fault}
+use Rattle.ak_merge.specs.declared.checks.CheckFault.{CheckFault}
 use Rattle.ak_messages.specs.declared.replies.Reply.{Reply}
 use Rattle.ak_messages.specs.declared.requests.Ask.{Ask}
 use Rattle.ak_messages.specs.declared.requests.Ask.TheVariants as asks
@@ -30,8 +39,10 @@ use Rattle.ak_protocol.specs.Sessions.{IsOwnOrOther}
 use Rattle.ak_protocol.specs.Syncs.{IsUnderWay, IsUnused, world_of}
 use Rattle.ak_session.specs.Plans.{Asker, planned, requests_from}
 use Rattle.ak_session.specs.Slices.{wanted_graves, wanted_in_chunks}
+use Rattle.ak_wires.specs.Forms.{meta_in}
 use Rattle.ak_wires.specs.Wires.{WireState}
 use Rattle.ak_wires.specs.declared.asks.Unanswered.TheVariants as unanswered
+use Rattle.ak_wires.specs.declared.wires.MetaSaid.{MetaSaid}
 use Rattle.ak_wires.specs.declared.wires.WireEnd.{WireEnd}
 
 -- ---- before a sync
@@ -221,6 +232,48 @@ pub record IsSync (ids : Ids) (before left : Keeping) (health_before health_now 
   pub alone : now.alone ≡ old.alone
   pub made_with : now.made_with ≡ old.made_with
   pub commits : old.alone ≡ true → CommitsAloneTold (asker ids) old.log now.log
+
+-- ---- why it ended at its meta
+-- what a meta said, if it was granted and has its form
+abbrev pub told_by : Result Reply WireEnd → Option MetaSaid
+told_by (Ok reply) = if reply.status == 200 then meta_in reply.give else None
+told_by (Err end) = None
+
+-- why a sync ends by the device, once the server and the clocks let it go on: by the two heads, or else by the first fault of its own rows
+abbrev pub device_stop : MetaSaid → Holding → Option Stop
+device_stop meta h = option_and_then (λ (head : Head). option_or (head_stop meta head)
+    (option_map (λ (fault : CheckFault). stops.OwnCheck fault) (first_fault h.rows))) h.head
+
+-- how a sync ends by what its meta said and the moment that the clock gave then. The server and the clocks come first, then the two heads,
+-- then the device's own rows
+pub record EndsByMeta (meta : MetaSaid) (at : ℤ) (before : Keeping) (outcome : Outcome) : Type 0 where
+  -- if the server or the clocks do not let it go on, it ends for that reason
+  pub by_clocks : (stop : Stop) → clock_stop meta (second_of at) ≡ Some stop → outcome ≡ outcome_at stop
+  -- if they do, and the device does not, it ends for that reason, or because the keeper refused to be read
+  pub by_device : clock_stop meta (second_of at) ≡ None → WhereTold before (λ h. (stop : Stop) → device_stop meta h ≡ Some stop
+      → (outcome ≡ outcome_at stop) ⊎ ((fault : KeepFault) × (outcome ≡ outcome_at (keep_stop fault))))
+  -- and it ends so for no other reason
+  pub only : is_told_by_meta outcome ≡ true → (stop : Stop) × (outcome ≡ outcome_at stop)
+      × ((clock_stop meta (second_of at) ≡ Some stop)
+      ⊎ ((clock_stop meta (second_of at) ≡ None) × WhereTold before (λ h. device_stop meta h ≡ Some stop)))
+
+-- why a sync ended that tried these after its meta, over the moment that this told
+pub record EndsBecause (meta : Result Reply WireEnd) (moment : ℤ) (tries : List TriedAsk) (before : Keeping)
+    (to_come_before : Option (List ℤ)) (outcome : Outcome) : Type 0 where
+  -- a meta that was not granted gives none of these reasons
+  pub unmet : told_by meta ≡ None → is_told_by_meta outcome ≡ false
+  -- one that was granted does, by the next moment of the clock
+  pub met : (said : MetaSaid) → told_by meta ≡ Some said
+      → (at : ℤ) × (to_come : Option (List ℤ)) × GivesNext to_come_before to_come at × EndsByMeta said at before outcome
+  -- if it asked more, its meta was granted, and it ended for none of them
+  pub more : (tries ≡ []) ⊎ ((said : MetaSaid) × (told_by meta ≡ Some said) × (moment ≡ said.moment)
+      × (is_told_by_meta outcome ≡ false))
+
+-- a sync, and why it ended
+pub record IsSyncEnded (ids : Ids) (before left : Keeping) (health_before health_now : Health) (old now : WireState)
+    (to_come_before : Option (List ℤ)) (outcome : Outcome) : Type 0 where
+  pub sync : IsSync ids before left health_before health_now old now outcome
+  pub because : EndsBecause sync.meta sync.moment sync.tries before to_come_before outcome
 
 -- ---- what it takes of its clock
 -- the moment that a clock gives once it gave so many others, and what it has still to give then

@@ -2,8 +2,8 @@ ghost use Rattle.std.specs.Prelude.{◌≡◌, ◌≤ℤ◌, ◌<ℤ◌, pos, []
 ghost use Rattle.ak_base.specs.Heads.{IsHeadInRange, IsMoment};
 ghost use Rattle.ak_base.specs.Limits.{last_head_usn};
 ghost use Rattle.ak_client.specs.Endings.{Ends, ExchangesAll};
-ghost use Rattle.ak_client.specs.Outcomes.{EndsFor, HasLostThrice, HasOutcomeCause, outcome_of};
-ghost use Rattle.ak_client.specs.Syncs.{IsSync, KeepsDevice, TakesMoments};
+ghost use Rattle.ak_client.specs.Outcomes.{EndsFor, HasLostThrice, HasOutcomeCause, ShowsRefusal, outcome_of};
+ghost use Rattle.ak_client.specs.Syncs.{IsSync, IsSyncEnded, KeepsDevice, TakesMoments};
 ghost use Rattle.ak_client.specs.declared.outcomes.Outcome.TheVariants as outcomes;
 ghost use Rattle.ak_exchange.specs.Stops.{is_keep};
 ghost use Rattle.ak_exchange.specs.declared.stops.Stop.TheVariants as stops;
@@ -38,6 +38,10 @@ pub fn sync_over<K: Keeper, W: Wire, C: Clock>(
     ensures syncs { IsSync ids (K.keeping keeper.old) (K.keeping keeper.new) (W.health wire.old) (W.health wire.new)
         (W.state wire.old) (W.state wire.new) result }
 
+    // And why it ended: by what its meta said and the moment of the clock then, in the order of the tests.
+    ensures ended { IsSyncEnded ids (K.keeping keeper.old) (K.keeping keeper.new) (W.health wire.old) (W.health wire.new)
+        (W.state wire.old) (W.state wire.new) (C.to_come clock.old) result }
+
     // If it is not finished, the device is as it was; after a bad sanity check alone both moments have risen, to the second
     // moment that it takes of the clock.
     ensures device { KeepsDevice 1 (K.keeping keeper.old) (K.keeping keeper.new)
@@ -58,6 +62,9 @@ pub fn sync_over<K: Keeper, W: Wire, C: Clock>(
     ensures lost { HasOutcomeCause outcomes.Lost (W.health wire.old) (W.health wire.new) result }
     ensures thrice { HasLostThrice (W.health wire.old) (W.health wire.new)
         (W.state wire.old).silence (W.state wire.new).silence result }
+
+    // If a request was refused, or its answer could not be read or had not its form, the wire shows it.
+    ensures shown { ShowsRefusal (W.state wire.old).reading (W.state wire.new).reading (W.state wire.new).said result }
     ensures wire { GoesOn (W.health wire.old) (W.health wire.new) }
     ensures reading { GoesOn (W.state wire.old).reading (W.state wire.new).reading }
 {
@@ -76,8 +83,8 @@ fn sync_device<K: Keeper, W: Wire, C: Clock>(
 ) -> Result<(), Stop>
     requires unmarked { is_marked (K.keeping keeper.old) ≡ false }
     requires held { (K.keeping keeper.old).headed.current ≡ true }
-    ensures syncs { IsSync ids (K.keeping keeper.old) (K.keeping keeper.new) (W.health wire.old) (W.health wire.new)
-        (W.state wire.old) (W.state wire.new) (outcome_of result) }
+    ensures ended { IsSyncEnded ids (K.keeping keeper.old) (K.keeping keeper.new) (W.health wire.old) (W.health wire.new)
+        (W.state wire.old) (W.state wire.new) (C.to_come clock.old) (outcome_of result) }
     ensures device { KeepsDevice 1 (K.keeping keeper.old) (K.keeping keeper.new)
         (C.to_come clock.old) (C.to_come clock.new) (outcome_of result) }
     ensures unmarked { is_marked (K.keeping keeper.new) ≡ false }

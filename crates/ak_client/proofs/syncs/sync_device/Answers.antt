@@ -1,32 +1,34 @@
 use Rattle.std.specs.Prelude.{Result}
 use Rattle.std.proofs.Common.{subst}
 use Rattle.ak_client.proofs.Clocks.{keeps_more, takes_more}
-use Rattle.ak_client.proofs.Syncing.{unmet, went_on}
+use Rattle.ak_client.proofs.Syncing.{met_ended, unmet_ended}
 use Rattle.ak_client.proofs.Testing.{exits, heads_told}
 use Rattle.ak_client.specs.Outcomes.{outcome_of}
-use Rattle.ak_client.specs.Syncs.{IsSync, KeepsDevice}
+use Rattle.ak_client.specs.Syncs.{IsSyncEnded, KeepsDevice}
 use Rattle.ak_exchange.proofs.Faults.{cause_passed}
 use Rattle.ak_exchange.specs.declared.stops.Stop.{Stop}
 use Rattle.ak_faults.proofs.Healths.{cause_after}
 use Rattle.ak_keep.specs.Keepers.{Keeping}
 use Rattle.ak_client.proofs.syncs.sync_device.Goals as goal
 
-pub returns-in_err-met-clause-syncs : goal.returns-in_err-met-clause-syncs
-returns-in_err-met-clause-syncs g c =
+pub returns-in_err-met-clause-ended : goal.returns-in_err-met-clause-ended
+returns-in_err-met-clause-ended g c =
     exits c.from_residual.result c.in_err-met.field-0.0
-    (λ (r : Result (Unit {0}) Stop). IsSync c.args.ids (g.K.Lookup.keeping c.args.keeper.now) (g.K.Lookup.keeping c.greet.new.keeper)
-    (g.W.End.health c.args.wire.now) (g.W.End.health c.greet.new.wire) (g.W.Wire.state c.args.wire.now) (g.W.Wire.state c.greet.new.wire) (outcome_of r))
-    c.from_residual.ensures.1
-    (unmet c.args.ids c.in_err-met.field-0.0 (g.K.Lookup.keeping c.args.keeper.now) (g.K.Lookup.keeping c.greet.new.keeper)
+    (λ (r : Result (Unit {0}) Stop). IsSyncEnded c.args.ids (g.K.Lookup.keeping c.args.keeper.now) (g.K.Lookup.keeping c.greet.new.keeper)
     (g.W.End.health c.args.wire.now) (g.W.End.health c.greet.new.wire) (g.W.Wire.state c.args.wire.now) (g.W.Wire.state c.greet.new.wire)
-    _ _ (g.K.Lookup.keeping c.args.keeper.now) c.in_err-met.ensures.heard c.in_err-met.ensures.greets)
+    (g.C.Clock.to_come c.args.clock.now) (outcome_of r))
+    c.from_residual.ensures.1
+    (unmet_ended c.args.ids c.in_err-met.field-0.0 (g.K.Lookup.keeping c.args.keeper.now) (g.K.Lookup.keeping c.greet.new.keeper)
+    (g.W.End.health c.args.wire.now) (g.W.End.health c.greet.new.wire) (g.W.Wire.state c.args.wire.now) (g.W.Wire.state c.greet.new.wire)
+    (g.C.Clock.to_come c.args.clock.now) (g.C.Clock.to_come c.greet.new.clock) c.in_err-met.ensures.heard c.in_err-met.ensures.greets)
 
-pub returns-clause-syncs : goal.returns-clause-syncs
-returns-clause-syncs g c =
-    went_on c.args.ids c.in_ok-met.met (g.K.Lookup.keeping c.args.keeper.now) (g.K.Lookup.keeping c.greet.new.keeper) (g.K.Lookup.keeping c.sync_met.new.keeper)
+pub returns-clause-ended : goal.returns-clause-ended
+returns-clause-ended g c =
+    met_ended c.args.ids c.in_ok-met.met (g.K.Lookup.keeping c.args.keeper.now) (g.K.Lookup.keeping c.greet.new.keeper) (g.K.Lookup.keeping c.sync_met.new.keeper)
     (g.W.End.health c.args.wire.now) (g.W.End.health c.greet.new.wire) (g.W.End.health c.sync_met.new.wire)
     (g.W.Wire.state c.args.wire.now) (g.W.Wire.state c.greet.new.wire) (g.W.Wire.state c.sync_met.new.wire)
-    _ _ (g.K.Lookup.keeping c.args.keeper.now) (outcome_of c.sync_met.result) c.in_ok-met.ensures.heard c.in_ok-met.ensures.greets c.in_ok-met.ensures.ready c.in_ok-met.ensures.known c.in_ok-met.ensures.same c.sync_met.ensures.ends
+    (g.C.Clock.to_come c.args.clock.now) (g.C.Clock.to_come c.greet.new.clock) (outcome_of c.sync_met.result) c.in_ok-met.ensures.heard c.in_ok-met.ensures.greets
+    c.in_ok-met.ensures.ready c.in_ok-met.ensures.clocks c.in_ok-met.ensures.known c.in_ok-met.ensures.same c.sync_met.ensures.ends
 
 pub returns-clause-device : goal.returns-clause-device
 returns-clause-device g c =
