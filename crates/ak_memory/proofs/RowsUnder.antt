@@ -1,0 +1,82 @@
+-- The rows in places, as finite maps.
+use Rattle.std.specs.Prelude.{◌≡◌, Bool, true, false, T, cond, not, ◌&&◌, ◌||◌, Option, Some, None, is_some, List, [], ◌∷◌}
+use Rattle.std.proofs.Common.{refl, sym, ap, subst, ◌∙◌}
+use Rattle.std.specs.BTreeMap.{is_at}
+use Rattle.std.specs.Cmp.{eq_by_cmp_equiv}
+use Rattle.std.specs.FinMap.{get, insert, remove, empty, get-empty, get-insert, get-remove, same_map}
+use Rattle.std.specs.Option.{option_and_then}
+use Rattle.ak_base.proofs.NameOrder.{names_exact}
+use Rattle.ak_base.specs.Names.{name_cmp, names_total}
+use Rattle.ak_base.specs.declared.names.Name.{Name}
+use Rattle.ak_base.specs.declared.rows.Row.{Row}
+use Rattle.ak_keep.specs.Collections.{Rows}
+use Rattle.ak_keep.proofs.RowsByName.{same_of_tied}
+use Rattle.ak_memory.specs.Places.{row_at, row_under, rows_at, with_under, place_under, is_changed, is_changed_place, is_changed_under, is_apart, row_before}
+use Rattle.ak_memory.specs.declared.places.Place.{Place}
+use Rattle.ak_memory.specs.declared.places.Before.{Before}
+use Rattle.ak_memory.specs.declared.places.Before.TheVariants.{Same, Other}
+use Rattle.ak_memory.specs.declared.versions.Version.{Version}
+use Rattle.ak_memory.specs.declared.versions.Version.TheVariants.{Now, Mark}
+
+turned : (x y : Name) → is_at (name_cmp x) y ≡ is_at (name_cmp y) x
+turned x y = (eq_by_cmp_equiv names_total).symm x y
+
+-- what is under a name, after a row was put there or taken out
+pub get-with_under : (name : Name) (row : Option Row) (rows : Rows) (q : Name) → get (with_under name row rows) q ≡ cond (is_at (name_cmp name) q) row (get rows q)
+get-with_under name None rows q = get-remove names_total rows name q ∙ ap (λ b. cond b None (get rows q)) (turned q name)
+get-with_under name (Some row) rows q = get-insert names_total rows name row q ∙ ap (λ b. cond b (Some row) (get rows q)) (turned q name)
+
+and_then-cond : (b : Bool) (version : Version) (place : Place) (found : Option Place)
+    → cond b (row_at version place) (option_and_then (row_at version) found) ≡ option_and_then (row_at version) (cond b (Some place) found)
+and_then-cond true version place found = refl
+and_then-cond false version place found = refl
+
+-- what the map of the rows has under a name
+pub get-rows_at : (version : Version) (places : List (Name × Place)) (q : Name) → get (rows_at version places) q ≡ row_under version places q
+get-rows_at version [] q = get-empty name_cmp q
+get-rows_at version (e ∷ places) q =
+    get-with_under e.0 (row_at version e.1) (rows_at version places) q
+    ∙ ap (λ b. cond b (row_at version e.1) (get (rows_at version places) q)) (turned e.0 q)
+    ∙ ap (λ o. cond (is_at (name_cmp q) e.0) (row_at version e.1) o) (get-rows_at version places q)
+    ∙ and_then-cond (is_at (name_cmp q) e.0) version e.1 (place_under places q)
+
+-- places with the same rows under each name
+pub rows_at-same : (v w : Version) (es fs : List (Name × Place)) → ((q : Name) → row_under v fs q ≡ row_under w es q) → rows_at v fs ≡ rows_at w es
+rows_at-same v w es fs h = same_map names_total names_exact _ _ (λ q. get-rows_at v fs q ∙ h q ∙ sym (get-rows_at w es q))
+
+-- places that differ under one name
+pub rows_at-with : (v : Version) (es fs : List (Name × Place)) (name : Name) (row : Option Row) → ((q : Name) → row_under v fs q ≡ cond (is_at (name_cmp name) q) row (row_under v es q))
+    → rows_at v fs ≡ with_under name row (rows_at v es)
+rows_at-with v es fs name row h = same_map names_total names_exact _ _ (λ q.
+    get-rows_at v fs q ∙ h q ∙ ap (λ o. cond (is_at (name_cmp name) q) row o) (sym (get-rows_at v es q)) ∙ sym (get-with_under name row (rows_at v es) q))
+
+-- to take out what is not there changes nothing
+taken_none : (b : Bool) (o : Option Row) → (b ≡ true → o ≡ None) → cond b None o ≡ o
+taken_none true o h = sym (h refl)
+taken_none false o h = refl
+
+pub with_none : (name : Name) (rows : Rows) → get rows name ≡ None → with_under name None rows ≡ rows
+with_none name rows none = same_map names_total names_exact _ _ (λ q.
+    get-with_under name None rows q ∙ taken_none (is_at (name_cmp name) q) (get rows q) (λ is. ap (get rows) (sym (same_of_tied name q is)) ∙ none))
+
+-- no row is under a name that has no place
+pub no_place : (version : Version) (es : List (Name × Place)) (name : Name) → place_under es name ≡ None → row_under version es name ≡ None
+no_place version es name none = ap (option_and_then (row_at version)) none
+
+-- ---- places that were not changed
+
+unchanged_row : (v : Version) (place : Place) → is_changed place ≡ false → row_at v place ≡ row_at Now place
+unchanged_row Now place h = refl
+unchanged_row Mark place h =
+    elim place.before as (λ b. is_apart b ≡ false → row_before place.row b ≡ row_at Now place) [
+      | Same ↦ λ _. refl
+      | Other row ↦ λ h. absurd (subst T h tt)
+    ] h
+
+unchanged_found : (v : Version) (found : Option Place) → is_changed_place found ≡ false → option_and_then (row_at v) found ≡ option_and_then (row_at Now) found
+unchanged_found v None h = refl
+unchanged_found v (Some place) h = unchanged_row v place h
+
+-- where nothing was changed, both versions have the same row
+pub unchanged_under : (v w : Version) (es : List (Name × Place)) (q : Name) → is_changed_under es q ≡ false → row_under v es q ≡ row_under w es q
+unchanged_under v w es q h = unchanged_found v (place_under es q) h ∙ sym (unchanged_found w (place_under es q) h)

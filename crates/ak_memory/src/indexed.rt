@@ -1,0 +1,226 @@
+// The places of rows, with what is kept beside them so that nobody walks over a table to know it, or over what was not
+// changed to settle it.
+ghost use Rattle.std.specs.Prelude.{◌≡◌, ℤ, true, false, not, cond, None, [], ◌+◌, ◌-◌, ◌<◌, ◌≤◌, ◌^◌, ◌&&◌, ◌++◌, ◌∷◌, if◌then◌else◌, length, is_some, slice_index, slice_set, IfOk, IfSome, OnOk, OnErr};
+ghost use Rattle.std.specs.BTreeMap.{is_at};
+ghost use Rattle.std.specs.FinMap as finite;
+ghost use Rattle.std.specs.List.Sorted.{IsStrictlySortedBy};
+ghost use Rattle.std.specs.Map.{keys_of};
+ghost use Rattle.std.specs.Option.{option_and_then, option_copied};
+ghost use Rattle.std.specs.Vec.{vec_capacity, vec_len};
+ghost use Rattle.ak_base.specs.Names.{name_cmp, table_place};
+ghost use Rattle.ak_base.specs.Rows.{name_of};
+ghost use Rattle.ak_base.specs.declared.names.Name.{Name as RowName};
+ghost use Rattle.ak_keep.specs.Collections.{cards_of, row_count};
+ghost use Rattle.ak_keep.specs.NoteKeys.{has_key, is_note, note_of_card};
+ghost use Rattle.ak_memory.specs.Indexes.{HaveAllKeys, IsIndexed, rows_of};
+ghost use Rattle.ak_memory.specs.Places.{is_among, is_changed_under, place_under, one_if, row_in, row_under, rows_at, unchanged_count, with_under};
+ghost use Rattle.ak_memory.specs.declared.versions.Version.{Version as WhichVersion};
+ghost use Rattle.ak_memory.specs.declared.versions.Version.TheVariants.{Mark, Now};
+
+use crate::by_name::{Places, add_place, drop_empty, hold_under, row_of, settle_under};
+use crate::note_keys::{NoteKey, add_key, forget_key, ids_of, note_of_card};
+use crate::places::Change;
+use crate::versions::Version;
+use ak_base::{List, Memory, Name, Row, Table};
+use std::alloc::Global;
+use std::collections::{BTreeMap, BTreeSet};
+
+/// The places of rows by name. Beside them are the numbers of rows of each table, now and at the mark, a key for each
+/// card, and the names of the places that were changed since the mark, some of them twice.
+#[derive(Debug, Drop)]
+pub(crate) struct IndexedPlaces {
+    places: Places,
+    counts: [u64; 9],
+    mark_counts: [u64; 9],
+    cards: BTreeSet<NoteKey>,
+    noted: Vec<Name>,
+}
+
+impl IndexedPlaces {
+    /// No places.
+    pub(crate) fn new(alloc: Global) -> IndexedPlaces
+        ensures indexed { IsIndexed result }
+        ensures rows { (version : WhichVersion) → rows_of version result ≡ finite.empty }
+    {
+        IndexedPlaces {
+            places: BTreeMap::new(alloc),
+            counts: [0; 9],
+            mark_counts: [0; 9],
+            cards: BTreeSet::new(alloc),
+            noted: Vec::new(alloc),
+        }
+    }
+
+    /// The places by name.
+    pub(crate) fn places(&self) -> &Places
+        ensures { result.now ≡ self.now.places }
+    {
+        &self.places
+    }
+
+    /// The row that is held under the name.
+    pub(crate) fn get(&self, name: &Name) -> Option<&Row>
+        ensures { option_copied result ≡ finite.get (rows_of Now self.now) name.now }
+    {
+        row_of(&self.places, name)
+    }
+
+    /// How many rows the table has.
+    pub(crate) fn count(&self, table: Table) -> u64
+        requires { IsIndexed self.now }
+        ensures count { result ≡ row_count table (rows_of Now self.now) }
+        ensures small { result < 2 ^ 63 }
+    {
+        // For the proof alone: a map says that it is small and that its keys ascend when its length is asked.
+        let _small = self.places.len();
+        self.counts[table.place() as usize]
+    }
+
+    /// The ids of the note's cards, in the order of their names.
+    pub(crate) fn cards_of(&self, alloc: Global, note: &i64) -> Result<List<i64>, Memory>
+        requires { IsIndexed self.now }
+        ensures { IfOk result (λ ids. ids ≡ cards_of note.now (rows_of Now self.now)) }
+    {
+        // For the proof alone, as in `count`.
+        let _ordered = self.places.len();
+        let ids = ids_of(alloc, &self.cards, &self.places, note)?;
+        Ok(ids)
+    }
+
+    /// Holds the row under its name from now on, in place of the row that is held there.
+    pub(crate) fn put(&mut self, alloc: Global, row: Row) -> Result<(), Memory>
+        requires { IsIndexed self.old }
+        ensures indexed { IsIndexed self.new }
+        ensures ok { OnOk result (rows_of Now self.new ≡ finite.insert (rows_of Now self.old) (name_of row) row) }
+        ensures mark { rows_of Mark self.new ≡ rows_of Mark self.old }
+        ensures err { OnErr result (rows_of Now self.new ≡ rows_of Now self.old) }
+    {
+        // Memory comes first: all that follows takes none.
+        let name = row.name();
+        let note = note_of_card(&row);
+        let row = Box::new(alloc, row)?;
+        self.make_place(name)?;
+        add_key(&mut self.cards, note, name)?;
+        self.exchange(name, Some(row));
+        Ok(())
+    }
+
+    /// Takes out the row of this name, if there is one. It takes no memory.
+    pub(crate) fn take(&mut self, name: Name)
+        requires { IsIndexed self.old }
+        ensures indexed { IsIndexed self.new }
+        ensures now { rows_of Now self.new ≡ finite.remove (rows_of Now self.old) name }
+        ensures mark { rows_of Mark self.new ≡ rows_of Mark self.old }
+    {
+        self.exchange(name, None);
+    }
+
+    /// Sees to it that there is a place under the name, and room to note all places.
+    fn make_place(&mut self, name: Name) -> Result<(), Memory>
+        requires { IsIndexed self.old }
+        ensures indexed { IsIndexed self.new }
+        ensures rows { (version : WhichVersion) → rows_of version self.new ≡ rows_of version self.old }
+        ensures there { OnOk result (place_under self.new.places.entries name ≡ None → ⊥) }
+    {
+        if self.places.contains_key(&name) {
+            return Ok(());
+        }
+        self.noted.reserve(self.places.len() + 1)?;
+        add_place(&mut self.places, name)?;
+        self.noted.push_reserved(name);
+        Ok(())
+    }
+
+    /// Holds the row under the name from now on, or none. For a row there are a place and a key. It takes no memory.
+    fn exchange(&mut self, name: Name, row: Option<Box<Row>>)
+        requires indexed { IsIndexed self.old }
+        requires place { place_under self.old.places.entries name ≡ None → row_in row ≡ None }
+        requires key { (note : ℤ) → is_note note (option_and_then note_of_card (row_in row)) ≡ true → has_key self.old.cards.keys (note, Some name) ≡ true }
+        requires named { IfSome (row_in row) (λ row. name_of row ≡ name) }
+        ensures indexed { IsIndexed self.new }
+        ensures now { rows_of Now self.new ≡ with_under name (row_in row) (rows_of Now self.old) }
+        ensures mark { rows_of Mark self.new ≡ rows_of Mark self.old }
+    {
+        // For the proof alone: there are fewer than 2^63 places, so a count has room for one more.
+        let _small = self.places.len();
+        let holds = row.is_some();
+        let Some(change) = hold_under(&mut self.places, name, row) else {
+            return;
+        };
+        note_change(&mut self.noted, name, change.first);
+        count_change(&mut self.counts, name.table, change.held, holds);
+        forget_key(&mut self.cards, &self.places, change.note, name);
+    }
+
+    /// What this version holds is held from now on, and was held at the mark. It takes no memory, and a step for each
+    /// place that was changed.
+    pub(crate) fn settle(&mut self, version: Version)
+        requires { IsIndexed self.old }
+        ensures indexed { IsIndexed self.new }
+        ensures rows { (each : WhichVersion) → rows_of each self.new ≡ rows_of version self.old }
+    {
+        settle_all(
+            &mut self.places,
+            &mut self.cards,
+            self.noted.as_slice(),
+            version,
+        );
+        self.noted.clear();
+        match version {
+            Version::Now => self.mark_counts = self.counts,
+            Version::Mark => self.counts = self.mark_counts,
+        }
+    }
+}
+
+/// Notes the name, if its place was not changed before. It takes no memory.
+fn note_change(noted: &mut Vec<Name>, name: Name, first: bool)
+    requires { first ≡ true → vec_len noted.old < vec_capacity noted.old }
+    ensures names { noted.new.items ≡ noted.old.items ++ (if first then name ∷ [] else []) }
+    ensures len { vec_len noted.new ≡ vec_len noted.old + one_if first }
+    ensures capacity { vec_capacity noted.new ≡ vec_capacity noted.old }
+{
+    if first {
+        noted.push_reserved(name);
+    }
+}
+
+/// Settles the places under these names: they hold from now on what they held in this version, and are not changed.
+fn settle_all(places: &mut Places, cards: &mut BTreeSet<NoteKey>, names: &[Name], version: Version)
+    requires { HaveAllKeys cards.old.keys places.old.entries }
+    ensures keys { HaveAllKeys cards.new.keys places.new.entries }
+    ensures rows { (each : WhichVersion) (q : RowName) → row_under each places.new.entries q ≡ cond (is_among names.now q) (row_under version places.old.entries q) (row_under each places.old.entries q) }
+    ensures changed { (q : RowName) → is_changed_under places.new.entries q ≡ (not (is_among names.now q) && is_changed_under places.old.entries q) }
+    ensures count { unchanged_count places.new.entries ≤ unchanged_count places.old.entries + length names.now }
+{
+    for name in names {
+        settle_one(places, cards, *name, version);
+    }
+}
+
+/// Settles the place under the name, and takes out the key of the card that is not needed any more.
+fn settle_one(places: &mut Places, cards: &mut BTreeSet<NoteKey>, name: Name, version: Version)
+    requires { HaveAllKeys cards.old.keys places.old.entries }
+    ensures keys { HaveAllKeys cards.new.keys places.new.entries }
+    ensures rows { (each : WhichVersion) (q : RowName) → row_under each places.new.entries q ≡ cond (is_at (name_cmp name) q) (row_under version places.old.entries q) (row_under each places.old.entries q) }
+    ensures changed { (q : RowName) → is_changed_under places.new.entries q ≡ (not (is_at (name_cmp name) q) && is_changed_under places.old.entries q) }
+    ensures count { unchanged_count places.new.entries ≤ unchanged_count places.old.entries + 1 }
+{
+    let note = settle_under(places, name, version);
+    drop_empty(places, name);
+    forget_key(cards, places, note, name);
+}
+
+/// Counts a row in or out, if one came where none was held, or none where one was.
+fn count_change(counts: &mut [u64; 9], table: Table, held: bool, holds: bool)
+    requires small { slice_index counts.old (table_place table) < 2 ^ 63 }
+    requires some { held ≡ true → 0 < slice_index counts.old (table_place table) }
+    ensures { counts.new ≡ slice_set counts.old (table_place table) (slice_index counts.old (table_place table) + one_if holds - one_if held) }
+{
+    let place = table.place() as usize;
+    match (held, holds) {
+        (false, true) => counts[place] += 1,
+        (true, false) => counts[place] -= 1,
+        _ => {}
+    }
+}

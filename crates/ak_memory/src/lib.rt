@@ -1,0 +1,18 @@
+// The keeper of a collection in memory. Its marks copy nothing: each place holds the row of now and, if it was changed, that
+// of the mark.
+#![tactic(auto)]
+
+mod by_name;
+mod calls;
+mod collections;
+mod heads;
+mod indexed;
+mod keepers;
+mod marked_rows;
+mod note_keys;
+mod pages;
+mod places;
+mod versions;
+
+pub use keepers::MemoryKeeper;
+pub use marked_rows::MarkedRows;

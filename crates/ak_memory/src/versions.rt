@@ -1,0 +1,16 @@
+/// Which of the two that are kept: what is held now, or what was held at the mark.
+#[derive(Clone, Copy, Debug, PartialEq, Eq)]
+pub(crate) enum Version {
+    Now,
+    Mark,
+}
+
+impl Version {
+    /// The other of the two.
+    pub(crate) fn other(self) -> Version {
+        match self {
+            Version::Now => Version::Mark,
+            Version::Mark => Version::Now,
+        }
+    }
+}
