@@ -5,8 +5,8 @@ use Rattle.std.proofs.lemmas.Option.{none-some, same_Some}
 use Rattle.std.proofs.lemmas.List.{length-set, get_or-set_same, get_or-set_other}
 use Rattle.std.specs.BTreeMap.{is_at, insert_entry}
 use Rattle.std.specs.Cmp.{unsigned_Decides, eq_by_cmp_equiv}
-use Rattle.std.specs.FinMap.{find, put, get, insert, remove, entries, entries_sorted, is_sorted, keys, empty, get-entries, entries-insert, same_map, len-empty, len-entries}
-use Rattle.std.specs.FinMap.Entries.{by_order, below_all}
+use Rattle.std.specs.FinMap.{find, put, get, insert, remove, entries, entries_sorted, is_sorted, empty, get-entries, entries-insert, same_map, len-empty, len-entries}
+use Rattle.std.specs.FinMap.Entries.{by_order}
 use Rattle.std.specs.Global.{Box}
 use Rattle.std.specs.Map.{keys_of, lookup, set_value, remove_entry}
 use Rattle.std.specs.Ordering.{is_eq, match_ordering}

@@ -34,8 +34,8 @@ still : (b t : Bool) → t ≡ true → cond b true t ≡ true
 still true t is = refl
 still false t is = is
 
-pub keys-added : (keys after : List NoteKey) (es : List (Name × Place)) (note : Option ℤ) (name : Name) → HaveAllKeys keys es → AreSetWhere keys (is_key_of note name) true after → HaveAllKeys after es
-keys-added keys after es note name have added version n q is = added (n, Some q) ∙ still _ _ (have version n q is)
+pub keys-added : (keys after : List NoteKey) (es : List (Name × Place)) (of : Option ℤ) (name : Name) → HaveAllKeys keys es → AreSetWhere keys (is_key_of of name) true after → HaveAllKeys after es
+keys-added keys after es of name have added version n q is = added (n, Some q) ∙ still _ _ (have version n q is)
 
 there : (a b t : Bool) → a ≡ true → b ≡ true → cond (a && b) true t ≡ true
 there true true t g h = refl

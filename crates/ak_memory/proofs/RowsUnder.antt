@@ -1,9 +1,9 @@
 -- The rows in places, as finite maps.
-use Rattle.std.specs.Prelude.{◌≡◌, Bool, true, false, T, cond, not, ◌&&◌, ◌||◌, Option, Some, None, is_some, List, [], ◌∷◌}
+use Rattle.std.specs.Prelude.{◌≡◌, Bool, true, false, T, cond, Option, Some, None, List, [], ◌∷◌}
 use Rattle.std.proofs.Common.{refl, sym, ap, subst, ◌∙◌}
 use Rattle.std.specs.BTreeMap.{is_at}
 use Rattle.std.specs.Cmp.{eq_by_cmp_equiv}
-use Rattle.std.specs.FinMap.{get, insert, remove, empty, get-empty, get-insert, get-remove, same_map}
+use Rattle.std.specs.FinMap.{get, get-empty, get-insert, get-remove, same_map}
 use Rattle.std.specs.Option.{option_and_then}
 use Rattle.ak_base.proofs.NameOrder.{names_exact}
 use Rattle.ak_base.specs.Names.{name_cmp, names_total}
@@ -13,7 +13,6 @@ use Rattle.ak_keep.specs.Collections.{Rows}
 use Rattle.ak_keep.proofs.RowsByName.{same_of_tied}
 use Rattle.ak_memory.specs.Places.{row_at, row_under, rows_at, with_under, place_under, is_changed, is_changed_place, is_changed_under, is_apart, row_before}
 use Rattle.ak_memory.specs.declared.places.Place.{Place}
-use Rattle.ak_memory.specs.declared.places.Before.{Before}
 use Rattle.ak_memory.specs.declared.places.Before.TheVariants.{Same, Other}
 use Rattle.ak_memory.specs.declared.versions.Version.{Version}
 use Rattle.ak_memory.specs.declared.versions.Version.TheVariants.{Now, Mark}

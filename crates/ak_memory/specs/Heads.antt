@@ -1,8 +1,7 @@
 -- A head that may have been changed since the mark.
-use Rattle.std.specs.Prelude.{ℤ, Option, Some, None}
+use Rattle.std.specs.Prelude.{Option}
 use Rattle.std.specs.Option.{option_map}
 use Rattle.ak_base.specs.declared.heads.Head.{Head}
-use Rattle.ak_memory.specs.Versions.{Versions}
 use Rattle.ak_memory.specs.declared.heads.Moments.{Moments}
 use Rattle.ak_memory.specs.declared.heads.HeadBefore.{HeadBefore}
 use Rattle.ak_memory.specs.declared.heads.HeadBefore.TheVariants as before

@@ -7,10 +7,13 @@ use crate::statements::{UPDATE_DECKS, UPDATE_MODELS, UPDATE_OPTIONS};
 use crate::writes::run;
 use ak_base::{List, Memory, Row, Table, Text};
 use ak_json::{read_row, read_text, write_row, write_text};
-use ak_keep::RowMap;
+use ak_memory::MarkedRows;
 use serde_json::{Map, Value};
 use sqlite::{Alter, Transaction};
 use std::alloc::Global;
+
+/// How many rows are read at a time.
+const PAGE: usize = 1000;
 
 /// The members of the object that a text is.
 pub(crate) fn read_object(alloc: Global, text: &Text) -> Result<Map<String, Value>, FileFault> {
@@ -52,7 +55,7 @@ pub(crate) fn write_object<S: Alter>(
     transaction: &mut Transaction<'_, S>,
     alloc: Global,
     table: Table,
-    rows: &RowMap,
+    rows: &MarkedRows,
 ) -> Result<(), FileFault>
     ensures same_reference { transaction.new.conn.ghost_name ≡ transaction.old.conn.ghost_name }
 {
@@ -74,15 +77,32 @@ fn update_of(table: Table) -> &'static str {
 }
 
 /// The text of the object of all rows of a table.
-fn object_text(alloc: Global, table: Table, rows: &RowMap) -> Result<Text, FileFault> {
+fn object_text(alloc: Global, table: Table, rows: &MarkedRows) -> Result<Text, FileFault> {
     let mut members = Map::new(alloc);
-    for (name, row) in rows.entries() {
-        if name.table == table {
-            put_row(alloc, name.id, row, &mut members)?;
-        }
+    let mut past = 0;
+
+    // A page more than are full, so that the last one is not.
+    for _ in 0..rows.count(table) / PAGE as u64 + 1 {
+        let page = rows.page(table, past, PAGE)?;
+        past = put_rows(alloc, page.as_slice(), past, &mut members)?;
     }
     let text = write_text(alloc, &Value::Object(members))?;
     Ok(text)
+}
+
+/// Puts the values of the rows, each under its id. It gives the id of the last one, or else `past`.
+fn put_rows(
+    alloc: Global,
+    rows: &[Row],
+    past: i64,
+    members: &mut Map<String, Value>,
+) -> Result<i64, FileFault> {
+    let mut last = past;
+    for row in rows {
+        last = row.name().id;
+        put_row(alloc, last, row, members)?;
+    }
+    Ok(last)
 }
 
 /// Puts the value of a row under its id.

@@ -7,7 +7,8 @@ use crate::layouts::make_tables;
 use crate::reads::read_all;
 use crate::writes::{ended, write_all};
 use ak_base::Head;
-use ak_keep::{KeepFault, RowMap};
+use ak_keep::KeepFault;
+use ak_memory::MarkedRows;
 use ak_tables::{StoredCollection, Tables, Touched};
 use sqlite::{Alter, Connection, File, FileStore};
 use std::alloc::Global;
@@ -88,7 +89,7 @@ impl Tables for SqliteTables {
 
     fn write(
         &mut self,
-        rows: &RowMap,
+        rows: &MarkedRows,
         head: &Option<Head>,
         touched: &Touched,
     ) -> Result<(), KeepFault> {
@@ -105,7 +106,7 @@ impl Tables for SqliteTables {
 /// Writes in one transaction, which is given up if anything in it is refused.
 fn write_through<S: Alter>(
     conn: &mut Connection<S>,
-    rows: &RowMap,
+    rows: &MarkedRows,
     head: &Option<Head>,
     touched: &Touched,
 ) -> Result<(), FileFault>

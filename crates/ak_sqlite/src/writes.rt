@@ -11,7 +11,7 @@ use crate::statements::{
     INSERT_NOTE, INSERT_REVIEW,
 };
 use ak_base::{Head, Name, Row, Table};
-use ak_keep::RowMap;
+use ak_memory::MarkedRows;
 use ak_tables::Touched;
 use sqlite::types::ValueRef;
 use sqlite::{Alter, Error, Transaction};
@@ -19,7 +19,7 @@ use sqlite::{Alter, Error, Transaction};
 /// Writes what was touched, as it is held now.
 pub(crate) fn write_all<S: Alter>(
     transaction: &mut Transaction<'_, S>,
-    rows: &RowMap,
+    rows: &MarkedRows,
     head: &Option<Head>,
     touched: &Touched,
 ) -> Result<(), FileFault>
@@ -38,7 +38,7 @@ pub(crate) fn write_all<S: Alter>(
 /// Writes what is held under each of the names.
 fn write_names<S: Alter>(
     transaction: &mut Transaction<'_, S>,
-    rows: &RowMap,
+    rows: &MarkedRows,
     names: &[Name],
 ) -> Result<(), FileFault>
     ensures same_reference { transaction.new.conn.ghost_name ≡ transaction.old.conn.ghost_name }
@@ -52,7 +52,7 @@ fn write_names<S: Alter>(
 /// Takes out the row of this name, and puts in the one that is held, if there is one.
 fn write_name<S: Alter>(
     transaction: &mut Transaction<'_, S>,
-    rows: &RowMap,
+    rows: &MarkedRows,
     name: Name,
 ) -> Result<(), FileFault>
     ensures same_reference { transaction.new.conn.ghost_name ≡ transaction.old.conn.ghost_name }
@@ -96,7 +96,7 @@ fn insert_row<S: Alter>(transaction: &mut Transaction<'_, S>, row: &Row) -> Resu
 /// Writes the row of `col`: the head, note types, decks and options, each if it was touched.
 fn write_col<S: Alter>(
     transaction: &mut Transaction<'_, S>,
-    rows: &RowMap,
+    rows: &MarkedRows,
     head: &Head,
     touched: &Touched,
 ) -> Result<(), FileFault>
@@ -113,7 +113,7 @@ fn write_col<S: Alter>(
 /// Writes the object of all rows of this table, if one of them was touched.
 fn write_touched_object<S: Alter>(
     transaction: &mut Transaction<'_, S>,
-    rows: &RowMap,
+    rows: &MarkedRows,
     table: Table,
     touched: &Touched,
 ) -> Result<(), FileFault>
@@ -136,7 +136,7 @@ fn is_touched(names: &[Name], table: Table) -> bool {
 }
 
 /// Fails if note types, decks or options are held: without a head there is no row of `col` to write them into.
-fn check_no_objects(rows: &RowMap) -> Result<(), FileFault> {
+fn check_no_objects(rows: &MarkedRows) -> Result<(), FileFault> {
     if rows.count(Table::NoteType) > 0 || rows.count(Table::Deck) > 0 {
         return Err(FileFault::Failed);
     }

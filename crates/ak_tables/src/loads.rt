@@ -12,7 +12,8 @@ ghost use Rattle.ak_tables.specs.Tables.{AreNew, ArePutInto, IsCollection, loade
 
 use crate::tables::StoredCollection;
 use ak_base::{Head, List, Name, Row};
-use ak_keep::{KeepFault, Keeper, MemoryKeeper};
+use ak_keep::{KeepFault, Keeper};
+use ak_memory::MemoryKeeper;
 use std::alloc::Global;
 
 /// A keeper in memory of what was read. It fails if a row or the head is out of its ranges, or if two rows have one

@@ -7,7 +7,8 @@ ghost use Rattle.ak_tables.specs.Tables.{Covers, holding, loaded};
 
 use crate::touched::Touched;
 use ak_base::{Head, List, Row};
-use ak_keep::{KeepFault, RowMap};
+use ak_keep::KeepFault;
+use ak_memory::MarkedRows;
 use std::rt::HostRuntime;
 
 /// The tables in which a keeper stores its collection. No transaction is open between two calls.
@@ -41,12 +42,12 @@ pub trait Tables: Drop {
     /// parts that were touched may they differ from it.
     fn write(
         &mut self,
-        rows: &RowMap,
+        rows: &MarkedRows,
         head: &Option<Head>,
         touched: &Touched,
     ) -> Result<(), KeepFault>
-        requires covers { IfSome (stored self.old) (λ was. Covers touched.now was (holding rows.now head.now)) }
-        ensures ok { OnOk result (stored self.new ≡ option_map (λ _. holding rows.now head.now) (stored self.old)) }
+        requires covers { IfSome (stored self.old) (λ was. Covers touched.now was (holding rows.now.current head.now)) }
+        ensures ok { OnOk result (stored self.new ≡ option_map (λ _. holding rows.now.current head.now) (stored self.old)) }
         ensures err { OnErr result (stored self.new ≡ stored self.old) }
 
         // The count rises if it fails, and only then.

@@ -1,6 +1,7 @@
 // Cases of whole runs: one run a line, and the status and the bytes written printed for each. README.md tells the form.
 #![tactic(auto)]
 
+mod reopened;
 mod runs;
 mod times;
 
@@ -13,7 +14,8 @@ use std::process::ExitCode;
 fn main(rt: HostRuntime) -> io::Result<ExitCode> {
     let mut input = StdSource::new(rt.stdin());
     let mut out = StdSink::new(rt.stdout());
-    match print_answers(rt.alloc(), &mut Runs, &mut input, &mut out) {
+    let mut runs = Runs { rt: &rt };
+    match print_answers(rt.alloc(), &mut runs, &mut input, &mut out) {
         Ok(()) => Ok(ExitCode::from(0)),
         Err(_) => Ok(ExitCode::from(1)),
     }

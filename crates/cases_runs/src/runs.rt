@@ -1,12 +1,15 @@
+use crate::reopened::ran_reopened;
 use crate::times::{chance_at, clock_at};
 use ak_base::List;
 use ak_cli::run;
 use ak_filters::{FieldFilter, HintFilter, TextFilter};
 use ak_io::{End, MemorySink, MemorySource, Sink, Source};
-use ak_keep::{Keeper, Lookup, MemoryKeeper};
+use ak_keep::{Keeper, Lookup};
+use ak_memory::MemoryKeeper;
 use cases_lines::{Answers, Unread, list_at, natural_at, quoted, text_at};
 use serde_json::Value;
 use std::alloc::Global;
+use std::rt::HostRuntime;
 use std::str;
 
 /// The most bytes that the output of a run may have room for.
@@ -14,9 +17,11 @@ const MOST_ROOM: u64 = 100_000_000;
 
 /// Nothing is kept from one line to the next.
 #[derive(Drop)]
-pub struct Runs;
+pub struct Runs<'a> {
+    pub rt: &'a HostRuntime,
+}
 
-impl Answers for Runs {
+impl Answers for Runs<'_> {
     fn answer(&mut self, alloc: Global, word: &str, rest: &str) -> Result<String, Unread> {
         match (word, Value::from_str(alloc, rest)) {
             ("run", Ok(arguments)) => {
@@ -24,6 +29,7 @@ impl Answers for Runs {
                 ran(alloc, &mut keeper, &arguments)
             }
             ("runs", Ok(arguments)) => ran_all(alloc, &arguments),
+            ("reopened", Ok(arguments)) => ran_reopened(alloc, self.rt, &arguments),
             _ => Err(Unread::Bad),
         }
     }
@@ -45,7 +51,7 @@ fn ran_all(alloc: Global, arguments: &Value) -> Result<String, Unread> {
 
 /// `run [WORDS, INPUT, FAILING-READS, ROOM, FAILING-WRITES, MOMENTS, CHANCE]`: the status, the faults of the input and of the
 /// output, and what was written. Without moments the clock stands at 1700000000000, and without words of chance each is 0.
-fn ran(alloc: Global, keeper: &mut MemoryKeeper, arguments: &Value) -> Result<String, Unread> {
+pub fn ran<K: Keeper>(alloc: Global, keeper: &mut K, arguments: &Value) -> Result<String, Unread> {
     if keeper.marked() {
         return Err(Unread::Bad);
     }

@@ -1,5 +1,5 @@
 -- What is known of a wire that lies.
-use Rattle.std.specs.Prelude.{false, None}
+use Rattle.std.specs.Prelude.{false, [], None}
 use Rattle.ak_faults.specs.Causes.{Health}
 use Rattle.ak_wires.specs.Wires.{WireState}
 use Rattle.cases_syncs.specs.declared.liar_counts.LiarCounts.{LiarCounts}
@@ -16,4 +16,6 @@ state_over c = record {
   silence = c.silent;
   said = c.said;
   calls = c.calls;
+  alone = false;
+  made_with = [];
 }

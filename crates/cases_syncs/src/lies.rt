@@ -8,11 +8,11 @@ use std::alloc::Global;
 /// What a wire answers that lies: none, if it answers what can't be read.
 pub fn lie_at(alloc: Global, arguments: &Value) -> Result<Option<Reply>, Unread> {
     let method = method_of(text_at(arguments, 6)?).ok_or(Unread::Bad)?;
-    let reply = reply_at(alloc, arguments, method)?;
-    match (reply, arguments.get(9)) {
-        (Some(reply), Some(_)) => Ok(Some(with_card(alloc, reply, arguments)?)),
-        (reply, _) => Ok(reply),
+    let mut lie = reply_at(alloc, arguments, method)?;
+    if let Some(reply) = &mut lie {
+        add_card(alloc, reply, arguments)?;
     }
+    Ok(lie)
 }
 
 fn reply_at(alloc: Global, arguments: &Value, method: Method) -> Result<Option<Reply>, Unread> {
@@ -34,14 +34,15 @@ fn read(alloc: Global, method: Method, status: u16, body: &Value) -> Result<Opti
     }
 }
 
-/// The chunk with a card that no body can bring, since its reader would refuse it.
-fn with_card(alloc: Global, reply: Reply, arguments: &Value) -> Result<Reply, Unread> {
+/// Adds the card to the chunk, if there is one. No body can bring it, since its reader would refuse it.
+fn add_card(alloc: Global, reply: &mut Reply, arguments: &Value) -> Result<(), Unread> {
+    if arguments.get(9).is_none() {
+        return Ok(());
+    }
     let mut card = card_at(alloc, arguments, 9)?;
     card.usn = number_at(arguments, 10)?;
-    let mut reply = reply;
     match &mut reply.give {
-        Give::Chunk(chunk) => chunk.cards.push(card)?,
-        _ => return Err(Unread::Bad),
+        Give::Chunk(chunk) => Ok(chunk.cards.push(card)?),
+        _ => Err(Unread::Bad),
     }
-    Ok(reply)
 }

@@ -3,11 +3,13 @@ ghost use Rattle.ak_io.specs.Arrivals.{IsClockMoment};
 ghost use Rattle.ak_loops.specs.Entries.{collection_in};
 ghost use Rattle.ak_merge.specs.Commits.{IsCommitted};
 
-use crate::shown::{all, moment_at, sum, tables};
-use ak_base::{Conf, Head, HostKey, List, Memory, Rest, Row, SessionKey, Table, Text};
-use ak_keep::{KeepFault, Keeper, Lookup, MemoryKeeper, Readable};
-use ak_loops::LoggedServer;
+use crate::shown::{all, moment_at, sum};
+use ak_answers::whole_of;
+use ak_base::{Conf, Head, HostKey, List, Memory, Rest, SessionKey, Text};
+use ak_keep::{KeepFault, Lookup, MemoryKeeper};
+use ak_loops::{LoggedServer, keeper_with};
 use ak_openings::Opening;
+use ak_server_copies::view_all;
 use ak_wire::{Ask, Request, Whole, write_reply};
 use cases_keepers::{answer_of, value_of};
 use cases_lines::{Unread, number_at};
@@ -64,7 +66,7 @@ impl Host {
         }
     }
 
-    /// A keeper that holds what the account holds, the first 1,000 rows of each table.
+    /// A keeper that holds what the account holds.
     pub fn copied(&mut self, alloc: Global) -> Result<MemoryKeeper, Unread> {
         match &mut self.logged {
             Some(server) => copy_of(alloc, server),
@@ -132,56 +134,25 @@ fn calls_of(alloc: Global, rest: &str) -> Result<List<u64>, Unread> {
 // ---- what the account holds
 
 fn copy_of(alloc: Global, server: &mut LoggedServer) -> Result<MemoryKeeper, Unread> {
-    let mut keeper = MemoryKeeper::new(alloc);
-    let head = done(server.view_head())?;
-    begin(&mut keeper, head)?;
-    for table in tables() {
-        let rows = done(server.view(table, 0, 1000))?;
-        put_rows(&mut keeper, rows)?;
+    match view_all(alloc, server) {
+        Ok(opening) => Ok(keeper_with(alloc, opening)?),
+        Err(fault) => Err(refused(fault)),
     }
-    commit(&mut keeper)?;
-    Ok(keeper)
 }
 
 /// What a keeper answered. A refusal is no answer to a line.
 fn done<T>(answer: Result<T, KeepFault>) -> Result<T, Unread> {
     match answer {
         Ok(it) => Ok(it),
-        Err(KeepFault::Failed) => Err(Unread::Bad),
-        Err(KeepFault::Memory) => Err(Unread::Ended),
+        Err(fault) => Err(refused(fault)),
     }
 }
 
-fn begin(keeper: &mut MemoryKeeper, head: Head) -> Result<(), Unread> {
-    if keeper.marked() || !head.is_in_range() {
-        return Err(Unread::Bad);
+fn refused(fault: KeepFault) -> Unread {
+    match fault {
+        KeepFault::Failed => Unread::Bad,
+        KeepFault::Memory => Unread::Ended,
     }
-    done(keeper.mark())?;
-    if !keeper.marked() {
-        return Err(Unread::Bad);
-    }
-    done(keeper.set_head(head))
-}
-
-fn put_rows(keeper: &mut MemoryKeeper, rows: List<Row>) -> Result<(), Unread> {
-    for row in rows.into_vec() {
-        put_row(keeper, row)?;
-    }
-    Ok(())
-}
-
-fn put_row(keeper: &mut MemoryKeeper, row: Row) -> Result<(), Unread> {
-    if !keeper.marked() || row.check().is_err() {
-        return Err(Unread::Bad);
-    }
-    done(keeper.put(row))
-}
-
-fn commit(keeper: &mut MemoryKeeper) -> Result<(), Unread> {
-    if !keeper.marked() {
-        return Err(Unread::Bad);
-    }
-    done(keeper.commit())
 }
 
 // ---- what a device uploads
@@ -202,7 +173,7 @@ pub fn upload(
         at,
     };
     ask(alloc, server, meta, Ask::Meta)?;
-    let whole = whole_of(alloc, keeper)?;
+    let whole = whole_in(alloc, keeper)?;
     let step = Step { step: 1, base, at };
     ask(alloc, server, step, Ask::Upload(whole))
 }
@@ -232,33 +203,7 @@ fn ask(alloc: Global, server: &mut LoggedServer, step: Step, ask: Ask) -> Result
     Ok(format!(in alloc; "{status} {text}")?)
 }
 
-fn whole_of(alloc: Global, keeper: &mut MemoryKeeper) -> Result<Whole, Unread> {
-    let rows = rows_in(alloc, keeper)?;
+fn whole_in(alloc: Global, keeper: &mut MemoryKeeper) -> Result<Whole, Unread> {
     let head = done(keeper.head())?.ok_or(Unread::Bad)?;
-    Ok(Whole {
-        rows,
-        crt: head.crt,
-        moment: head.moment,
-        schema: head.schema,
-        usn: head.usn,
-        conf: head.conf,
-        tags: head.tags,
-    })
-}
-
-/// The first 1,000 rows of each table.
-fn rows_in(alloc: Global, keeper: &mut MemoryKeeper) -> Result<List<Row>, Unread> {
-    let mut rows = List::new(alloc);
-    for table in tables() {
-        push_table(keeper, table, &mut rows)?;
-    }
-    Ok(rows)
-}
-
-fn push_table(keeper: &mut MemoryKeeper, table: Table, rows: &mut List<Row>) -> Result<(), Unread> {
-    let page = done(keeper.page(table, 0, 1000))?;
-    for row in page.into_vec() {
-        rows.push(row)?;
-    }
-    Ok(())
+    done(whole_of(alloc, keeper, head))
 }

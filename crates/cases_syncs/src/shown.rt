@@ -10,7 +10,7 @@ use sha1::Sha1;
 use std::alloc::Global;
 
 /// All tables, in the order in which their rows are printed.
-pub fn tables() -> [Table; 9] {
+fn tables() -> [Table; 9] {
     [
         Table::Note,
         Table::Card,

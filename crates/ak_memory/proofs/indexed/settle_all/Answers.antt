@@ -1,4 +1,4 @@
-use Rattle.std.proofs.Common.{◌+◌, ◌≡◌, List, ◌∷◌, drop, length, sym, ap, ◌∙◌, arith}
+use Rattle.std.proofs.Common.{◌+◌, List, drop, length, ap, ◌∙◌, arith}
 use Rattle.ak_base.specs.declared.names.Name.{Name}
 use Rattle.ak_memory.proofs.Settling.{changed-step, names_from, rows-step}
 use Rattle.ak_memory.proofs.indexed.settle_all.Goals as goal

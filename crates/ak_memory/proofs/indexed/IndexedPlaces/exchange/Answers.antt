@@ -1,5 +1,4 @@
 use Rattle.std.proofs.Common.{List, Option, is_some, ◌<◌, ◌^◌, length, sym, ap, subst, ◌∙◌, arith}
-use Rattle.ak_base.specs.Names.{name_cmp}
 use Rattle.ak_base.specs.declared.names.Name.{Name}
 use Rattle.ak_base.specs.declared.rows.Row.{Row}
 use Rattle.ak_memory.specs.declared.places.Place.{Place}

@@ -1,8 +1,5 @@
 use Rattle.std.proofs.Common.{List, sym, ap, subst, ◌∙◌, arith}
-use Rattle.ak_base.specs.Names.{name_cmp}
 use Rattle.ak_base.specs.declared.names.Name.{Name}
-use Rattle.ak_base.specs.declared.rows.Row.{Row}
-use Rattle.ak_memory.specs.declared.places.Place.{Place}
 use Rattle.ak_memory.specs.declared.versions.Version.TheVariants.{Mark, Now}
 use Rattle.ak_memory.specs.Indexes.{AreNoted, IsCounted}
 use Rattle.ak_memory.specs.Places.{rows_at}

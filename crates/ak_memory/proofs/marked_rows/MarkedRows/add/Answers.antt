@@ -1,6 +1,5 @@
-use Rattle.std.proofs.Common.{◌≡◌, is_some, true, false, sym, ap, ◌∙◌}
+use Rattle.std.proofs.Common.{is_some, sym, ap, ◌∙◌}
 use Rattle.std.specs.FinMap as map
-use Rattle.std.specs.Option.{option_or}
 use Rattle.ak_base.specs.Rows.{name_of}
 use Rattle.ak_base.specs.declared.names.Name.{Name}
 use Rattle.ak_memory.proofs.Filling.{filled-held, filled-put}

@@ -1,4 +1,4 @@
-use Rattle.std.proofs.Common.{ℤ, sym, subst, w64}
+use Rattle.std.proofs.Common.{sym, subst}
 use Rattle.std.specs.List.Sorted.{IsStrictlySortedBy}
 use Rattle.std.specs.Ordering.{int_cmp}
 use Rattle.ak_keep.proofs.CardIds.{cards_of-sorted}

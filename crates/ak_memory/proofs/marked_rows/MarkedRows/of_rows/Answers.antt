@@ -1,4 +1,4 @@
-use Rattle.std.proofs.Common.{◌≡◌, [], sym, ap, ◌∙◌, arith}
+use Rattle.std.proofs.Common.{◌≡◌, [], ap, ◌∙◌, arith}
 use Rattle.std.proofs.lemmas.Grind.{common_steps}
 use Rattle.ak_memory.proofs.Filling.{filled-all, fills-first, fills-next}
 use Rattle.ak_memory.proofs.marked_rows.MarkedRows.of_rows.Goals as goal

@@ -1,13 +1,11 @@
-use Rattle.std.proofs.Common.{◌≡◌, None, sym, List, filter, take, subst, ap, ◌∙◌, w64}
+use Rattle.std.proofs.Common.{◌≡◌, None, sym, filter, take, subst, ap, ◌∙◌, w64}
 use Rattle.std.proofs.lemmas.Int.{to_z-of_z}
 use Rattle.std.specs.BTreeMap.Range.{entries_between}
 use Rattle.std.specs.declared.ops.Bound.TheVariants.{Excluded, Unbounded}
 use Rattle.ak_base.specs.Names.{name_cmp}
-use Rattle.ak_base.specs.declared.rows.Row.{Row}
-use Rattle.ak_keep.specs.Collections.{Rows, AscendsPast, IsPageOf, StandsUnderNames, rows_past}
+use Rattle.ak_keep.specs.Collections.{Rows, IsPageOf, StandsUnderNames, rows_past}
 use Rattle.ak_keep.specs.Pages.{is_picked}
 use Rattle.ak_keep.proofs.Paging.{any_picked, page_ascends, page_whole, page_rest}
-use Rattle.ak_memory.specs.Indexes.{rows_of}
 use Rattle.ak_memory.specs.Places.{held_run, rows_at}
 use Rattle.ak_memory.specs.declared.versions.Version.TheVariants.{Now}
 use Rattle.ak_memory.proofs.Paging.{page_of_places}

@@ -1,0 +1,2 @@
+pub mod RestingKeepers
+pub mod Shown

@@ -1,0 +1,4 @@
+pub mod NewReviews
+pub mod ReviewEdits
+pub mod WholeHeads
+pub mod TableTexts

@@ -1,0 +1,3 @@
+pub mod NewReviews
+pub mod Shows
+pub mod ReviewChanges

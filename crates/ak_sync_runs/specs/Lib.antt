@@ -1,0 +1,2 @@
+pub mod NoServers
+pub mod SyncRuns

@@ -1,0 +1,20 @@
+-- A wire that leads to no server.
+use Rattle.std.specs.Prelude.{ℕ, false, true, [], None}
+use Rattle.ak_faults.specs.Causes.{Health}
+use Rattle.ak_wires.specs.Wires.{WireState}
+
+-- each of its calls failed
+abbrev pub all_failed : ℕ → Health
+all_failed calls = record { faults = calls; calm = false }
+
+-- no server's log is told, no answer came that could not be read, and all calls failed, in a row. Nobody else uses it
+abbrev pub all_silent : ℕ → WireState
+all_silent calls = record {
+  log = None;
+  reading = record { faults = 0; calm = true };
+  silence = calls;
+  said = None;
+  calls = calls;
+  alone = true;
+  made_with = [];
+}

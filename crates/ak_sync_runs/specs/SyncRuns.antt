@@ -1,0 +1,114 @@
+-- How the command `sync` ends: what it leaves, what it prints, and the status that it answers.
+use Rattle.std.specs.Prelude.{◌≡◌, ◌≢◌, ◌⊎◌, ℕ, ℤ, ◌==◌, ◌||◌, Bool, true, false, List, [], ◌∷◌, ◌++◌, Option, Some, codes}
+use Rattle.std.specs.Io.KnownBytes.{Appends, Keeps}
+use Rattle.ak_base.specs.declared.keys.HostKey.{HostKey}
+use Rattle.ak_client.specs.Outcomes.{HasLostThrice, ShowsRefusal}
+use Rattle.ak_client.specs.Syncs.{IsSyncEnded, IsSyncFinished, KeepsDevice, MayBegin, TakesMoments, world_at}
+use Rattle.ak_client.specs.declared.outcomes.Outcome.{Outcome}
+use Rattle.ak_exchange.specs.Asked.{asker}
+use Rattle.ak_exchange.specs.Phases.{holding}
+use Rattle.ak_exchange.specs.declared.envelopes.Ids.{Ids}
+use Rattle.ak_faults.specs.Causes.{GoesOn, Health, Rose}
+use Rattle.ak_io.specs.Arrivals.{GivesNext}
+use Rattle.ak_io.specs.Scripts.{AppendsPart}
+use Rattle.ak_keep.specs.Collections.{Collection}
+use Rattle.ak_keep.specs.Keepers.{Keeping}
+use Rattle.ak_outcomes.specs.OutcomeTexts.{outcome_text, outcome_status}
+use Rattle.ak_protocol.specs.Accounts.{AccountState}
+use Rattle.ak_protocol.specs.Commits.{EachNewer, HasFreshSchema}
+use Rattle.ak_protocol.specs.Logs.{Log}
+use Rattle.ak_wires.specs.Wires.{WireState}
+
+-- ---- what is printed
+-- the text is written as a line, and the status is this one; or a front of the line is, and it is 5
+abbrev pub EndsPrinting : List ℕ → ℕ → ℕ → Option (List ℕ) → Option (List ℕ) → Type 0
+EndsPrinting text wanted status old new =
+    (status ≡ wanted) × Appends old new (text ++ 10 ∷ [])
+    ⊎ (status ≡ 5) × AppendsPart old new (text ++ 10 ∷ [])
+
+-- nothing is written, and the status is 8: memory ran out
+abbrev pub EndsUntold : ℕ → Option (List ℕ) → Option (List ℕ) → Type 0
+EndsUntold status old new = (status ≡ 8) × Keeps old new
+
+-- an outcome is told by its text and its status. Memory may run out in the sync, or for the text
+abbrev pub TellsOutcome : Outcome → ℕ → Option (List ℕ) → Option (List ℕ) → Type 0
+TellsOutcome outcome status old new =
+    ((text : List ℕ) × (outcome_text outcome ≡ Some text)
+    × EndsPrinting text (outcome_status outcome) status old new)
+    ⊎ EndsUntold status old new
+
+-- the statuses with which `sync` ends
+abbrev pub is_sync_status : ℕ → Bool
+is_sync_status status =
+    (status == 0) || (status == 3) || (status == 5) || (status == 6) || (status == 7) || (status == 8)
+    || (status == 10) || (status == 11) || (status == 12) || (status == 13) || (status == 14) || (status == 15)
+
+-- a command ends with this status, that of a failed end, only if that end counted a fault, and never over a calm one
+pub record HasStatusCause (code : ℕ) (before now : Health) (status : ℕ) : Type 0 where
+  pub goes : GoesOn before now
+  pub failed : status ≡ code → Rose before now
+  pub unfailed : before.calm ≡ true → status ≢ code
+
+-- ---- the run
+-- what is known of what a sync is given: its keeper, its wire, and the moments and words of chance to come
+pub record Surroundings : Type 0 where
+  pub keeping : Keeping
+  pub health : Health
+  pub wire : WireState
+  pub moments : Option (List ℤ)
+  pub words : Option (List ℕ)
+
+-- the same, by its parts
+abbrev pub surroundings_of : Keeping → Health → WireState → Option (List ℤ) → Option (List ℕ) → Surroundings
+surroundings_of keeping health wire moments words =
+    record { keeping = keeping; health = health; wire = wire; moments = moments; words = words }
+
+-- who syncs: the account of the host key, in a session whose key is a word of chance
+abbrev pub ids_of : HostKey → ℕ → Ids
+ids_of host word = record { host = host; session = record { 0 = word } }
+
+-- one sync ran, in a session whose key is the next word of chance, and its outcome was told. Whatever the status, device and server are as
+-- that outcome leaves them
+pub record IsSyncRun (host : HostKey) (status : ℕ) (before after : Surroundings) (old new : Option (List ℕ)) : Type 0 where
+  pub word : ℕ
+  pub outcome : Outcome
+  pub drawn : GivesNext before.words after.words word
+  -- what it asked, what that made of the log and left on the device, and why it ended
+  pub ended : IsSyncEnded (ids_of host word) before.keeping after.keeping before.health after.health before.wire after.wire
+      before.moments outcome
+  pub thrice : HasLostThrice before.health after.health before.wire.silence after.wire.silence outcome
+  pub shown : ShowsRefusal before.wire.reading after.wire.reading after.wire.said outcome
+  pub device : KeepsDevice 1 before.keeping after.keeping before.moments after.moments outcome
+  pub clock : TakesMoments 0 before.moments after.moments outcome
+  pub told : TellsOutcome outcome status old new
+
+-- the same, by whether a collection is held. If none is, `no collection` is printed, and the status is 3. Memory may run out before
+-- anything is asked
+abbrev pub EndsSyncOn : Bool → HostKey → ℕ → Surroundings → Surroundings → Option (List ℕ) → Option (List ℕ) → Type 0
+EndsSyncOn true host status before after old new =
+    IsSyncRun host status before after old new ⊎ (after ≡ before) × EndsUntold status old new
+EndsSyncOn false host status before after old new =
+    (after ≡ before) × EndsPrinting (codes "no collection") 3 status old new
+
+-- how `sync` ends for the account of this host key
+abbrev pub EndsSync : HostKey → ℕ → Surroundings → Surroundings → Option (List ℕ) → Option (List ℕ) → Type 0
+EndsSync host status before after old new =
+    EndsSyncOn before.keeping.headed.current host status before after old new
+
+-- ---- what `finished` means
+-- where the keeper told a collection with which this sync could begin, and the wire a log, and no upload in between gave just the device's
+-- schema moment: the session committed once. Device and commit hold the join of what both held, if these were apart. If nothing else used
+-- the wire, that was over what was committed before the sync, and is what is committed after it
+abbrev pub HasFinished : Ids → Surroundings → Surroundings → Type 0
+HasFinished ids before after = let who = asker ids in (c : Collection) (account : AccountState) (log : Log)
+    → before.keeping ≡ holding c → before.wire.log ≡ Some log → MayBegin who c account log
+    → (now : Log) × (after.wire.log ≡ Some now)
+    × (EachNewer (HasFreshSchema c) (world_at who account log) (world_at who account now)
+    → (base : Collection) × (it : IsSyncFinished who c base account now after.keeping)
+    × (before.wire.alone ≡ true → (base ≡ (world_at who account log).state.committed)
+    × (it.after ≡ (world_at who account now).state.committed)))
+
+-- a sync of the session whose key was the next word of chance has finished
+abbrev pub FinishesNext : HostKey → Surroundings → Surroundings → Type 0
+FinishesNext host before after =
+    (word : ℕ) × GivesNext before.words after.words word × HasFinished (ids_of host word) before after

@@ -1,0 +1,11 @@
+// The command `sync`, over any keeper, wire, clock, chance and output: how it ends, what it leaves and what it writes. Nothing here
+// knows of the program's words.
+#![tactic(auto)]
+
+mod no_servers;
+mod run_laws;
+mod sync_runs;
+
+pub use no_servers::NoServer;
+pub use run_laws::{a_printed_finish_joins, other_ends_keep_the_device};
+pub use sync_runs::run_sync;
