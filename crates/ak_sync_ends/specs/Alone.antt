@@ -1,0 +1,32 @@
+-- A sync to whose server nothing else comes.
+use Rattle.std.specs.Prelude.{◌≡◌, true, Some}
+use Rattle.ak_client.specs.Syncs.{MayBegin, world_at}
+use Rattle.ak_exchange.specs.Asked.{asker}
+use Rattle.ak_exchange.specs.Phases.{holding}
+use Rattle.ak_exchange.specs.declared.envelopes.Ids.{Ids}
+use Rattle.ak_keep.specs.Collections.{Collection}
+use Rattle.ak_keep.specs.Keepers.{Keeping}
+use Rattle.ak_merge.specs.Exchanges.{AreExchanged}
+use Rattle.ak_merge.specs.Holdings.{row_under}
+use Rattle.ak_merge.specs.Joins.{AreApart}
+use Rattle.ak_protocol.specs.Accounts.{AccountState}
+use Rattle.ak_protocol.specs.Commits.{EachNewer, HasFreshSchema}
+use Rattle.ak_protocol.specs.Logs.{Log, World}
+use Rattle.ak_wires.specs.Wires.{WireState}
+
+-- a sync with a device's c may begin over a wire that nothing else uses and that tells its log, which is this one after it; what is
+-- committed meanwhile leaves the schema moment, or gives one that is not the device's
+pub record BeginsAlone (ids : Ids) (c : Collection) (account : AccountState) (old now : Log) (before : Keeping)
+    (w0 w1 : WireState) : Type 0 where
+  pub alone : w0.alone ≡ true
+  pub holds : before ≡ holding c
+  pub told : w0.log ≡ Some old
+  pub told_now : w1.log ≡ Some now
+  pub may : MayBegin (asker ids) c account old
+  pub fresh : EachNewer (HasFreshSchema c) (world_at (asker ids) account old) (world_at (asker ids) account now)
+
+-- if the device's c and what was committed before were apart, the device holds the other half of their exchange with what is committed now:
+-- both hold the join of the two
+abbrev pub LeavesTheJoin : Collection → World → World → Keeping → Type 0
+LeavesTheJoin c old now left = AreApart (row_under c) (row_under old.state.committed)
+    → (device : Collection) × (left ≡ holding device) × AreExchanged c old.state.committed device now.state.committed
