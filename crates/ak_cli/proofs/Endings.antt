@@ -44,14 +44,3 @@ pub prints_told : (end : ScriptEnd) (script old new : Option (List ℕ)) → IfS
     → IfSome script (λ script. Prints (status_of end) (lab_run script) old new)
 prints_told end None old new told = tt
 prints_told end (Some script) old new told = prints end (lab_run script) old new told
-
--- with a fault that only a flush met, a part is written at least
-pub told_faulted : (status : ℕ) (script old new : Option (List ℕ)) → IfSome script (λ script. Prints status (lab_run script) old new)
-    → IfSome script (λ script. Prints 5 (lab_run script) old new)
-told_faulted status None old new told = tt
-told_faulted status (Some script) old new told = record {
-  part = told.part;
-  done = λ e. absurd (omega (arith, e));
-  refused = λ e. absurd (omega (arith, e));
-  only_refused = λ _. inr (inr (inl refl));
-}

@@ -3,6 +3,7 @@ pub mod Devices
 pub mod LabRun
 pub mod Labs
 pub mod Laws
+pub mod ProgramEnds
 pub mod Programs
 pub mod NewReviews
 pub mod Sides

@@ -1,8 +1,10 @@
 -- What the program `anki` prints, and the statuses with which it ends.
-use Rattle.std.specs.Prelude.{◌≡◌, ◌<◌, ℕ, if◌then◌else◌, List, [], ◌∷◌, ◌++◌, Option, Some, None, IsSome, codes, ◌⊎◌}
+use Rattle.std.specs.Prelude.{◌≡◌, ◌<◌, ℕ, Bool, true, false, if◌then◌else◌, List, [], ◌∷◌, ◌++◌, Option, Some, None, IsSome, codes, ◌⊎◌}
 use Rattle.std.specs.Io.KnownBytes.{Appends}
 use Rattle.std.specs.Prelude.{String, string_bytes}
+use Rattle.std.specs.Option.{option_map}
 use Rattle.std.specs.declared.alloc.Global.{Global}
+use Rattle.ak_base.specs.Keys.{host_digits}
 use Rattle.ak_io.specs.Scripts.{Run, output_of, AppendsPart}
 use Rattle.ak_cli.specs.Commands.{same_text}
 use Rattle.ak_cli.specs.declared.program_commands.ProgramCommand.{ProgramCommand}
@@ -13,19 +15,38 @@ use Rattle.ak_faults.specs.Causes.{Health}
 use Rattle.ak_io.specs.declared.endings.ScriptEnd.{ScriptEnd}
 use Rattle.ak_io.specs.declared.endings.ScriptEnd.TheVariants as ends
 
--- the command of a word
-abbrev pub command_named : List ℕ → Option ProgramCommand
+-- the commands as words name them. That of a sync has the digits of its host key
+pub data Named : Type 0 where
+  Lab : Named
+  Init : Named
+  Desk : Named
+  Sync : List ℕ → Named
+
+-- how a command is named
+abbrev pub named_by : ProgramCommand → Named
+named_by programs.Lab = Lab
+named_by programs.Init = Init
+named_by programs.Desk = Desk
+named_by (programs.Sync host) = Sync host.digits
+
+-- the command of a single word
+abbrev pub command_named : List ℕ → Option Named
 command_named word =
-    if same_text word (codes "lab") then Some programs.Lab
-    else if same_text word (codes "init") then Some programs.Init
-    else if same_text word (codes "desk") then Some programs.Desk
+    if same_text word (codes "lab") then Some Lab
+    else if same_text word (codes "init") then Some Init
+    else if same_text word (codes "desk") then Some Desk
     else None
 
--- the command that the words name, if they are one word
-abbrev pub command_of : List (String Global) → Option ProgramCommand
+-- the command of two words: `sync` and 32 lower-case hexadecimal digits
+abbrev pub sync_named : List ℕ → List ℕ → Option Named
+sync_named word key = if same_text word (codes "sync") then option_map Sync (host_digits key) else None
+
+-- the command that the words name
+abbrev pub command_of : List (String Global) → Option Named
 command_of [] = None
 command_of (word ∷ []) = command_named (string_bytes word)
-command_of (word ∷ other ∷ others) = None
+command_of (word ∷ key ∷ []) = sync_named (string_bytes word) (string_bytes key)
+command_of (word ∷ key ∷ other ∷ others) = None
 
 -- `usage` and a line feed
 abbrev pub usage_line : List ℕ
@@ -60,6 +81,6 @@ command_status commands.WriteFailed = 5
 command_status commands.KeeperFailed = 6
 command_status commands.Memory = 8
 
--- the status tells this end; it is 5, whatever the end, if the output counted a fault meanwhile
-abbrev pub Tells : CommandEnd → Health → Health → ℕ → Type 0
-Tells end before now status = (status ≡ command_status end) ⊎ (status ≡ 5) × (before.faults < now.faults)
+-- the status is this one; or it is 5, if the output counted a fault meanwhile
+abbrev pub Tells : ℕ → Health → Health → ℕ → Type 0
+Tells wanted before now status = (status ≡ wanted) ⊎ (status ≡ 5) × (before.faults < now.faults)

@@ -3,10 +3,10 @@
 
 mod lab;
 mod program_commands;
-mod programs;
+mod program_runs;
 mod statuses;
 
 pub use lab::laws::{a_finished_sync_joins, new_ids_are_the_least};
 pub use program_commands::ProgramCommand;
-pub use programs::{print_usage, run};
+pub use program_runs::{print_usage, run};
 pub use statuses::{DONE, KEEPER_FAILED, NO_MEMORY, READ_FAILED, REFUSED, USAGE, WRITE_FAILED};

@@ -1,5 +1,8 @@
 ghost use Rattle.std.specs.Prelude.{◌≡◌};
-ghost use Rattle.ak_cli.specs.Programs.{command_named, command_of};
+ghost use Rattle.std.specs.Option.{option_map};
+ghost use Rattle.ak_cli.specs.Programs.{command_named, command_of, named_by, sync_named};
+
+use ak_base::HostKey;
 
 /// A command of the program.
 #[derive(Clone, Copy, Debug, PartialEq, Eq)]
@@ -10,23 +13,30 @@ pub enum ProgramCommand {
     Init,
     /// `desk`: lines over the collection that is held.
     Desk,
+    /// `sync KEY`: a sync of the collection that is held with the account of the key.
+    Sync(HostKey),
 }
 
-/// The command that the words name, if they are one word.
+/// The command that the words name.
 pub(crate) fn command_of(words: &[String]) -> Option<ProgramCommand>
-    ensures { result ≡ command_of words.now }
+    ensures { option_map named_by result ≡ command_of words.now }
 {
     let (word, others) = words.split_first()?;
-    if others.is_empty() {
-        command_named(word.as_str())
-    } else {
-        None
+    match others.split_first() {
+        None => command_named(word.as_str()),
+        Some((key, more)) => {
+            if more.is_empty() {
+                sync_named(word.as_str(), key.as_str())
+            } else {
+                None
+            }
+        }
     }
 }
 
-/// The command of a word.
+/// The command of a single word.
 fn command_named(word: &str) -> Option<ProgramCommand>
-    ensures { result ≡ command_named word.now }
+    ensures { option_map named_by result ≡ command_named word.now }
 {
     if word == "lab" {
         return Some(ProgramCommand::Lab);
@@ -36,6 +46,17 @@ fn command_named(word: &str) -> Option<ProgramCommand>
     }
     if word == "desk" {
         return Some(ProgramCommand::Desk);
+    }
+    None
+}
+
+/// The command of two words: `sync`, and a host key.
+fn sync_named(word: &str, key: &str) -> Option<ProgramCommand>
+    ensures { option_map named_by result ≡ sync_named word.now key.now }
+{
+    if word == "sync" {
+        let host = HostKey::of(key)?;
+        return Some(ProgramCommand::Sync(host));
     }
     None
 }

@@ -11,6 +11,7 @@ use ak_io::{Clock, Sink, Source, StdChance, StdClock, StdSink, StdSource};
 use ak_keep::{KeepFault, Keeper};
 use ak_memory::MemoryKeeper;
 use ak_sqlite::SqliteKeeper;
+use ak_sync_runs::NoServer;
 use std::env::Env;
 use std::io::ErrorKind;
 use std::process::ExitCode;
@@ -93,6 +94,7 @@ fn run_with<K: Keeper, I: Source, O: Sink>(
     let mut filters: Vec<Box<dyn FieldFilter>> = Vec::new(alloc);
     filters.push(Box::new(alloc, TextFilter::new(alloc))?)?;
     filters.push(Box::new(alloc, HintFilter::new(alloc))?)?;
+    let mut wire = NoServer::new();
     let mut clock = StdClock::new(rt);
     let mut chance = StdChance::new(clock.now() as u64);
     let status = run(
@@ -101,6 +103,7 @@ fn run_with<K: Keeper, I: Source, O: Sink>(
         input,
         out,
         keeper,
+        &mut wire,
         &mut clock,
         &mut chance,
         &mut filters,

@@ -3,6 +3,7 @@
 
 mod reopened;
 mod runs;
+mod synced;
 mod times;
 
 use crate::runs::Runs;

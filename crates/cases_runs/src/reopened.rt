@@ -3,6 +3,7 @@ use ak_base::Table;
 use ak_keep::{KeepFault, Lookup, Readable};
 use ak_memory::MemoryKeeper;
 use ak_sqlite::SqliteKeeper;
+use ak_sync_runs::NoServer;
 use cases_lines::{Unread, list_at};
 use serde_json::Value;
 use std::alloc::Global;
@@ -35,7 +36,7 @@ fn ran_beside(
     run: &Value,
 ) -> Result<String, Unread> {
     let mut told = ran_in_file(alloc, rt, run)?;
-    let of_twin = ran(alloc, twin, run)?;
+    let of_twin = ran(alloc, twin, &mut NoServer::new(), run)?;
     if told.as_str() != of_twin.as_str() {
         told.push_str(" but in memory ")?;
         told.push_str(of_twin.as_str())?;
@@ -48,7 +49,7 @@ fn ran_beside(
 
 fn ran_in_file(alloc: Global, rt: &HostRuntime, run: &Value) -> Result<String, Unread> {
     match SqliteKeeper::over_file(rt, FILE) {
-        Ok(mut keeper) => ran(alloc, &mut keeper, run),
+        Ok(mut keeper) => ran(alloc, &mut keeper, &mut NoServer::new(), run),
         Err(_) => Ok(String::from_str(alloc, "not opened")?),
     }
 }

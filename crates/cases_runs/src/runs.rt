@@ -1,4 +1,5 @@
 use crate::reopened::ran_reopened;
+use crate::synced::ran_synced;
 use crate::times::{chance_at, clock_at};
 use ak_base::List;
 use ak_cli::run;
@@ -6,6 +7,8 @@ use ak_filters::{FieldFilter, HintFilter, TextFilter};
 use ak_io::{End, MemorySink, MemorySource, Sink, Source};
 use ak_keep::{Keeper, Lookup};
 use ak_memory::MemoryKeeper;
+use ak_sync_runs::NoServer;
+use ak_wires::Wire;
 use cases_lines::{Answers, Unread, list_at, natural_at, quoted, text_at};
 use serde_json::Value;
 use std::alloc::Global;
@@ -26,9 +29,10 @@ impl Answers for Runs<'_> {
         match (word, Value::from_str(alloc, rest)) {
             ("run", Ok(arguments)) => {
                 let mut keeper = MemoryKeeper::new(alloc);
-                ran(alloc, &mut keeper, &arguments)
+                ran(alloc, &mut keeper, &mut NoServer::new(), &arguments)
             }
             ("runs", Ok(arguments)) => ran_all(alloc, &arguments),
+            ("synced", Ok(arguments)) => ran_synced(alloc, &arguments),
             ("reopened", Ok(arguments)) => ran_reopened(alloc, self.rt, &arguments),
             _ => Err(Unread::Bad),
         }
@@ -41,7 +45,7 @@ fn ran_all(alloc: Global, arguments: &Value) -> Result<String, Unread> {
     keeper.fail_at(numbers_at(alloc, arguments, 0)?);
     let mut told = String::new(alloc);
     for run in list_at(arguments, 1)? {
-        let one = ran(alloc, &mut keeper, run)?;
+        let one = ran(alloc, &mut keeper, &mut NoServer::new(), run)?;
         told.push_str(one.as_str())?;
         told.push_str(" / ")?;
     }
@@ -51,7 +55,12 @@ fn ran_all(alloc: Global, arguments: &Value) -> Result<String, Unread> {
 
 /// `run [WORDS, INPUT, FAILING-READS, ROOM, FAILING-WRITES, MOMENTS, CHANCE]`: the status, the faults of the input and of the
 /// output, and what was written. Without moments the clock stands at 1700000000000, and without words of chance each is 0.
-pub fn ran<K: Keeper>(alloc: Global, keeper: &mut K, arguments: &Value) -> Result<String, Unread> {
+pub fn ran<K: Keeper, W: Wire>(
+    alloc: Global,
+    keeper: &mut K,
+    wire: &mut W,
+    arguments: &Value,
+) -> Result<String, Unread> {
     if keeper.marked() {
         return Err(Unread::Bad);
     }
@@ -69,6 +78,7 @@ pub fn ran<K: Keeper>(alloc: Global, keeper: &mut K, arguments: &Value) -> Resul
         &mut input,
         &mut out,
         keeper,
+        wire,
         &mut clock,
         &mut chance,
         &mut filters,
@@ -119,7 +129,7 @@ fn output_at(alloc: Global, arguments: &Value) -> Result<MemorySink, Unread> {
     Ok(MemorySink::new(alloc, room, fails)?)
 }
 
-fn numbers_at(alloc: Global, arguments: &Value, place: usize) -> Result<List<u64>, Unread> {
+pub fn numbers_at(alloc: Global, arguments: &Value, place: usize) -> Result<List<u64>, Unread> {
     let mut numbers = List::new(alloc);
     for value in list_at(arguments, place)? {
         numbers.push(value.as_u64().ok_or(Unread::Bad)?)?;

@@ -1,0 +1,28 @@
+use Rattle.std.proofs.Common.{refl}
+use Rattle.ak_cli.proofs.Endings.{prints_told}
+use Rattle.ak_cli.proofs.program_runs.run_command.Goals as goal
+
+pub returns-in-Lab-clause-ends : goal.returns-in-Lab-clause-ends
+returns-in-Lab-clause-ends g c = rw c.in-Lab.is (rw c.status_of.ensures (prints_told _ _ _ _ c.run_script.ensures.told))
+
+pub returns-in-Init-clause-ends : goal.returns-in-Init-clause-ends
+returns-in-Init-clause-ends g c = let e = c.init_collection.ensures.ends in
+    rw c.in-Init.is (e.0, _, e.1, e.2, e.3, c.command_status.ensures)
+
+pub returns-in-Desk-clause-ends : goal.returns-in-Desk-clause-ends
+returns-in-Desk-clause-ends g c = rw c.in-Desk.is (_, c.run_desk-end.ensures.ends, c.command_status-in-Desk.ensures)
+
+pub returns-in-Sync-clause-ends : goal.returns-in-Sync-clause-ends
+returns-in-Sync-clause-ends g c = rw c.in-Sync.is (_, refl, c.run_sync.ensures.ends)
+
+pub returns-in-Lab-clause-leaves : goal.returns-in-Lab-clause-leaves
+returns-in-Lab-clause-leaves g c = rw c.in-Lab.is refl
+
+pub returns-in-Init-clause-leaves : goal.returns-in-Init-clause-leaves
+returns-in-Init-clause-leaves g c = rw c.in-Init.is refl
+
+pub returns-in-Desk-clause-leaves : goal.returns-in-Desk-clause-leaves
+returns-in-Desk-clause-leaves g c = rw c.in-Desk.is refl
+
+pub returns-in-Sync-clause-leaves : goal.returns-in-Sync-clause-leaves
+returns-in-Sync-clause-leaves g c = rw c.in-Sync.is refl

@@ -1,0 +1,180 @@
+ghost use Rattle.std.specs.Prelude.{◌≡◌, ◌⊎◌, ◌<◌, ◌≤◌, ℕ, map, false, true, None, Some};
+ghost use Rattle.std.specs.Io.KnownBytes.{Appends, IsAtEnd};
+ghost use Rattle.ak_cli.specs.ProgramEnds.{EndsBy, LeavesBy, around, reads_input};
+ghost use Rattle.ak_cli.specs.Programs.{command_of, named_by, usage_line, Tells};
+ghost use Rattle.ak_faults.specs.Causes.{GoesOn, Rose};
+ghost use Rattle.ak_io.specs.Scripts.{AppendsPart};
+ghost use Rattle.ak_keep.specs.Keepers.{is_marked};
+
+use crate::lab::scripts::run_script;
+use crate::program_commands::{ProgramCommand, command_of};
+use crate::statuses::{USAGE, WRITE_FAILED, command_status, status_of};
+use ak_desk_runs::{init_collection, run_desk};
+use ak_filters::FieldFilter;
+use ak_io::{Chance, Clock, Failed, Sink, Source, write_all};
+use ak_keep::Keeper;
+use ak_sync_runs::run_sync;
+use ak_wires::Wire;
+use std::alloc::Global;
+
+/// Does the command that the words name, and answers the status with which the program ends. `init`, `desk` and `sync` work on
+/// the collection of the keeper, and `sync` on the server to which the wire leads; `lab` has collections of its own.
+pub fn run<I: Source, O: Sink, K: Keeper, W: Wire, C: Clock, R: Chance>(
+    alloc: Global,
+    words: &[String],
+    input: &mut I,
+    out: &mut O,
+    keeper: &mut K,
+    wire: &mut W,
+    clock: &mut C,
+    chance: &mut R,
+    filters: &mut Vec<Box<dyn FieldFilter>>,
+) -> u8
+    requires unmarked { is_marked (K.keeping keeper.old) ≡ false }
+
+    // What the command does and prints, and the status that tells it: 5 in its place if the output counted a fault meanwhile,
+    // also one that only a flush met. Of words that name no command `usage` is printed.
+    ensures ends { (status : ℕ) × EndsBy (command_of words.now) status
+        (around (I.left input.old) (O.written out.old) (K.keeping keeper.old) (W.health wire.old) (W.state wire.old)
+        (C.to_come clock.old) (R.to_come chance.old) (map (λ b. meaning b) filters.old.items))
+        (around (I.left input.new) (O.written out.new) (K.keeping keeper.new) (W.health wire.new) (W.state wire.new)
+        (C.to_come clock.new) (R.to_come chance.new) (map (λ b. meaning b) filters.new.items))
+        × Tells status (O.health out.old) (O.health out.new) result }
+    ensures faulted { (O.health out.old).faults < (O.health out.new).faults → result ≡ 5 }
+
+    // What it leaves alone.
+    ensures leaves { LeavesBy (command_of words.now)
+        (around (I.left input.old) (O.written out.old) (K.keeping keeper.old) (W.health wire.old) (W.state wire.old)
+        (C.to_come clock.old) (R.to_come chance.old) (map (λ b. meaning b) filters.old.items))
+        (around (I.left input.new) (O.written out.new) (K.keeping keeper.new) (W.health wire.new) (W.state wire.new)
+        (C.to_come clock.new) (R.to_come chance.new) (map (λ b. meaning b) filters.new.items)) }
+    ensures unmarked { is_marked (K.keeping keeper.new) ≡ false }
+
+    // Words that name no command, and they alone, end with status 2, unless the output failed.
+    ensures usage { result ≡ 2 → command_of words.now ≡ None }
+    ensures only_usage { command_of words.now ≡ None → (result ≡ 2) ⊎ (result ≡ 5) }
+
+    // Why it ends with the other statuses. Out of memory alone has no cause.
+    ensures ended { result ≡ 0 → reads_input (command_of words.now) ≡ true → IsAtEnd (I.left input.new) }
+    ensures read { result ≡ 4 → Rose (I.health input.old) (I.health input.new) }
+    ensures write { result ≡ 5 → Rose (O.health out.old) (O.health out.new) }
+    ensures keep { result ≡ 6 → Rose (K.health keeper.old) (K.health keeper.new) }
+    ensures keeps { GoesOn (K.health keeper.old) (K.health keeper.new) }
+    ensures lose { result ≡ 7 → Rose (W.health wire.old) (W.health wire.new) }
+{
+    let before = out.faults();
+    let status = run_words(
+        alloc, words, input, out, keeper, wire, clock, chance, filters,
+    );
+    told(before, out.faults(), status)
+}
+
+/// The status, or 5 if the output counted a fault meanwhile.
+fn told(before: u64, now: u64, status: u8) -> u8
+    ensures rose { before < now → result ≡ 5 }
+    ensures kept { now ≤ before → result ≡ status }
+    ensures either { (result ≡ status) ⊎ (result ≡ 5) × (before < now) }
+{
+    if before < now {
+        return WRITE_FAILED;
+    }
+    status
+}
+
+/// Does the command that the words name, or prints `usage` if they name none. A fault in a flush is not told.
+fn run_words<I: Source, O: Sink, K: Keeper, W: Wire, C: Clock, R: Chance>(
+    alloc: Global,
+    words: &[String],
+    input: &mut I,
+    out: &mut O,
+    keeper: &mut K,
+    wire: &mut W,
+    clock: &mut C,
+    chance: &mut R,
+    filters: &mut Vec<Box<dyn FieldFilter>>,
+) -> u8
+    requires unmarked { is_marked (K.keeping keeper.old) ≡ false }
+    ensures ends { EndsBy (command_of words.now) result
+        (around (I.left input.old) (O.written out.old) (K.keeping keeper.old) (W.health wire.old) (W.state wire.old)
+        (C.to_come clock.old) (R.to_come chance.old) (map (λ b. meaning b) filters.old.items))
+        (around (I.left input.new) (O.written out.new) (K.keeping keeper.new) (W.health wire.new) (W.state wire.new)
+        (C.to_come clock.new) (R.to_come chance.new) (map (λ b. meaning b) filters.new.items)) }
+    ensures leaves { LeavesBy (command_of words.now)
+        (around (I.left input.old) (O.written out.old) (K.keeping keeper.old) (W.health wire.old) (W.state wire.old)
+        (C.to_come clock.old) (R.to_come chance.old) (map (λ b. meaning b) filters.old.items))
+        (around (I.left input.new) (O.written out.new) (K.keeping keeper.new) (W.health wire.new) (W.state wire.new)
+        (C.to_come clock.new) (R.to_come chance.new) (map (λ b. meaning b) filters.new.items)) }
+    ensures unmarked { is_marked (K.keeping keeper.new) ≡ false }
+    ensures usage { result ≡ 2 → command_of words.now ≡ None }
+    ensures only_usage { command_of words.now ≡ None → (result ≡ 2) ⊎ (result ≡ 5) }
+    ensures ended { result ≡ 0 → reads_input (command_of words.now) ≡ true → IsAtEnd (I.left input.new) }
+    ensures read { result ≡ 4 → Rose (I.health input.old) (I.health input.new) }
+    ensures write { result ≡ 5 → Rose (O.health out.old) (O.health out.new) }
+    ensures keep { result ≡ 6 → Rose (K.health keeper.old) (K.health keeper.new) }
+    ensures keeps { GoesOn (K.health keeper.old) (K.health keeper.new) }
+    ensures lose { result ≡ 7 → Rose (W.health wire.old) (W.health wire.new) }
+    ensures goes { GoesOn (O.health out.old) (O.health out.new) }
+{
+    match command_of(words) {
+        Some(command) => run_command(
+            alloc, command, input, out, keeper, wire, clock, chance, filters,
+        ),
+        None => print_usage(out),
+    }
+}
+
+/// Does the command. A fault in a flush is not told.
+fn run_command<I: Source, O: Sink, K: Keeper, W: Wire, C: Clock, R: Chance>(
+    alloc: Global,
+    command: ProgramCommand,
+    input: &mut I,
+    out: &mut O,
+    keeper: &mut K,
+    wire: &mut W,
+    clock: &mut C,
+    chance: &mut R,
+    filters: &mut Vec<Box<dyn FieldFilter>>,
+) -> u8
+    requires unmarked { is_marked (K.keeping keeper.old) ≡ false }
+    ensures ends { EndsBy (Some (named_by command)) result
+        (around (I.left input.old) (O.written out.old) (K.keeping keeper.old) (W.health wire.old) (W.state wire.old)
+        (C.to_come clock.old) (R.to_come chance.old) (map (λ b. meaning b) filters.old.items))
+        (around (I.left input.new) (O.written out.new) (K.keeping keeper.new) (W.health wire.new) (W.state wire.new)
+        (C.to_come clock.new) (R.to_come chance.new) (map (λ b. meaning b) filters.new.items)) }
+    ensures leaves { LeavesBy (Some (named_by command))
+        (around (I.left input.old) (O.written out.old) (K.keeping keeper.old) (W.health wire.old) (W.state wire.old)
+        (C.to_come clock.old) (R.to_come chance.old) (map (λ b. meaning b) filters.old.items))
+        (around (I.left input.new) (O.written out.new) (K.keeping keeper.new) (W.health wire.new) (W.state wire.new)
+        (C.to_come clock.new) (R.to_come chance.new) (map (λ b. meaning b) filters.new.items)) }
+    ensures unmarked { is_marked (K.keeping keeper.new) ≡ false }
+    ensures usage { (result ≡ 2) → ⊥ }
+    ensures ended { result ≡ 0 → reads_input (Some (named_by command)) ≡ true → IsAtEnd (I.left input.new) }
+    ensures read { result ≡ 4 → Rose (I.health input.old) (I.health input.new) }
+    ensures write { result ≡ 5 → Rose (O.health out.old) (O.health out.new) }
+    ensures keep { result ≡ 6 → Rose (K.health keeper.old) (K.health keeper.new) }
+    ensures keeps { GoesOn (K.health keeper.old) (K.health keeper.new) }
+    ensures lose { result ≡ 7 → Rose (W.health wire.old) (W.health wire.new) }
+    ensures goes { GoesOn (O.health out.old) (O.health out.new) }
+{
+    match command {
+        ProgramCommand::Lab => status_of(run_script(alloc, input, out)),
+        ProgramCommand::Init => command_status(init_collection(alloc, keeper, clock, out)),
+        ProgramCommand::Desk => {
+            let end = run_desk(alloc, keeper, clock, chance, filters, input, out);
+            command_status(end)
+        }
+        ProgramCommand::Sync(host) => run_sync(alloc, keeper, wire, clock, chance, host, out),
+    }
+}
+
+/// Prints `usage`, and answers 2, or 5 if the output failed.
+pub fn print_usage<O: Sink>(out: &mut O) -> u8
+    ensures either { (result ≡ 2) × Appends (O.written out.old) (O.written out.new) usage_line ⊎ (result ≡ 5) × AppendsPart (O.written out.old) (O.written out.new) usage_line }
+    ensures cause { result ≡ 5 → Rose (O.health out.old) (O.health out.new) }
+    ensures goes { GoesOn (O.health out.old) (O.health out.new) }
+{
+    match write_all(out, b"usage\n") {
+        Ok(()) => USAGE,
+        Err(Failed) => WRITE_FAILED,
+    }
+}

@@ -1,0 +1,33 @@
+ghost use Rattle.std.specs.Prelude.{◌≡◌, None, MatchOption};
+ghost use Rattle.ak_lab_devices.specs.Devices.{IsPlaceOf, device_of};
+
+use crate::held_collections::HeldCollection;
+use ak_base::Text;
+use ak_undo::UndoList;
+
+/// A device of a lab.
+#[derive(Drop)]
+pub struct Device {
+    pub name: Text,
+    pub collection: HeldCollection,
+    /// The steps that can be undone.
+    pub undo: UndoList,
+    /// Its clock is the lab's plus this, in milliseconds.
+    pub shift: i64,
+    /// How many answers were accepted. At the last `u64` it stays.
+    pub done: u64,
+    /// How many calls its last sync made. At the last `u64` it stays.
+    pub calls: u64,
+}
+
+/// Where the device of a name stands in the list.
+pub fn place_of(devices: &[Device], name: &Text) -> Option<usize>
+    ensures { MatchOption result (device_of name.now devices.now ≡ None) (IsPlaceOf name.now devices.now) }
+{
+    for (place, device) in devices.iter().enumerate() {
+        if device.name == *name {
+            return Some(place);
+        }
+    }
+    None
+}

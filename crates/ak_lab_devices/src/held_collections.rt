@@ -1,0 +1,133 @@
+ghost use Rattle.std.specs.List.{All, IsDistinct};
+ghost use Rattle.std.specs.Ordering.{eq_by_cmp};
+ghost use Rattle.std.specs.Prelude.{◌≡◌, map, IfOk};
+ghost use Rattle.ak_base.specs.Heads.{IsHeadInRange};
+ghost use Rattle.ak_base.specs.Names.{name_cmp};
+ghost use Rattle.ak_base.specs.Rows.{IsChecked, name_of};
+
+use ak_base::{List, Memory, Name, Text};
+use ak_desk_lines::Turn;
+use ak_edit::DeskFault;
+use ak_keep::MemoryKeeper;
+use ak_lab_keepers::{add_reviews_at_rest, counts_at_rest, first_tie, obey_at_rest, shown_texts};
+use ak_lab_lines::Shown;
+use ak_lab_sides::ReviewPlan;
+use ak_lines::DeskLine;
+use ak_loops::keeper_with;
+use ak_messages::SanityCounts;
+use ak_openings::Opening;
+use ak_texts::DeskAnswer;
+use ak_undo::UndoList;
+use std::alloc::Global;
+use std::marker::Model;
+
+/// A collection in memory, seen as what its keeper keeps. Between two calls its keeper is at rest.
+#[derive(Drop)]
+pub struct HeldCollection {
+    pub(crate) keeper: MemoryKeeper,
+}
+
+impl Model for HeldCollection {
+    ghost use Rattle.std.specs.Coded.{codes};
+    ghost use Rattle.std.specs.FinMap as map;
+    ghost use Rattle.ak_keep.specs.Collections.{Holding};
+    ghost use Rattle.ak_keep.specs.Marks.{WithMark};
+    ghost use Rattle.ak_keep.specs.MemoryKeepers.{holding_code, kept_code};
+    ghost use Rattle.ak_lab_keepers.specs.RestingKeepers.{IsAtRest};
+
+    ghost Value = { WithMark Holding };
+
+    ghost coded = { kept_code (holding_code (map.code (Prim.hlevel codes) (Prim.hlevel codes)) (Prim.hlevel codes)) };
+
+    ghost view = { λ held. held.keeper.kept };
+
+    ghost invariant = { λ held. IsAtRest held.keeper };
+}
+
+impl HeldCollection {
+    ghost use Rattle.std.specs.Prelude.{◌∷◌, [], List as Sequence, Some, pos, true};
+    ghost use Rattle.std.specs.Result.{IsErrOf};
+    ghost use Rattle.ak_base.specs.Heads.{IsWithin};
+    ghost use Rattle.ak_desk_lines.specs.LineEnds.{AppliesFilters, EndsLine};
+    ghost use Rattle.ak_edit.specs.declared.desk_faults.DeskFault.TheVariants as desks;
+    ghost use Rattle.ak_filters.specs.Meanings.{Meaning};
+    ghost use Rattle.ak_keep.specs.Collections.{Collection, IsId};
+    ghost use Rattle.ak_keep.specs.Keepers.{all_known};
+    ghost use Rattle.ak_lab_keepers.specs.RestingKeepers.{Holds, kept_of};
+    ghost use Rattle.ak_lab_keepers.specs.Shown.{shown_lines};
+    ghost use Rattle.ak_lab_sides.specs.NewReviews.{EndsReviews};
+    ghost use Rattle.ak_lines.specs.DeskLines.{IsInRange};
+    ghost use Rattle.ak_loops.specs.Entries.{collection_in};
+    ghost use Rattle.ak_merge.specs.Conflicts.{first_conflict};
+    ghost use Rattle.ak_session.specs.Answers.{counts_of};
+    ghost use Rattle.ak_study.specs.DayStarts.{IsInDay};
+
+    /// This whole collection.
+    pub fn of(alloc: Global, opening: Opening) -> Result<HeldCollection, Memory>
+        requires checked { All IsChecked opening.rows }
+        requires distinct { IsDistinct (eq_by_cmp name_cmp) (map name_of opening.rows) }
+        requires range { IsHeadInRange opening.head }
+        ensures { IfOk result (λ made. made ≡ kept_of (collection_in opening)) }
+    {
+        let keeper = keeper_with(alloc, opening)?;
+        Ok(HeldCollection { keeper })
+    }
+
+    /// The lines of what is shown of it.
+    pub fn shown(&mut self, alloc: Global, what: Shown) -> Result<List<Text>, Memory>
+        ensures shown { IfOk result (λ texts. (c : Collection) × Holds self.old c × (texts ≡ shown_lines what c)) }
+        ensures same { self.new ≡ self.old }
+    {
+        shown_texts(alloc, &mut self.keeper, what)
+    }
+
+    /// How many rows of each kind are held.
+    pub fn counts(&mut self) -> Result<SanityCounts, Memory>
+        ensures counts { IfOk result (λ counts. (c : Collection) × Holds self.old c × (counts ≡ counts_of c.rows)) }
+        ensures same { self.new ≡ self.old }
+    {
+        counts_at_rest(&mut self.keeper)
+    }
+
+    /// The first name, by table and then by id, under which this and the other hold rows of one stamp that are not equal; none
+    /// if the two are apart.
+    pub fn first_tie(&mut self, other: &mut HeldCollection) -> Result<Option<Name>, Memory>
+        ensures tie { IfOk result (λ tie. tie ≡ first_conflict self.old.current.rows other.old.current.rows) }
+        ensures same { self.new ≡ self.old }
+        ensures other { other.new ≡ other.old }
+    {
+        first_tie(&mut self.keeper, &mut other.keeper)
+    }
+
+    /// Does a line of the desk in its turn, without filters.
+    pub fn obey(
+        &mut self,
+        undo: &mut UndoList,
+        said: DeskLine,
+        turn: Turn,
+    ) -> Result<DeskAnswer, DeskFault>
+        requires moment { IsInDay turn.at }
+        requires range { IsInRange said }
+        ensures ends { EndsLine said turn (record { keeping = all_known self.old; steps = undo.old })
+            (record { keeping = all_known self.new; steps = undo.new }) result }
+        ensures filters { (turned : Sequence Meaning) × AppliesFilters said (all_known self.old) [] turned result }
+        ensures unfailed { IsErrOf result desks.Failed → ⊥ }
+    {
+        obey_at_rest(&mut self.keeper, undo, said, turn)
+    }
+
+    /// Adds the reviews of a plan at a moment in milliseconds, as one edit.
+    pub fn review(
+        &mut self,
+        undo: &mut UndoList,
+        plan: ReviewPlan,
+        at: i64,
+    ) -> Result<(), DeskFault>
+        requires card { IsId plan.card }
+        requires ease { IsWithin (pos 0) (pos 4) plan.ease }
+        ensures ends { EndsReviews at plan (all_known self.old) (all_known self.new) undo.old undo.new result }
+        ensures unfailed { IsErrOf result desks.Failed → ⊥ }
+    {
+        add_reviews_at_rest(&mut self.keeper, undo, plan, at)
+    }
+}
