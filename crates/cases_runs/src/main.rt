@@ -1,9 +1,7 @@
 // Cases of whole runs: one run a line, and the status and the bytes written printed for each. README.md tells the form.
 #![tactic(auto)]
 
-mod reopened;
 mod runs;
-mod synced;
 mod times;
 
 use crate::runs::Runs;
@@ -15,7 +13,7 @@ use std::process::ExitCode;
 fn main(rt: HostRuntime) -> io::Result<ExitCode> {
     let mut input = StdSource::new(rt.stdin());
     let mut out = StdSink::new(rt.stdout());
-    let mut runs = Runs { rt: &rt };
+    let mut runs = Runs;
     match print_answers(rt.alloc(), &mut runs, &mut input, &mut out) {
         Ok(()) => Ok(ExitCode::from(0)),
         Err(_) => Ok(ExitCode::from(1)),

@@ -1,5 +1,3 @@
-use crate::reopened::ran_reopened;
-use crate::synced::ran_synced;
 use crate::times::{chance_at, clock_at};
 use ak_base::List;
 use ak_cli::run;
@@ -8,11 +6,9 @@ use ak_io::{End, MemorySink, MemorySource, Sink, Source};
 use ak_keep::{Keeper, Lookup};
 use ak_memory::MemoryKeeper;
 use ak_sync_runs::NoServer;
-use ak_wires::Wire;
 use cases_lines::{Answers, Unread, list_at, natural_at, quoted, text_at};
 use serde_json::Value;
 use std::alloc::Global;
-use std::rt::HostRuntime;
 use std::str;
 
 /// The most bytes that the output of a run may have room for.
@@ -20,20 +16,16 @@ const MOST_ROOM: u64 = 100_000_000;
 
 /// Nothing is kept from one line to the next.
 #[derive(Drop)]
-pub struct Runs<'a> {
-    pub rt: &'a HostRuntime,
-}
+pub struct Runs;
 
-impl Answers for Runs<'_> {
+impl Answers for Runs {
     fn answer(&mut self, alloc: Global, word: &str, rest: &str) -> Result<String, Unread> {
         match (word, Value::from_str(alloc, rest)) {
             ("run", Ok(arguments)) => {
                 let mut keeper = MemoryKeeper::new(alloc);
-                ran(alloc, &mut keeper, &mut NoServer::new(), &arguments)
+                ran(alloc, &mut keeper, &arguments)
             }
             ("runs", Ok(arguments)) => ran_all(alloc, &arguments),
-            ("synced", Ok(arguments)) => ran_synced(alloc, &arguments),
-            ("reopened", Ok(arguments)) => ran_reopened(alloc, self.rt, &arguments),
             _ => Err(Unread::Bad),
         }
     }
@@ -45,7 +37,7 @@ fn ran_all(alloc: Global, arguments: &Value) -> Result<String, Unread> {
     keeper.fail_at(numbers_at(alloc, arguments, 0)?);
     let mut told = String::new(alloc);
     for run in list_at(arguments, 1)? {
-        let one = ran(alloc, &mut keeper, &mut NoServer::new(), run)?;
+        let one = ran(alloc, &mut keeper, run)?;
         told.push_str(one.as_str())?;
         told.push_str(" / ")?;
     }
@@ -55,12 +47,7 @@ fn ran_all(alloc: Global, arguments: &Value) -> Result<String, Unread> {
 
 /// `run [WORDS, INPUT, FAILING-READS, ROOM, FAILING-WRITES, MOMENTS, CHANCE]`: the status, the faults of the input and of the
 /// output, and what was written. Without moments the clock stands at 1700000000000, and without words of chance each is 0.
-pub fn ran<K: Keeper, W: Wire>(
-    alloc: Global,
-    keeper: &mut K,
-    wire: &mut W,
-    arguments: &Value,
-) -> Result<String, Unread> {
+fn ran(alloc: Global, keeper: &mut MemoryKeeper, arguments: &Value) -> Result<String, Unread> {
     if keeper.marked() {
         return Err(Unread::Bad);
     }
@@ -78,7 +65,7 @@ pub fn ran<K: Keeper, W: Wire>(
         &mut input,
         &mut out,
         keeper,
-        wire,
+        &mut NoServer::new(),
         &mut clock,
         &mut chance,
         &mut filters,
