@@ -11,7 +11,7 @@ use Rattle.ak_cardgen.specs.declared.fronts.Fronts.{Fronts}
 use Rattle.ak_cardgen.specs.Generation.{pair_of, pairs, AreFronts, AreFrontsOf, AreShown, AreClozed, AreOrdsBy, place_of, fronts_fault, numbers_in, ords_below}
 use Rattle.ak_template.proofs.Running.{first_left}
 use Rattle.ak_template.specs.Grammar.{IsTemplate, first_fault}
-use Rattle.ak_template.specs.Trees.{Tree, laid}
+use Rattle.ak_template.specs.Trees.{Tree, tree_steps}
 use Rattle.ak_template.specs.declared.faces.Face.{Face}
 use Rattle.ak_template.specs.declared.faces.Pair.{Pair}
 use Rattle.ak_template.specs.declared.faults.TemplateFault.{TemplateFault}
@@ -51,7 +51,7 @@ read_end at templates fronts h goes =
     let none : AreFronts (drop at templates) [] = subst (λ (ts : List CardTemplate). AreFronts ts []) (sym (drop_all at templates h)) tt in
     subst (AreFronts templates) (append-nil fronts) (goes [] none)
 
-pub read_step : (at : ℕ) (templates : List CardTemplate) (template : CardTemplate) (fronts made : List Template) (front : Template) (tree : Tree) → at < length templates → template ≡ get_or templates at template → IsTemplate template.front tree → front.steps ≡ laid tree → made ≡ fronts ++ (front ∷ []) → ReadsOn at templates fronts → ReadsOn (at + 1) templates made
+pub read_step : (at : ℕ) (templates : List CardTemplate) (template : CardTemplate) (fronts made : List Template) (front : Template) (tree : Tree) → at < length templates → template ≡ get_or templates at template → IsTemplate template.front tree → front.steps ≡ tree_steps tree → made ≡ fronts ++ (front ∷ []) → ReadsOn at templates fronts → ReadsOn (at + 1) templates made
 read_step at templates template fronts made front tree h is reads lays added goes rest others =
     let here : AreFronts (template ∷ drop (at + 1) templates) (front ∷ rest) = ((tree, reads, lays), others) in
     let all : AreFronts templates (fronts ++ (front ∷ rest)) = goes (front ∷ rest) (subst (λ (ts : List CardTemplate). AreFronts ts (front ∷ rest)) (sym (first_left templates at template h is)) here) in
@@ -61,7 +61,7 @@ pub none_step : (at : ℕ) (templates : List CardTemplate) (template : CardTempl
 none_step at templates template h is none so_far =
     sym (ap (λ (o : Option TemplateFault). option_or o (fronts_fault (drop (at + 1) templates))) none) ∙ sym (ap fronts_fault (first_left templates at template h is)) ∙ so_far
 
-pub one_front : (templates : List CardTemplate) (template : CardTemplate) (others : List CardTemplate) (fronts : List Template) (front : Template) (tree : Tree) → templates ≡ template ∷ others → IsTemplate template.front tree → front.steps ≡ laid tree → fronts ≡ front ∷ [] → AreFronts (take 1 templates) fronts
+pub one_front : (templates : List CardTemplate) (template : CardTemplate) (others : List CardTemplate) (fronts : List Template) (front : Template) (tree : Tree) → templates ≡ template ∷ others → IsTemplate template.front tree → front.steps ≡ tree_steps tree → fronts ≡ front ∷ [] → AreFronts (take 1 templates) fronts
 one_front templates template others fronts front tree t reads lays f =
     let here : AreFronts (take 1 (template ∷ others)) (front ∷ []) = ((tree, reads, lays), tt) in
     subst (λ (fs : List Template). AreFronts (take 1 templates) fs) (sym f) (subst (λ (ts : List CardTemplate). AreFronts (take 1 ts) (front ∷ [])) (sym t) here)
@@ -73,7 +73,7 @@ abbrev pub ShowsOn : Face → ℕ → List CardTemplate → List ℤ → Type 0
 ShowsOn face place templates ords = (rest : List ℤ) → AreShown face place (drop place templates) rest → AreShown face 0 templates (ords ++ rest)
 
 -- the template at the place of a front, and the front's tree
-front_at : (templates : List CardTemplate) (fronts : List Template) (place : ℕ) (front : Template) → AreFronts templates fronts → place < length fronts → front ≡ get_or fronts place front → (template : CardTemplate) × (tree : Tree) × IsTemplate template.front tree × (front.steps ≡ laid tree) × (drop place templates ≡ template ∷ drop (suc place) templates)
+front_at : (templates : List CardTemplate) (fronts : List Template) (place : ℕ) (front : Template) → AreFronts templates fronts → place < length fronts → front ≡ get_or fronts place front → (template : CardTemplate) × (tree : Tree) × IsTemplate template.front tree × (front.steps ≡ tree_steps tree) × (drop place templates ≡ template ∷ drop (suc place) templates)
 front_at [] [] place front h l is = absurd (omega (arith, l))
 front_at [] (first ∷ fronts) place front h l is = absurd h
 front_at (template ∷ templates) [] place front h l is = absurd h
@@ -92,7 +92,7 @@ shown_end face place templates fronts ords are h goes =
     let none : AreShown face place (drop place templates) [] = subst (λ (ts : List CardTemplate). AreShown face place ts []) (sym (drop_all place templates short)) refl in
     subst (λ (os : List ℤ). AreShown face 0 templates os) (append-nil ords) (goes [] none)
 
-pub shown_step : (face : Face) (place : ℕ) (templates : List CardTemplate) (fronts : List Template) (front : Template) (ords made : List ℤ) → AreFronts templates fronts → place < length fronts → front ≡ get_or fronts place front → ((tree : Tree) → front.steps ≡ laid tree → made ≡ ords ++ place_of face (pos place) tree) → ShowsOn face place templates ords → ShowsOn face (place + 1) templates made
+pub shown_step : (face : Face) (place : ℕ) (templates : List CardTemplate) (fronts : List Template) (front : Template) (ords made : List ℤ) → AreFronts templates fronts → place < length fronts → front ≡ get_or fronts place front → ((tree : Tree) → front.steps ≡ tree_steps tree → made ≡ ords ++ place_of face (pos place) tree) → ShowsOn face place templates ords → ShowsOn face (place + 1) templates made
 shown_step face place templates fronts front ords made are h is added goes rest shown =
     let found = front_at templates fronts place front are h is in
     let others : AreShown face (suc place) (drop (suc place) templates) rest = subst (λ (n : ℕ). AreShown face n (drop n templates) rest) (add-one place) shown in

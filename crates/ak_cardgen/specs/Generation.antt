@@ -14,7 +14,7 @@ use Rattle.ak_cardgen.specs.declared.fronts.Fronts.{Fronts}
 use Rattle.ak_template.specs.Clozes.{numbers_of}
 use Rattle.ak_template.specs.Grammar.{IsTemplate, first_fault}
 use Rattle.ak_template.specs.Pages.{field_value, shows_in}
-use Rattle.ak_template.specs.Trees.{Tree, laid}
+use Rattle.ak_template.specs.Trees.{Tree, tree_steps}
 use Rattle.ak_template.specs.declared.faces.Face.{Face}
 use Rattle.ak_template.specs.declared.faces.Pair.{Pair}
 use Rattle.ak_template.specs.declared.faults.TemplateFault.{TemplateFault}
@@ -40,7 +40,7 @@ face_of note_type texts = record { fields = pairs note_type.fields texts; front 
 
 -- the template was read of the text
 abbrev pub IsFrontOf : List ℕ → Template → Type 0
-IsFrontOf text template = (tree : Tree) × IsTemplate text tree × (template.steps ≡ laid tree)
+IsFrontOf text template = (tree : Tree) × IsTemplate text tree × (template.steps ≡ tree_steps tree)
 
 -- these templates were read of the fronts, one of each
 abbrev pub AreFronts : List CardTemplate → List Template → Type 0
@@ -108,7 +108,7 @@ ords_below (suc ord) numbers = ords_below ord numbers ++ (if has_number (pos (su
 abbrev pub AreClozed : Face → List CardTemplate → List ℤ → Type 0
 AreClozed face [] ords = ords ≡ []
 AreClozed face (template ∷ templates) ords =
-    (tree : Tree) × IsTemplate template.front tree × (ords ≡ ords_below 500 (numbers_in face (laid tree)))
+    (tree : Tree) × IsTemplate template.front tree × (ords ≡ ords_below 500 (numbers_in face (tree_steps tree)))
 
 -- ---- both
 
@@ -163,7 +163,7 @@ TellsClozed face fronts result =
 -- the place was added, if the front shows something
 abbrev pub AddsPlace : {A E : Type 0} → List ℤ → List ℤ → Face → ℕ → Template → Result A E → Type 0
 AddsPlace old new face place front result =
-    (tree : Tree) → front.steps ≡ laid tree → OnOk result (new ≡ old ++ place_of face (pos place) tree)
+    (tree : Tree) → front.steps ≡ tree_steps tree → OnOk result (new ≡ old ++ place_of face (pos place) tree)
 
 -- ---- a note whose values are all empty
 

@@ -5,7 +5,7 @@ use Rattle.ak_base.specs.declared.note_types.CardTemplate.{CardTemplate}
 use Rattle.ak_base.specs.declared.note_types.NoteType.{NoteType}
 use Rattle.ak_cardgen.specs.Generation.{AreClozed, AreOrds, AreOrdsBy, AreShown, face_of, numbers_in, ords_below, place_of}
 use Rattle.ak_template.proofs.Grammars.{one_tree}
-use Rattle.ak_template.specs.Trees.{Tree, laid}
+use Rattle.ak_template.specs.Trees.{Tree, tree_steps}
 use Rattle.ak_template.specs.declared.faces.Face.{Face}
 
 shown_once : (face : Face) (place : ℕ) (templates : List CardTemplate) (x y : List ℤ) → AreShown face place templates x → AreShown face place templates y → x ≡ y
@@ -19,7 +19,7 @@ clozed_once : (face : Face) (templates : List CardTemplate) (x y : List ℤ) →
 clozed_once face [] x y one other = one ∙ sym other
 clozed_once face (t ∷ ts) x y one other =
     let tree : one.0 ≡ other.0 = one_tree t.front one.0 other.0 one.1 other.1 in
-    one.2 ∙ ap (λ (u : Tree). ords_below 500 (numbers_in face (laid u))) tree ∙ sym other.2
+    one.2 ∙ ap (λ (u : Tree). ords_below 500 (numbers_in face (tree_steps u))) tree ∙ sym other.2
 
 by_once : (cloze : Bool) (face : Face) (templates : List CardTemplate) (x y : List ℤ) → AreOrdsBy cloze face templates x → AreOrdsBy cloze face templates y → x ≡ y
 by_once true face templates x y one other = clozed_once face templates x y one other

@@ -9,7 +9,7 @@ use Rattle.ak_pages.specs.declared.shown_cards.ShownCard.{ShownCard}
 use Rattle.ak_template.proofs.Grammars.{no_fault}
 use Rattle.ak_template.specs.Grammar.{IsTemplate, first_fault}
 use Rattle.ak_template.specs.Pages.{Page, page, passed}
-use Rattle.ak_template.specs.Trees.{Tree, laid}
+use Rattle.ak_template.specs.Trees.{Tree, tree_steps}
 use Rattle.ak_template.specs.declared.faces.Face.{Face}
 use Rattle.ak_template.specs.declared.faces.PageFault.{PageFault}
 use Rattle.ak_template.specs.declared.faces.PageFault.TheVariants as pages
@@ -21,16 +21,16 @@ use Rattle.ak_template.specs.declared.steps.Template.{Template}
 -- how a page of the template was refused, for each tree that it is of
 abbrev pub Refused : Face → Template → List Meaning → List Meaning → PageFault → Type 0
 Refused face template before after fault =
-    (tree : Tree) → template.steps ≡ laid tree → (fault ≡ pages.Memory) ⊎ (page face tree before ≡ (Err fault, after))
+    (tree : Tree) → template.steps ≡ tree_steps tree → (fault ≡ pages.Memory) ⊎ (page face tree before ≡ (Err fault, after))
 
 -- where its filters are, if memory ran out
 abbrev pub Halted : Face → Template → List Meaning → List Meaning → PageFault → Type 0
 Halted face template before after fault =
-    (tree : Tree) → template.steps ≡ laid tree → fault ≡ pages.Memory → IsOnPage face tree before after
+    (tree : Tree) → template.steps ≡ tree_steps tree → fault ≡ pages.Memory → IsOnPage face tree before after
 
 -- a page of the template was made, for each tree that it is of
 abbrev pub Made : Face → Template → List Meaning → List Meaning → List ℕ → Type 0
-Made face template before after text = (tree : Tree) → template.steps ≡ laid tree → page face tree before ≡ (Ok text, after)
+Made face template before after text = (tree : Tree) → template.steps ≡ tree_steps tree → page face tree before ≡ (Ok text, after)
 
 -- ---- the front
 front_fault : (shown : ShownCard) (before after : List Meaning) (tree : Tree) (fault : PageFault) → IsTemplate shown.template.front tree

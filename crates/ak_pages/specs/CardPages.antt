@@ -12,7 +12,7 @@ use Rattle.ak_pages.specs.CardFaces.{shown_card}
 use Rattle.ak_pages.specs.declared.shown_cards.ShownCard.{ShownCard}
 use Rattle.ak_template.specs.Grammar.{IsTemplate, first_fault}
 use Rattle.ak_template.specs.Pages.{IsOnward, Page, TurnedSome, page, passed, shown_filters}
-use Rattle.ak_template.specs.Trees.{Tree, laid}
+use Rattle.ak_template.specs.Trees.{Tree, tree_steps}
 use Rattle.ak_template.specs.declared.faces.Face.{Face}
 use Rattle.ak_template.specs.declared.faces.PageFault.{PageFault}
 use Rattle.ak_template.specs.declared.faults.TemplateFault.{TemplateFault}
@@ -38,7 +38,7 @@ IsSide true shown filters made =
 
 -- a template that was read of a text
 abbrev pub IsOf : List ℕ → Template → Type 0
-IsOf text template = (tree : Tree) × IsTemplate text tree × (template.steps ≡ laid tree)
+IsOf text template = (tree : Tree) × IsTemplate text tree × (template.steps ≡ tree_steps tree)
 
 -- the first fault of the sides that are read, the front before the back
 abbrev pub side_fault : Bool → ShownCard → Option TemplateFault

@@ -12,7 +12,7 @@ use Rattle.ak_template.specs.declared.steps.Step.TheVariants.{Words, Field, Open
 use Rattle.ak_template.specs.declared.faults.TemplateFault.TheVariants as faults
 use Rattle.ak_template.specs.declared.builders.Opened.{Opened}
 use Rattle.ak_template.specs.Pieces.{Piece, pieces}
-use Rattle.ak_template.specs.Trees.{Tree, End, Plain, Value, Section, laid, Nests}
+use Rattle.ak_template.specs.Trees.{Tree, End, Plain, Value, Section, tree_steps, Nests}
 use Rattle.ak_template.specs.Grammar.{IsTemplate, unclosed, fault_in, first_fault}
 
 -- ---- one tree: it is read back from its steps
@@ -30,21 +30,21 @@ read_back [] = (End, [])
 read_back (step ∷ steps) = grown step (read_back steps)
 
 -- what a tree's steps read back to, in front of steps that begin with no part
-laid_back : (tree : Tree) (steps : List Step) (others : List Tree) → read_back steps ≡ (End, others) → read_back (laid tree ++ steps) ≡ (tree, others)
+laid_back : (tree : Tree) (steps : List Step) (others : List Tree) → read_back steps ≡ (End, others) → read_back (tree_steps tree ++ steps) ≡ (tree, others)
 laid_back End steps others h = h
 laid_back (Plain words after) steps others h = ap (grown (Words words)) (laid_back after steps others h)
 laid_back (Value filters name after) steps others h = ap (grown (Field filters name)) (laid_back after steps others h)
 laid_back (Section inverted name inside after) steps others h =
-    ap (λ xs. grown (Open inverted name) (read_back xs)) (append_assoc (laid inside) (Close name ∷ laid after) steps)
-    ∙ ap (grown (Open inverted name)) (laid_back inside (Close name ∷ (laid after ++ steps)) (after ∷ others) (ap (grown (Close name)) (laid_back after steps others h)))
+    ap (λ xs. grown (Open inverted name) (read_back xs)) (append_assoc (tree_steps inside) (Close name ∷ tree_steps after) steps)
+    ∙ ap (grown (Open inverted name)) (laid_back inside (Close name ∷ (tree_steps after ++ steps)) (after ∷ others) (ap (grown (Close name)) (laid_back after steps others h)))
 
 nothing_back : read_back [] ≡ (End, [])
 nothing_back = refl
 
-own_tree : (tree : Tree) → (read_back (laid tree ++ [])).0 ≡ tree
+own_tree : (tree : Tree) → (read_back (tree_steps tree ++ [])).0 ≡ tree
 own_tree tree = ap (λ (p : Tree × List Tree). p.0) (laid_back tree [] [] nothing_back)
 
-laid_once : (one other : Tree) → laid one ≡ laid other → one ≡ other
+laid_once : (one other : Tree) → tree_steps one ≡ tree_steps other → one ≡ other
 laid_once one other h = sym (own_tree one) ∙ ap (λ xs. (read_back (xs ++ [])).0) h ∙ own_tree other
 
 pub head_same : {A : Type 0} (x y : A) (xs ys : List A) → ◌≡◌ {A = List A} (x ∷ xs) (y ∷ ys) → x ≡ y
@@ -62,29 +62,29 @@ somes_once (x ∷ xs) (y ∷ ys) h =
     ∙ ap (λ zs. y ∷ zs) (somes_once xs ys (tail_same (Some x) (Some y) (map Some xs) (map Some ys) h))
 
 pub one_tree : (text : List ℕ) (one other : Tree) → IsTemplate text one → IsTemplate text other → one ≡ other
-one_tree text one other h g = laid_once one other (somes_once (laid one) (laid other) (sym h.pieces ∙ g.pieces))
+one_tree text one other h g = laid_once one other (somes_once (tree_steps one) (tree_steps other) (sym h.pieces ∙ g.pieces))
 
 -- ---- a text without a fault has a tree
 
 -- what stands behind open sections: the rest of the innermost, its close tag, and so on outwards
 abbrev pub Fills : List Opened → List (Option Step) → Type 0
-Fills [] steps = (tree : Tree) × Nests 0 tree × (steps ≡ map Some (laid tree))
-Fills (section ∷ sections) steps = (inside : Tree) × (rest : List (Option Step)) × Nests (length (section ∷ sections)) inside × (steps ≡ map Some (laid inside) ++ (Some (Close section.name) ∷ rest)) × Fills sections rest
+Fills [] steps = (tree : Tree) × Nests 0 tree × (steps ≡ map Some (tree_steps tree))
+Fills (section ∷ sections) steps = (inside : Tree) × (rest : List (Option Step)) × Nests (length (section ∷ sections)) inside × (steps ≡ map Some (tree_steps inside) ++ (Some (Close section.name) ∷ rest)) × Fills sections rest
 
 -- a part in front
-fill_part : (sections : List Opened) (steps : List (Option Step)) (step : Step) (make : Tree → Tree) → ((tree : Tree) → laid (make tree) ≡ step ∷ laid tree) → ((depth : ℕ) (tree : Tree) → Nests depth tree → Nests depth (make tree)) → Fills sections steps → Fills sections (Some step ∷ steps)
+fill_part : (sections : List Opened) (steps : List (Option Step)) (step : Step) (make : Tree → Tree) → ((tree : Tree) → tree_steps (make tree) ≡ step ∷ tree_steps tree) → ((depth : ℕ) (tree : Tree) → Nests depth tree → Nests depth (make tree)) → Fills sections steps → Fills sections (Some step ∷ steps)
 fill_part [] steps step make lays nests h = (make h.0, nests 0 h.0 h.1, ap (λ xs. Some step ∷ xs) h.2 ∙ sym (ap (map Some) (lays h.0)))
 fill_part (section ∷ sections) steps step make lays nests h = (make h.0, h.1, nests (length (section ∷ sections)) h.0 h.2, ap (λ xs. Some step ∷ xs) h.3 ∙ sym (ap (λ xs. map Some xs ++ (Some (Close section.name) ∷ h.1)) (lays h.0)), h.4)
 
 -- a section in front
-fill_section : (sections : List Opened) (inverted : Bool) (name : List ℕ) (inside : Tree) (steps rest : List (Option Step)) → length sections < 32 → Nests (suc (length sections)) inside → steps ≡ map Some (laid inside) ++ (Some (Close name) ∷ rest) → Fills sections rest → Fills sections (Some (Open inverted name) ∷ steps)
+fill_section : (sections : List Opened) (inverted : Bool) (name : List ℕ) (inside : Tree) (steps rest : List (Option Step)) → length sections < 32 → Nests (suc (length sections)) inside → steps ≡ map Some (tree_steps inside) ++ (Some (Close name) ∷ rest) → Fills sections rest → Fills sections (Some (Open inverted name) ∷ steps)
 fill_section [] inverted name inside steps rest few n e h =
-    (Section inverted name inside h.0, (few, n, h.1), ap (λ xs. Some (Open inverted name) ∷ xs) (e ∙ ap (λ xs. map Some (laid inside) ++ (Some (Close name) ∷ xs)) h.2 ∙ sym (map-append Some (laid inside) (Close name ∷ laid h.0))))
+    (Section inverted name inside h.0, (few, n, h.1), ap (λ xs. Some (Open inverted name) ∷ xs) (e ∙ ap (λ xs. map Some (tree_steps inside) ++ (Some (Close name) ∷ xs)) h.2 ∙ sym (map-append Some (tree_steps inside) (Close name ∷ tree_steps h.0))))
 fill_section (section ∷ sections) inverted name inside steps rest few n e h = (
   Section inverted name inside h.0,
   h.1,
   (few, n, h.2),
-  ap (λ xs. Some (Open inverted name) ∷ xs) (e ∙ ap (λ xs. map Some (laid inside) ++ (Some (Close name) ∷ xs)) h.3 ∙ sym (append_assoc (map Some (laid inside)) (Some (Close name) ∷ map Some (laid h.0)) (Some (Close section.name) ∷ h.1)) ∙ ap (λ xs. xs ++ (Some (Close section.name) ∷ h.1)) (sym (map-append Some (laid inside) (Close name ∷ laid h.0)))),
+  ap (λ xs. Some (Open inverted name) ∷ xs) (e ∙ ap (λ xs. map Some (tree_steps inside) ++ (Some (Close name) ∷ xs)) h.3 ∙ sym (append_assoc (map Some (tree_steps inside)) (Some (Close name) ∷ map Some (tree_steps h.0)) (Some (Close section.name) ∷ h.1)) ∙ ap (λ xs. xs ++ (Some (Close section.name) ∷ h.1)) (sym (map-append Some (tree_steps inside) (Close name ∷ tree_steps h.0)))),
   h.4,
 )
 
@@ -123,13 +123,13 @@ has_tree text h = let found = fills [] (pieces text) h in (found.0, record { pie
 -- ---- a text with a tree has no fault
 
 -- behind a close tag of the innermost open section
-closing : (after : Tree) (sections : List Opened) (name : List ℕ) (place : ℕ) (ps : List Piece) (rest : List (Option Step)) → Nests (length sections) after → map (λ (piece : Piece). piece.1) ps ≡ Some (Close name) ∷ (map Some (laid after) ++ rest)
-    → ((qs : List Piece) → map (λ (piece : Piece). piece.1) qs ≡ map Some (laid after) ++ rest → (rs : List Piece) × (map (λ (piece : Piece). piece.1) rs ≡ rest) × (fault_in sections qs ≡ fault_in sections rs))
+closing : (after : Tree) (sections : List Opened) (name : List ℕ) (place : ℕ) (ps : List Piece) (rest : List (Option Step)) → Nests (length sections) after → map (λ (piece : Piece). piece.1) ps ≡ Some (Close name) ∷ (map Some (tree_steps after) ++ rest)
+    → ((qs : List Piece) → map (λ (piece : Piece). piece.1) qs ≡ map Some (tree_steps after) ++ rest → (rs : List Piece) × (map (λ (piece : Piece). piece.1) rs ≡ rest) × (fault_in sections qs ≡ fault_in sections rs))
     → (qs : List Piece) × (map (λ (piece : Piece). piece.1) qs ≡ rest) × (fault_in (record { place = place; name = name } ∷ sections) ps ≡ fault_in sections qs)
 closing after sections name place [] rest n e later = grind (arith, e)
 closing after sections name place (p ∷ ps) rest n e later =
-    let head = head_same p.1 (Some (Close name)) (map (λ (piece : Piece). piece.1) ps) (map Some (laid after) ++ rest) e in
-    let tail = tail_same p.1 (Some (Close name)) (map (λ (piece : Piece). piece.1) ps) (map Some (laid after) ++ rest) e in
+    let head = head_same p.1 (Some (Close name)) (map (λ (piece : Piece). piece.1) ps) (map Some (tree_steps after) ++ rest) e in
+    let tail = tail_same p.1 (Some (Close name)) (map (λ (piece : Piece). piece.1) ps) (map Some (tree_steps after) ++ rest) e in
     let found = later ps tail in (
       found.0,
       found.1,
@@ -139,24 +139,24 @@ closing after sections name place (p ∷ ps) rest n e later =
     )
 
 -- behind a tree the faults are those of the pieces that are left
-pub passes : (tree : Tree) (sections : List Opened) (ps : List Piece) (rest : List (Option Step)) → Nests (length sections) tree → map (λ (piece : Piece). piece.1) ps ≡ map Some (laid tree) ++ rest → (qs : List Piece) × (map (λ (piece : Piece). piece.1) qs ≡ rest) × (fault_in sections ps ≡ fault_in sections qs)
+pub passes : (tree : Tree) (sections : List Opened) (ps : List Piece) (rest : List (Option Step)) → Nests (length sections) tree → map (λ (piece : Piece). piece.1) ps ≡ map Some (tree_steps tree) ++ rest → (qs : List Piece) × (map (λ (piece : Piece). piece.1) qs ≡ rest) × (fault_in sections ps ≡ fault_in sections qs)
 passes End sections ps rest n e = (ps, e, refl)
 passes (Plain words after) sections [] rest n e = grind (arith, e)
 passes (Plain words after) sections (p ∷ ps) rest n e =
-    let later = passes after sections ps rest n (tail_same p.1 (Some (Words words)) (map (λ (piece : Piece). piece.1) ps) (map Some (laid after) ++ rest) e) in
-    (later.0, later.1, ap (λ s. fault_in sections ((p.0, s) ∷ ps)) (head_same p.1 (Some (Words words)) (map (λ (piece : Piece). piece.1) ps) (map Some (laid after) ++ rest) e) ∙ later.2)
+    let later = passes after sections ps rest n (tail_same p.1 (Some (Words words)) (map (λ (piece : Piece). piece.1) ps) (map Some (tree_steps after) ++ rest) e) in
+    (later.0, later.1, ap (λ s. fault_in sections ((p.0, s) ∷ ps)) (head_same p.1 (Some (Words words)) (map (λ (piece : Piece). piece.1) ps) (map Some (tree_steps after) ++ rest) e) ∙ later.2)
 passes (Value filters name after) sections [] rest n e = grind (arith, e)
 passes (Value filters name after) sections (p ∷ ps) rest n e =
-    let later = passes after sections ps rest n (tail_same p.1 (Some (Field filters name)) (map (λ (piece : Piece). piece.1) ps) (map Some (laid after) ++ rest) e) in
-    (later.0, later.1, ap (λ s. fault_in sections ((p.0, s) ∷ ps)) (head_same p.1 (Some (Field filters name)) (map (λ (piece : Piece). piece.1) ps) (map Some (laid after) ++ rest) e) ∙ later.2)
+    let later = passes after sections ps rest n (tail_same p.1 (Some (Field filters name)) (map (λ (piece : Piece). piece.1) ps) (map Some (tree_steps after) ++ rest) e) in
+    (later.0, later.1, ap (λ s. fault_in sections ((p.0, s) ∷ ps)) (head_same p.1 (Some (Field filters name)) (map (λ (piece : Piece). piece.1) ps) (map Some (tree_steps after) ++ rest) e) ∙ later.2)
 passes (Section inverted name inside after) sections [] rest n e = grind (arith, e)
 passes (Section inverted name inside after) sections (p ∷ ps) rest n e =
     let within = record { place = p.0; name = name } ∷ sections in
-    let behind = Some (Close name) ∷ (map Some (laid after) ++ rest) in
-    let split : map Some (laid inside ++ (Close name ∷ laid after)) ++ rest ≡ map Some (laid inside) ++ behind =
-    ap (λ xs. xs ++ rest) (map-append Some (laid inside) (Close name ∷ laid after)) ∙ append_assoc (map Some (laid inside)) (Some (Close name) ∷ map Some (laid after)) rest in
-    let head = head_same p.1 (Some (Open inverted name)) (map (λ (piece : Piece). piece.1) ps) (map Some (laid inside ++ (Close name ∷ laid after)) ++ rest) e in
-    let tail = tail_same p.1 (Some (Open inverted name)) (map (λ (piece : Piece). piece.1) ps) (map Some (laid inside ++ (Close name ∷ laid after)) ++ rest) e in
+    let behind = Some (Close name) ∷ (map Some (tree_steps after) ++ rest) in
+    let split : map Some (tree_steps inside ++ (Close name ∷ tree_steps after)) ++ rest ≡ map Some (tree_steps inside) ++ behind =
+    ap (λ xs. xs ++ rest) (map-append Some (tree_steps inside) (Close name ∷ tree_steps after)) ∙ append_assoc (map Some (tree_steps inside)) (Some (Close name) ∷ map Some (tree_steps after)) rest in
+    let head = head_same p.1 (Some (Open inverted name)) (map (λ (piece : Piece). piece.1) ps) (map Some (tree_steps inside ++ (Close name ∷ tree_steps after)) ++ rest) e in
+    let tail = tail_same p.1 (Some (Open inverted name)) (map (λ (piece : Piece). piece.1) ps) (map Some (tree_steps inside ++ (Close name ∷ tree_steps after)) ++ rest) e in
     let inner = passes inside within ps behind n.1 (tail ∙ split) in
     let closed = closing after sections name p.0 inner.0 rest n.2 inner.1 (λ qs h. passes after sections qs rest n.2 h) in (
       closed.0,
@@ -172,5 +172,5 @@ none_left (p ∷ ps) h = grind (arith, h)
 
 pub no_fault : (text : List ℕ) (tree : Tree) → IsTemplate text tree → first_fault text ≡ None
 no_fault text tree h =
-    let passed = passes tree [] (pieces text) [] h.nests (h.pieces ∙ sym (append-nil (map Some (laid tree)))) in
+    let passed = passes tree [] (pieces text) [] h.nests (h.pieces ∙ sym (append-nil (map Some (tree_steps tree)))) in
     passed.2 ∙ ap (fault_in []) (none_left passed.0 passed.1)

@@ -10,7 +10,7 @@ use Rattle.std.proofs.lemmas.Option.{same_Some}
 use Rattle.ak_template.specs.declared.faults.TemplateFault.TheVariants as faults
 use Rattle.ak_template.specs.declared.steps.Template.{Template}
 use Rattle.ak_template.specs.Grammar.{IsTemplate, first_fault}
-use Rattle.ak_template.specs.Trees.{Tree, laid}
+use Rattle.ak_template.specs.Trees.{Tree, tree_steps}
 use Rattle.ak_template.proofs.Grammars.{has_tree, no_fault, head_same, tail_same}
 
 pub behind_le : (mark xs : List ℕ) → length (behind mark xs) ≤ length xs
@@ -53,17 +53,17 @@ step_at says size place rest before inside later h b i l p =
     ∙ ap (λ xs. says (words_at (size - length rest) before ++ ((place, tag_of (trimmed xs)) ∷ pieces_in (length (behind_tag rest)) size (behind_tag rest)))) (sym i)
     ∙ ap (λ xs. says (words_at (size - length rest) before ++ ((place, tag_of (trimmed inside)) ∷ pieces_in (length xs) size xs))) (sym l)
 
-steps_laid : (ps : List Piece) (steps : List Step) → map (λ (piece : Piece). piece.1) ps ≡ map Some steps → steps_in ps ≡ steps
-steps_laid [] [] h = refl
-steps_laid [] (step ∷ steps) h = grind (arith, h)
-steps_laid (p ∷ ps) [] h = grind (arith, h)
-steps_laid ((place, None) ∷ ps) (step ∷ steps) h = grind (arith, head_same None (Some step) (map (λ (piece : Piece). piece.1) ps) (map Some steps) h)
-steps_laid ((place, Some first) ∷ ps) (step ∷ steps) h =
+steps_of_tree : (ps : List Piece) (steps : List Step) → map (λ (piece : Piece). piece.1) ps ≡ map Some steps → steps_in ps ≡ steps
+steps_of_tree [] [] h = refl
+steps_of_tree [] (step ∷ steps) h = grind (arith, h)
+steps_of_tree (p ∷ ps) [] h = grind (arith, h)
+steps_of_tree ((place, None) ∷ ps) (step ∷ steps) h = grind (arith, head_same None (Some step) (map (λ (piece : Piece). piece.1) ps) (map Some steps) h)
+steps_of_tree ((place, Some first) ∷ ps) (step ∷ steps) h =
     ap (λ s. s ∷ steps_in ps) (same_Some first step (head_same (Some first) (Some step) (map (λ (piece : Piece). piece.1) ps) (map Some steps) h))
-    ∙ ap (λ xs. step ∷ xs) (steps_laid ps steps (tail_same (Some first) (Some step) (map (λ (piece : Piece). piece.1) ps) (map Some steps) h))
+    ∙ ap (λ xs. step ∷ xs) (steps_of_tree ps steps (tail_same (Some first) (Some step) (map (λ (piece : Piece). piece.1) ps) (map Some steps) h))
 
-pub tree_read : (text : List ℕ) (r : Result Template TemplateFault) → OnOk r (first_fault text ≡ None) → IfOk r (λ template. template.steps ≡ steps_in (pieces text)) → IfOk r (λ template. (tree : Tree) × IsTemplate text tree × (template.steps ≡ laid tree))
-tree_read text (Ok template) n s = let found = has_tree text n in (found.0, found.1, s ∙ steps_laid (pieces text) (laid found.0) found.1.pieces)
+pub tree_read : (text : List ℕ) (r : Result Template TemplateFault) → OnOk r (first_fault text ≡ None) → IfOk r (λ template. template.steps ≡ steps_in (pieces text)) → IfOk r (λ template. (tree : Tree) × IsTemplate text tree × (template.steps ≡ tree_steps tree))
+tree_read text (Ok template) n s = let found = has_tree text n in (found.0, found.1, s ∙ steps_of_tree (pieces text) (tree_steps found.0) found.1.pieces)
 tree_read text (Err fault) n s = tt
 
 pub no_memory : (text : List ℕ) (r : Result Template TemplateFault) (tree : Tree) → IsTemplate text tree → IfErr r (λ fault. (fault ≡ faults.Memory) ⊎ (first_fault text ≡ Some fault)) → IfErr r (λ fault. fault ≡ faults.Memory)

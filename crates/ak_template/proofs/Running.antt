@@ -10,7 +10,7 @@ use Rattle.ak_template.specs.declared.faces.PageFault.TheVariants as faults
 use Rattle.ak_template.specs.declared.steps.Step.{Step}
 use Rattle.ak_template.specs.declared.steps.Step.TheVariants.{Words, Field, Open, Close}
 use Rattle.ak_template.specs.Clozes.{clozed}
-use Rattle.ak_template.specs.Trees.{Tree, laid}
+use Rattle.ak_template.specs.Trees.{Tree, tree_steps}
 use Rattle.ak_template.specs.Pages.{Page, prefixed, followed, passed, behind_filter, filter_text, one_text, tag_text, value_text, field_text, field_value, open_page, step_page, hidden_after, walk, page, kinds, turned_by, TurnedSome, walk_filters}
 use Rattle.ak_template.proofs.Turning.{kinds_in_order}
 use Rattle.ak_template.proofs.Walking.{prefixed_nil, prefixed_followed, walked}
@@ -186,5 +186,5 @@ kinds_kept face steps filters later (Ok made) o f m = kinds_run filters later (r
 kinds_kept face steps filters later (Err fault) o (inl e) m = let some = m e in ap kinds some.are ∙ kinds_in_order some.applied filters
 kinds_kept face steps filters later (Err fault) o (inr e) m = kinds_run filters later (rw (← ap {A = Page} (λ p. p.1) e) (walk_runs face 0 steps filters))
 
-pub steps_page : (face : Face) (tree : Tree) (steps own : List Step) (filters : List Meaning) → steps ≡ own → own ≡ laid tree → walk face 0 steps filters ≡ page face tree filters
+pub steps_page : (face : Face) (tree : Tree) (steps own : List Step) (filters : List Meaning) → steps ≡ own → own ≡ tree_steps tree → walk face 0 steps filters ≡ page face tree filters
 steps_page face tree steps own filters s t = ap (λ xs. walk face 0 xs filters) (s ∙ t) ∙ walked face tree filters

@@ -10,7 +10,7 @@ use Rattle.ak_template.specs.declared.faces.PageFault.TheVariants as faults
 use Rattle.ak_template.specs.declared.steps.Step.{Step}
 use Rattle.ak_template.specs.declared.steps.Step.TheVariants.{Words, Field, Open, Close}
 use Rattle.ak_template.specs.Clozes.{clozed}
-use Rattle.ak_template.specs.Trees.{Tree, End, Plain, Value, Section, laid}
+use Rattle.ak_template.specs.Trees.{Tree, End, Plain, Value, Section, tree_steps}
 use Rattle.ak_template.specs.Pages.{Page, prefixed, passed, behind_filter, filter_text, one_text, tag_text, value_text, field_text, field_value, open_page, step_page, hidden_section, hidden_after, is_shown, kinds, turned_named, turned_in_order, TurnedSome, tag_filters, step_filters, section_filters, shown_filters, walk_filters}
 
 -- ---- of the names, some first ones
@@ -169,29 +169,29 @@ steps_left face hidden after steps place step l i a =
 
 -- ---- the whole
 
-hidden_filters : (face : Face) (tree : Tree) (hidden : ℕ) (rest : List Step) → walk_filters face (suc hidden) (laid tree ++ rest) ≡ walk_filters face (suc hidden) rest
+hidden_filters : (face : Face) (tree : Tree) (hidden : ℕ) (rest : List Step) → walk_filters face (suc hidden) (tree_steps tree ++ rest) ≡ walk_filters face (suc hidden) rest
 hidden_filters face End hidden rest = refl
 hidden_filters face (Plain words after) hidden rest = hidden_filters face after hidden rest
 hidden_filters face (Value names name after) hidden rest = hidden_filters face after hidden rest
 hidden_filters face (Section inverted name inside after) hidden rest =
-    ap (walk_filters face (suc (suc hidden))) (append_assoc (laid inside) (Close name ∷ laid after) rest)
-    ∙ hidden_filters face inside (suc hidden) (Close name ∷ (laid after ++ rest)) ∙ hidden_filters face after hidden rest
+    ap (walk_filters face (suc (suc hidden))) (append_assoc (tree_steps inside) (Close name ∷ tree_steps after) rest)
+    ∙ hidden_filters face inside (suc hidden) (Close name ∷ (tree_steps after ++ rest)) ∙ hidden_filters face after hidden rest
 
-tree_filters : (face : Face) (tree : Tree) (rest : List Step) → walk_filters face 0 (laid tree ++ rest) ≡ shown_filters face tree ++ walk_filters face 0 rest
+tree_filters : (face : Face) (tree : Tree) (rest : List Step) → walk_filters face 0 (tree_steps tree ++ rest) ≡ shown_filters face tree ++ walk_filters face 0 rest
 tree_filters face End rest = refl
 tree_filters face (Plain words after) rest = tree_filters face after rest
 tree_filters face (Value names name after) rest = ap (λ ns. tag_filters names ++ ns) (tree_filters face after rest) ∙ sym (append_assoc (tag_filters names) (shown_filters face after) (walk_filters face 0 rest))
 tree_filters face (Section inverted name inside after) rest =
-    let behind = Close name ∷ (laid after ++ rest) in
-    let regroup = append_assoc (laid inside) (Close name ∷ laid after) rest in
-    let hides : walk_filters face 1 ((laid inside ++ (Close name ∷ laid after)) ++ rest) ≡ shown_filters face after ++ walk_filters face 0 rest = ap (walk_filters face 1) regroup ∙ hidden_filters face inside 0 behind ∙ tree_filters face after rest in
-    elim (field_value face name) as (λ v. walk_filters face (hidden_section v inverted) ((laid inside ++ (Close name ∷ laid after)) ++ rest) ≡ (section_filters v inverted (shown_filters face inside) ++ shown_filters face after) ++ walk_filters face 0 rest) [
+    let behind = Close name ∷ (tree_steps after ++ rest) in
+    let regroup = append_assoc (tree_steps inside) (Close name ∷ tree_steps after) rest in
+    let hides : walk_filters face 1 ((tree_steps inside ++ (Close name ∷ tree_steps after)) ++ rest) ≡ shown_filters face after ++ walk_filters face 0 rest = ap (walk_filters face 1) regroup ∙ hidden_filters face inside 0 behind ∙ tree_filters face after rest in
+    elim (field_value face name) as (λ v. walk_filters face (hidden_section v inverted) ((tree_steps inside ++ (Close name ∷ tree_steps after)) ++ rest) ≡ (section_filters v inverted (shown_filters face inside) ++ shown_filters face after) ++ walk_filters face 0 rest) [
       | None ↦ hides
-      | Some value ↦ elim (is_shown inverted value) as (λ w. walk_filters face (cond w 0 1) ((laid inside ++ (Close name ∷ laid after)) ++ rest) ≡ (cond w (shown_filters face inside) [] ++ shown_filters face after) ++ walk_filters face 0 rest) [
+      | Some value ↦ elim (is_shown inverted value) as (λ w. walk_filters face (cond w 0 1) ((tree_steps inside ++ (Close name ∷ tree_steps after)) ++ rest) ≡ (cond w (shown_filters face inside) [] ++ shown_filters face after) ++ walk_filters face 0 rest) [
         | true ↦ ap (walk_filters face 0) regroup ∙ tree_filters face inside behind ∙ ap (λ ns. shown_filters face inside ++ ns) (tree_filters face after rest) ∙ sym (append_assoc (shown_filters face inside) (shown_filters face after) (walk_filters face 0 rest))
         | false ↦ hides
       ]
     ]
 
-pub filters_walked : (face : Face) (tree : Tree) (steps own : List Step) → steps ≡ own → own ≡ laid tree → walk_filters face 0 steps ≡ shown_filters face tree
-filters_walked face tree steps own s t = ap (walk_filters face 0) (s ∙ t ∙ sym (append-nil (laid tree))) ∙ tree_filters face tree [] ∙ append-nil (shown_filters face tree)
+pub filters_walked : (face : Face) (tree : Tree) (steps own : List Step) → steps ≡ own → own ≡ tree_steps tree → walk_filters face 0 steps ≡ shown_filters face tree
+filters_walked face tree steps own s t = ap (walk_filters face 0) (s ∙ t ∙ sym (append-nil (tree_steps tree))) ∙ tree_filters face tree [] ∙ append-nil (shown_filters face tree)

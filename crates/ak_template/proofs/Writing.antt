@@ -11,7 +11,7 @@ use Rattle.ak_base.proofs.Cutting.{begins_itself, begins_with}
 use Rattle.ak_template.specs.declared.steps.Step.{Step}
 use Rattle.ak_template.specs.declared.steps.Step.TheVariants.{Words, Field, Open, Close}
 use Rattle.ak_template.specs.Pieces.{Piece, has_tag, before_tag, inside_tag, behind_tag, without_front, without_back, joined, trimmed, named, field_tag, tag_of, words_at, pieces_in, words_step}
-use Rattle.ak_template.specs.Trees.{Tree, End, Plain, Value, Section, laid, tagged, field_inside, open_inside, close_inside, written}
+use Rattle.ak_template.specs.Trees.{Tree, End, Plain, Value, Section, tree_steps, tagged, field_inside, open_inside, close_inside, written}
 use Rattle.ak_template.specs.Grammar.{IsTemplate}
 use Rattle.ak_template.proofs.Grammars.{head_same, tail_same, somes_once}
 use Rattle.ak_template.proofs.Parsing.{tag_shorter}
@@ -162,13 +162,13 @@ abbrev steps_text : List Step → List ℕ
 steps_text [] = []
 steps_text (step ∷ steps) = step_text step ++ steps_text steps
 
-steps_written : (tree : Tree) (rest : List Step) → steps_text (laid tree ++ rest) ≡ written tree ++ steps_text rest
+steps_written : (tree : Tree) (rest : List Step) → steps_text (tree_steps tree ++ rest) ≡ written tree ++ steps_text rest
 steps_written End rest = refl
 steps_written (Plain words after) rest = ap (λ xs. words ++ xs) (steps_written after rest) ∙ sym (append_assoc words (written after) (steps_text rest))
 steps_written (Value filters name after) rest = ap (λ xs. tagged (field_inside filters name) ++ xs) (steps_written after rest) ∙ sym (append_assoc (tagged (field_inside filters name)) (written after) (steps_text rest))
 steps_written (Section inverted name inside after) rest =
-    ap (λ xs. tagged (open_inside inverted name) ++ steps_text xs) (append_assoc (laid inside) (Close name ∷ laid after) rest)
-    ∙ ap (λ xs. tagged (open_inside inverted name) ++ xs) (steps_written inside (Close name ∷ (laid after ++ rest)))
+    ap (λ xs. tagged (open_inside inverted name) ++ steps_text xs) (append_assoc (tree_steps inside) (Close name ∷ tree_steps after) rest)
+    ∙ ap (λ xs. tagged (open_inside inverted name) ++ xs) (steps_written inside (Close name ∷ (tree_steps after ++ rest)))
     ∙ ap (λ xs. tagged (open_inside inverted name) ++ (written inside ++ (tagged (close_inside name) ++ xs))) (steps_written after rest)
     ∙ ap (λ xs. tagged (open_inside inverted name) ++ (written inside ++ xs)) (sym (append_assoc (tagged (close_inside name)) (written after) (steps_text rest)))
     ∙ ap (λ xs. tagged (open_inside inverted name) ++ xs) (sym (append_assoc (written inside) (tagged (close_inside name) ++ written after) (steps_text rest)))
@@ -310,8 +310,8 @@ again (suc n) (b ∷ bs) steps l e m k = elim (has_tag (b ∷ bs)) as (λ v. has
 
 pub read_again : (text : List ℕ) (tree : Tree) → IsTemplate text tree → IsTemplate (written tree) tree
 read_again text tree h =
-    let spelled : steps_text (laid tree) ≡ written tree = ap steps_text (sym (append-nil (laid tree))) ∙ steps_written tree [] ∙ append-nil (written tree) in
+    let spelled : steps_text (tree_steps tree) ≡ written tree = ap steps_text (sym (append-nil (tree_steps tree))) ∙ steps_written tree [] ∙ append-nil (written tree) in
     record {
-      pieces = pieces_bare (length (written tree)) (length (written tree)) (written tree) ∙ rw (← spelled) (again (length text) text (laid tree) (omega arith) (sym (pieces_bare (length text) (length text) text) ∙ h.pieces) (length (steps_text (laid tree))) (omega arith));
+      pieces = pieces_bare (length (written tree)) (length (written tree)) (written tree) ∙ rw (← spelled) (again (length text) text (tree_steps tree) (omega arith) (sym (pieces_bare (length text) (length text) text) ∙ h.pieces) (length (steps_text (tree_steps tree))) (omega arith));
       nests = h.nests;
     }

@@ -9,12 +9,12 @@ use Rattle.ak_template.specs.declared.faults.TemplateFault.TheVariants as faults
 use Rattle.ak_template.specs.declared.builders.Opened.{Opened}
 use Rattle.ak_template.specs.declared.steps.Step.{Step}
 use Rattle.ak_template.specs.Pieces.{Piece, pieces, with_tag, steps_in}
-use Rattle.ak_template.specs.Trees.{Tree, laid, Nests}
+use Rattle.ak_template.specs.Trees.{Tree, tree_steps, Nests}
 
 -- the text has the tree: its pieces are the tree from front to back, none of them an empty tag, and sections nest at
 -- most 32 deep
 pub record IsTemplate (text : List ℕ) (tree : Tree) : Type 0 where
-  pub pieces : map (λ (piece : Piece). piece.1) (pieces text) ≡ map Some (laid tree)
+  pub pieces : map (λ (piece : Piece). piece.1) (pieces text) ≡ map Some (tree_steps tree)
   pub nests : Nests 0 tree
 
 -- ---- the fault of a text that has no tree

@@ -11,7 +11,7 @@ use Rattle.ak_template.specs.declared.faces.PageFault.TheVariants.{NoField, NoFi
 use Rattle.ak_template.specs.declared.steps.Step.{Step}
 use Rattle.ak_template.specs.declared.steps.Step.TheVariants.{Words, Field, Open, Close}
 use Rattle.ak_template.specs.declared.steps.Template.{Template}
-use Rattle.ak_template.specs.Trees.{Tree, laid, End, Plain, Value, Section}
+use Rattle.ak_template.specs.Trees.{Tree, tree_steps, End, Plain, Value, Section}
 use Rattle.ak_template.specs.Clozes.{clozed}
 
 -- ---- a field's value
@@ -187,19 +187,19 @@ HaltsAsBefore meant old new result = IfErr result (λ fault. fault ≡ Memory �
 
 -- the page of the template's tree
 abbrev pub MakesPage : {X : Type 0} → (X → Meaning) → List X → List X → Face → Template → Result (List ℕ) PageFault → Type 0
-MakesPage meant old new face template result = (tree : Tree) → template.steps ≡ laid tree → Makes meant old new (page face tree) result
+MakesPage meant old new face template result = (tree : Tree) → template.steps ≡ tree_steps tree → Makes meant old new (page face tree) result
 
 -- the first fault along the page of the template's tree
 abbrev pub RefusesPage : {X : Type 0} → (X → Meaning) → List X → List X → Face → Template → Result (List ℕ) PageFault → Type 0
-RefusesPage meant old new face template result = (tree : Tree) → template.steps ≡ laid tree → Refuses meant old new (page face tree) result
+RefusesPage meant old new face template result = (tree : Tree) → template.steps ≡ tree_steps tree → Refuses meant old new (page face tree) result
 
 -- if memory ran out, some first ones of the filters that the page shows were applied, from left to right
 abbrev pub HaltsOnPage : {X : Type 0} → (X → Meaning) → List X → List X → Face → Template → Result (List ℕ) PageFault → Type 0
-HaltsOnPage meant old new face template result = (tree : Tree) → template.steps ≡ laid tree → Halts meant old new (shown_filters face tree) result
+HaltsOnPage meant old new face template result = (tree : Tree) → template.steps ≡ tree_steps tree → Halts meant old new (shown_filters face tree) result
 
 -- if memory ran out, the filters are on the way to where the page of the template's tree leaves them
 abbrev pub HaltsBeforeEnd : {X : Type 0} → (X → Meaning) → List X → List X → Face → Template → Result (List ℕ) PageFault → Type 0
-HaltsBeforeEnd meant old new face template result = (tree : Tree) → template.steps ≡ laid tree → HaltsOnWay meant old new (page face tree) result
+HaltsBeforeEnd meant old new face template result = (tree : Tree) → template.steps ≡ tree_steps tree → HaltsOnWay meant old new (page face tree) result
 
 -- the filters are the same, in the same order, but for their turns
 abbrev pub SameKinds : {X : Type 0} → (X → Meaning) → List X → List X → Type 0

@@ -12,11 +12,11 @@ pub data Tree : Type 0 where
   Section : Bool → List ℕ → Tree → Tree → Tree
 
 -- from front to back: a section is opened, then comes its inside, and it is closed by its name
-abbrev pub laid : Tree → List Step
-laid End = []
-laid (Plain words after) = Words words ∷ laid after
-laid (Value filters name after) = Field filters name ∷ laid after
-laid (Section inverted name inside after) = Open inverted name ∷ (laid inside ++ (Close name ∷ laid after))
+abbrev pub tree_steps : Tree → List Step
+tree_steps End = []
+tree_steps (Plain words after) = Words words ∷ tree_steps after
+tree_steps (Value filters name after) = Field filters name ∷ tree_steps after
+tree_steps (Section inverted name inside after) = Open inverted name ∷ (tree_steps inside ++ (Close name ∷ tree_steps after))
 
 -- below that many open sections none is opened while 32 are open
 abbrev pub Nests : ℕ → Tree → Type 0

@@ -6,7 +6,7 @@ ghost use Rattle.ak_filters.specs.Meanings.{Meaning};
 ghost use Rattle.ak_template.specs.Laws.{FaultsAreTags, UnclosedGoesOn, TurnsAreOccurrences};
 ghost use Rattle.ak_template.specs.Pages.{page, walk};
 ghost use Rattle.ak_template.specs.Pieces.{Piece, has_tag, pieces, tag_of, trimmed, words_at};
-ghost use Rattle.ak_template.specs.Trees.{Tree, laid, written};
+ghost use Rattle.ak_template.specs.Trees.{Tree, tree_steps, written};
 ghost use Rattle.ak_base.specs.Cuts.{has};
 ghost use Rattle.ak_template.specs.Clozes.{parts, parts_written, AreGaps};
 ghost use Rattle.ak_template.specs.declared.clozes.Part.TheVariants as variants;
@@ -56,7 +56,7 @@ pub fn written_is_read()
 /// A page taken step by step, from front to back, is the page of the tree.
 #[tactic(auto, using(crate::proofs::Walking::walked))]
 pub fn page_by_steps()
-    ensures { (face : Face) (tree : Tree) (all : List Meaning) → walk face 0 (laid tree) all ≡ page face tree all }
+    ensures { (face : Face) (tree : Tree) (all : List Meaning) → walk face 0 (tree_steps tree) all ≡ page face tree all }
 {}
 
 /// On a page without a fault each filter is applied once for each shown occurrence of its name: its turn rises by

@@ -1,7 +1,7 @@
 ghost use Rattle.std.specs.Prelude.{◌≡◌, ◌⊎◌, ◌<◌, length, Some, None, IfOk, OnOk, IfErr};
 ghost use Rattle.ak_template.specs.Grammar.{IsTemplate, fault_place, first_fault, PassesTag, AddsTag, RefusesTag};
 ghost use Rattle.ak_template.specs.Pieces.{pieces, steps_in};
-ghost use Rattle.ak_template.specs.Trees.{Tree, laid};
+ghost use Rattle.ak_template.specs.Trees.{Tree, tree_steps};
 ghost use Rattle.ak_template.specs.declared.faults.TemplateFault.TheVariants as faults;
 
 use crate::builders::Builder;
@@ -13,7 +13,7 @@ use std::alloc::Global;
 /// The template of a text, or its first fault. An unclosed section is found at the end.
 pub fn parse(alloc: Global, text: &str) -> Result<Template, TemplateFault>
     // The text has the tree of the template.
-    ensures tree { IfOk result (λ template. (tree : Tree) × IsTemplate text.now tree × (template.steps ≡ laid tree)) }
+    ensures tree { IfOk result (λ template. (tree : Tree) × IsTemplate text.now tree × (template.steps ≡ tree_steps tree)) }
 
     // A text that has a tree is refused for want of memory alone.
     ensures only { (tree : Tree) → IsTemplate text.now tree → IfErr result (λ fault. fault ≡ faults.Memory) }

@@ -1,6 +1,6 @@
 ghost use Rattle.std.specs.Prelude.{◌≡◌, ◌+◌, ◌<◌, ◌≤◌, ◌^◌, IfOk};
 ghost use Rattle.ak_template.specs.Pages.{is_filled, shows_in, step_shows, idle_after, walk_shows};
-ghost use Rattle.ak_template.specs.Trees.{Tree, laid};
+ghost use Rattle.ak_template.specs.Trees.{Tree, tree_steps};
 
 use crate::faces::value_of;
 use crate::{Face, Step, Template};
@@ -11,7 +11,7 @@ use std::alloc::Global;
 /// Whether the template shows anything of the note: some field that is not empty, under no inverted section, and
 /// only under sections of fields that are not empty.
 pub fn shows(alloc: Global, template: &Template, face: &Face) -> Result<bool, Memory>
-    ensures { (tree : Tree) → template.now.steps ≡ laid tree → IfOk result (λ shown. shown ≡ shows_in face.now tree) }
+    ensures { (tree : Tree) → template.now.steps ≡ tree_steps tree → IfOk result (λ shown. shown ≡ shows_in face.now tree) }
 {
     shows_steps(alloc, template.steps.as_slice(), face)
 }
