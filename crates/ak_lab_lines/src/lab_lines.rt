@@ -4,8 +4,9 @@ ghost use Rattle.ak_lab_lines.specs.Reading.{Reads, Refuses};
 ghost use Rattle.ak_lab_lines.specs.Written.{IsLabLine};
 
 use crate::LabLineFault;
-use crate::words::{is_device_name, next_number, next_word, number_in, signed_number, word_of};
+use crate::words::{is_device_name, next_word, signed_number, word_of};
 use ak_base::{Memory, Table, Text, cut};
+use ak_lines::{next_number, number_in};
 use std::alloc::Global;
 
 /// A line of a lab script, read. Whether a device is held is not asked, nor whether a word can be a device's name,

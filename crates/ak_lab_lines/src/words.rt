@@ -1,14 +1,13 @@
 // The words and numbers of a line, with one space between.
-ghost use Rattle.std.specs.Prelude.{◌≡◌, ◌≤◌, IfSome, Some, None, pos};
+ghost use Rattle.std.specs.Prelude.{◌≡◌, Some, None};
 ghost use Rattle.std.specs.Char.{is_ascii_alphanumeric};
 ghost use Rattle.std.specs.List.{list_all};
 ghost use Rattle.std.specs.Option.{option_map};
 ghost use Rattle.ak_base.specs.Decimals.{number_of};
-ghost use Rattle.ak_base.specs.Heads.{IsWithin};
 ghost use Rattle.ak_lab_lines.specs.LabLines.{word_of, next_word, is_device_name, negated, signed_number};
-ghost use Rattle.ak_lines.specs.Reading.{number_in, next_number};
 
 use ak_base::{cut, read_number};
+use ak_lines::number_in;
 
 /// The text, if it is one word.
 pub(crate) fn word_of(text: &str) -> Option<&str>
@@ -44,30 +43,6 @@ fn are_alphanumeric(bytes: &[u8]) -> bool
     ensures { result ≡ list_all is_ascii_alphanumeric bytes.now }
 {
     bytes.iter().all(|byte| byte.is_ascii_alphanumeric())
-}
-
-/// The number that the whole text is, if it is from `least` to `most`.
-pub(crate) fn number_in(least: u64, most: u64, text: &str) -> Option<i64>
-    requires { most ≤ 9_223_372_036_854_775_807 }
-    ensures number { result ≡ number_in (least, most) text.now }
-    ensures within { IfSome result (λ number. IsWithin (pos least) (pos most) number) }
-{
-    let number = read_number(text, most)?;
-    if number < least {
-        return None;
-    }
-    Some(number as i64)
-}
-
-/// The number before the first space, if it is from `least` to `most`, and what follows that space.
-pub(crate) fn next_number(least: u64, most: u64, text: &str) -> Option<(i64, &str)>
-    requires { most ≤ 9_223_372_036_854_775_807 }
-    ensures number { option_map (λ p. (p.0, p.1.now)) result ≡ next_number (least, most) text.now }
-    ensures within { IfSome result (λ p. IsWithin (pos least) (pos most) p.0) }
-{
-    let (word, rest) = cut(text, " ")?;
-    let number = number_in(least, most, word)?;
-    Some((number, rest))
 }
 
 /// A number that may have a `-`.

@@ -11,3 +11,4 @@ mod verbs;
 pub use desk_lines::{DeskLine, is_skipped, read_line};
 pub use laws::one_line_is_said;
 pub use line_faults::LineFault;
+pub use numbers::{next_number, number_in};

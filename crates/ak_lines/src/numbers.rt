@@ -11,8 +11,8 @@ use std::alloc::Global;
 /// The greatest number that fits 64 bits with its sign. Whether an id is that of a row is not asked of a line.
 const LAST: u64 = 9_223_372_036_854_775_807;
 
-/// The number that the whole text is, if it is from `least` to `most`.
-pub(crate) fn number_in(least: u64, most: u64, text: &str) -> Option<i64>
+/// The number that the whole text is, if it is from `least` to `most`. None also for a sign or a leading zero.
+pub fn number_in(least: u64, most: u64, text: &str) -> Option<i64>
     requires { most ≤ 9_223_372_036_854_775_807 }
     ensures number { result ≡ number_in (least, most) text.now }
     ensures within { IfSome result (λ number. IsWithin (pos least) (pos most) number) }
@@ -32,7 +32,7 @@ pub(crate) fn id_in(text: &str) -> Option<i64>
 }
 
 /// The number before the first space, if it is from `least` to `most`, and what follows that space.
-pub(crate) fn next_number(least: u64, most: u64, text: &str) -> Option<(i64, &str)>
+pub fn next_number(least: u64, most: u64, text: &str) -> Option<(i64, &str)>
     requires { most ≤ 9_223_372_036_854_775_807 }
     ensures number { option_map (λ p. (p.0, p.1.now)) result ≡ next_number (least, most) text.now }
     ensures within { IfSome result (λ p. IsWithin (pos least) (pos most) p.0) }

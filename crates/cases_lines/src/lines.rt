@@ -62,7 +62,7 @@ fn told(alloc: Global, answer: Result<String, Unread>) -> Result<String, Unread>
 }
 
 fn answer_text<A: Answers>(alloc: Global, answers: &mut A, text: &str) -> Result<String, Unread> {
-    let whole = with_copies(alloc, text)?;
+    let whole = assembled(alloc, text)?;
     match cut(whole.as_str(), " ") {
         Some((word, rest)) => answers.answer(alloc, word, rest),
         None => Err(Unread::Bad),
@@ -70,7 +70,7 @@ fn answer_text<A: Answers>(alloc: Global, answers: &mut A, text: &str) -> Result
 }
 
 /// The text with each `@(N,X)` in it put as N copies of X.
-fn with_copies(alloc: Global, text: &str) -> Result<String, Unread> {
+fn assembled(alloc: Global, text: &str) -> Result<String, Unread> {
     let mut made = String::new(alloc);
     for (place, part) in text.split("@(").enumerate() {
         if place == 0 {
