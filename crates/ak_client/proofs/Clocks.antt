@@ -3,18 +3,21 @@ use Rattle.std.specs.Prelude.{◌≡◌, ℕ, zero, suc, ◌≤◌, ℤ, Bool, t
 use Rattle.std.proofs.Common.{refl, sym, ap, subst, arith}
 use Rattle.ak_client.specs.Endings.{IsOfGreeting}
 use Rattle.ak_client.specs.Outcomes.{is_told_by_meta, outcome_at}
-use Rattle.ak_client.specs.Syncs.{EndsAt, HasGiven, HasRaised, KeepsDevice, TakesMoments, ends_before_finish, fewest_moments, most_moments}
+use Rattle.ak_client.specs.Syncs.{EndsAt, HasGiven, HasRaised, IsFairEnd, KeepsDevice, TakesMoments, ends_before_finish, fewest_moments, most_moments}
 use Rattle.ak_client.specs.declared.outcomes.Outcome.{Outcome}
 use Rattle.ak_client.specs.declared.outcomes.Outcome.TheVariants as outcomes
 use Rattle.ak_exchange.specs.Asked.{TriedAsk}
-use Rattle.ak_exchange.specs.Grants.{StopsFor}
+use Rattle.ak_exchange.specs.Grants.{AreTooMany, StopsFor}
+use Rattle.ak_exchange.specs.Phases.{IsFairStop}
 use Rattle.ak_exchange.specs.Stops.{comes_before_finish, keep_stop, shows_bad_check, wire_stop}
 use Rattle.ak_exchange.specs.declared.stops.Stop.{Stop}
 use Rattle.ak_exchange.specs.declared.stops.Stop.TheVariants as stops
+use Rattle.ak_keep.specs.Collections.{Collection}
 use Rattle.ak_keep.specs.Keepers.{Keeping}
 use Rattle.ak_keep.specs.declared.keepers.KeepFault.{KeepFault}
 use Rattle.ak_keep.specs.declared.keepers.KeepFault.TheVariants as faults
 use Rattle.ak_protocol.proofs.Commits.{not_both}
+use Rattle.ak_session.specs.Sessions.{MaySync}
 use Rattle.ak_wires.specs.Wires.{WireState}
 use Rattle.ak_wires.specs.declared.asks.Unanswered.{Unanswered}
 use Rattle.ak_wires.specs.declared.asks.Unanswered.TheVariants as unanswered
@@ -113,6 +116,62 @@ unanswered_told unanswered.Lost = refl
 unanswered_told unanswered.BadReply = refl
 unanswered_told (unanswered.Refused status word seen) = refl
 unanswered_told unanswered.Memory = refl
+
+-- ---- fair ends
+module _ (c s : Collection) where
+  pub stop_fair : (stop : Stop) → IsFairStop c s stop → MaySync c s → IsFairEnd c s (outcome_at stop)
+  stop_fair stops.NoChanges fair may = tt
+  stop_fair (stops.FullSchema device server) fair may = tt
+  stop_fair (stops.FullSequence usn) fair may = tt
+  stop_fair (stops.BadRow fault) fair may = fair may
+  stop_fair (stops.BadCounts client server) fair may = fair may
+  stop_fair (stops.ClockOff device server) fair may = tt
+  stop_fair (stops.OwnCheck fault) fair may = tt
+  stop_fair stops.Stopped fair may = tt
+  stop_fair (stops.Refused status word seen) fair may = tt
+  stop_fair stops.Lost fair may = tt
+  stop_fair stops.BadReply fair may = tt
+  stop_fair stops.TooManyChunks fair may = fair may
+  stop_fair stops.Keep fair may = tt
+  stop_fair stops.Memory fair may = tt
+
+  pub fault_fair : (fault : KeepFault) → MaySync c s → IsFairEnd c s (outcome_at (keep_stop fault))
+  fault_fair faults.Failed may = tt
+  fault_fair faults.Memory may = tt
+
+  -- one that shows no bad sanity check, and did not ask for too many chunks
+  pub good_end : (stop : Stop) (tries : List TriedAsk) (now : WireState) → shows_bad_check stop ≡ false → (AreTooMany tries → ⊥)
+      → EndsAt tries now (outcome_at stop) → IsFairEnd c s (outcome_at stop)
+  good_end stops.NoChanges tries now good few ends = tt
+  good_end (stops.FullSchema device server) tries now good few ends = tt
+  good_end (stops.FullSequence usn) tries now good few ends = tt
+  good_end (stops.BadRow fault) tries now good few ends = absurd (not_both refl good)
+  good_end (stops.BadCounts client server) tries now good few ends = absurd (not_both refl good)
+  good_end (stops.ClockOff device server) tries now good few ends = tt
+  good_end (stops.OwnCheck fault) tries now good few ends = tt
+  good_end stops.Stopped tries now good few ends = tt
+  good_end (stops.Refused status word seen) tries now good few ends = tt
+  good_end stops.Lost tries now good few ends = tt
+  good_end stops.BadReply tries now good few ends = tt
+  good_end stops.TooManyChunks tries now good few ends = absurd (few ends)
+  good_end stops.Keep tries now good few ends = tt
+  good_end stops.Memory tries now good few ends = tt
+
+  pub late_fair : (stop : Stop) → comes_before_finish stop ≡ false → IsFairStop c s stop
+  late_fair stops.NoChanges late = tt
+  late_fair (stops.FullSchema device server) late = tt
+  late_fair (stops.FullSequence usn) late = tt
+  late_fair (stops.BadRow fault) late = absurd (not_both refl late)
+  late_fair (stops.BadCounts client server) late = absurd (not_both refl late)
+  late_fair (stops.ClockOff device server) late = tt
+  late_fair (stops.OwnCheck fault) late = tt
+  late_fair stops.Stopped late = tt
+  late_fair (stops.Refused status word seen) late = tt
+  late_fair stops.Lost late = tt
+  late_fair stops.BadReply late = tt
+  late_fair stops.TooManyChunks late = absurd (not_both refl late)
+  late_fair stops.Keep late = tt
+  late_fair stops.Memory late = tt
 
 -- ---- the clock
 given_more : (n : ℕ) (old mid new : Option (List ℤ)) → HasGiven 1 old mid → HasGiven n mid new → HasGiven (suc n) old new

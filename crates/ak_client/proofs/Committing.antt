@@ -106,7 +106,7 @@ module _ (c s : Collection) (account : AccountState) (who : Asker) (told : Optio
 
   half : MaySync c s → HoldsJoin c s granted.after → AreExchanged c s device granted.after
   half may joined =
-      let whole : granted.asked ≡ planned_check c s = granted.whole may in
+      let whole : granted.asked ≡ planned_check c s = (granted.passed may).asked_is in
       subst (λ (asked : List Ask). AreExchanged c s (record { rows = settles.0.rows; head = ended_head s.head.usn moment (all_replied s asked) c.head }) granted.after)
       (sym whole)
       (exchanged c s granted.after may settles.0.rows moment (sym granted.moment_is)
@@ -124,6 +124,7 @@ module _ (c s : Collection) (account : AccountState) (who : Asker) (told : Optio
     last_sync = granted.moment_is;
     usn = refl;
     schema = refl;
+    sound = λ may. (granted.passed may).sound;
     half = half;
   }
 

@@ -1,11 +1,10 @@
 -- How a sync that went on after its meta ends.
-use Rattle.std.specs.List.{AllByRecursion}
 use Rattle.std.specs.Option.{option_map}
 use Rattle.std.specs.Prelude.{◌≡◌, ℕ, ℤ, pos, ◌+◌, ◌≤◌, ◌+ℤ◌, true, false, is_some, List, [], ◌∷◌, ◌++◌, length, Option, Some, None, IfSome, Result, Ok, Err, IfOk}
 use Rattle.std.specs.Int.{div_ceil}
 use Rattle.std.proofs.Common.{refl, sym, ap, subst, ◌∙◌, inl, inr, arith}
 use Rattle.std.proofs.lemmas.Result.{IfErr-weaker, IfOk-weaker}
-use Rattle.ak_client.proofs.Clocks.{fault_ends, fault_not_early, fault_told, not_early, not_finished, stop_ends, stop_told}
+use Rattle.ak_client.proofs.Clocks.{fault_ends, fault_fair, fault_not_early, fault_told, late_fair, not_early, not_finished, stop_ends, stop_fair, stop_told}
 use Rattle.ak_client.proofs.Committing.{ended}
 use Rattle.ak_client.specs.Endings.{ArePlain, Ended, Ends, Exchanged, ExchangesAll, IsGranted}
 use Rattle.ak_client.specs.Outcomes.{EndsFor, is_told_by_meta, outcome_at, outcome_of}
@@ -13,11 +12,11 @@ use Rattle.ak_client.specs.Syncs.{EndsAt, ends_before_finish}
 use Rattle.ak_client.specs.declared.outcomes.Outcome.{Outcome}
 use Rattle.ak_client.specs.declared.outcomes.Outcome.TheVariants as outcomes
 use Rattle.ak_device.proofs.Receiving.{received_nothing}
-use Rattle.ak_exchange.proofs.Stopping.{granted_but_last, granted_then, part_stops}
+use Rattle.ak_exchange.proofs.Stopping.{granted_but_last, granted_then, part_stops, rows_then}
 use Rattle.ak_exchange.proofs.Tried.{asked_then, asks_append, few_more, few_none, few_then}
 use Rattle.ak_exchange.specs.Asked.{Talk, asker, asks_in}
-use Rattle.ak_exchange.specs.Grants.{AllGranted, SendsRows, is_told}
-use Rattle.ak_exchange.specs.Phases.{AreGraveRequests, Exchanges, Finishes, HasCommitted, IsAt, IsLeft, IsMet, IsReached, at_meta, holding, marked_at}
+use Rattle.ak_exchange.specs.Grants.{AllGranted}
+use Rattle.ak_exchange.specs.Phases.{AreGraveRequests, Exchanges, Finishes, HasCommitted, IsFairStop, IsAt, IsLeft, IsMet, IsReached, at_meta, holding, marked_at}
 use Rattle.ak_exchange.specs.Stops.{comes_before_finish, keep_stop}
 use Rattle.ak_exchange.specs.declared.envelopes.Envelopes.{Envelopes}
 use Rattle.ak_exchange.specs.declared.envelopes.Ids.{Ids}
@@ -34,7 +33,6 @@ use Rattle.ak_messages.specs.declared.requests.Ask.{Ask}
 use Rattle.ak_messages.specs.declared.requests.Ask.TheVariants.{Finish}
 use Rattle.ak_protocol.proofs.Commits.{not_both}
 use Rattle.ak_protocol.specs.Accounts.{AccountState}
-use Rattle.ak_session.proofs.Ranges.{all_append}
 use Rattle.ak_session.specs.Plans.{planned}
 use Rattle.ak_session.specs.Slices.{wanted_graves}
 use Rattle.ak_wires.specs.Wires.{WireState}
@@ -56,14 +54,6 @@ graves_marked keeping graves = by keeping.told
         → IfSome told (λ (w : WithMark Holding). graves ≤ div_ceil (length (wanted_graves Unsent w.current.rows)) 250)
     by None most = tt
     by (Some w) most = most
-
--- nor whether that is told
-pub told_marked : (keeping : Keeping) → is_told keeping ≡ true → is_told (marked_here keeping) ≡ true
-told_marked keeping = by keeping.told
-  where
-    by : (told : Option (WithMark Holding)) → is_some told ≡ true → is_some (option_map marks.marked_here told) ≡ true
-    by None is = is
-    by (Some w) is = refl
 
 -- ---- up to the finish
 module _ (ids : Ids) (met : Met) (before mid : Keeping) (h0 h1 h2 : Health) (w0 w1 w2 : WireState) (envelopes last : Envelopes) where
@@ -101,6 +91,7 @@ module _ (ids : Ids) (met : Met) (before mid : Keeping) (h0 h1 h2 : Health) (w0 
           shown = record { reached = led.0.reached; front = led.0.front };
           early = λ early. ex.plain;
           granted = tt;
+          fair = led.2;
         };
   }
 
@@ -115,8 +106,7 @@ module _ (ids : Ids) (met : Met) (before mid : Keeping) (h0 h1 h2 : Health) (w0 
     graves_most = ex.graves_most;
     few = few_more (asks_in (ex.tries ++ fin.tries)) 40_000 39_999 (4 + ex.graves + 1) 40_000 39_999 (5 + ex.graves) (omega arith) (omega arith) (omega arith)
         (few_then ex.tries fin.tries 40_000 39_999 (4 + ex.graves) 0 0 1 ex.few fin.few);
-    rows = λ told. subst (AllByRecursion SendsRows) (sym (asks_append ex.tries fin.tries))
-        (all_append SendsRows (asks_in ex.tries) (asks_in fin.tries) (ex.rows told) fin.rows);
+    rows = rows_then ex.tries fin.tries ex.rows fin.rows;
     ends = (granted_then ex.tries fin.tries result ex.granted fin.granted, part_stops ex.tries fin.tries w2 result fin.ends);
     told = λ c s account is_met reached marked.
         let led = ex.leads c s account is_met (at_start c s account is_met reached marked) in
@@ -137,9 +127,10 @@ module _ (ids : Ids) (met : Met) (before mid : Keeping) (h0 h1 h2 : Health) (w0 
                 committed = record { log = one.1.log; is = one.1.told; only = one.1.only };
                 moment_is = one.1.moment_is;
                 asked = asks_in ex.tries;
-                whole = led.1.0.placed;
+                passed = led.1.0.placed;
                 device = led.1.1;
               }) end.1;
+          fair = IfErr-weaker result (λ (stop : Stop). comes_before_finish stop ≡ false) (IsFairStop c s) (λ stop late. late_fair c s stop late) fin.late;
         });
   }
 
@@ -154,12 +145,13 @@ asked_nothing ids met before left h w fault = record {
   graves = 0;
   graves_most = no_graves before;
   few = few_none 40_000 39_999 (5 + 0);
-  rows = λ told. tt;
+  rows = tt;
   ends = (λ is. tt, fault_ends [] w fault, fault_told fault);
   told = λ c s account is_met reached holds. record {
     shown = record { reached = reached; front = λ may. (planned c s, refl) };
     early = λ early. tt;
     finished = λ is. absurd (not_finished (keep_stop fault) is);
+    fair = fault_fair c s fault;
   };
 }
 
@@ -182,7 +174,7 @@ module _ (ids : Ids) (met : Met) (before marked mid left : Keeping) (h0 h1 : Hea
     graves = ex.graves;
     graves_most = graves_marked before ex.graves (subst (λ (k : Keeping). AreGraveRequests k ex.graves) marks_it ex.graves_most);
     few = ex.few;
-    rows = λ told. ex.rows (ap is_told marks_it ∙ told_marked before told);
+    rows = ex.rows;
     ends = ends;
     told = λ c s account is_met reached holds. so c s account is_met (ex.told c s account is_met reached (marked_so c holds));
   }
@@ -196,6 +188,7 @@ module _ (ids : Ids) (met : Met) (before marked mid left : Keeping) (h0 h1 : Hea
         shown = it.shown;
         early = it.early;
         finished = λ is. absurd (not_finished stop is);
+        fair = stop_fair c s stop it.fair;
       }))
   ends_stopped stop result ex (inr (fault, same)) =
       subst (λ (r : Result (Unit {0}) Stop). Ends ids met before left h0 h1 w0 w1 (outcome_of r)) (sym same)
@@ -203,6 +196,7 @@ module _ (ids : Ids) (met : Met) (before marked mid left : Keeping) (h0 h1 : Hea
         shown = it.shown;
         early = λ early. absurd (fault_not_early fault early);
         finished = λ is. absurd (not_finished (keep_stop fault) is);
+        fair = fault_fair c s fault;
       }))
 
   -- the device's commit was refused
@@ -212,6 +206,7 @@ module _ (ids : Ids) (met : Met) (before marked mid left : Keeping) (h0 h1 : Hea
     shown = it.shown;
     early = λ early. absurd (fault_not_early fault early);
     finished = λ is. absurd (not_finished (keep_stop fault) is);
+    fair = fault_fair c s fault;
   })
 
   -- it is finished
@@ -222,4 +217,5 @@ module _ (ids : Ids) (met : Met) (before marked mid left : Keeping) (h0 h1 : Hea
     shown = it.shown;
     early = λ early. absurd (not_both early refl);
     finished = λ is. ended c s account (asker ids) w1.log met moment mid left it.granted is_met commits;
+    fair = λ may. tt;
   })

@@ -8,7 +8,7 @@ use Rattle.ak_base.specs.declared.heads.Head.{Head}
 use Rattle.ak_base.specs.declared.keys.HostKey.{HostKey}
 use Rattle.ak_client.proofs.Growing.{lawful_grown, linked_grown}
 use Rattle.ak_client.specs.Syncs.{IsSyncFinished, MayBegin, world_at}
-use Rattle.ak_device.specs.Devices.{raised}
+use Rattle.ak_device.specs.Devices.{advanced_moment}
 use Rattle.ak_keep.specs.Collections.{Collection}
 use Rattle.ak_keep.specs.Keepers.{Keeping}
 use Rattle.ak_merge.specs.Holdings.{row_under}
@@ -48,5 +48,5 @@ module _ (who next : Asker) (account : AccountState) (old : Log) (growth : List 
   begins_parted c head may parted = begins c (record c { head = head }) may (inl parted)
 
 -- a schema moment that rises is another one, unless it is the last
-pub raised_rises : (at schema : ℤ) → schema <ℤ last_moment → raised at schema ≢ schema
+pub raised_rises : (at schema : ℤ) → schema <ℤ last_moment → advanced_moment at schema ≢ schema
 raised_rises at schema low is = grind (arith, ints, low, is)

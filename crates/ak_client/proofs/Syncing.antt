@@ -1,12 +1,12 @@
 -- What a whole sync asks and leaves.
 use Rattle.std.specs.List.{AllByRecursion}
-use Rattle.std.specs.Prelude.{◌≡◌, ℤ, pos, ◌+◌, ◌/◌, ◌≤◌, false, List, [], ◌∷◌, ◌++◌, length, Option, Some, None, Ok, Err}
+use Rattle.std.specs.Prelude.{◌≡◌, ℤ, pos, ◌+◌, ◌/◌, ◌≤◌, false, List, [], ◌∷◌, ◌++◌, length, Option, Some, None, Result, Ok, Err}
 use Rattle.std.proofs.Common.{refl, sym, ap, subst, ◌∙◌, append_assoc, inl, inr, arith}
 use Rattle.std.proofs.lemmas.List.{length-append}
 use Rattle.std.proofs.lemmas.Option.{same_Some}
 use Rattle.ak_client.proofs.Alone.{alone_stays, commits_alone, made_with_stays, requests_are_of}
 use Rattle.ak_client.proofs.Causes.{met_because, unmet_because}
-use Rattle.ak_client.proofs.Clocks.{not_finished}
+use Rattle.ak_client.proofs.Clocks.{good_end, not_finished}
 use Rattle.ak_client.proofs.Ending.{no_graves}
 use Rattle.ak_client.proofs.Fates.{at_most_once, plain_commits_nothing, stays_once, stays_unused}
 use Rattle.ak_client.proofs.Greeting.{asked_meta, greeting_ends, meta_granted}
@@ -16,17 +16,18 @@ use Rattle.ak_client.proofs.Meeting.{formed_by, is_met, may_sync}
 use Rattle.ak_client.specs.Endings.{Ended, Ends, IsEnded}
 use Rattle.ak_client.specs.Greetings.{GreetsTold, IsGreeting, IsMetOver, IsReady, clock_stop, meta_of}
 use Rattle.ak_client.specs.Outcomes.{outcome_at}
-use Rattle.ak_client.specs.Syncs.{CommitsAtMostOnce, EndsAt, IsShown, IsSync, IsSyncEnded, IsSyncFinished, MayBegin, StaysOnce, Synced, meta_tried, world_at}
+use Rattle.ak_client.specs.Syncs.{CommitsAtMostOnce, EndsAt, IsFairEnd, IsShown, IsSync, IsSyncEnded, IsSyncFinished, MayBegin, StaysOnce, Synced, meta_tried, world_at}
 use Rattle.ak_client.specs.declared.outcomes.Outcome.{Outcome}
 use Rattle.ak_client.specs.declared.outcomes.Outcome.TheVariants as outcomes
 use Rattle.ak_exchange.proofs.Replying.{requests_count}
 use Rattle.ak_exchange.proofs.Stopping.{but_last_then, checked_then, ends_then, many_then}
 use Rattle.ak_exchange.proofs.Tried.{few_none, tried_then}
 use Rattle.ak_exchange.specs.Asked.{AreTried, TriedAsk, answers_in, asker, asks_in}
-use Rattle.ak_exchange.specs.Grants.{IsGranted, is_told}
+use Rattle.ak_exchange.specs.Grants.{AreTooMany, IsGranted}
 use Rattle.ak_exchange.specs.Phases.{AreGraveRequests, IsMet, holding, held_by}
 use Rattle.ak_exchange.specs.declared.envelopes.Ids.{Ids}
 use Rattle.ak_exchange.specs.declared.envelopes.Met.{Met}
+use Rattle.ak_exchange.specs.Stops.{shows_bad_check}
 use Rattle.ak_exchange.specs.declared.stops.Stop.{Stop}
 use Rattle.ak_exchange.specs.declared.stops.Stop.TheVariants as stops
 use Rattle.ak_faults.specs.Causes.{Health}
@@ -39,6 +40,7 @@ use Rattle.ak_merge.specs.Exchanges.{AreExchanged, HoldsJoin}
 use Rattle.ak_merge.specs.Holdings.{row_under}
 use Rattle.ak_merge.specs.Joins.{AreApart}
 use Rattle.ak_merge.specs.Links.{AreLinked}
+use Rattle.ak_messages.specs.declared.replies.Reply.{Reply}
 use Rattle.ak_messages.specs.declared.requests.Ask.{Ask}
 use Rattle.ak_messages.specs.declared.requests.Request.{Request}
 use Rattle.ak_protocol.proofs.Syncs.{all_append, unused_keys_commit_nothing}
@@ -52,12 +54,13 @@ use Rattle.ak_session.specs.Sessions.{MaySync}
 use Rattle.ak_session.specs.Slices.{wanted_graves, wanted_in_chunks}
 use Rattle.ak_wires.specs.Wires.{WireState}
 use Rattle.ak_wires.specs.declared.asks.Unanswered.TheVariants as unanswered
+use Rattle.ak_wires.specs.declared.wires.WireEnd.{WireEnd}
 
 -- ---- a sync whose meta was not answered, or that was ended by it
 synced_unmet : (ids : Ids) (stop : Stop) (c : Collection) (account : AccountState) (old now : Log) (growth : List Event) (left : Keeping)
-    → now ≡ with_growth old growth → AllByRecursion IsTimely growth → IsUnused ids.host.digits ids.session.0 account now
+    → now ≡ with_growth old growth → AllByRecursion IsTimely growth → IsUnused ids.host.digits ids.session.0 account now → IsFairEnd c c (outcome_at stop)
     → Synced (asker ids) (pos 0) [] c account old now left (outcome_at stop)
-synced_unmet ids stop c account old now growth left grown timely unused = record {
+synced_unmet ids stop c account old now growth left grown timely unused fair = record {
   growth = growth;
   grown = grown;
   timely = timely;
@@ -71,12 +74,18 @@ synced_unmet ids stop c account old now growth left grown timely unused = record
   once = stays_unused (asker ids) c c (pos 0) account now unused;
   early = λ early. unused_keys_commit_nothing ids.host.digits ids.session.0 account now unused;
   finished = λ is. absurd (not_finished stop is);
+  fair = λ apart. fair;
 }
 
+-- a meta alone asks for no chunk
+meta_is_one : (answer : Result Reply WireEnd) → AreTooMany (meta_tried answer ∷ []) → ⊥
+meta_is_one answer (inl came) = omega (arith, came)
+meta_is_one answer (inr sent) = omega (arith, sent)
+
 pub unmet : (ids : Ids) (stop : Stop) (before left : Keeping) (h0 h1 : Health) (w0 w1 : WireState) (old_moments new_moments : Option (List ℤ)) (read : Keeping)
-    → IsGreeting ids h0 h1 w0 w1 old_moments new_moments read (Err stop)
+    → IsGreeting ids h0 h1 w0 w1 old_moments new_moments read (Err stop) → shows_bad_check stop ≡ false
     → GreetsTold ids w0.log w1.log (Err stop) → IsSync ids before left h0 h1 w0 w1 (outcome_at stop)
-unmet ids stop before left h0 h1 w0 w1 old_moments new_moments read it greets =
+unmet ids stop before left h0 h1 w0 w1 old_moments new_moments read it good greets =
     let tried : AreTried (meta_of ids ∷ []) (it.heard.answer ∷ []) h0 h1 w0 w1 = asked_meta ids h0 h1 w0 w1 it.answer it.heard in
     record {
       meta = it.heard.answer;
@@ -88,7 +97,7 @@ unmet ids stop before left h0 h1 w0 w1 old_moments new_moments read it greets =
       graves = 0;
       graves_most = no_graves before;
       few = few_none 40_000 39_999 (5 + 0);
-      rows = λ told. tt;
+      rows = tt;
       ends = greeting_ends ids h0 h1 w0 w1 old_moments new_moments read stop it;
       told = λ old told.
           let grown = tried_grows (meta_of ids ∷ []) (it.heard.answer ∷ []) h0 h1 w0 w1 old tried told in (
@@ -98,7 +107,9 @@ unmet ids stop before left h0 h1 w0 w1 old_moments new_moments read it greets =
                 let greeted = greets account old told may.unused in
                 synced_unmet ids stop c account old grown.now grown.growth left grown.grown grown.timely
                 (subst (λ (log : Log). IsUnused ids.host.digits ids.session.0 account log)
-                (same_Some greeted.0 grown.now (sym greeted.1 ∙ grown.is)) greeted.2.unused),
+                (same_Some greeted.0 grown.now (sym greeted.1 ∙ grown.is)) greeted.2.unused)
+                (good_end c c stop (meta_tried it.heard.answer ∷ []) w1 good (meta_is_one it.heard.answer)
+                (greeting_ends ids h0 h1 w0 w1 old_moments new_moments read stop it)),
           );
       alone = alone_stays (meta_of ids ∷ []) (it.heard.answer ∷ []) h0 h1 w0 w1 tried;
       made_with = made_with_stays (meta_of ids ∷ []) (it.heard.answer ∷ []) h0 h1 w0 w1 tried;
@@ -107,11 +118,11 @@ unmet ids stop before left h0 h1 w0 w1 old_moments new_moments read it greets =
 
 -- and why
 pub unmet_ended : (ids : Ids) (stop : Stop) (before left : Keeping) (h0 h1 : Health) (w0 w1 : WireState) (old_moments new_moments : Option (List ℤ))
-    → IsGreeting ids h0 h1 w0 w1 old_moments new_moments before (Err stop)
+    → IsGreeting ids h0 h1 w0 w1 old_moments new_moments before (Err stop) → shows_bad_check stop ≡ false
     → GreetsTold ids w0.log w1.log (Err stop) → IsSyncEnded ids before left h0 h1 w0 w1 old_moments (outcome_at stop)
 unfolding unmet
-unmet_ended ids stop before left h0 h1 w0 w1 old_moments new_moments it greets = record {
-  sync = unmet ids stop before left h0 h1 w0 w1 old_moments new_moments before it greets;
+unmet_ended ids stop before left h0 h1 w0 w1 old_moments new_moments it good greets = record {
+  sync = unmet ids stop before left h0 h1 w0 w1 old_moments new_moments before it good greets;
   because = unmet_because ids h0 h1 w0 w1 old_moments new_moments before stop it (pos 0);
 }
 
@@ -201,6 +212,7 @@ module _ (ids : Ids) (met : Met) (c s : Collection) (account : AccountState) (as
         last_sync = it.last_sync;
         usn = it.usn;
         schema = it.schema;
+        sound = λ apart. it.sound (syncs apart);
         exchanged = halves;
         linked = λ apart. linked_now it.device it.after only it.schema (inr (halves apart).linked);
       }
@@ -234,6 +246,7 @@ module _ (ids : Ids) (met : Met) (c s : Collection) (account : AccountState) (as
     once = once;
     early = λ early. plain_commits_nothing who s account asks now (end.early early) under_way;
     finished = λ is. ended (end.finished is);
+    fair = λ apart. end.fair (syncs apart);
   }
 
 -- what a keeper tells is true of the collection that it holds
@@ -277,7 +290,7 @@ went_on ids met before kept left h0 h1 h2 w0 w1 w2 old_moments new_moments read 
       graves = ends.graves;
       graves_most = subst (λ (k : Keeping). AreGraveRequests k ends.graves) same ends.graves_most;
       few = ends.few;
-      rows = λ told. ends.rows (ap is_told same ∙ told);
+      rows = ends.rows;
       ends = ends_after (meta_tried it.heard.answer) ends.tries w2 outcome ends.ends.1;
       told = λ old told.
           let first = tried_grows (meta_of ids ∷ []) (it.heard.answer ∷ []) h0 h1 w0 w1 old first_tried told in

@@ -2,13 +2,13 @@
 use Rattle.std.specs.List.{AllByRecursion}
 use Rattle.std.specs.Prelude.{◌≡◌, ℕ, ℤ, pos, ◌+◌, ◌≤◌, ◌+ℤ◌, true, false, List, [], ◌∷◌, ◌++◌, Option, Some, Result, IfOk, IfErr}
 use Rattle.ak_client.specs.Outcomes.{is_told_by_meta, outcome_at}
-use Rattle.ak_client.specs.Syncs.{EndsAt, ends_before_finish, fewest_moments, most_moments, world_at}
+use Rattle.ak_client.specs.Syncs.{EndsAt, IsFairEnd, ends_before_finish, fewest_moments, most_moments, world_at}
 use Rattle.ak_client.specs.declared.outcomes.Outcome.{Outcome}
 use Rattle.ak_client.specs.declared.outcomes.Outcome.TheVariants as outcomes
 use Rattle.ak_device.specs.Devices.{Settles, received}
 use Rattle.ak_exchange.specs.Asked.{AreFew, AreTried, TriedAsk, answers_in, asker, asks_in}
-use Rattle.ak_exchange.specs.Grants.{AllGranted, AllGrantedButLast, AreGranted, SendsRows, StopsFor, is_told}
-use Rattle.ak_exchange.specs.Phases.{AreGraveRequests, IsMet, IsReached, holding, marked_at}
+use Rattle.ak_exchange.specs.Grants.{AllGranted, AllGrantedButLast, AreGranted, SendsRows, StopsFor}
+use Rattle.ak_exchange.specs.Phases.{AreGraveRequests, HasPassedCheck, IsFairStop, IsMet, IsReached, holding, marked_at}
 use Rattle.ak_exchange.specs.Stops.{shows_bad_check}
 use Rattle.ak_exchange.specs.declared.envelopes.Ids.{Ids}
 use Rattle.ak_exchange.specs.declared.envelopes.Met.{Met}
@@ -17,10 +17,13 @@ use Rattle.ak_faults.specs.Causes.{Health}
 use Rattle.ak_keep.specs.Collections.{Collection}
 use Rattle.ak_keep.specs.Keepers.{Keeping, changed}
 use Rattle.ak_merge.specs.Exchanges.{HoldsJoin, AreExchanged}
+use Rattle.ak_merge.specs.Holdings.{row_under}
+use Rattle.ak_merge.specs.Joins.{joined_under}
+use Rattle.ak_merge.specs.Soundness.{IsSound}
 use Rattle.ak_messages.specs.declared.requests.Ask.{Ask}
 use Rattle.ak_protocol.specs.Accounts.{AccountState}
 use Rattle.ak_protocol.specs.Logs.{Log, commits_of}
-use Rattle.ak_session.specs.Plans.{Asker, planned, planned_check, requests_from}
+use Rattle.ak_session.specs.Plans.{Asker, planned, requests_from}
 use Rattle.ak_session.specs.Replies.{all_replied}
 use Rattle.ak_session.specs.Requests.{asks_commit}
 use Rattle.ak_session.specs.Sessions.{MaySync}
@@ -47,7 +50,7 @@ pub record AsksAfter (ids : Ids) (met : Met) (before : Keeping) (health_before h
   pub graves : ℕ
   pub graves_most : AreGraveRequests before graves
   pub few : AreFew 40_000 39_999 (5 + graves) (asks_in tries)
-  pub rows : is_told before ≡ true → AllByRecursion SendsRows (asks_in tries)
+  pub rows : AllByRecursion SendsRows (asks_in tries)
   pub ends : Ends tries
   pub told : (c s : Collection) (account : AccountState) → IsMet c s met → IsReached (asker ids) account s [] old.log
       → Leaves c s account (asks_in tries)
@@ -73,7 +76,7 @@ pub record IsGranted (c s : Collection) (account : AccountState) (who : Asker) (
   pub committed : HasOneCommit s after account who told
   pub moment_is : moment ≡ after.head.moment
   pub asked : List Ask
-  pub whole : MaySync c s → asked ≡ planned_check c s
+  pub passed : MaySync c s → HasPassedCheck c s asked
   pub device : Settles s.head.usn (changed (received s.head.usn (all_replied s asked)) (marked_at c)) left
 
 -- a sync asked these, up to its finish: where it is left, and what a granted finish leaves
@@ -82,6 +85,7 @@ pub record Exchanged (c s : Collection) (account : AccountState) (who : Asker) (
   pub shown : IsShownAfter c s account who asks told
   pub early : IfErr result (λ (stop : Stop). ends_before_finish (outcome_at stop) ≡ true → ArePlain asks)
   pub granted : IfOk result (λ (moment : ℤ). IsGranted c s account who told left moment)
+  pub fair : IfErr result (IsFairStop c s)
 
 -- the same from a marked keeper on
 abbrev pub ExchangesAll : Ids → Met → Keeping → Keeping → Health → Health → WireState → WireState → Result ℤ Stop → Type 0
@@ -103,6 +107,7 @@ pub record IsEnded (c s : Collection) (account : AccountState) (who : Asker) (to
   pub last_sync : device.head.last_sync ≡ after.head.moment
   pub usn : device.head.usn ≡ s.head.usn +ℤ pos 1
   pub schema : device.head.schema ≡ c.head.schema
+  pub sound : MaySync c s → IsSound (joined_under (row_under c) (row_under s))
   pub half : MaySync c s → HoldsJoin c s after → AreExchanged c s device after
 
 -- a sync asked these and ended so
@@ -111,6 +116,7 @@ pub record Ended (c s : Collection) (account : AccountState) (who : Asker) (asks
   pub shown : IsShownAfter c s account who asks told
   pub early : ends_before_finish outcome ≡ true → ArePlain asks
   pub finished : outcome ≡ outcomes.Finished → IsEnded c s account who told left
+  pub fair : MaySync c s → IsFairEnd c s outcome
 
 -- the same from a keeper on that is not marked
 abbrev pub Ends : Ids → Met → Keeping → Keeping → Health → Health → WireState → WireState → Outcome → Type 0

@@ -9,8 +9,8 @@ use Rattle.ak_client.specs.declared.outcomes.Outcome.{Outcome}
 use Rattle.ak_client.specs.declared.outcomes.Outcome.TheVariants as outcomes
 use Rattle.ak_device.specs.Devices.{RaisesMoments}
 use Rattle.ak_exchange.specs.Asked.{AreFew, AreTried, TriedAsk, answers_in, asker, asks_in}
-use Rattle.ak_exchange.specs.Grants.{AllGranted, AllGrantedButLast, AreTooMany, EndsUnanswered, IsCheckedLast, SendsRows, is_told}
-use Rattle.ak_exchange.specs.Phases.{AreGraveRequests, holding}
+use Rattle.ak_exchange.specs.Grants.{AllGranted, AllGrantedButLast, AreTooMany, EndsUnanswered, IsCheckedLast, SendsRows}
+use Rattle.ak_exchange.specs.Phases.{AreGraveRequests, HasTenMillionRows, holding}
 use Rattle.ak_exchange.specs.declared.envelopes.Ids.{Ids}
 use Rattle.ak_exchange.specs.Stops.{keep_stop}
 use Rattle.ak_exchange.specs.declared.stops.Stop.{Stop}
@@ -24,9 +24,9 @@ use Rattle.ak_keep.specs.declared.keepers.Wanted.TheVariants.{From, Unsent}
 use Rattle.ak_merge.specs.Edits.{second_of}
 use Rattle.ak_merge.specs.Exchanges.{HoldsJoin, AreExchanged}
 use Rattle.ak_merge.specs.Holdings.{row_under}
-use Rattle.ak_merge.specs.Joins.{AreApart}
+use Rattle.ak_merge.specs.Joins.{AreApart, joined_under}
 use Rattle.ak_merge.specs.Links.{AreLinked}
-use Rattle.ak_merge.specs.Soundness.{first_fault}
+use Rattle.ak_merge.specs.Soundness.{IsSound, first_fault}
 use Rattle.ak_merge.specs.declared.checks.CheckFault.{CheckFault}
 use Rattle.ak_messages.specs.declared.replies.Reply.{Reply}
 use Rattle.ak_messages.specs.declared.requests.Ask.{Ask}
@@ -87,7 +87,7 @@ StaysOnce who c base moment asks account now = (later : List Event)
 
 -- ---- what it leaves if it reports that it is finished
 -- the session committed once. The device holds d, whose moment and last sync are at that commit, and whose number is the one after the
--- server's. If device and server were apart, both hold the join and are linked, and the device is linked with what is committed now
+-- server's. If device and server were apart, their join is sound, both hold it and are linked, and the device is linked with what is committed now
 pub record IsSyncFinished (who : Asker) (c base : Collection) (account : AccountState) (now : Log)
     (left : Keeping) : Type 0 where
   pub after : Collection
@@ -99,6 +99,7 @@ pub record IsSyncFinished (who : Asker) (c base : Collection) (account : Account
   pub last_sync : device.head.last_sync ≡ after.head.moment
   pub usn : device.head.usn ≡ base.head.usn +ℤ pos 1
   pub schema : device.head.schema ≡ c.head.schema
+  pub sound : AreApart (row_under c) (row_under base) → IsSound (joined_under (row_under c) (row_under base))
   pub exchanged : AreApart (row_under c) (row_under base) → AreExchanged c base device after
   pub linked : AreApart (row_under c) (row_under base) → AreLinked device (world_at who account now).state.committed
 
@@ -120,6 +121,14 @@ ends_before_finish outcomes.BadReply = false
 ends_before_finish outcomes.TooManyChunks = true
 ends_before_finish outcomes.Keep = false
 ends_before_finish outcomes.Memory = false
+
+-- from a server that meets the protocol a sync ends at a bad row only if the join of the two is not sound, never at counts that differ, and at too
+-- many chunks only if one side has ten million rows to send
+abbrev pub IsFairEnd : Collection → Collection → Outcome → Type 0
+IsFairEnd c base (outcomes.BadRow fault) = IsSound (joined_under (row_under c) (row_under base)) → ⊥
+IsFairEnd c base (outcomes.BadCounts client server) = ⊥
+IsFairEnd c base outcomes.TooManyChunks = HasTenMillionRows c base
+IsFairEnd c base outcome = ⊤
 
 -- a collection was committed at a place of what came to the account
 pub record IsCommittedIn (who : Asker) (account : AccountState) (old : Log) (growth : List Event)
@@ -153,6 +162,7 @@ pub record Synced (who : Asker) (moment : ℤ) (asks : List Ask) (c : Collection
   -- it committed nothing, if it ended before its finish
   pub early : ends_before_finish outcome ≡ true → commits_of who.session.0 (world_at who account now).commits ≡ []
   pub finished : outcome ≡ outcomes.Finished → IsSyncFinished who c base account now left
+  pub fair : AreApart (row_under c) (row_under base) → IsFairEnd c base outcome
 
 -- the same wherever the keeper tells a collection with which the sync may begin, and the wire a log
 abbrev pub Syncs : Ids → ℤ → List Ask → Keeping → Keeping → Log → Log → Outcome → Type 0
@@ -219,12 +229,12 @@ pub record IsSync (ids : Ids) (before left : Keeping) (health_before health_now 
   -- each was granted before the next was asked, and all were if it is finished. A chunk that is granted and is not the last one has a row
   pub granted : AllGrantedButLast (meta_tried meta ∷ tries)
   pub all_granted : outcome ≡ outcomes.Finished → AllGranted (meta_tried meta ∷ tries)
-  -- it asked for at most 40,000 chunks, and sent at most 39,999 that are not the last one. It asked at most 5 others and those for graves: 250
-  -- go in each
+  -- it asked for at most 40,000 chunks, and sent at most 39,999 that are not the last one, each with 250 rows. It asked at most 5 others and
+  -- those for graves: 250 go in each
   pub graves : ℕ
   pub graves_most : AreGraveRequests before graves
   pub few : AreFew 40_000 39_999 (5 + graves) (asks_in tries)
-  pub rows : is_told before ≡ true → AllByRecursion SendsRows (asks_in tries)
+  pub rows : AllByRecursion SendsRows (asks_in tries)
   pub ends : EndsAt (meta_tried meta ∷ tries) now outcome
   -- and what that makes of what keeper and wire tell
   pub told : SyncsTold ids moment (asks_in tries) before left old.log now.log outcome

@@ -1,13 +1,14 @@
 // A sync state by state, for a caller that has something to do in between. A state holds the keeper and the wire, so that
 // nobody else acts on them, and must be spent: by its next call, or by `leave`. The calls are those of `sync_over`, whose
 // contract does not rest on these states.
-ghost use Rattle.std.specs.Prelude.{◌≡◌, ◌≤ℤ◌, ◌<ℤ◌, [], pos, true, false, IfOk, OnOk};
+ghost use Rattle.std.specs.Prelude.{◌≡◌, ◌≤ℤ◌, ◌<ℤ◌, [], pos, true, false, Ok, IfOk, OnOk};
 ghost use Rattle.ak_base.specs.Heads.{IsHeadInRange, IsMoment};
 ghost use Rattle.ak_base.specs.Limits.{last_head_usn};
+ghost use Rattle.ak_client.specs.Greetings.{GreetsTold, IsGreeting, IsReady};
 ghost use Rattle.ak_client.specs.States.{ExchangesChanges, IsInSync, LeadsTo};
-ghost use Rattle.ak_exchange.specs.Phases.{HasReceived, at_end_of, at_meta};
-ghost use Rattle.ak_keep.specs.Keepers.{IsMarkedAt, back, is_marked, marked_here};
-ghost use Rattle.ak_session.specs.Plans.{planned_changes, planned_check, planned_chunks, planned_pushes, planned_start};
+ghost use Rattle.ak_exchange.specs.Phases.{HasPassedCheck, HasReceived, at_end_of, at_meta};
+ghost use Rattle.ak_keep.specs.Keepers.{IsMarkedAt, IsRightlyKnown, WhereTold, back, is_marked, marked_here};
+ghost use Rattle.ak_session.specs.Plans.{planned_changes, planned_chunks, planned_pushes, planned_start};
 
 use crate::greetings::greet;
 use crate::outcomes::{Outcome, outcome_at, outcome_of};
@@ -112,6 +113,15 @@ impl<'a, K: Keeper, W: Wire> Hello<'a, K, W> {
         ensures number { IfOk result (λ next. next.met.meta.usn <ℤ last_head_usn) }
         ensures head { IfOk result (λ next. IsHeadInRange next.met.head) }
         ensures ids { IfOk result (λ next. next.ids ≡ self.entry.ids) }
+
+        // What the meta was answered, what is known of the server then, and of the device.
+        ensures heard { IfOk result (λ next. IsGreeting self.entry.ids
+            (W.health self.entry.wire.now) (W.health next.wire.now) (W.state self.entry.wire.now) (W.state next.wire.now)
+            (C.to_come clock.old) (C.to_come clock.new) (K.keeping self.entry.keeper.now) (Ok next.met)) }
+        ensures greets { IfOk result (λ next. GreetsTold self.entry.ids
+            (W.state self.entry.wire.now).log (W.state next.wire.now).log (Ok next.met)) }
+        ensures ready { IfOk result (λ next. WhereTold (K.keeping self.entry.keeper.now) (λ h. IsReady h next.met)) }
+        ensures known { IfOk result (λ next. IsRightlyKnown (K.keeping self.entry.keeper.now)) }
     {
         let Hello {
             alloc,
@@ -132,7 +142,9 @@ impl<'a, K: Keeper, W: Wire> Hello<'a, K, W> {
     }
 
     /// Leaves the device as it is.
-    pub fn leave(self) {
+    pub fn leave(self)
+        ensures same { K.keeping self.exit.1.0.now ≡ K.keeping self.entry.keeper.now }
+    {
         let Hello {
             alloc: _,
             keeper: _,
@@ -385,7 +397,7 @@ impl<'a, K: Keeper, W: Wire> Pushed<'a, K, W> {
         ensures mark { IfOk result (λ next. back (K.keeping next.keeper.now) ≡ back (K.keeping self.entry.keeper.now)) }
         ensures met { IfOk result (λ next. next.met ≡ self.entry.met) }
         ensures same { IfOk result (λ next. (K.keeping next.keeper.now) ≡ (K.keeping self.entry.keeper.now)) }
-        ensures leads { IfOk result (λ next. LeadsTo 0 0 1 (at_end_of planned_pushes) (at_end_of planned_check) next.met
+        ensures leads { IfOk result (λ next. LeadsTo 0 0 1 (at_end_of planned_pushes) HasPassedCheck next.met
             (K.keeping self.entry.keeper.now)
             (K.keeping next.keeper.now)
             (record {

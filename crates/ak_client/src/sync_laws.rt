@@ -4,7 +4,7 @@ ghost use Rattle.std.specs.Prelude.{◌≡◌, ◌≢◌, ◌<ℤ◌, ℤ, List}
 ghost use Rattle.ak_base.specs.Limits.{last_moment};
 ghost use Rattle.ak_base.specs.declared.heads.Head.{Head};
 ghost use Rattle.ak_client.specs.Syncs.{IsSyncFinished, MayBegin, world_at};
-ghost use Rattle.ak_device.specs.Devices.{raised};
+ghost use Rattle.ak_device.specs.Devices.{advanced_moment};
 ghost use Rattle.ak_keep.specs.Collections.{Collection};
 ghost use Rattle.ak_keep.specs.Keepers.{Keeping};
 ghost use Rattle.ak_merge.specs.Exchanges.{AreExchanged, HoldsJoin};
@@ -45,5 +45,5 @@ pub fn syncs_may_go_on()
         → IsUnused next.host.digits next.session.0 account (with_growth old growth)
         → head.schema ≢ (world_at who account (with_growth old growth)).state.committed.head.schema
         → MayBegin next (record c { head = head }) account (with_growth old growth) }
-    ensures raised { (at schema : ℤ) → schema <ℤ last_moment → raised at schema ≢ schema }
+    ensures raised { (at schema : ℤ) → schema <ℤ last_moment → advanced_moment at schema ≢ schema }
 {}

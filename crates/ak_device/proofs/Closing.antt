@@ -6,7 +6,7 @@ use Rattle.std.proofs.lemmas.Int.{ints}
 use Rattle.ak_base.specs.Heads.{IsMoment, IsWithin}
 use Rattle.ak_base.specs.Limits.{last_head_usn, last_stamp}
 use Rattle.ak_base.specs.declared.heads.Head.{Head}
-use Rattle.ak_device.specs.Devices.{RaisesMoments, moments_raised, raised}
+use Rattle.ak_device.specs.Devices.{RaisesMoments, advanced_moment, moments_raised}
 use Rattle.ak_io.specs.Arrivals.{IsClockMoment}
 use Rattle.ak_keep.specs.Collections.{Holding, with_moments}
 use Rattle.ak_keep.specs.Keepers.{Keeping, WhereTold, changed, committed, moments_set}
@@ -32,15 +32,15 @@ committed_changed : (f : Holding → Holding) (k : Keeping) → committed (chang
 committed_changed f k = ap (λ (t : Option (WithMark Holding)). record { headed = marks.committed k.headed; told = t }) (committed_told f k.told)
 
 abbrev raised_of : ℤ → Head → Holding → Holding
-raised_of at head = with_moments (raised at head.moment) (raised at head.schema) head.usn head.last_sync
+raised_of at head = with_moments (advanced_moment at head.moment) (advanced_moment at head.schema) head.usn head.last_sync
 
 abbrev head_raised : ℤ → Head → Head
-head_raised at head = record head { moment = raised at head.moment; schema = raised at head.schema }
+head_raised at head = record head { moment = advanced_moment at head.moment; schema = advanced_moment at head.schema }
 
 raise_held : (at : ℤ) (head : Head) (h : Holding) → h.head ≡ Some head → raised_of at head h ≡ moments_raised at h
 raise_held at head h is =
     ap (λ (o : Option Head). record { rows = h.rows; head = o })
-    (ap (option_map (λ (own : Head). record own { moment = raised at head.moment; schema = raised at head.schema; usn = head.usn; last_sync = head.last_sync })) is
+    (ap (option_map (λ (own : Head). record own { moment = advanced_moment at head.moment; schema = advanced_moment at head.schema; usn = head.usn; last_sync = head.last_sync })) is
     ∙ sym (ap (option_map (head_raised at)) is))
 
 raise_told : (at : ℤ) (head : Head) (t : Option (WithMark Holding)) → IfSome t (λ w. w.current.head ≡ Some head)
@@ -51,7 +51,7 @@ raise_told at head (Some w) is = ap (λ (h : Holding). Some (record { current = 
 -- a mark, moments that are raised, and a commit
 pub raises : {T E : Type 0} (result : Result T E) (at : ℤ) (head : Head) (k0 ka km k2 : Keeping) → ka ≡ k0
     → WhereTold k0 (λ h. h.head ≡ Some head) → committed km ≡ ka
-    → OnOk result (k2 ≡ committed (moments_set (raised at head.moment) (raised at head.schema) head.usn head.last_sync km))
+    → OnOk result (k2 ≡ committed (moments_set (advanced_moment at head.moment) (advanced_moment at head.schema) head.usn head.last_sync km))
     → OnOk result (RaisesMoments at k0 k2)
 raises result at head k0 ka km k2 same is commits last =
     if_ok result _ _ (λ so.
@@ -62,7 +62,7 @@ raises result at head k0 ka km k2 same is commits last =
     last
 
 -- a moment that is raised is one
-pub raised_fits : (at old : ℤ) → IsClockMoment at → IsMoment old → IsMoment (raised at old)
+pub raised_fits : (at old : ℤ) → IsClockMoment at → IsMoment old → IsMoment (advanced_moment at old)
 raised_fits at old clock is =
     let low = clock.low in
     let high = clock.high in

@@ -1,24 +1,31 @@
 -- What a device sends is what it held.
 use Rattle.std.specs.List.{filter_map}
 use Rattle.std.specs.Option.{option_map}
-use Rattle.std.specs.Prelude.{◌≡◌, ℕ, ℤ, ◌+◌, ◌-◌, ◌*◌, ◌≤◌, min, List, length, take, drop, Option, Some, None, Result, Ok, Err, IfOk, IfSome}
+use Rattle.std.specs.Prelude.{◌≡◌, ℕ, ℤ, ◌+◌, ◌-◌, ◌*◌, ◌≤◌, false, nat_lt, min, List, [], ◌∷◌, length, take, drop, Option, Some, None, Result, Ok, Err, IfOk, IfSome}
 use Rattle.std.proofs.Common.{refl, sym, ap, subst, ◌∙◌, arith}
 use Rattle.std.proofs.lemmas.List.{length-drop, take_min}
+use Rattle.ak_base.proofs.Burials.{grave_table_by}
 use Rattle.ak_base.specs.declared.decks.Deck.{Deck}
 use Rattle.ak_base.specs.declared.heads.Head.{Head}
 use Rattle.ak_base.specs.declared.note_types.NoteType.{NoteType}
+use Rattle.ak_base.specs.declared.names.Table.{Table}
 use Rattle.ak_base.specs.declared.option_groups.Options.{Options}
 use Rattle.ak_base.specs.declared.rows.Row.{Row}
-use Rattle.ak_device.specs.Devices.{changes_from, changes_to_send, settings_since}
+use Rattle.ak_base.specs.declared.rows.Row.TheVariants as rows
+use Rattle.ak_device.specs.Devices.{IsFullIfMore, changes_from, changes_to_send, settings_since}
 use Rattle.ak_keep.specs.Collections.{Holding}
 use Rattle.ak_keep.specs.Keepers.{Keeping, WhereTold}
 use Rattle.ak_keep.specs.Lookups.{as_note_type, as_deck, as_options}
 use Rattle.ak_keep.specs.Marks.{WithMark}
 use Rattle.ak_keep.specs.declared.keepers.Wanted.TheVariants.{Unsent}
 use Rattle.ak_merge.specs.Exchanges.{wanted_tags}
+use Rattle.ak_messages.specs.MessageForms.{chunk_entries}
 use Rattle.ak_messages.specs.declared.requests.Changes.{Changes}
+use Rattle.ak_messages.specs.declared.requests.Chunk.{Chunk}
 use Rattle.ak_messages.specs.declared.requests.Newer.{Newer}
-use Rattle.ak_session.specs.Messages.{newer_of}
+use Rattle.ak_parts.specs.Chunks.{AreChunked, is_chunked}
+use Rattle.ak_session.proofs.Ranges.{not_both}
+use Rattle.ak_session.specs.Messages.{chunk_of, newer_of}
 use Rattle.ak_session.specs.Slices.{slice, wanted_changes}
 
 -- the rows from a place on, at most 250, are the slice there
@@ -62,3 +69,23 @@ pub changes_told : (moment : ℤ) (head : Head) (rows : List Row) (made : Change
 changes_told moment head rows made k0 k1 same is list so =
     changes_held moment head rows made k0.told is
     (subst (λ (k : Keeping). WhereTold k (λ h. rows ≡ wanted_changes Unsent h.rows)) same list) so
+
+-- ---- chunks
+-- the chunk of rows that go in chunks has each of them
+entries_are : (list : List Row) → AreChunked list → chunk_entries (chunk_of list) ≡ length list
+entries_are [] all = refl
+entries_are (rows.Review r ∷ more) all = let rest = entries_are more all.1 in omega (arith, rest)
+entries_are (rows.Card c ∷ more) all = let rest = entries_are more all.1 in omega (arith, rest)
+entries_are (rows.Note n ∷ more) all = let rest = entries_are more all.1 in omega (arith, rest)
+entries_are (rows.NoteType t ∷ more) all = absurd (not_both all.0 refl)
+entries_are (rows.Deck d ∷ more) all = absurd (not_both all.0 refl)
+entries_are (rows.Options o ∷ more) all = absurd (not_both all.0 refl)
+entries_are (rows.Grave g ∷ more) all =
+    absurd (not_both all.0 (grave_table_by (λ (table : Table). is_chunked table ≡ false) refl refl refl g.kind))
+
+-- at most 250 rows that go in chunks: their chunk has 250 if it is not the last one
+pub full_if_more : (list : List Row) (chunk : Chunk) → chunk ≡ chunk_of list → length list ≤ 250 → AreChunked list → IsFullIfMore chunk
+full_if_more list chunk is short all unfinished =
+    let long : nat_lt (length list) 250 ≡ false = sym (ap (λ (x : Chunk). x.done) is) ∙ unfinished in
+    let full : length list ≡ 250 = grind (arith, short, long) in
+    ap chunk_entries is ∙ entries_are list all ∙ full

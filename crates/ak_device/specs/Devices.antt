@@ -2,7 +2,7 @@
 use Rattle.std.specs.FinMap.{get}
 use Rattle.std.specs.Int.{int_max, int_min}
 use Rattle.std.specs.Option.{option_map, unwrap_or}
-use Rattle.std.specs.Prelude.{◌≡◌, ℤ, pos, ◌+ℤ◌, int_lt, if◌then◌else◌, List, Option, Some, None}
+use Rattle.std.specs.Prelude.{◌≡◌, ℤ, pos, ◌+ℤ◌, false, int_lt, if◌then◌else◌, List, Option, Some, None}
 use Rattle.ak_base.specs.Limits.{last_moment}
 use Rattle.ak_base.specs.declared.heads.Head.{Head}
 use Rattle.ak_base.specs.declared.names.Name.{Name}
@@ -16,6 +16,7 @@ use Rattle.ak_merge.specs.Edits.{advanced}
 use Rattle.ak_merge.specs.Exchanges.{settled, settled_tags, wanted_tags}
 use Rattle.ak_merge.specs.Tags.{tags_taken}
 use Rattle.ak_merge.specs.Takings.{all_taken}
+use Rattle.ak_messages.specs.MessageForms.{chunk_entries}
 use Rattle.ak_messages.specs.declared.requests.Changes.{Changes}
 use Rattle.ak_messages.specs.declared.requests.Chunk.{Chunk}
 use Rattle.ak_parts.specs.Chunks.{IsSlice, ahead_of}
@@ -54,6 +55,10 @@ pub record IsNextToSend (rows : Rows) (from : Name) (chunk : Chunk) (next : Name
   pub slice : IsSlice (ahead_of Unsent from rows) part (ahead_of Unsent next rows)
   pub chunk_is : chunk ≡ chunk_of part
 
+-- a chunk that is not the last one has 250 rows
+abbrev pub IsFullIfMore : Chunk → Type 0
+IsFullIfMore chunk = chunk.done ≡ false → chunk_entries chunk ≡ 250
+
 -- ---- what was sent is settled
 -- each row and each tag that was not sent yet has this number, and the rest is as it was
 pub record IsSettledTo (usn : ℤ) (before after : Holding) : Type 0 where
@@ -72,15 +77,15 @@ pub record Settles (usn : ℤ) (before now : Keeping) : Type 0 where
   pub told : SettlesTold usn before.told now.told
 
 -- ---- after a bad sanity check
--- a moment that is raised at this moment: the greater of it and the moment after the old one. The last moment stays
-abbrev pub raised : ℤ → ℤ → ℤ
-raised at old = int_min (advanced at old) last_moment
+-- a moment that is advanced: the greater of this one and the moment after the old one. The last moment stays
+abbrev pub advanced_moment : ℤ → ℤ → ℤ
+advanced_moment at old = int_min (advanced at old) last_moment
 
 -- the collection that is told has both moments raised, and all else stays
 abbrev pub moments_raised : ℤ → Holding → Holding
 moments_raised at h =
-    record h { head = option_map (λ (head : Head). record head { moment = raised at head.moment; schema = raised at head.schema }) h.head }
+    record h { head = option_map (λ (head : Head). record head { moment = advanced_moment at head.moment; schema = advanced_moment at head.schema }) h.head }
 
--- a keeper whose collection has both moments raised at this moment
+-- a keeper whose collection has both moments advanced_moment at this moment
 abbrev pub RaisesMoments : ℤ → Keeping → Keeping → Type 0
 RaisesMoments at before now = now ≡ changed (moments_raised at) before

@@ -2,7 +2,7 @@
 ghost use Rattle.std.specs.Prelude.{◌≡◌, ◌≢◌, ◌<ℤ◌, ◌≤ℤ◌, ◌+ℤ◌, pos, true, false, Err, IfSome, OnOk, OnErr};
 ghost use Rattle.ak_base.specs.Heads.{AreMomentsInRange, IsHeadInRange, IsMoment};
 ghost use Rattle.ak_base.specs.Limits.{last_head_usn};
-ghost use Rattle.ak_device.specs.Devices.{RaisesMoments, raised};
+ghost use Rattle.ak_device.specs.Devices.{RaisesMoments, advanced_moment};
 ghost use Rattle.ak_io.specs.Arrivals.{IsClockMoment};
 ghost use Rattle.ak_keep.specs.Keepers.{KeepCause, back, committed, is_marked, moments_set};
 ghost use Rattle.ak_keep.specs.declared.keepers.KeepFault.TheVariants.{Memory as WantOfMemory};
@@ -78,22 +78,22 @@ fn commit_raised<K: Keeper>(keeper: &mut K, head: Head, at: i64) -> Result<(), K
     requires held { (K.keeping keeper.old).headed.current ≡ true }
     requires range { IsHeadInRange head }
     requires clock { IsClockMoment at }
-    ensures ok { OnOk result (K.keeping keeper.new ≡ committed (moments_set (raised at head.moment) (raised at head.schema)
+    ensures ok { OnOk result (K.keeping keeper.new ≡ committed (moments_set (advanced_moment at head.moment) (advanced_moment at head.schema)
         head.usn head.last_sync (K.keeping keeper.old))) }
     ensures err { OnErr result (K.keeping keeper.new ≡ back (K.keeping keeper.old)) }
     ensures cause { KeepCause (K.health keeper.old) (K.health keeper.new) result }
 {
-    let moment = raised(at, head.moment);
-    let schema = raised(at, head.schema);
+    let moment = advanced_moment(at, head.moment);
+    let schema = advanced_moment(at, head.schema);
     commit_moments(keeper, moment, schema, head.usn, head.last_sync)
 }
 
-/// A moment that is raised: the greater of `at` and the one after it, at most the last one.
+/// A moment that is advanced: the greater of `at` and the one after it, at most the last one.
 #[tactic(auto, using(crate::proofs::Closing::raised_fits))]
-fn raised(at: i64, moment: i64) -> i64
+fn advanced_moment(at: i64, moment: i64) -> i64
     requires clock { IsClockMoment at }
     requires moment { IsMoment moment }
-    ensures raised { result ≡ raised at moment }
+    ensures advanced { result ≡ advanced_moment at moment }
     ensures range { IsMoment result }
 {
     at.max(moment + 1).min(LAST_MOMENT)

@@ -1,7 +1,7 @@
 // What a device sends: of all that it holds, what was not sent yet. Nothing of it is settled here.
 ghost use Rattle.std.specs.Option.{option_map};
 ghost use Rattle.std.specs.Prelude.{◌≡◌, ◌<◌, ◌*◌, true, Some, length, take, drop, IfOk, IfSome};
-ghost use Rattle.ak_device.specs.Devices.{IsNextToSend, changes_from, changes_to_send, settings_since};
+ghost use Rattle.ak_device.specs.Devices.{IsFullIfMore, IsNextToSend, changes_from, changes_to_send, settings_since};
 ghost use Rattle.ak_keep.specs.Readings.{ReadsBy};
 ghost use Rattle.ak_session.specs.Messages.{grave_ids, newer_of};
 ghost use Rattle.ak_session.specs.Slices.{slice};
@@ -103,6 +103,9 @@ pub fn next_chunk<K: Keeper>(
     from: Name,
 ) -> Result<Gathered, KeepFault>
     ensures reads { ReadsBy K.Lookup keeper.old keeper.new result (λ h it. IsNextToSend h.rows from it.chunk it.next) }
+
+    // Whatever the keeper tells, only the last chunk has fewer than 250 rows.
+    ensures full { IfOk result (λ it. IsFullIfMore it.chunk) }
 {
     let (rows, next) = next_rows(alloc, keeper, from, Wanted::Unsent)?;
     let chunk = chunk_of(alloc, rows)?;

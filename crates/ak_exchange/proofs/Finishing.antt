@@ -12,7 +12,7 @@ use Rattle.ak_exchange.proofs.Stepping.{one_more, step_is}
 use Rattle.ak_exchange.proofs.Stopping.{by_memory, by_wire, none_granted, one_but_last, refused_after_stops, refused_stops, was_granted, was_not_granted}
 use Rattle.ak_exchange.proofs.Tried.{asked_none, few_none}
 use Rattle.ak_exchange.specs.Asked.{AreFew, Talk, TriedAsk, asker, request_at}
-use Rattle.ak_exchange.specs.Phases.{Finishes, HasAsked, HasCommitted, IsLeft, IsReached, at_end_of, finish_after}
+use Rattle.ak_exchange.specs.Phases.{Finishes, HasAsked, HasCommitted, HasPassedCheck, IsLeft, IsReached, finish_after}
 use Rattle.ak_exchange.specs.Stops.{comes_before_finish, wire_stop}
 use Rattle.ak_exchange.specs.declared.stops.Stop.{Stop}
 use Rattle.ak_exchange.specs.declared.stops.Stop.TheVariants as stops
@@ -27,7 +27,7 @@ use Rattle.ak_protocol.specs.Logs.{Log}
 use Rattle.ak_protocol.specs.Serving.{commit_reply}
 use Rattle.ak_session.proofs.Ranges.{within}
 use Rattle.ak_session.specs.Contents.{closed, refusal}
-use Rattle.ak_session.specs.Plans.{Asker, planned_check, requests_from}
+use Rattle.ak_session.specs.Plans.{Asker, requests_from}
 use Rattle.ak_wires.specs.Forms.{is_moment, moment_in}
 use Rattle.ak_wires.specs.Tries.{Answered}
 use Rattle.ak_wires.specs.Wires.{WireState}
@@ -94,7 +94,7 @@ finishes_unasked was now result is health wire envelopes = record {
           (subst (λ (w : WireState). IsReached (asker was.envelopes.ids) account s earlier w.log) (sym wire) has.reached);
       front = λ may. let ahead = after_check c s in (
         ahead.0,
-        ap (λ (l : List Ask). l ++ ahead.0) (append-nil earlier) ∙ ap (λ (l : List Ask). l ++ ahead.0) (has.placed may) ∙ ahead.1,
+        ap (λ (l : List Ask). l ++ ahead.0) (append-nil earlier) ∙ ap (λ (l : List Ask). l ++ ahead.0) (has.placed may).asked_is ∙ ahead.1,
       );
     },
     no_moment result stops.Memory (λ moment. ([] ≡ asks.Finish ∷ []) × HasCommitted c s account (asker was.envelopes.ids) earlier moment now) is,
@@ -105,7 +105,7 @@ module _ (was now : Talk) (given : Result ℤ Unanswered) (at : IsAsked was now 
   finish_few : AreFew 0 0 1 (asks.Finish ∷ [])
   finish_few = record { asked = omega arith; sent = omega arith; rest = omega arith }
 
-  module _ (c s : Collection) (account : AccountState) (earlier : List Ask) (has : HasAsked c s account earlier (at_end_of planned_check) was) where
+  module _ (c s : Collection) (account : AccountState) (earlier : List Ask) (has : HasAsked c s account earlier HasPassedCheck was) where
     abbrev who : Asker
     who = asker was.envelopes.ids
 
@@ -133,7 +133,7 @@ module _ (was now : Talk) (given : Result ℤ Unanswered) (at : IsAsked was now 
     pub finish_left : IsLeft c s account who (earlier ++ asks.Finish ∷ []) now
     finish_left = record {
       reached = subst (λ (l : List Request). IsShown who account s l now.wire.log) (one_more who account s earlier asks.Finish) called.0;
-      front = λ may. ([], append-nil (earlier ++ asks.Finish ∷ []) ∙ ap (λ (l : List Ask). l ++ asks.Finish ∷ []) (has.placed may));
+      front = λ may. ([], append-nil (earlier ++ asks.Finish ∷ []) ∙ ap (λ (l : List Ask). l ++ asks.Finish ∷ []) (has.placed may).asked_is);
     }
 
     committed : (moment : ℤ) → Given moment → HasCommitted c s account who earlier moment now

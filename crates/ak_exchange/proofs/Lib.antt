@@ -1,4 +1,5 @@
 pub mod Asking
+pub mod Checking
 pub mod Chunking
 pub mod Faults
 pub mod Finishing

@@ -1,28 +1,29 @@
 -- The parts of a sync that ask one request: refused once it was asked, and granted.
 use Rattle.std.specs.Int.{div_ceil}
 use Rattle.std.specs.Option.{option_map, option_map_or}
-use Rattle.std.specs.Prelude.{◌≡◌, ℕ, pos, ◌≤ℤ◌, ◌+◌, ◌*◌, ◌%◌, ◌<◌, ◌≤◌, ◌&&◌, ℤ, cond, not, nat_lt, Bool, true, false, is_some, List, [], ◌∷◌, ◌++◌, length, count_by, Option, Some, None, option_and_then, Result, Ok, Err, IsErr, IsErrAnd, IfSome, ok_or, ◌==◌, if◌then◌else◌, ⊤}
+use Rattle.std.specs.Prelude.{◌≡◌, ℕ, pos, ◌≤ℤ◌, ◌+◌, ◌*◌, ◌%◌, ◌<◌, ◌≤◌, ◌&&◌, ℤ, cond, not, nat_lt, Bool, true, false, List, [], ◌∷◌, ◌++◌, length, count_by, Option, Some, None, option_and_then, Result, Ok, Err, IsErr, IsErrAnd, IfOk, IfSome, ok_or, ◌==◌, if◌then◌else◌, ⊤}
 use Rattle.std.proofs.lemmas.List.{length-append}
 use Rattle.std.proofs.lemmas.List.Sums.{sum_by-append}
 use Rattle.std.proofs.lemmas.Nat.{div-add-mod', mod_below}
 use Rattle.std.proofs.lemmas.Option.{none-some, same_Some}
-use Rattle.std.proofs.Common.{refl, sym, ap, subst, ◌∙◌, append_assoc, arith}
+use Rattle.std.proofs.Common.{refl, sym, ap, subst, ◌∙◌, inl, inr, append_assoc, arith}
 use Rattle.ak_base.specs.declared.heads.Head.{Head}
 use Rattle.ak_base.specs.declared.names.Name.{Name}
 use Rattle.ak_base.specs.declared.names.Table.TheVariants as tables
 use Rattle.ak_base.specs.declared.rows.Row.{Row}
 use Rattle.ak_device.proofs.Receiving.{received_nothing}
-use Rattle.ak_device.specs.Devices.{IsNextToSend, Settles, changes_to_send, received}
+use Rattle.ak_device.specs.Devices.{IsFullIfMore, IsNextToSend, Settles, changes_to_send, received}
 use Rattle.ak_exchange.proofs.Granted.{changes_are, chunk_are, graves_are}
 use Rattle.ak_exchange.proofs.Held.{changes_at, replied_quietly, rows_at, told_at}
-use Rattle.ak_exchange.proofs.Passing.{advances_kept, advances_more, advances_passed, advances_then, advances_to, asked_one, both_tried, left_one, one_tried, refused_after, same_tried, stays_here, took_after}
+use Rattle.ak_exchange.proofs.Passing.{advances_kept, advances_more, advances_passed, advances_then, advances_to, asked_one, both_tried, left_one, one_tried, refused_after, same_tried, shown_one, stays_here, took_after}
 use Rattle.ak_exchange.proofs.Places.{after_changes, after_chunks, after_graves, after_pushes, after_start, leads_on, next_graves, no_graves_yet, next_pull, next_push, part_sent, pulled_lead, pulled_one, push_request, pushed_full, pushed_last, pushed_lead, sent_graves}
 use Rattle.ak_exchange.proofs.Stopping.{Gave, IsRefused, IsRefusedAfter, check_stops, was_granted}
+use Rattle.ak_exchange.proofs.Checking.{fair_stop, sound_join}
 use Rattle.ak_exchange.proofs.Tried.{asks_append}
 use Rattle.ak_exchange.specs.Asked.{AreFew, Talk, TriedAsk, asker, asks_in, request_at, sends_unfinished}
-use Rattle.ak_exchange.specs.Grants.{SendsRows, brings_unfinished, came_unfinished, is_told}
+use Rattle.ak_exchange.specs.Grants.{brings_unfinished, came_unfinished}
 use Rattle.ak_exchange.specs.Loops.{HasPulledOne, HasPushedOne, HavePulled, HavePushed, HaveSentGraves, PullsOne, PushesOne, SendsOne, last_sent, rows_to_push}
-use Rattle.ak_exchange.specs.Phases.{Advances, AreGraveRequests, Exchanges, HasReceived, IsAt, IsMet, Place, at_end_of, at_meta, held_by}
+use Rattle.ak_exchange.specs.Phases.{Advances, AreGraveRequests, Exchanges, HasPassedCheck, HasReceived, HasTenMillionRows, IsAt, IsMet, Place, at_end_of, at_meta, held_by}
 use Rattle.ak_exchange.specs.Stops.{verdict_of}
 use Rattle.ak_exchange.specs.declared.envelopes.Met.{Met}
 use Rattle.ak_exchange.specs.declared.stops.Stop.{Stop}
@@ -46,9 +47,10 @@ use Rattle.ak_messages.specs.declared.requests.GraveIds.{GraveIds}
 use Rattle.ak_messages.specs.declared.requests.Request.{Request}
 use Rattle.ak_messages.specs.declared.requests.SanityCounts.{SanityCounts}
 use Rattle.ak_protocol.specs.Accounts.{AccountState}
+use Rattle.ak_session.proofs.PlanLaws.{list_fewer, pushes_fewer}
 use Rattle.ak_session.specs.Answers.{answer_to, counts_of}
 use Rattle.ak_session.specs.Messages.{changes_of, chunk_of, grave_ids}
-use Rattle.ak_session.specs.Plans.{device_changes, device_rows, planned, planned_changes, planned_check, planned_chunks, planned_graves, planned_pushes, planned_start}
+use Rattle.ak_session.specs.Plans.{device_changes, device_rows, planned, planned_changes, planned_chunks, planned_graves, planned_pushes, planned_start}
 use Rattle.ak_session.specs.Replies.{all_replied, replied}
 use Rattle.ak_session.specs.Sessions.{MaySync}
 use Rattle.ak_session.specs.Slices.{slice, slices, wanted_graves}
@@ -76,14 +78,6 @@ received_met c s met give own before after met_is same took =
     ∙ ap (λ (usn : ℤ). changed (received usn (replied own)) before) met_is.usn
     ∙ ap (λ (g : Give). changed (received s.head.usn (replied g)) before) (sym same)
 
--- a keeper that tells what it holds tells it still, once that was changed
-pub tells_still : (step : Holding → Holding) (before after : Keeping) → after ≡ changed step before → is_told before ≡ true → is_told after ≡ true
-tells_still step before after took is = ap is_told took ∙ by before.told is
-  where
-    by : (t : Option (WithMark Holding)) → is_some t ≡ true → is_some (option_map (marks.changed step) t) ≡ true
-    by None is = is
-    by (Some w) is = refl
-
 -- ---- the start
 module _ (met : Met) (before : Keeping) (was now : Talk) (given : Result GraveIds Unanswered)
     (at : IsAsked was now (asks.Start met.head.usn met.head.moment) graves_in given) where
@@ -107,13 +101,13 @@ module _ (met : Met) (before : Keeping) (was now : Talk) (given : Result GraveId
   pub start_refused : {T : Type 0} (after : Keeping) (result : Result T Stop) → IsRefusedAfter given result → Advances 0 0 1 at_meta start_place met before after was now result
   start_refused after result is =
       refused_after was now (asks.Start met.head.usn met.head.moment) at.it graves_in given at.made at.envelopes at.call refl refl refl
-      0 0 1 start_few at_meta met before start_next (λ give. refl) (λ told. tt) start_place after result is
+      0 0 1 start_few at_meta met before start_next (λ give. refl) tt start_place after result is
 
   pub start_took : {T : Type 0} (after : Keeping) (x : T) (ids : GraveIds) → given ≡ Ok ids
       → after ≡ changed (received met.meta.usn (replied (gives.Graves ids))) before → Advances 0 0 1 at_meta start_place met before after was now (Ok x)
   start_took after x ids came took =
       took_after was now (asks.Start met.head.usn met.head.moment) at.it graves_in given at.made at.envelopes at.call refl refl refl
-      0 0 1 start_few at_meta met before start_next (λ give. refl) (λ told. tt) start_place after x ids came (tells_still (received met.meta.usn (replied (gives.Graves ids))) before after took)
+      0 0 1 start_few at_meta met before start_next (λ give. refl) tt start_place after x ids came
       (λ c s asked met_is is. received_met c s met (answer_to s asked (asks.Start met.head.usn met.head.moment)) (gives.Graves ids) before after met_is
       (graves_are (answer_to s asked (asks.Start met.head.usn met.head.moment)) ids is).0 took)
       (λ c s account asked met_is place is may. start_is c s asked [] met_is (place.has.placed may))
@@ -134,13 +128,13 @@ module _ (met : Met) (keeping : Keeping) (was now : Talk) (given : Result (Unit 
       → Advances 0 0 1 (HaveSentGraves k list) (HaveSentGraves (k + 1) list) met keeping keeping was now result
   graves_refused result is =
       refused_after was now (asks.ApplyGraves ids) at.it nothing_in given at.made at.envelopes at.call refl refl refl
-      0 0 1 graves_few (HaveSentGraves k list) met keeping graves_next (λ give. refl) (λ told. tt) (HaveSentGraves (k + 1) list) keeping result is
+      0 0 1 graves_few (HaveSentGraves k list) met keeping graves_next (λ give. refl) tt (HaveSentGraves (k + 1) list) keeping result is
 
   pub graves_took : {T : Type 0} (x : T) (done : Unit {0}) → given ≡ Ok done
       → Advances 0 0 1 (HaveSentGraves k list) (HaveSentGraves (k + 1) list) met keeping keeping was now (Ok x)
   graves_took x done came =
       took_after was now (asks.ApplyGraves ids) at.it nothing_in given at.made at.envelopes at.call refl refl refl
-      0 0 1 graves_few (HaveSentGraves k list) met keeping graves_next (λ give. refl) (λ told. tt) (HaveSentGraves (k + 1) list) keeping x done came (λ told. told)
+      0 0 1 graves_few (HaveSentGraves k list) met keeping graves_next (λ give. refl) tt (HaveSentGraves (k + 1) list) keeping x done came
       (λ c s asked met_is is. received_nothing s.head.usn keeping)
       (λ c s account asked met_is place is may.
       subst (λ (i : GraveIds). HaveSentGraves (k + 1) list c s (asked ++ asks.ApplyGraves i ∷ [])) (sym ids_are)
@@ -181,14 +175,14 @@ module _ (met : Met) (before : Keeping) (was now : Talk) (given : Result Changes
       → Advances 0 0 1 (at_end_of planned_graves) (at_end_of planned_changes) met before after was now result
   changes_refused after result is =
       refused_after was now (asks.ApplyChanges changes) at.it changes_in given at.made at.envelopes at.call refl refl refl
-      0 0 1 changes_few (at_end_of planned_graves) met before changes_next (λ give. refl) (λ told. tt) (at_end_of planned_changes) after result is
+      0 0 1 changes_few (at_end_of planned_graves) met before changes_next (λ give. refl) tt (at_end_of planned_changes) after result is
 
   pub changes_took : {T : Type 0} (after : Keeping) (x : T) (came : Changes) → given ≡ Ok came
       → after ≡ changed (received met.meta.usn (replied (gives.Changes came))) before
       → Advances 0 0 1 (at_end_of planned_graves) (at_end_of planned_changes) met before after was now (Ok x)
   changes_took after x came granted took =
       took_after was now (asks.ApplyChanges changes) at.it changes_in given at.made at.envelopes at.call refl refl refl
-      0 0 1 changes_few (at_end_of planned_graves) met before changes_next (λ give. refl) (λ told. tt) (at_end_of planned_changes) after x came granted (tells_still (received met.meta.usn (replied (gives.Changes came))) before after took)
+      0 0 1 changes_few (at_end_of planned_graves) met before changes_next (λ give. refl) tt (at_end_of planned_changes) after x came granted
       (λ c s asked met_is is. received_met c s met (answer_to s asked (asks.ApplyChanges changes)) (gives.Changes came) before after met_is
       (changes_are (answer_to s asked (asks.ApplyChanges changes)) came is).0 took)
       (λ c s account asked met_is place is may. changes_end c s asked [] (place.has.placed may) (changes_made c s account asked met_is place may))
@@ -215,15 +209,14 @@ module _ (met : Met) (before : Keeping) (was now : Talk) (given : Result Chunk U
       → Advances 1 0 0 (HavePulled k) to met before after was now result
   pull_refused to after result is =
       refused_after was now asks.Chunk at.it chunk_in given at.made at.envelopes at.call refl refl refl
-      1 0 0 pull_few (HavePulled k) met before pull_next (λ give. refl) (λ told. tt) to after result is
+      1 0 0 pull_few (HavePulled k) met before pull_next (λ give. refl) tt to after result is
 
   pub pull_took : (after : Keeping) (chunk : Chunk) → given ≡ Ok chunk
       → after ≡ changed (received met.meta.usn (replied (gives.Chunk chunk))) before
       → PullsOne k met before after was now (Ok chunk.done)
   pull_took after chunk granted took =
       let made = one_tried was now asks.Chunk at.it chunk_in given at.made at.envelopes at.call refl refl refl
-      1 0 0 pull_few (HavePulled k) met before pull_next (λ give. refl) (λ told. tt) (HasPulledOne k chunk.done) after chunk.done chunk granted
-      (tells_still (received met.meta.usn (replied (gives.Chunk chunk))) before after took)
+      1 0 0 pull_few (HavePulled k) met before pull_next (λ give. refl) tt (HasPulledOne k chunk.done) after chunk.done chunk granted
       (λ c s asked met_is is. received_met c s met (answer_to s asked asks.Chunk) (gives.Chunk chunk) before after met_is
       (chunk_are (answer_to s asked asks.Chunk) chunk is).0 took)
       (λ c s account asked met_is place is may. pulled_one k c s asked chunk may (place.has.placed may) (chunk_are (answer_to s asked asks.Chunk) chunk is).0) in
@@ -269,34 +262,38 @@ last_sent_most (Ok None) = omega arith
 last_sent_most (Ok (Some next)) = omega arith
 last_sent_most (Err stop) = omega arith
 
--- a chunk that is sent and is not the last one is that of 250 rows
-sends_these : (chunk : Chunk) (from next : Name) (keeping : Keeping) → WhereTold keeping (λ h. IsNextToSend h.rows from chunk next)
-    → is_told keeping ≡ true → SendsRows (asks.ApplyChunk chunk)
-sends_these chunk from next keeping told is = by keeping.told told is
-  where
-    full : (rows : Rows) → IsNextToSend rows from chunk next → SendsRows (asks.ApplyChunk chunk)
-    full rows made unfinished =
-        let short = made.slice.short in
-        let long : nat_lt (length made.part) 250 ≡ false = sym (ap (λ (x : Chunk). x.done) made.chunk_is) ∙ unfinished in
-        (made.part, made.chunk_is, grind (arith, short, long))
+-- the next chunk is that of what the device held once it took the server's
+next_made : (keeping : Keeping) (was : Talk) (k : ℕ) (from next : Name) (chunk : Chunk) → WhereTold keeping (λ h. IsNextToSend h.rows from chunk next)
+    → (c s : Collection) (account : AccountState) (asked : List Ask) → IsAt c s account asked (HavePushed k from) keeping was → MaySync c s
+    → IsNextToSend (device_rows c s (planned_chunks c s)) from chunk next
+next_made keeping was k from next chunk told c s account asked place may =
+    let same : all_replied s asked ≡ all_replied s (planned_chunks c s) =
+    ap (all_replied s) (place.has.placed may).asked_is
+    ∙ replied_quietly s push_request (λ before part. refl) (planned_chunks c s) (slices k (rows_to_push c s)) in
+    subst (λ (rows : Rows). IsNextToSend rows from chunk next)
+    (ap (λ (came : Received). (received s.head.usn came (held_by c)).rows) same
+    ∙ rows_at c s (planned_chunks c s) may (after_chunks c s))
+    (told_at c s account asked (HavePushed k from) keeping was place (λ h. IsNextToSend h.rows from chunk next) told)
 
-    by : (t : Option (WithMark Holding)) → IfSome t (λ w. IsNextToSend w.current.rows from chunk next) → is_some t ≡ true → SendsRows (asks.ApplyChunk chunk)
-    by None told is = absurd (grind (arith, is))
-    by (Some w) told is = full w.current.rows told
+-- if 39,999 chunks were sent and the next one is not the last one, the device has ten million rows to send
+pub too_many_pushed : (k : ℕ) (from next : Name) (chunk : Chunk) (keeping : Keeping) (now : Talk) → 39_999 ≤ k → chunk.done ≡ false
+    → WhereTold keeping (λ h. IsNextToSend h.rows from chunk next)
+    → (c s : Collection) (account : AccountState) (asked : List Ask) → IsAt c s account asked (HavePushed k from) keeping now → MaySync c s
+    → HasTenMillionRows c s
+too_many_pushed k from next chunk keeping now many unfinished told c s account asked place may =
+    let made = next_made keeping now k from next chunk told c s account asked place may in
+    let more = (pushed_full k from next c s asked (place.has.placed may) made.part made.slice
+    (sym (ap (λ (x : Chunk). x.done) made.chunk_is) ∙ unfinished)).full in
+    let fewer = pushes_fewer c s may.committed.head.usn.low in
+    inr (omega (arith, many, more, fewer))
 
 module _ (met : Met) (keeping : Keeping) (was now : Talk) (given : Result (Unit {0}) Unanswered) (k : ℕ) (from next : Name) (chunk : Chunk)
-    (told : WhereTold keeping (λ h. IsNextToSend h.rows from chunk next)) (at : IsAsked was now (asks.ApplyChunk chunk) nothing_in given) where
+    (told : WhereTold keeping (λ h. IsNextToSend h.rows from chunk next)) (full : IsFullIfMore chunk)
+    (at : IsAsked was now (asks.ApplyChunk chunk) nothing_in given) where
   -- the chunk is the next one of what the device held once it took the server's
   chunk_made : (c s : Collection) (account : AccountState) (asked : List Ask) → IsAt c s account asked (HavePushed k from) keeping was → MaySync c s
       → IsNextToSend (device_rows c s (planned_chunks c s)) from chunk next
-  chunk_made c s account asked place may =
-      let same : all_replied s asked ≡ all_replied s (planned_chunks c s) =
-      ap (all_replied s) (place.has.placed may).asked_is
-      ∙ replied_quietly s push_request (λ before part. refl) (planned_chunks c s) (slices k (rows_to_push c s)) in
-      subst (λ (rows : Rows). IsNextToSend rows from chunk next)
-      (ap (λ (came : Received). (received s.head.usn came (held_by c)).rows) same
-      ∙ rows_at c s (planned_chunks c s) may (after_chunks c s))
-      (told_at c s account asked (HavePushed k from) keeping was place (λ h. IsNextToSend h.rows from chunk next) told)
+  chunk_made = next_made keeping was k from next chunk told
 
   push_next : (c s : Collection) (account : AccountState) (asked : List Ask) → IsMet c s met → IsAt c s account asked (HavePushed k from) keeping was
       → MaySync c s → (rest : List Ask) × (asked ++ asks.ApplyChunk chunk ∷ rest ≡ planned c s)
@@ -310,14 +307,11 @@ module _ (met : Met) (keeping : Keeping) (was now : Talk) (given : Result (Unit 
             ∙ ahead.1,
       )
 
-  abbrev sends_rows : is_told keeping ≡ true → SendsRows (asks.ApplyChunk chunk)
-  sends_rows = sends_these chunk from next keeping told
-
   pub push_refused : (result : Result (Unit {0}) Stop) → IsRefusedAfter given result → SendsOne chunk k from next met keeping was now result
   push_refused (Ok done) is = absurd is
   push_refused (Err stop) is = record {
     leads = refused_after was now (asks.ApplyChunk chunk) at.it nothing_in given at.made at.envelopes at.call refl refl refl
-        0 (if chunk.done then 0 else 1) (if chunk.done then 1 else 0) (pushed_few chunk) (HavePushed k from) met keeping push_next (λ give. refl) sends_rows
+        0 (if chunk.done then 0 else 1) (if chunk.done then 1 else 0) (pushed_few chunk) (HavePushed k from) met keeping push_next (λ give. refl) full
         (HasPushedOne k (if chunk.done then None else Some next)) keeping (Err stop) is;
     unfinished = tt;
   }
@@ -339,8 +333,8 @@ module _ (met : Met) (keeping : Keeping) (was now : Talk) (given : Result (Unit 
   pub push_took : (done : Unit {0}) → given ≡ Ok done → SendsOne chunk k from next met keeping was now (Ok tt)
   push_took done came =
       let made = one_tried was now (asks.ApplyChunk chunk) at.it nothing_in given at.made at.envelopes at.call refl refl refl
-      0 (if chunk.done then 0 else 1) (if chunk.done then 1 else 0) (pushed_few chunk) (HavePushed k from) met keeping push_next (λ give. refl) sends_rows
-      (HasPushedOne k (if chunk.done then None else Some next)) keeping tt done came (λ told. told)
+      0 (if chunk.done then 0 else 1) (if chunk.done then 1 else 0) (pushed_few chunk) (HavePushed k from) met keeping push_next (λ give. refl) full
+      (HasPushedOne k (if chunk.done then None else Some next)) keeping tt done came
       (λ c s asked met_is told_is. received_nothing s.head.usn keeping)
       (λ c s account asked met_is place told_is may. push_place c s account asked place may chunk.done refl) in
       record {
@@ -480,26 +474,45 @@ module _ (met : Met) (keeping : Keeping) (was now : Talk) (given : Result Sanity
       → Advances 0 0 1 (at_end_of planned_pushes) to met keeping keeping was now result
   check_refused to result is =
       refused_after was now (asks.SanityCheck2 counts) at.it verdict_in given at.made at.envelopes at.call refl refl refl
-      0 0 1 check_few (at_end_of planned_pushes) met keeping check_next (λ give. refl) (λ told. tt) to keeping result is
+      0 0 1 check_few (at_end_of planned_pushes) met keeping check_next (λ give. refl) tt to keeping result is
 
-  pub check_took : {T : Type 0} (x : T) (reply : SanityReply) → given ≡ Ok reply
-      → Advances 0 0 1 (at_end_of planned_pushes) (at_end_of planned_check) met keeping keeping was now (Ok x)
-  check_took x reply came =
+  -- what the reply shows is what the session answers to the planned check
+  check_shown : (c s : Collection) (account : AccountState) (asked : List Ask) → IsAt c s account asked (at_end_of planned_pushes) keeping was
+      → (reply : SanityReply) → given ≡ Ok reply → MaySync c s
+      → verdict_in (answer_to s (planned_pushes c s) (asks.SanityCheck2 (counts_of (device_rows c s (planned_pushes c s))))) ≡ Some reply
+  check_shown c s account asked place reply came may =
+      let is = place.has.placed may in
+      let counted : counts ≡ counts_of (device_rows c s (planned_pushes c s)) =
+      told_at c s account asked (at_end_of planned_pushes) keeping was place (λ h. counts ≡ counts_of h.rows) told
+      ∙ ap counts_of (rows_at c s asked may (leads_on planned_pushes after_pushes c s asked may is) ∙ ap (device_rows c s) is) in
+      let shown : verdict_in (answer_to s asked (asks.SanityCheck2 counts)) ≡ Some reply =
+      subst (λ (r : Result SanityReply Unanswered). IfOk r (λ (it : SanityReply). verdict_in (answer_to s asked (asks.SanityCheck2 counts)) ≡ Some it)) came
+      (shown_one was now (asks.SanityCheck2 counts) at.it verdict_in given at.made at.envelopes at.call refl refl refl c s account asked (at_end_of planned_pushes) place.has).1 in
+      ap (λ (n : SanityCounts). verdict_in (answer_to s (planned_pushes c s) (asks.SanityCheck2 n))) (sym counted)
+      ∙ ap (λ (l : List Ask). verdict_in (answer_to s l (asks.SanityCheck2 counts))) (sym is)
+      ∙ shown
+
+  check_took : (x : Unit {0}) (reply : SanityReply) → given ≡ Ok reply → verdict_of reply ≡ Ok x
+      → Advances 0 0 1 (at_end_of planned_pushes) HasPassedCheck met keeping keeping was now (Ok x)
+  check_took x reply came good =
       took_after was now (asks.SanityCheck2 counts) at.it verdict_in given at.made at.envelopes at.call refl refl refl
-      0 0 1 check_few (at_end_of planned_pushes) met keeping check_next (λ give. refl) (λ told. tt) (at_end_of planned_check) keeping x reply came (λ told. told)
+      0 0 1 check_few (at_end_of planned_pushes) met keeping check_next (λ give. refl) tt HasPassedCheck keeping x reply came
       (λ c s asked met_is is. received_nothing s.head.usn keeping)
-      (λ c s account asked met_is place is may. check_end c s account asked [] place may)
+      (λ c s account asked met_is place is may. record {
+        asked_is = check_end c s account asked [] place may;
+        sound = sound_join (asker was.envelopes.ids) c s reply may (check_shown c s account asked place reply came may) x good;
+      })
 
   -- what the check found: the sync goes on, or stops at what the reply showed
   pub check_ends : (result : Result (Unit {0}) Stop) (reply : SanityReply) → given ≡ Ok reply → result ≡ verdict_of reply
-      → Advances 0 0 1 (at_end_of planned_pushes) (at_end_of planned_check) met keeping keeping was now result
-  check_ends (Ok x) reply came is = check_took x reply came
+      → Advances 0 0 1 (at_end_of planned_pushes) HasPassedCheck met keeping keeping was now result
+  check_ends (Ok x) reply came is = check_took x reply came (sym is)
   check_ends (Err stop) reply came is = record {
     tries = record { ask = asks.SanityCheck2 counts; answer = at.call.answer } ∷ [];
     asked = asked_one was now (asks.SanityCheck2 counts) at.it verdict_in given at.made at.envelopes at.call;
     few = check_few;
     granted = tt;
-    rows = λ is_told_so. ((tt, tt), tt);
+    rows = (tt, tt);
     plain = (refl, tt);
     ends =
         let said = said_check at.it counts (ap (λ (r : Request). r.ask) at.made) at.call.answer reply (sym at.call.came ∙ came) in
@@ -521,6 +534,7 @@ module _ (met : Met) (keeping : Keeping) (was now : Talk) (given : Result Sanity
       left_one was now (asks.SanityCheck2 counts) at.it verdict_in given at.made at.envelopes at.call refl refl refl
           0 0 1 check_few (at_end_of planned_pushes) met keeping check_next c s account earlier met_is place,
       tt,
+      fair_stop (asker was.envelopes.ids) c s stop reply (sym is) (check_shown c s account earlier place reply came),
     );
   }
 
@@ -544,6 +558,15 @@ sent_then a b m n one two = subst (λ (l : List Ask). m + n ≤ count_by sends_u
   where
     of : (x y : List Ask) → m ≤ count_by sends_unfinished x → n ≤ count_by sends_unfinished y → m + n ≤ count_by sends_unfinished (x ++ y)
     of x y one two = let both = sum_by-append (λ (ask : Ask). cond (sends_unfinished ask) 1 0) x y in omega (arith, both, one, two)
+
+-- if 40,000 chunks came and none was the last one, the server has ten million rows to send
+pub too_many_pulled : (k : ℕ) (keeping : Keeping) (now : Talk) → 40_000 ≤ k
+    → (c s : Collection) (account : AccountState) (asked : List Ask) → IsAt c s account asked (HavePulled k) keeping now → MaySync c s
+    → HasTenMillionRows c s
+too_many_pulled k keeping now many c s account asked place may =
+    let full = (place.has.placed may).full in
+    let fewer = list_fewer c s in
+    inl (omega (arith, many, full, fewer))
 
 -- another chunk came, and it is not the last one
 pub pulled_on : (turns : ℕ) (from : Place) (met : Met) (k0 k1 k2 : Keeping) (t0 t1 t2 : Talk) (done : Bool) → done ≡ false
@@ -664,14 +687,14 @@ exchanges_refused to met k0 k1 k2 t0 t1 (Err stop) graves most is one = record {
   graves_most = most;
   few = one.few;
   granted = one.granted;
-  rows = λ told. (one.rows told).0;
+  rows = one.rows;
   plain = one.plain;
   ends = one.ends;
-  leads = λ c s account met_is at. ((one.leads c s account [] met_is at).0, tt);
+  leads = λ c s account met_is at. let led = one.leads c s account [] met_is at in (led.0, tt, led.2);
 }
 
 pub exchanges_settled : (met : Met) (k0 k1 k2 : Keeping) (t0 t1 : Talk) (graves : ℕ) → AreGraveRequests k0 graves
-    → Advances {T = Unit {0}} 40_000 39_999 (4 + graves) at_meta (at_end_of planned_check) met k0 k1 t0 t1 (Ok tt) → Settles met.meta.usn k1 k2
+    → Advances {T = Unit {0}} 40_000 39_999 (4 + graves) at_meta HasPassedCheck met k0 k1 t0 t1 (Ok tt) → Settles met.meta.usn k1 k2
     → Exchanges met k0 k2 t0 t1 (Ok tt)
 exchanges_settled met k0 k1 k2 t0 t1 graves most one settled = record {
   tries = one.tries;
@@ -680,7 +703,7 @@ exchanges_settled met k0 k1 k2 t0 t1 graves most one settled = record {
   graves_most = most;
   few = one.few;
   granted = one.granted;
-  rows = λ told. (one.rows told).0;
+  rows = one.rows;
   plain = one.plain;
   ends = tt;
   leads = λ c s account met_is at.
@@ -690,5 +713,6 @@ exchanges_settled met k0 k1 k2 t0 t1 graves most one settled = record {
           there.1.has,
           subst (λ (k : Keeping). Settles s.head.usn k k2) there.1.device (subst (λ (usn : ℤ). Settles usn k1 k2) met_is.usn settled),
         ),
+        tt,
       );
 }

@@ -5,11 +5,11 @@ use Rattle.std.proofs.Common.{refl, sym, ap, subst, ◌∙◌, append_assoc, app
 use Rattle.std.proofs.lemmas.List.{length-append}
 use Rattle.ak_exchange.proofs.Replying.{replies_go_on}
 use Rattle.ak_exchange.proofs.Stepping.{asks_one}
-use Rattle.ak_exchange.proofs.Stopping.{IsRefused, IsRefusedAfter, all_but_last, granted_then, is_quiet, none_granted, not_ok, one_but_last, part_stops, quiet_stops, refused_after_stops, refused_stops, rows_then, was_granted, was_not_granted}
+use Rattle.ak_exchange.proofs.Stopping.{IsRefused, IsRefusedAfter, all_but_last, granted_then, is_quiet, none_granted, not_ok, one_but_last, part_stops, quiet_stops, refused_after_is_fair, refused_after_stops, refused_is_fair, refused_stops, rows_then, was_granted, was_not_granted}
 use Rattle.ak_exchange.proofs.Tried.{asked_none, asked_then, asks_append, few_more, few_none, few_then}
 use Rattle.ak_exchange.specs.Asked.{AreAsked, AreFew, AreTried, Talk, TriedAsk, asker, asks_in, request_at}
-use Rattle.ak_exchange.specs.Grants.{AreGranted, AreTooMany, IsLast, SendsRows, StopsFor, is_in_form, is_told}
-use Rattle.ak_exchange.specs.Phases.{Advances, HasAsked, IsAt, IsLeft, IsMet, IsReached, Place, marked_at}
+use Rattle.ak_exchange.specs.Grants.{AreGranted, AreTooMany, IsLast, SendsRows, StopsFor, is_in_form}
+use Rattle.ak_exchange.specs.Phases.{Advances, HasAsked, HasTenMillionRows, IsAt, IsFairStop, IsLeft, IsMet, IsReached, Place, marked_at}
 use Rattle.ak_exchange.specs.Stops.{wire_stop}
 use Rattle.ak_exchange.specs.declared.envelopes.Envelopes.{Envelopes}
 use Rattle.ak_exchange.specs.declared.envelopes.Met.{Met}
@@ -59,13 +59,14 @@ stays_here pulled pushed others from to met before after was now result on healt
   asked = asked_none was now health wire envelopes;
   few = few_none pulled pushed others;
   granted = none_granted result;
-  rows = λ told. (tt, not_ok result (λ (stop : Stop). is_quiet stop ≡ true) (is_told after ≡ true) is);
+  rows = tt;
   plain = tt;
   ends = refused_stops [] now.wire result is;
   leads = λ c s account earlier met_is at. (
     subst (λ (l : List Ask). IsLeft c s account (asker was.envelopes.ids) l now) (sym (append-nil earlier))
         (left_here from on c s account earlier was now at.has wire),
     not_ok result (λ (stop : Stop). is_quiet stop ≡ true) (IsAt c s account (earlier ++ []) to after now) is,
+    refused_is_fair c s result is,
   );
 }
 
@@ -78,16 +79,17 @@ advances_then p q o p2 q2 o2 from mid to met k0 k1 k2 t0 t1 t2 x result one two 
   asked = asked_then one.tries two.tries t0 t1 t2 one.asked two.asked;
   few = few_then one.tries two.tries p q o p2 q2 o2 one.few two.few;
   granted = granted_then one.tries two.tries result one.granted two.granted;
-  rows = rows_then k0 k1 k2 one.tries two.tries x result one.rows two.rows;
+  rows = rows_then one.tries two.tries one.rows two.rows;
   plain = subst (AllByRecursion IsPlain) (sym (asks_append one.tries two.tries)) (all_append IsPlain (asks_in one.tries) (asks_in two.tries) one.plain two.plain);
   ends = part_stops one.tries two.tries t2.wire result two.ends;
   leads = λ c s account earlier met_is at.
       let there = two.leads c s account (earlier ++ asks_in one.tries) met_is (one.leads c s account earlier met_is at).1 in
-      subst (λ (l : List Ask). IsLeft c s account (asker t0.envelopes.ids) l t2 × OnOk result (IsAt c s account l to k2 t2))
+      subst (λ (l : List Ask). IsLeft c s account (asker t0.envelopes.ids) l t2 × OnOk result (IsAt c s account l to k2 t2) × IfErr result (IsFairStop c s))
       (append_assoc earlier (asks_in one.tries) (asks_in two.tries)
       ∙ ap (λ (l : List Ask). earlier ++ l) (sym (asks_append one.tries two.tries))) (
         subst (λ (e : Envelopes). IsLeft c s account (asker e.ids) ((earlier ++ asks_in one.tries) ++ asks_in two.tries) t2) one.asked.envelopes there.0,
         there.1,
+        there.2,
       );
 }
 
@@ -123,6 +125,7 @@ advances_to p q o from mid to met k0 k1 t0 t1 x y so one = record {
           };
           device = there.1.device;
         },
+        tt,
       );
 }
 
@@ -142,11 +145,11 @@ at_start p q o from to met k0 k1 was now x on so kept health wire envelopes = re
   asked = asked_none was now health wire envelopes;
   few = few_none p q o;
   granted = tt;
-  rows = λ told. (tt, ap is_told kept ∙ told);
+  rows = tt;
   plain = tt;
   ends = tt;
   leads = λ c s account earlier met_is at.
-      subst (λ (l : List Ask). IsLeft c s account (asker was.envelopes.ids) l now × IsAt c s account l to k1 now) (sym (append-nil earlier)) (
+      subst (λ (l : List Ask). IsLeft c s account (asker was.envelopes.ids) l now × IsAt c s account l to k1 now × Unit {0}) (sym (append-nil earlier)) (
         left_here from on c s account earlier was now at.has wire,
         record {
           has = record {
@@ -158,6 +161,7 @@ at_start p q o from to met k0 k1 was now x on so kept health wire envelopes = re
           };
           device = kept ∙ at.device;
         },
+        tt,
       );
 }
 
@@ -174,7 +178,7 @@ advances_place p q o from mid to met k0 k1 t0 t1 (Err stop) so one = record {
   rows = one.rows;
   plain = one.plain;
   ends = one.ends;
-  leads = λ c s account earlier met_is at. ((one.leads c s account earlier met_is at).0, tt);
+  leads = λ c s account earlier met_is at. let led = one.leads c s account earlier met_is at in (led.0, tt, led.2);
 }
 
 -- of more requests at most
@@ -193,18 +197,21 @@ advances_more p q o p2 q2 o2 from to met k0 k1 t0 t1 result pulled pushed others
 
 -- a part that went well, and then stopped all the same, for a reason that what it asked shows
 advances_stopped : {T U : Type 0} (p q o : ℕ) (from mid to : Place) (met : Met) (k0 k1 k2 : Keeping) (t0 t1 : Talk) (x : T) (result : Result U Stop)
-    → (one : Advances p q o from mid met k0 k1 t0 t1 (Ok x)) → IsErrAnd result (StopsFor one.tries t1.wire) → Advances p q o from to met k0 k2 t0 t1 result
-advances_stopped {U = U} p q o from mid to met k0 k1 k2 t0 t1 x result one is = record {
+    → (one : Advances p q o from mid met k0 k1 t0 t1 (Ok x)) → IsErrAnd result (StopsFor one.tries t1.wire)
+    → ((c s : Collection) (account : AccountState) (asked : List Ask) → IsAt c s account asked mid k1 t1 → IfErr result (IsFairStop c s))
+    → Advances p q o from to met k0 k2 t0 t1 result
+advances_stopped {U = U} p q o from mid to met k0 k1 k2 t0 t1 x result one is fair = record {
   tries = one.tries;
   asked = one.asked;
   few = one.few;
   granted = refused_granted result is;
-  rows = λ told. ((one.rows told).0, not_ok result (StopsFor one.tries t1.wire) (is_told k2 ≡ true) is);
+  rows = one.rows;
   plain = one.plain;
   ends = if_refused result is;
   leads = λ c s account earlier met_is at. (
     (one.leads c s account earlier met_is at).0,
     not_ok result (StopsFor one.tries t1.wire) (IsAt c s account (earlier ++ asks_in one.tries) to k2 t1) is,
+    fair c s account (earlier ++ asks_in one.tries) (one.leads c s account earlier met_is at).1,
   );
 }
   where
@@ -220,7 +227,7 @@ advances_stopped {U = U} p q o from mid to met k0 k1 k2 t0 t1 x result one is = 
 pub advances_left : {T U : Type 0} (p q o : ℕ) (from mid to : Place) (met : Met) (k0 k1 k2 : Keeping) (t0 t1 : Talk) (x : T) (result : Result U Stop) → IsRefused result
     → Advances p q o from mid met k0 k1 t0 t1 (Ok x) → Advances p q o from to met k0 k2 t0 t1 result
 advances_left {U = U} p q o from mid to met k0 k1 k2 t0 t1 x result is one =
-    advances_stopped p q o from mid to met k0 k1 k2 t0 t1 x result one (each result is)
+    advances_stopped p q o from mid to met k0 k1 k2 t0 t1 x result one (each result is) (λ c s account asked there. refused_is_fair c s result is)
   where
     each : (r : Result U Stop) → IsRefused r → IsErrAnd r (StopsFor one.tries t1.wire)
     each (Ok y) is = is
@@ -228,9 +235,11 @@ advances_left {U = U} p q o from mid to met k0 k1 k2 t0 t1 x result is one =
 
 -- a part that went well, and asked for too much
 pub advances_many : {T U : Type 0} (p q o : ℕ) (from mid to : Place) (met : Met) (k0 k1 k2 : Keeping) (t0 t1 : Talk) (x : T)
-    → (one : Advances p q o from mid met k0 k1 t0 t1 (Ok x)) → AreTooMany one.tries → Advances {T = U} p q o from to met k0 k2 t0 t1 (Err stops.TooManyChunks)
-advances_many p q o from mid to met k0 k1 k2 t0 t1 x one many =
-    advances_stopped p q o from mid to met k0 k1 k2 t0 t1 x (Err stops.TooManyChunks) one many
+    → (one : Advances p q o from mid met k0 k1 t0 t1 (Ok x)) → AreTooMany one.tries
+    → ((c s : Collection) (account : AccountState) (asked : List Ask) → IsAt c s account asked mid k1 t1 → MaySync c s → HasTenMillionRows c s)
+    → Advances {T = U} p q o from to met k0 k2 t0 t1 (Err stops.TooManyChunks)
+advances_many p q o from mid to met k0 k1 k2 t0 t1 x one many rows =
+    advances_stopped p q o from mid to met k0 k1 k2 t0 t1 x (Err stops.TooManyChunks) one many rows
 
 -- a refusal that was handed on
 pub advances_passed : {T U : Type 0} (p q o : ℕ) (from mid to : Place) (met : Met) (k0 k1 : Keeping) (t0 t1 : Talk) (e : Stop) (result : Result U Stop)
@@ -244,7 +253,8 @@ advances_passed p q o from mid to met k0 k1 t0 t1 e (Err stop) is one = record {
   rows = one.rows;
   plain = one.plain;
   ends = subst (StopsFor one.tries t1.wire) (sym is) one.ends;
-  leads = λ c s account earlier met_is at. ((one.leads c s account earlier met_is at).0, tt);
+  leads = λ c s account earlier met_is at.
+      let led = one.leads c s account earlier met_is at in (led.0, tt, subst (IsFairStop c s) (sym is) led.2);
 }
 
 -- over a keeper that was left as it was
@@ -304,7 +314,7 @@ module _ {G : Type 0} (was now : Talk) (ask : Ask) (it : Request) (part : Give �
         front = λ may. let rest = next c s account asked met_is at may in (rest.0, append_assoc asked (ask ∷ []) rest.0 ∙ rest.1);
       }
 
-      module _ (form : (give : Give) → is_in_form ask give ≡ is_some (part give)) (sends : is_told before ≡ true → SendsRows ask) where
+      module _ (form : (give : Give) → is_in_form ask give ≡ is_some (part give)) (sends : SendsRows ask) where
         abbrev Why : Stop → Type 0
         Why stop = (is_quiet stop ≡ true) ⊎ ((why : Unanswered) × (given ≡ Err why) × (stop ≡ wire_stop why))
 
@@ -316,27 +326,27 @@ module _ {G : Type 0} (was now : Talk) (ask : Ask) (it : Request) (part : Give �
           asked = asked_one;
           few = few;
           granted = one_but_last tried_one result Why is;
-          rows = λ told. ((sends told, tt), not_ok result Why (is_told after ≡ true) is);
+          rows = (sends, tt);
           plain = (plain, tt);
           ends = refused_after_stops (tried_one ∷ []) now.wire tried_one given result last_one
               (λ why came. was_not_granted part ask form call.answer why (sym call.came ∙ came)) is;
           leads = λ c s account earlier met_is at.
-              (left_one c s account earlier met_is at, not_ok result Why (IsAt c s account (earlier ++ ask ∷ []) to after now) is);
+              (left_one c s account earlier met_is at, not_ok result Why (IsAt c s account (earlier ++ ask ∷ []) to after now) is, refused_after_is_fair c s given result is);
         }
 
         -- it was given this, the device took it, and that leads to a place
-        pub took_after : {T : Type 0} (to : Place) (after : Keeping) (x : T) (g : G) → given ≡ Ok g → (is_told before ≡ true → is_told after ≡ true)
+        pub took_after : {T : Type 0} (to : Place) (after : Keeping) (x : T) (g : G) → given ≡ Ok g
             → ((c s : Collection) (asked : List Ask) → IsMet c s met → part (answer_to s asked ask) ≡ Some g
             → after ≡ changed (received s.head.usn (replied (answer_to s asked ask))) before)
             → ((c s : Collection) (account : AccountState) (asked : List Ask) → IsMet c s met → IsAt c s account asked from before was
             → part (answer_to s asked ask) ≡ Some g → MaySync c s → to c s (asked ++ ask ∷ []))
             → Advances p q o from to met before after was now (Ok x)
-        took_after to after x g came tells took leads = record {
+        took_after to after x g came took leads = record {
           tries = tried_one ∷ [];
           asked = asked_one;
           few = few;
           granted = ((was_granted part ask form call.answer g (sym call.came ∙ came)).granted, tt);
-          rows = λ told. ((sends told, tt), tells told);
+          rows = (sends, tt);
           plain = (plain, tt);
           ends = tt;
           leads = λ c s account earlier met_is at.
@@ -351,15 +361,16 @@ module _ {G : Type 0} (was now : Talk) (ask : Ask) (it : Request) (part : Give �
                       ∙ received_then s.head.usn (all_replied s earlier) (replied (answer_to s earlier ask)) (marked_at c)
                       ∙ ap (λ (came : Received). changed (received s.head.usn came) (marked_at c)) (sym (replies_go_on s earlier ask));
                 },
+                tt,
               );
         }
 
         -- with what was tried
-        pub one_tried : {T : Type 0} (to : Place) (after : Keeping) (x : T) (g : G) → given ≡ Ok g → (is_told before ≡ true → is_told after ≡ true)
+        pub one_tried : {T : Type 0} (to : Place) (after : Keeping) (x : T) (g : G) → given ≡ Ok g
             → ((c s : Collection) (asked : List Ask) → IsMet c s met → part (answer_to s asked ask) ≡ Some g
             → after ≡ changed (received s.head.usn (replied (answer_to s asked ask))) before)
             → ((c s : Collection) (account : AccountState) (asked : List Ask) → IsMet c s met → IsAt c s account asked from before was
             → part (answer_to s asked ask) ≡ Some g → MaySync c s → to c s (asked ++ ask ∷ []))
             → (it : Advances p q o from to met before after was now (Ok x)) × (it.tries ≡ tried_one ∷ [])
         unfolding took_after
-        one_tried to after x g came tells took leads = (took_after to after x g came tells took leads, refl)
+        one_tried to after x g came took leads = (took_after to after x g came took leads, refl)

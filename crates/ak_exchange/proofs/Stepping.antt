@@ -20,7 +20,7 @@ use Rattle.ak_wires.specs.Tries.{Answered}
 use Rattle.ak_wires.specs.Wires.{WireState}
 use Rattle.ak_wires.specs.declared.asks.Unanswered.{Unanswered}
 
-answered_by : (s : Collection) (accepted : List Request) (request : Request) (asks : List Ask) → asks_of accepted ≡ asks
+pub answered_by : (s : Collection) (accepted : List Request) (request : Request) (asks : List Ask) → asks_of accepted ≡ asks
     → answer s accepted request ≡ answer_to s asks request.ask
 unfolding answer
 answered_by s accepted request asks is = ap (λ (l : List Ask). answer_to s l request.ask) is

@@ -6,11 +6,12 @@ use Rattle.std.proofs.lemmas.List.Sums.{sum_by-append}
 use Rattle.ak_exchange.proofs.Faults.{IsUnkept}
 use Rattle.ak_exchange.proofs.Tried.{asks_append}
 use Rattle.ak_exchange.specs.Asked.{TriedAsk, asks_in, sends_unfinished}
-use Rattle.ak_exchange.specs.Grants.{AllGranted, AllGrantedButLast, AreGranted, AreTooMany, EachSendsRows, EndsUnanswered, IsCheckedLast, IsGranted, IsLast, IsNotGranted, SendsRows, StopsFor, came_unfinished, is_in_form, is_told}
+use Rattle.ak_exchange.specs.Grants.{AllGranted, AllGrantedButLast, AreGranted, AreTooMany, EndsUnanswered, IsCheckedLast, IsGranted, IsLast, IsNotGranted, SendsRows, StopsFor, came_unfinished, is_in_form}
+use Rattle.ak_exchange.specs.Phases.{IsFairStop}
 use Rattle.ak_exchange.specs.Stops.{check_stop, is_keep, keep_stop, shows_bad_check, verdict_of, wire_stop}
 use Rattle.ak_exchange.specs.declared.stops.Stop.{Stop}
 use Rattle.ak_exchange.specs.declared.stops.Stop.TheVariants as stops
-use Rattle.ak_keep.specs.Keepers.{Keeping}
+use Rattle.ak_keep.specs.Collections.{Collection}
 use Rattle.ak_keep.specs.declared.keepers.KeepFault.{KeepFault}
 use Rattle.ak_keep.specs.declared.keepers.KeepFault.TheVariants as faults
 use Rattle.ak_merge.specs.declared.checks.CheckFault.{CheckFault}
@@ -106,6 +107,39 @@ refused_after_stops tries wire it given (Ok x) last so is = tt
 refused_after_stops tries wire it given (Err stop) last so (inl quiet) = quiet_stops tries wire stop quiet
 refused_after_stops tries wire it given (Err stop) last so (inr (why, came, is)) =
     subst (StopsFor tries wire) (sym is) (unanswered_stops tries wire it why last (so why came))
+
+-- ---- a stop that is no bad sanity check is fair to the server
+pub quiet_is_fair : (c s : Collection) (stop : Stop) → is_quiet stop ≡ true → IsFairStop c s stop
+quiet_is_fair c s stops.Keep quiet = tt
+quiet_is_fair c s stops.Memory quiet = tt
+quiet_is_fair c s stops.NoChanges quiet = tt
+quiet_is_fair c s (stops.FullSchema device server) quiet = tt
+quiet_is_fair c s (stops.FullSequence usn) quiet = tt
+quiet_is_fair c s (stops.BadRow fault) quiet = absurd (grind (arith, quiet))
+quiet_is_fair c s (stops.BadCounts client server) quiet = absurd (grind (arith, quiet))
+quiet_is_fair c s (stops.ClockOff device server) quiet = tt
+quiet_is_fair c s (stops.OwnCheck fault) quiet = tt
+quiet_is_fair c s stops.Stopped quiet = tt
+quiet_is_fair c s (stops.Refused status word seen) quiet = tt
+quiet_is_fair c s stops.Lost quiet = tt
+quiet_is_fair c s stops.BadReply quiet = tt
+quiet_is_fair c s stops.TooManyChunks quiet = absurd (grind (arith, quiet))
+
+unanswered_is_fair : (c s : Collection) (why : Unanswered) → IsFairStop c s (wire_stop why)
+unanswered_is_fair c s unanswered.Lost = tt
+unanswered_is_fair c s unanswered.BadReply = tt
+unanswered_is_fair c s (unanswered.Refused status word seen) = tt
+unanswered_is_fair c s unanswered.Memory = tt
+
+pub refused_is_fair : {T : Type 0} (c s : Collection) (result : Result T Stop) → IsRefused result → IfErr result (IsFairStop c s)
+refused_is_fair c s (Ok x) is = tt
+refused_is_fair c s (Err stop) is = quiet_is_fair c s stop is
+
+pub refused_after_is_fair : {T G : Type 0} (c s : Collection) (given : Result G Unanswered) (result : Result T Stop) → IsRefusedAfter given result
+    → IfErr result (IsFairStop c s)
+refused_after_is_fair c s given (Ok x) is = tt
+refused_after_is_fair c s given (Err stop) (inl quiet) = quiet_is_fair c s stop quiet
+refused_after_is_fair c s given (Err stop) (inr (why, came, is)) = subst (IsFairStop c s) (sym is) (unanswered_is_fair c s why)
 
 -- ---- what an answer comes to
 status_is : (status : ℕ) → (status == 200) ≡ true → status ≡ 200
@@ -249,15 +283,12 @@ pub one_but_last : {T E : Type 0} (it : TriedAsk) (result : Result T E) (Q : E �
 one_but_last it (Ok x) Q is = absurd is
 one_but_last it (Err e) Q is = tt
 
-pub rows_then : {T U : Type 0} (k0 k1 k2 : Keeping) (a b : List TriedAsk) (x : T) (result : Result U Stop) → EachSendsRows k0 k1 a (Ok x) → EachSendsRows k1 k2 b result
-    → EachSendsRows k0 k2 (a ++ b) result
-rows_then {T} k0 k1 k2 a b x result one two told =
-    let first = one told in
-    let then_on = two first.1 in
-    (subst (AllByRecursion SendsRows) (sym (asks_append a b)) (all_append SendsRows (asks_in a) (asks_in b) first.0 then_on.0), then_on.1)
+pub rows_then : (a b : List TriedAsk) → AllByRecursion SendsRows (asks_in a) → AllByRecursion SendsRows (asks_in b)
+    → AllByRecursion SendsRows (asks_in (a ++ b))
+rows_then a b one two = subst (AllByRecursion SendsRows) (sym (asks_append a b)) (all_append SendsRows (asks_in a) (asks_in b) one two)
 
 -- ---- a sanity check
-verdict_is_bad : (reply : SanityReply) (stop : Stop) → verdict_of reply ≡ Err stop → shows_bad_check stop ≡ true
+pub verdict_is_bad : (reply : SanityReply) (stop : Stop) → verdict_of reply ≡ Err stop → shows_bad_check stop ≡ true
 verdict_is_bad reply stop is = by reply.good is
   where
     same : (one other : Stop) → (let refused : Result (Unit {0}) Stop = Err one in refused ≡ Err other) → one ≡ other

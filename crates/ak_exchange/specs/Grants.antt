@@ -1,13 +1,12 @@
 -- What was granted, and why a sync stopped at what it tried last.
 use Rattle.std.specs.List.{AllByRecursion}
 use Rattle.std.specs.Option.{option_map_or}
-use Rattle.std.specs.Prelude.{◌≡◌, ◌≢◌, ◌≤◌, ◌&&◌, Bool, false, true, not, is_some, List, [], ◌∷◌, ◌++◌, length, count_by, Some, Result, Ok, Err, OnOk, ◌⊎◌, ⊤}
-use Rattle.ak_base.specs.declared.rows.Row.{Row}
+use Rattle.std.specs.Prelude.{◌≡◌, ◌≢◌, ◌≤◌, ◌&&◌, Bool, false, true, not, is_some, List, [], ◌∷◌, ◌++◌, count_by, Some, Result, Ok, Err, ◌⊎◌, ⊤}
+use Rattle.ak_device.specs.Devices.{IsFullIfMore}
 use Rattle.ak_exchange.specs.Asked.{TriedAsk, asks_chunk, asks_in, sends_unfinished}
 use Rattle.ak_exchange.specs.Stops.{verdict_of}
 use Rattle.ak_exchange.specs.declared.stops.Stop.{Stop}
 use Rattle.ak_exchange.specs.declared.stops.Stop.TheVariants as stops
-use Rattle.ak_keep.specs.Keepers.{Keeping}
 use Rattle.ak_messages.specs.declared.replies.Give.{Give}
 use Rattle.ak_messages.specs.declared.replies.Reply.{Reply}
 use Rattle.ak_messages.specs.declared.replies.SanityReply.{SanityReply}
@@ -15,7 +14,6 @@ use Rattle.ak_messages.specs.declared.requests.Ask.{Ask}
 use Rattle.ak_messages.specs.declared.requests.Ask.TheVariants as asks
 use Rattle.ak_messages.specs.declared.requests.Chunk.{Chunk}
 use Rattle.ak_messages.specs.declared.requests.SanityCounts.{SanityCounts}
-use Rattle.ak_session.specs.Messages.{chunk_of}
 use Rattle.ak_wires.specs.Forms.{changes_in, chunk_in, graves_in, meta_in, moment_in, nothing_in, verdict_in}
 use Rattle.ak_wires.specs.Wires.{WireState}
 use Rattle.ak_wires.specs.declared.asks.Unanswered.{Unanswered}
@@ -61,19 +59,10 @@ AreGranted tries (Ok it) = AllGranted tries
 AreGranted tries (Err stop) = AllGrantedButLast tries
 
 -- ---- chunks that are sent
--- whether a keeper tells what it holds
-abbrev pub is_told : Keeping → Bool
-is_told keeping = is_some keeping.told
-
--- a chunk that is sent and is not the last one is that of 250 rows
+-- a chunk that is sent and is not the last one has 250 rows
 abbrev pub SendsRows : Ask → Type 0
-SendsRows (asks.ApplyChunk chunk) = chunk.done ≡ false → (rows : List Row) × (chunk ≡ chunk_of rows) × (length rows ≡ 250)
+SendsRows (asks.ApplyChunk chunk) = IsFullIfMore chunk
 SendsRows ask = ⊤
-
--- the same of each of these, where the keeper tells what it holds; if the part that asked them went well, it tells that still
-abbrev pub EachSendsRows : {T : Type 0} → Keeping → Keeping → List TriedAsk → Result T Stop → Type 0
-EachSendsRows before after tries result = is_told before ≡ true
-    → AllByRecursion SendsRows (asks_in tries) × OnOk result (is_told after ≡ true)
 
 -- ---- why a sync stopped
 -- this was tried last

@@ -1,17 +1,21 @@
 -- How far a sync came: what it asked, what the log of its wire shows of it, and what the device took.
 use Rattle.std.specs.Int.{div_ceil}
 use Rattle.std.specs.List.{AllByRecursion}
-use Rattle.std.specs.Prelude.{◌≡◌, ℕ, ℤ, ◌+◌, ◌≤◌, false, true, List, [], ◌∷◌, ◌++◌, length, Option, Some, None, Result, OnOk, IfOk, IfErr}
+use Rattle.std.specs.Prelude.{◌≡◌, ℕ, ℤ, ◌+◌, ◌≤◌, false, true, List, [], ◌∷◌, ◌++◌, length, Option, Some, None, Result, OnOk, IfOk, IfErr, ◌⊎◌, ⊤}
 use Rattle.ak_exchange.specs.Asked.{AreAsked, AreFew, Talk, TriedAsk, asker, asks_in, request_at}
-use Rattle.ak_exchange.specs.Grants.{AreGranted, EachSendsRows, SendsRows, StopsFor, is_told}
+use Rattle.ak_exchange.specs.Grants.{AreGranted, SendsRows, StopsFor}
 use Rattle.ak_exchange.specs.Stops.{comes_before_finish}
 use Rattle.ak_exchange.specs.declared.envelopes.Met.{Met}
 use Rattle.ak_exchange.specs.declared.stops.Stop.{Stop}
+use Rattle.ak_exchange.specs.declared.stops.Stop.TheVariants as stops
 use Rattle.ak_device.specs.Devices.{Settles, received}
 use Rattle.ak_keep.specs.Collections.{Collection, Holding}
 use Rattle.ak_keep.specs.Keepers.{Keeping, WhereTold, all_known, changed}
-use Rattle.ak_keep.specs.declared.keepers.Wanted.TheVariants.{Unsent}
+use Rattle.ak_keep.specs.declared.keepers.Wanted.TheVariants.{From, Unsent}
 use Rattle.ak_merge.specs.Commits.{Received}
+use Rattle.ak_merge.specs.Holdings.{row_under}
+use Rattle.ak_merge.specs.Joins.{joined_under}
+use Rattle.ak_merge.specs.Soundness.{IsSound}
 use Rattle.ak_messages.specs.declared.requests.Ask.{Ask}
 use Rattle.ak_messages.specs.declared.requests.Ask.TheVariants.{Finish}
 use Rattle.ak_messages.specs.declared.requests.Request.{Request}
@@ -23,7 +27,7 @@ use Rattle.ak_session.specs.Plans.{Asker, planned, planned_check, requests_from}
 use Rattle.ak_session.specs.Replies.{all_replied}
 use Rattle.ak_session.specs.Requests.{asks_commit}
 use Rattle.ak_session.specs.Sessions.{MaySync}
-use Rattle.ak_session.specs.Slices.{wanted_graves}
+use Rattle.ak_session.specs.Slices.{wanted_graves, wanted_in_chunks}
 
 -- ---- the device
 -- what a keeper holds if it holds this collection
@@ -54,6 +58,11 @@ at_end_of part c s asked = asked ≡ part c s
 -- nothing was asked after the meta
 abbrev pub at_meta : Place
 at_meta c s asked = asked ≡ []
+
+-- all that is planned up to the sanity check was asked, and the join of the two is sound
+pub record HasPassedCheck (c s : Collection) (asked : List Ask) : Type 0 where
+  pub asked_is : asked ≡ planned_check c s
+  pub sound : IsSound (joined_under (row_under c) (row_under s))
 
 -- what was met is s, and the device's head that of c
 pub record IsMet (c s : Collection) (met : Met) : Type 0 where
@@ -86,6 +95,19 @@ pub record IsLeft (c s : Collection) (account : AccountState) (who : Asker) (ask
   pub front : MaySync c s → (rest : List Ask) × (asked ++ rest ≡ planned c s)
 
 -- ---- parts
+-- one side has at least ten million reviews, cards and notes to send
+abbrev pub HasTenMillionRows : Collection → Collection → Type 0
+HasTenMillionRows c s = (10_000_000 ≤ length (wanted_in_chunks (From c.head.usn) s.rows))
+    ⊎ (10_000_000 ≤ length (wanted_in_chunks Unsent c.rows))
+
+-- from a server that meets the protocol a sanity check is bad only if the join of the two is not sound, and two counts never differ there.
+-- There are too many chunks only if one side has ten million rows to send
+abbrev pub IsFairStop : Collection → Collection → Stop → Type 0
+IsFairStop c s (stops.BadRow fault) = MaySync c s → IsSound (joined_under (row_under c) (row_under s)) → ⊥
+IsFairStop c s (stops.BadCounts client server) = MaySync c s → ⊥
+IsFairStop c s stops.TooManyChunks = MaySync c s → HasTenMillionRows c s
+IsFairStop c s stop = ⊤
+
 -- a part of a sync: what it asked, and that nothing of it commits; and where keeper and wire tell what they hold, that it leads from one
 -- place of the plan to another. If it is refused, the sync is left where it is
 pub record Advances {T : Type 0} (pulled pushed others : ℕ) (from to : Place) (met : Met)
@@ -94,13 +116,14 @@ pub record Advances {T : Type 0} (pulled pushed others : ℕ) (from to : Place) 
   pub asked : AreAsked tries was now
   pub few : AreFew pulled pushed others (asks_in tries)
   pub granted : AreGranted tries result
-  pub rows : EachSendsRows before after tries result
+  pub rows : AllByRecursion SendsRows (asks_in tries)
   pub plain : AllByRecursion (λ (ask : Ask). asks_commit ask ≡ false) (asks_in tries)
   pub ends : IfErr result (StopsFor tries now.wire)
   pub leads : (c s : Collection) (account : AccountState) (earlier : List Ask) → IsMet c s met
       → IsAt c s account earlier from before was
       → IsLeft c s account (asker was.envelopes.ids) (earlier ++ asks_in tries) now
       × OnOk result (IsAt c s account (earlier ++ asks_in tries) to after now)
+      × IfErr result (IsFairStop c s)
 
 -- a number that is at most the requests that the graves need which were not sent yet: 250 go in each
 abbrev pub AreGraveRequests : Keeping → ℕ → Type 0
@@ -117,13 +140,14 @@ pub record Exchanges (met : Met) (before after : Keeping) (was now : Talk) (resu
   pub graves_most : AreGraveRequests before graves
   pub few : AreFew 40_000 39_999 (4 + graves) (asks_in tries)
   pub granted : AreGranted tries result
-  pub rows : is_told before ≡ true → AllByRecursion SendsRows (asks_in tries)
+  pub rows : AllByRecursion SendsRows (asks_in tries)
   pub plain : AllByRecursion (λ (ask : Ask). asks_commit ask ≡ false) (asks_in tries)
   pub ends : IfErr result (StopsFor tries now.wire)
   pub leads : (c s : Collection) (account : AccountState) → IsMet c s met → IsAt c s account [] at_meta before was
       → IsLeft c s account (asker was.envelopes.ids) (asks_in tries) now
-      × OnOk result (HasAsked c s account (asks_in tries) (at_end_of planned_check) now
+      × OnOk result (HasAsked c s account (asks_in tries) HasPassedCheck now
       × Settles s.head.usn (changed (received s.head.usn (all_replied s (asks_in tries))) (marked_at c)) after)
+      × IfErr result (IsFairStop c s)
 
 -- ---- the finish
 -- the finish of a sync that asked these after its meta
@@ -153,7 +177,7 @@ pub record Finishes (was now : Talk) (result : Result ℤ Stop) : Type 0 where
   pub ends : IfErr result (StopsFor tries now.wire)
   pub late : IfErr result (λ stop. comes_before_finish stop ≡ false)
   pub leads : (c s : Collection) (account : AccountState) (earlier : List Ask)
-      → HasAsked c s account earlier (at_end_of planned_check) was
+      → HasAsked c s account earlier HasPassedCheck was
       → IsLeft c s account (asker was.envelopes.ids) (earlier ++ asks_in tries) now
       × IfOk result (λ moment. (asks_in tries ≡ Finish ∷ [])
       × HasCommitted c s account (asker was.envelopes.ids) earlier moment now)

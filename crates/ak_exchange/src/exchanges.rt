@@ -3,15 +3,15 @@ ghost use Rattle.std.specs.Int.{div_ceil};
 ghost use Rattle.std.specs.Prelude.{◌≡◌, ◌+◌, ◌<◌, ◌*◌, ℕ, pos, true, false, length, IfOk, IfErr, OnOk};
 ghost use Rattle.ak_base.specs.Heads.{IsMoment, IsWithin};
 ghost use Rattle.ak_base.specs.Limits.{last_head_usn};
-ghost use Rattle.ak_device.specs.Devices.{IsNextToSend};
+ghost use Rattle.ak_device.specs.Devices.{IsFullIfMore, IsNextToSend};
 ghost use Rattle.ak_exchange.specs.Loops.{HaveSentGraves, PullsOne, PushesOne, SendsOne};
-ghost use Rattle.ak_exchange.specs.Phases.{Advances, AreGraveRequests, Exchanges, Finishes, HasReceived, at_end_of, at_meta};
+ghost use Rattle.ak_exchange.specs.Phases.{Advances, AreGraveRequests, Exchanges, Finishes, HasPassedCheck, HasReceived, at_end_of, at_meta};
 ghost use Rattle.ak_exchange.specs.Stops.{is_keep, verdict_of};
 ghost use Rattle.ak_exchange.specs.declared.envelopes.Met.{Met};
 ghost use Rattle.ak_exchange.specs.declared.stops.Stop.TheVariants as stops;
 ghost use Rattle.ak_faults.specs.Causes.{HasCauseOf};
 ghost use Rattle.ak_keep.specs.Keepers.{IsMarkedAt, Keeping, WhereTold, back, is_marked};
-ghost use Rattle.ak_session.specs.Plans.{planned_start, planned_graves, planned_changes, planned_chunks, planned_pushes, planned_check};
+ghost use Rattle.ak_session.specs.Plans.{planned_start, planned_graves, planned_changes, planned_chunks, planned_pushes};
 
 use crate::envelopes::{Envelopes, Met};
 use crate::stops::Stop;
@@ -318,8 +318,9 @@ fn push_chunk<K: Keeper, W: Wire>(
     if done { Ok(None) } else { Ok(Some(next)) }
 }
 
-/// Sends this chunk.
+/// Sends this chunk. One that is not the last one is full.
 fn send_chunk<W: Wire>(wire: &mut W, envelopes: &mut Envelopes, chunk: Chunk) -> Result<(), Stop>
+    requires full { IsFullIfMore chunk }
     ensures leads { (count : ℕ) (from next : Name) (met : Met) (keeping : Keeping)
         → WhereTold keeping (λ h. IsNextToSend h.rows from chunk next)
         → SendsOne chunk count from next met keeping
@@ -340,7 +341,7 @@ pub fn compare<K: Keeper, W: Wire>(
     met: &Met,
 ) -> Result<(), Stop>
     requires marked { is_marked (K.keeping keeper.old) ≡ true }
-    ensures leads { Advances 0 0 1 (at_end_of planned_pushes) (at_end_of planned_check) met.now
+    ensures leads { Advances 0 0 1 (at_end_of planned_pushes) HasPassedCheck met.now
         (K.keeping keeper.old) (K.keeping keeper.new)
         (record { health = W.health wire.old; wire = W.state wire.old; envelopes = envelopes.old })
         (record { health = W.health wire.new; wire = W.state wire.new; envelopes = envelopes.new }) result }

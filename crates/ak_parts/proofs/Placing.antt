@@ -1,14 +1,17 @@
 -- The rows that chunks still give, and where slices of them end.
-use Rattle.std.specs.Prelude.{◌≡◌, ℕ, ℤ, pos, ◌<◌, ◌≤◌, ◌⊎◌, nat_lt, if◌then◌else◌, Bool, true, false, List, [], ◌++◌, length}
-use Rattle.std.proofs.Common.{refl, sym, ap, ◌∙◌, inl, inr, append_assoc, arith}
+use Rattle.std.specs.Prelude.{◌≡◌, ℕ, ℤ, pos, ◌<◌, ◌≤◌, ◌⊎◌, ◌==◌, ◌&&◌, int_lt, nat_lt, if◌then◌else◌, Bool, true, false, List, [], ◌∷◌, ◌++◌, length}
+use Rattle.std.proofs.Common.{refl, sym, ap, subst, ◌∙◌, inl, inr, append_assoc, arith}
 use Rattle.std.proofs.lemmas.List.{append-nil}
+use Rattle.ak_base.specs.Names.{table_place}
+use Rattle.ak_base.specs.Rows.{name_of}
 use Rattle.ak_base.specs.declared.names.Name.{Name}
 use Rattle.ak_base.specs.declared.names.Table.{Table}
 use Rattle.ak_base.specs.declared.names.Table.TheVariants as tables
 use Rattle.ak_base.specs.declared.rows.Row.{Row}
-use Rattle.ak_keep.specs.Collections.{Rows, IsPageOf, wanted_past, last_id}
+use Rattle.ak_keep.specs.Collections.{AscendsPast, Rows, IsPageOf, wanted_past, last_id}
 use Rattle.ak_keep.specs.declared.keepers.Wanted.{Wanted}
-use Rattle.ak_parts.specs.Chunks.{rows_after, ahead_of, is_chunked, table_after, place_after, IsSlice}
+use Rattle.ak_session.proofs.Ranges.{all_append}
+use Rattle.ak_parts.specs.Chunks.{AreChunked, rows_after, ahead_of, is_chunked, table_after, place_after, IsSlice}
 
 not_so : {b : Bool} → b ≡ true → b ≡ false → ⊥
 not_so so other = grind (arith, so, other)
@@ -49,6 +52,36 @@ pub page_moves_on : (want : Wanted) (given : Name) (held : Rows) (limit : ℕ) (
     → IsPageOf (λ past. wanted_past given.table want past held) given.id limit page
     → ahead_of want given held ≡ page ++ ahead_of want (place_after given page limit) held
 page_moves_on want given held limit page is paged = moves_by want given.table given.id held limit page is paged (nat_lt (length page) limit) refl
+
+-- ---- the tables of a page
+chunked_place : (table : Table) → is_chunked table ≡ nat_lt (table_place table) 3
+chunked_place tables.Review = refl
+chunked_place tables.Card = refl
+chunked_place tables.Note = refl
+chunked_place tables.NoteType = refl
+chunked_place tables.Deck = refl
+chunked_place tables.Options = refl
+chunked_place tables.NoteGrave = refl
+chunked_place tables.CardGrave = refl
+chunked_place tables.DeckGrave = refl
+
+chunked_as : (one other : Table) (b : Bool) → ((table_place one == table_place other) && b) ≡ true → is_chunked other ≡ true → is_chunked one ≡ true
+chunked_as one other b same is =
+    let place : table_place one ≡ table_place other = grind (arith, same) in
+    chunked_place one ∙ ap (λ (n : ℕ). nat_lt n 3) place ∙ sym (chunked_place other) ∙ is
+
+-- a page of a table that is given by chunks has its rows alone
+page_chunked : (table : Table) (past : ℤ) (page : List Row) → is_chunked table ≡ true → AscendsPast table past page → AreChunked page
+page_chunked table past [] is ascends = tt
+page_chunked table past (row ∷ rows) is ascends =
+    (chunked_as (name_of row).table table (int_lt past (name_of row).id) ascends.0 is, page_chunked table (name_of row).id rows is ascends.1)
+
+-- and so have rows that it is added to
+pub more_chunked : (table : Table) (past : ℤ) (old new page : List Row) → is_chunked table ≡ true → AscendsPast table past page
+    → new ≡ old ++ page → AreChunked old → AreChunked new
+more_chunked table past old new page is ascends added before =
+    subst AreChunked (sym added)
+    (all_append (λ (row : Row). is_chunked (name_of row).table ≡ true) old page before (page_chunked table past page is ascends))
 
 -- ---- three reads
 after_three : (table : Table) → table_after (table_after (table_after table)) ≡ tables.NoteGrave

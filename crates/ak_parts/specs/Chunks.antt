@@ -1,5 +1,7 @@
 -- The rows that the chunks of a session still give.
+use Rattle.std.specs.List.{AllByRecursion}
 use Rattle.std.specs.Prelude.{◌≡◌, ℕ, ℤ, pos, ◌≤◌, ◌⊎◌, nat_lt, if◌then◌else◌, Bool, true, false, List, [], ◌++◌, length}
+use Rattle.ak_base.specs.Rows.{name_of}
 use Rattle.ak_base.specs.declared.names.Name.{Name}
 use Rattle.ak_base.specs.declared.names.Table.{Table}
 use Rattle.ak_base.specs.declared.names.Table.TheVariants as tables
@@ -35,6 +37,10 @@ is_chunked tables.Options = false
 is_chunked tables.NoteGrave = false
 is_chunked tables.CardGrave = false
 is_chunked tables.DeckGrave = false
+
+-- rows of tables that are given by chunks: reviews, cards and notes
+abbrev pub AreChunked : List Row → Type 0
+AreChunked rows = AllByRecursion (λ (row : Row). is_chunked (name_of row).table ≡ true) rows
 
 -- the table whose rows come after those of a table; after the notes that of their graves, whose rows no chunk gives
 abbrev pub table_after : Table → Table

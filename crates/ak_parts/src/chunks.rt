@@ -2,7 +2,7 @@
 ghost use Rattle.std.specs.Prelude.{◌≡◌, ◌≤◌, ◌⊎◌, ◌++◌, length, IfOk, OnOk};
 ghost use Rattle.ak_keep.specs.Collections.{last_id};
 ghost use Rattle.ak_keep.specs.Readings.{ReadsBy};
-ghost use Rattle.ak_parts.specs.Chunks.{ahead_of, is_chunked, table_after, place_after, IsSlice};
+ghost use Rattle.ak_parts.specs.Chunks.{AreChunked, ahead_of, is_chunked, table_after, place_after, IsSlice};
 
 use crate::lists::append_page;
 use ak_base::{Name, Row, Table};
@@ -20,6 +20,8 @@ pub fn next_rows<K: Keeper>(
 ) -> Result<(Vec<Row>, Name), KeepFault>
     ensures reads { ReadsBy K.Lookup from.old from.new result (λ h next.
         IsSlice (ahead_of want given h.rows) next.0.items (ahead_of want next.1 h.rows)) }
+    ensures short { IfOk result (λ next. length next.0.items ≤ 250) }
+    ensures chunked { IfOk result (λ next. AreChunked next.0.items) }
 {
     let mut rows = Vec::new(alloc);
     let given = read_more(from, &mut rows, given, want)?;
@@ -43,6 +45,7 @@ fn read_more<K: Keeper>(
     ensures moved { IfOk result (λ after. (length rows.new.items ≡ 250) ⊎ (after.table ≡ table_after given.table)) }
     ensures short { OnOk result (length rows.new.items ≤ 250) }
     ensures longer { OnOk result (length rows.old.items ≤ length rows.new.items) }
+    ensures chunked { OnOk result (AreChunked rows.old.items → AreChunked rows.new.items) }
 {
     if !is_chunked(given.table) {
         return Ok(Name {

@@ -20,7 +20,7 @@ returns-in_err-met-clause-ended g c =
     c.from_residual.ensures.1
     (unmet_ended c.args.ids c.in_err-met.field-0.0 (g.K.Lookup.keeping c.args.keeper.now) (g.K.Lookup.keeping c.greet.new.keeper)
     (g.W.End.health c.args.wire.now) (g.W.End.health c.greet.new.wire) (g.W.Wire.state c.args.wire.now) (g.W.Wire.state c.greet.new.wire)
-    (g.C.Clock.to_come c.args.clock.now) (g.C.Clock.to_come c.greet.new.clock) c.in_err-met.ensures.heard c.in_err-met.ensures.greets)
+    (g.C.Clock.to_come c.args.clock.now) (g.C.Clock.to_come c.greet.new.clock) c.in_err-met.ensures.heard c.in_err-met.ensures.early c.in_err-met.ensures.greets)
 
 pub returns-clause-ended : goal.returns-clause-ended
 returns-clause-ended g c =

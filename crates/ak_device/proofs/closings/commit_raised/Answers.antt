@@ -3,30 +3,30 @@ use Rattle.std.proofs.Common.{sym, subst, rules, w64, SFits}
 use Rattle.std.proofs.lemmas.Int.{to_z-of_z}
 use Rattle.ak_base.specs.Heads.{IsMoment, IsWithin}
 use Rattle.ak_base.specs.Limits.{last_head_usn}
-use Rattle.ak_device.specs.Devices.{raised}
+use Rattle.ak_device.specs.Devices.{advanced_moment}
 use Rattle.ak_device.proofs.closings.commit_raised.Goals as goal
 
 pub commit_moments-requires-clause-range : goal.commit_moments-requires-clause-range
 commit_moments-requires-clause-range g c =
-    let moment : SFits w64 c.raised-moment.result = search rules in
-    let schema : SFits w64 c.raised-schema.result = search rules in
+    let moment : SFits w64 c.advanced_moment-moment.result = search rules in
+    let schema : SFits w64 c.advanced_moment-schema.result = search rules in
     let usn : SFits w64 c.args.head.usn = search rules in
     let sync : SFits w64 c.args.head.last_sync = search rules in
     record {
-      moment = subst IsMoment (sym (to_z-of_z w64 c.raised-moment.result moment)) c.raised-moment.ensures.range;
-      schema = subst IsMoment (sym (to_z-of_z w64 c.raised-schema.result schema)) c.raised-schema.ensures.range;
+      moment = subst IsMoment (sym (to_z-of_z w64 c.advanced_moment-moment.result moment)) c.advanced_moment-moment.ensures.range;
+      schema = subst IsMoment (sym (to_z-of_z w64 c.advanced_moment-schema.result schema)) c.advanced_moment-schema.ensures.range;
       usn = subst (IsWithin (pos 0) last_head_usn) (sym (to_z-of_z w64 c.args.head.usn usn)) c.requires.range.usn;
       last_sync = subst IsMoment (sym (to_z-of_z w64 c.args.head.last_sync sync)) c.requires.range.last_sync;
     }
 
 pub returns-clause-ok : goal.returns-clause-ok
 returns-clause-ok g c =
-    let moment : SFits w64 c.raised-moment.result = search rules in
-    let schema : SFits w64 c.raised-schema.result = search rules in
+    let moment : SFits w64 c.advanced_moment-moment.result = search rules in
+    let schema : SFits w64 c.advanced_moment-schema.result = search rules in
     let usn : SFits w64 c.args.head.usn = search rules in
     let sync : SFits w64 c.args.head.last_sync = search rules in
     let own_moment : SFits w64 c.args.head.moment = search rules in
     let own_schema : SFits w64 c.args.head.schema = search rules in
-    let m : c.raised-moment.result ≡ raised c.args.at c.args.head.moment = rw (to_z-of_z w64 c.args.at c.ranges.at, to_z-of_z w64 c.args.head.moment own_moment) at c.raised-moment.ensures.raised in
-    let s : c.raised-schema.result ≡ raised c.args.at c.args.head.schema = rw (to_z-of_z w64 c.args.at c.ranges.at, to_z-of_z w64 c.args.head.schema own_schema) at c.raised-schema.ensures.raised in
-    rw (to_z-of_z w64 c.raised-moment.result moment, to_z-of_z w64 c.raised-schema.result schema, to_z-of_z w64 c.args.head.usn usn, to_z-of_z w64 c.args.head.last_sync sync, m, s) at c.commit_moments.ensures.ok
+    let m : c.advanced_moment-moment.result ≡ advanced_moment c.args.at c.args.head.moment = rw (to_z-of_z w64 c.args.at c.ranges.at, to_z-of_z w64 c.args.head.moment own_moment) at c.advanced_moment-moment.ensures.advanced in
+    let s : c.advanced_moment-schema.result ≡ advanced_moment c.args.at c.args.head.schema = rw (to_z-of_z w64 c.args.at c.ranges.at, to_z-of_z w64 c.args.head.schema own_schema) at c.advanced_moment-schema.ensures.advanced in
+    rw (to_z-of_z w64 c.advanced_moment-moment.result moment, to_z-of_z w64 c.advanced_moment-schema.result schema, to_z-of_z w64 c.args.head.usn usn, to_z-of_z w64 c.args.head.last_sync sync, m, s) at c.commit_moments.ensures.ok

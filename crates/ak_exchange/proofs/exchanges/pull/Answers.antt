@@ -1,7 +1,7 @@
 use Rattle.std.proofs.Common.{◌+◌, ◌≤◌, Bool, refl, subst, inl, arith, rules}
 use Rattle.ak_exchange.proofs.Faults.{cause_ok, cause_passed, cause_unkept}
 use Rattle.ak_exchange.proofs.Held.{received_more, received_once}
-use Rattle.ak_exchange.proofs.Parts.{pulled_on}
+use Rattle.ak_exchange.proofs.Parts.{pulled_on, too_many_pulled}
 use Rattle.ak_exchange.proofs.Passing.{advances_many, advances_more, advances_passed, advances_to, advances_then, at_start}
 use Rattle.ak_exchange.proofs.Places.{after_changes, leads_on, none_pulled}
 use Rattle.ak_exchange.specs.Loops.{HasPulledOne}
@@ -78,7 +78,8 @@ returns-clause-leads g c =
     let least = c.loop-turn-test.false in
     let counted = c.loop-turn.invariant.turned.many in
     advances_more c.loop-turn._turn 0 0 _ _ _ _ _ _ _ _ _ _ _ most (omega arith) (omega arith)
-    (advances_many _ _ _ _ _ _ _ _ _ _ _ _ _ c.loop-turn.invariant.turned.leads (inl (omega (arith, counted, least))))
+    (advances_many _ _ _ _ _ _ _ _ _ _ _ _ _ c.loop-turn.invariant.turned.leads (inl (omega (arith, counted, least)))
+    (too_many_pulled c.loop-turn._turn _ _ (omega (arith, least))))
 
 pub returns-clause-keeper : goal.returns-clause-keeper
 returns-clause-keeper g c = cause_unkept _ c.loop-turn.invariant.goes refl

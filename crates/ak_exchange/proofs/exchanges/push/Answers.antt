@@ -1,7 +1,7 @@
-use Rattle.std.proofs.Common.{◌≡◌, ◌+◌, ◌≤◌, true, refl, sym, ap, subst, ◌∙◌, inr, arith, rules}
+use Rattle.std.proofs.Common.{◌≡◌, ◌+◌, ◌≤◌, false, true, refl, sym, ap, subst, ◌∙◌, inr, arith, rules}
 use Rattle.ak_device.specs.Devices.{IsNextToSend}
 use Rattle.ak_exchange.proofs.Faults.{cause_keeper, cause_ok, cause_passed, cause_unkept}
-use Rattle.ak_exchange.proofs.Parts.{last_pushed, pushed_end, pushed_on}
+use Rattle.ak_exchange.proofs.Parts.{last_pushed, pushed_end, pushed_on, too_many_pushed}
 use Rattle.ak_exchange.proofs.Passing.{advances_left, advances_many, advances_more, advances_passed, advances_then, at_start}
 use Rattle.ak_exchange.proofs.Places.{after_chunks, leads_on, none_pushed}
 use Rattle.ak_exchange.proofs.Stopping.{by_keeper}
@@ -75,8 +75,11 @@ returns-then-not-chunk-clause-leads g c =
     let most = c.loop-turn.auto._turn-end in
     let least = c.loop-turn-test.false in
     let counted = c.loop-turn.invariant.turned.many in
+    let unfinished : c.in_ok-chunk.field-0.chunk.done ≡ false = grind (arith, c.if-not-chunk.true) in
     advances_more 0 c.loop-turn._turn 0 _ _ _ _ _ _ _ _ _ _ _ (omega arith) most (omega arith)
-    (advances_many _ _ _ _ _ _ _ _ _ _ _ _ _ c.loop-turn.invariant.turned.leads (inr (omega (arith, counted, least))))
+    (advances_many _ _ _ _ _ _ _ _ _ _ _ _ _ c.loop-turn.invariant.turned.leads (inr (omega (arith, counted, least)))
+    (too_many_pushed c.loop-turn._turn c.loop-turn.from c.in_ok-chunk.field-0.next c.in_ok-chunk.field-0.chunk _ _ (omega (arith, least)) unfinished
+    c.in_ok-chunk.ensures.reads.told))
 
 pub returns-then-not-chunk-clause-same : goal.returns-then-not-chunk-clause-same
 returns-then-not-chunk-clause-same g c = c.in_ok-chunk.ensures.reads.same ∙ c.loop-turn.invariant.same

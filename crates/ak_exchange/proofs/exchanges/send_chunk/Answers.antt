@@ -10,13 +10,13 @@ returns-in_err-request-clause-leads g c = λ count from next met keeping told.
 
 pub returns-in_err-ask_nothing-clause-leads : goal.returns-in_err-ask_nothing-clause-leads
 returns-in_err-ask_nothing-clause-leads g c = λ count from next met keeping told.
-    push_refused met keeping _ _ c.ask_nothing.result count from next c.args.chunk told
+    push_refused met keeping _ _ c.ask_nothing.result count from next c.args.chunk told c.requires.full
     (record { it = c.in_ok-request.request; made = c.in_ok-request.ensures.made; envelopes = c.in_ok-request.ensures.next; call = c.ask_nothing.ensures })
     _ (by_wire _ _ _ c.in_err-ask_nothing.was c.from_residual-in_err-ask_nothing.ensures.1)
 
 pub returns-clause-leads : goal.returns-clause-leads
 returns-clause-leads g c = λ count from next met keeping told.
-    push_took met keeping _ _ c.ask_nothing.result count from next c.args.chunk told
+    push_took met keeping _ _ c.ask_nothing.result count from next c.args.chunk told c.requires.full
     (record { it = c.in_ok-request.request; made = c.in_ok-request.ensures.made; envelopes = c.in_ok-request.ensures.next; call = c.ask_nothing.ensures })
     _ c.in_ok-ask_nothing.was
 

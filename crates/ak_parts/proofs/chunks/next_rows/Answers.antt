@@ -1,9 +1,9 @@
 use Rattle.std.specs.Prelude.{◌≡◌, List, ◌++◌}
-use Rattle.std.proofs.Common.{sym, ap, ◌∙◌}
+use Rattle.std.proofs.Common.{sym, ap, subst, ◌∙◌}
 use Rattle.ak_base.specs.declared.rows.Row.{Row}
 use Rattle.ak_faults.proofs.Healths.{goes_further}
 use Rattle.ak_keep.proofs.Causing.{cause-ok}
-use Rattle.ak_parts.specs.Chunks.{IsSlice, ahead_of}
+use Rattle.ak_parts.specs.Chunks.{AreChunked, IsSlice, ahead_of}
 use Rattle.ak_parts.proofs.Pages.{told_thrice}
 use Rattle.ak_parts.proofs.Placing.{slice_of}
 use Rattle.ak_parts.proofs.chunks.next_rows.Goals as goal
@@ -25,4 +25,7 @@ returns g c = record {
         c.in_ok-given.ensures.moved c.in_ok-given-2.ensures.moved c.in_ok-given-3.ensures.moved c.in_ok-given-2.ensures.longer c.in_ok-given-3.ensures.longer c.in_ok-given-3.ensures.short)
         c.in_ok-given.ensures.reads.told c.in_ok-given-2.ensures.reads.told c.in_ok-given-3.ensures.reads.told;
   };
+  short = c.in_ok-given-3.ensures.short;
+  chunked = c.in_ok-given-3.ensures.chunked (c.in_ok-given-2.ensures.chunked (c.in_ok-given.ensures.chunked
+      (subst AreChunked (sym c.new-rows.ensures.items) tt)));
 }

@@ -6,7 +6,7 @@ use Rattle.ak_keep.specs.Collections.{IsPageOf, wanted_past}
 use Rattle.ak_keep.proofs.Causing.{cause-ok}
 use Rattle.ak_keep.proofs.Told.{where_told-map}
 use Rattle.ak_parts.specs.Chunks.{ahead_of, place_after}
-use Rattle.ak_parts.proofs.Placing.{read_on}
+use Rattle.ak_parts.proofs.Placing.{more_chunked, read_on}
 use Rattle.ak_parts.proofs.chunks.read_more.Goals as goal
 
 pub returns-clause-reads : goal.returns-clause-reads
@@ -23,3 +23,8 @@ returns-clause-reads g c =
           (sym c.if-not-is_chunked.ensures) paged (c.place_after-after.ensures ∙ ap (λ (page : List Row). place_after c.args.given page (250 - length c.as_slice.result.now)) c.as_slice-2.ensures) c.in_ok-append_page.ensures.ok)
           (rw (to_z-of_z w64 c.args.given.id fits) at c.in_ok-page.ensures.reads.told);
     }
+
+pub returns-clause-chunked : goal.returns-clause-chunked
+returns-clause-chunked g c = λ before.
+    more_chunked c.args.given.table _ c.args.rows.now.items c.append_page.new.rows.items c.in_ok-page.page (sym c.if-not-is_chunked.ensures)
+    c.in_ok-page.ensures.ascends c.in_ok-append_page.ensures.ok before
