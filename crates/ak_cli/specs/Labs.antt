@@ -13,7 +13,7 @@ use Rattle.ak_cli.specs.Tables.{shown_reviews}
 use Rattle.ak_cli.specs.declared.lab.commands.Command.{Command}
 use Rattle.ak_cli.specs.declared.lab.commands.Command.TheVariants as commands
 use Rattle.ak_cli.specs.declared.lab.devices.Device.{Device}
-use Rattle.ak_cli.specs.declared.lab.laboratories.Lab.{Lab}
+use Rattle.ak_cli.specs.declared.lab.labs.Lab.{Lab}
 use Rattle.ak_cli.specs.declared.lab.sides.Side.{Side}
 use Rattle.ak_cli.specs.declared.lab.syncs.SyncEnd.{SyncEnd}
 use Rattle.ak_cli.specs.declared.lab.syncs.SyncEnd.TheVariants.{Tie, NoChanges, MomentsEnd, Finished}

@@ -3,7 +3,7 @@ use Rattle.std.specs.Io.KnownBytes.{Appends}
 use Rattle.std.specs.Prelude.{◌≡◌, ◌⊎◌, ℕ, ℤ, Bool, true, false, List, Option, Some, None, IfSome}
 use Rattle.ak_base.specs.declared.keys.HostKey.{HostKey}
 use Rattle.ak_cli.specs.LabRun.{lab_run}
-use Rattle.ak_cli.specs.Programs.{Named, Lab, Init, Desk, Sync, Prints, command_status, usage_line}
+use Rattle.ak_cli.specs.Programs.{Named, Lab, Init, Desk, Sync, Prints, command_status, status_of, usage_line}
 use Rattle.ak_desk_runs.specs.DeskRuns.{EndsDesk, input_lines}
 use Rattle.ak_desk_runs.specs.Inits.{EndsInit}
 use Rattle.ak_desk_runs.specs.RunStates.{Outside, outside_of}
@@ -12,13 +12,14 @@ use Rattle.ak_faults.specs.Causes.{Health}
 use Rattle.ak_filters.specs.Meanings.{Meaning}
 use Rattle.ak_io.specs.Arrivals.{GivesNext, IsClockMoment}
 use Rattle.ak_io.specs.Scripts.{AppendsPart}
+use Rattle.ak_io.specs.declared.endings.ScriptEnd.{ScriptEnd}
 use Rattle.ak_keep.specs.Keepers.{Keeping}
-use Rattle.ak_sync_runs.specs.SyncRuns.{EndsSync, Surroundings, surroundings_of}
+use Rattle.ak_sync_runs.specs.SyncRuns.{EndsSync, SyncOutside, sync_outside}
 use Rattle.ak_wires.specs.Wires.{WireState}
 
 -- what is known of what a command is given: the bytes to read, those that were written, the keeper, the wire, the moments and words of
 -- chance to come, and the filters
-pub record Around : Type 0 where
+pub record ProgramOutside : Type 0 where
   pub left : Option (List ℕ)
   pub written : Option (List ℕ)
   pub keeping : Keeping
@@ -29,9 +30,9 @@ pub record Around : Type 0 where
   pub filters : List Meaning
 
 -- the same, by its parts
-abbrev pub around : Option (List ℕ) → Option (List ℕ) → Keeping → Health → WireState → Option (List ℤ) → Option (List ℕ) → List Meaning
-    → Around
-around left written keeping health wire moments words filters = record {
+abbrev pub program_outside : Option (List ℕ) → Option (List ℕ) → Keeping → Health → WireState → Option (List ℤ) → Option (List ℕ)
+    → List Meaning → ProgramOutside
+program_outside left written keeping health wire moments words filters = record {
   left = left;
   written = written;
   keeping = keeping;
@@ -43,12 +44,12 @@ around left written keeping health wire moments words filters = record {
 }
 
 -- what a desk is given of it
-abbrev pub desk_of : Around → Outside
+abbrev pub desk_of : ProgramOutside → Outside
 desk_of a = outside_of a.keeping a.filters a.moments a.words
 
 -- what a sync is given of it
-abbrev pub sync_of : Around → Surroundings
-sync_of a = surroundings_of a.keeping a.health a.wire a.moments a.words
+abbrev pub sync_of : ProgramOutside → SyncOutside
+sync_of a = sync_outside a.keeping a.health a.wire a.moments a.words
 
 -- whether a command reads the input
 abbrev pub reads_input : Option Named → Bool
@@ -58,10 +59,11 @@ reads_input (Some Desk) = true
 reads_input (Some (Sync digits)) = false
 reads_input None = false
 
--- how a command ends with a status. `lab` prints what its script comes to; `init` puts the opening collection of the next moment; `desk`
--- does the lines of the input; `sync` syncs with the account of its key; and if there is none, `usage` is printed
-abbrev pub EndsBy : Option Named → ℕ → Around → Around → Type 0
-EndsBy (Some Lab) status a b = IfSome a.left (λ script. Prints status (lab_run script) a.written b.written)
+-- how a command ends with a status. `lab` prints what its script comes to, with 0, 3, 4, 5 or 8; `init` puts the opening collection of the
+-- next moment; `desk` does the lines of the input; `sync` syncs with the account of its key; and if there is none, `usage` is printed
+abbrev pub EndsBy : Option Named → ℕ → ProgramOutside → ProgramOutside → Type 0
+EndsBy (Some Lab) status a b = (end : ScriptEnd)
+    × (status ≡ status_of end) × IfSome a.left (λ script. Prints status (lab_run script) a.written b.written)
 EndsBy (Some Init) status a b = (at : ℤ) × (end : CommandEnd)
     × IsClockMoment at × GivesNext a.moments b.moments at × EndsInit at end a.keeping b.keeping a.written b.written
     × (status ≡ command_status end)
@@ -73,7 +75,7 @@ EndsBy None status a b =
     (status ≡ 2) × Appends a.written b.written usage_line ⊎ (status ≡ 5) × AppendsPart a.written b.written usage_line
 
 -- what a command leaves alone: all but what is named here
-abbrev pub LeavesBy : Option Named → Around → Around → Type 0
+abbrev pub LeavesBy : Option Named → ProgramOutside → ProgramOutside → Type 0
 LeavesBy (Some Lab) a b = b ≡ record a { left = b.left; written = b.written }
 LeavesBy (Some Init) a b = b ≡ record a { written = b.written; keeping = b.keeping; moments = b.moments }
 LeavesBy (Some Desk) a b = b ≡ record a {

@@ -2,7 +2,7 @@
 mod commands;
 mod devices;
 mod faults;
-mod laboratories;
+mod labs;
 pub mod laws;
 pub(crate) mod scripts;
 mod sides;

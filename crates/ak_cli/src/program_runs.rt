@@ -1,6 +1,6 @@
 ghost use Rattle.std.specs.Prelude.{◌≡◌, ◌⊎◌, ◌<◌, ◌≤◌, ℕ, map, false, true, None, Some};
 ghost use Rattle.std.specs.Io.KnownBytes.{Appends, IsAtEnd};
-ghost use Rattle.ak_cli.specs.ProgramEnds.{EndsBy, LeavesBy, around, reads_input};
+ghost use Rattle.ak_cli.specs.ProgramEnds.{EndsBy, LeavesBy, program_outside, reads_input};
 ghost use Rattle.ak_cli.specs.Programs.{command_of, named_by, usage_line, Tells};
 ghost use Rattle.ak_faults.specs.Causes.{GoesOn, Rose};
 ghost use Rattle.ak_io.specs.Scripts.{AppendsPart};
@@ -35,18 +35,18 @@ pub fn run<I: Source, O: Sink, K: Keeper, W: Wire, C: Clock, R: Chance>(
     // What the command does and prints, and the status that tells it: 5 in its place if the output counted a fault meanwhile,
     // also one that only a flush met. Of words that name no command `usage` is printed.
     ensures ends { (status : ℕ) × EndsBy (command_of words.now) status
-        (around (I.left input.old) (O.written out.old) (K.keeping keeper.old) (W.health wire.old) (W.state wire.old)
+        (program_outside (I.left input.old) (O.written out.old) (K.keeping keeper.old) (W.health wire.old) (W.state wire.old)
         (C.to_come clock.old) (R.to_come chance.old) (map (λ b. meaning b) filters.old.items))
-        (around (I.left input.new) (O.written out.new) (K.keeping keeper.new) (W.health wire.new) (W.state wire.new)
+        (program_outside (I.left input.new) (O.written out.new) (K.keeping keeper.new) (W.health wire.new) (W.state wire.new)
         (C.to_come clock.new) (R.to_come chance.new) (map (λ b. meaning b) filters.new.items))
         × Tells status (O.health out.old) (O.health out.new) result }
     ensures faulted { (O.health out.old).faults < (O.health out.new).faults → result ≡ 5 }
 
     // What it leaves alone.
     ensures leaves { LeavesBy (command_of words.now)
-        (around (I.left input.old) (O.written out.old) (K.keeping keeper.old) (W.health wire.old) (W.state wire.old)
+        (program_outside (I.left input.old) (O.written out.old) (K.keeping keeper.old) (W.health wire.old) (W.state wire.old)
         (C.to_come clock.old) (R.to_come chance.old) (map (λ b. meaning b) filters.old.items))
-        (around (I.left input.new) (O.written out.new) (K.keeping keeper.new) (W.health wire.new) (W.state wire.new)
+        (program_outside (I.left input.new) (O.written out.new) (K.keeping keeper.new) (W.health wire.new) (W.state wire.new)
         (C.to_come clock.new) (R.to_come chance.new) (map (λ b. meaning b) filters.new.items)) }
     ensures unmarked { is_marked (K.keeping keeper.new) ≡ false }
 
@@ -95,14 +95,14 @@ fn run_words<I: Source, O: Sink, K: Keeper, W: Wire, C: Clock, R: Chance>(
 ) -> u8
     requires unmarked { is_marked (K.keeping keeper.old) ≡ false }
     ensures ends { EndsBy (command_of words.now) result
-        (around (I.left input.old) (O.written out.old) (K.keeping keeper.old) (W.health wire.old) (W.state wire.old)
+        (program_outside (I.left input.old) (O.written out.old) (K.keeping keeper.old) (W.health wire.old) (W.state wire.old)
         (C.to_come clock.old) (R.to_come chance.old) (map (λ b. meaning b) filters.old.items))
-        (around (I.left input.new) (O.written out.new) (K.keeping keeper.new) (W.health wire.new) (W.state wire.new)
+        (program_outside (I.left input.new) (O.written out.new) (K.keeping keeper.new) (W.health wire.new) (W.state wire.new)
         (C.to_come clock.new) (R.to_come chance.new) (map (λ b. meaning b) filters.new.items)) }
     ensures leaves { LeavesBy (command_of words.now)
-        (around (I.left input.old) (O.written out.old) (K.keeping keeper.old) (W.health wire.old) (W.state wire.old)
+        (program_outside (I.left input.old) (O.written out.old) (K.keeping keeper.old) (W.health wire.old) (W.state wire.old)
         (C.to_come clock.old) (R.to_come chance.old) (map (λ b. meaning b) filters.old.items))
-        (around (I.left input.new) (O.written out.new) (K.keeping keeper.new) (W.health wire.new) (W.state wire.new)
+        (program_outside (I.left input.new) (O.written out.new) (K.keeping keeper.new) (W.health wire.new) (W.state wire.new)
         (C.to_come clock.new) (R.to_come chance.new) (map (λ b. meaning b) filters.new.items)) }
     ensures unmarked { is_marked (K.keeping keeper.new) ≡ false }
     ensures usage { result ≡ 2 → command_of words.now ≡ None }
@@ -137,14 +137,14 @@ fn run_command<I: Source, O: Sink, K: Keeper, W: Wire, C: Clock, R: Chance>(
 ) -> u8
     requires unmarked { is_marked (K.keeping keeper.old) ≡ false }
     ensures ends { EndsBy (Some (named_by command)) result
-        (around (I.left input.old) (O.written out.old) (K.keeping keeper.old) (W.health wire.old) (W.state wire.old)
+        (program_outside (I.left input.old) (O.written out.old) (K.keeping keeper.old) (W.health wire.old) (W.state wire.old)
         (C.to_come clock.old) (R.to_come chance.old) (map (λ b. meaning b) filters.old.items))
-        (around (I.left input.new) (O.written out.new) (K.keeping keeper.new) (W.health wire.new) (W.state wire.new)
+        (program_outside (I.left input.new) (O.written out.new) (K.keeping keeper.new) (W.health wire.new) (W.state wire.new)
         (C.to_come clock.new) (R.to_come chance.new) (map (λ b. meaning b) filters.new.items)) }
     ensures leaves { LeavesBy (Some (named_by command))
-        (around (I.left input.old) (O.written out.old) (K.keeping keeper.old) (W.health wire.old) (W.state wire.old)
+        (program_outside (I.left input.old) (O.written out.old) (K.keeping keeper.old) (W.health wire.old) (W.state wire.old)
         (C.to_come clock.old) (R.to_come chance.old) (map (λ b. meaning b) filters.old.items))
-        (around (I.left input.new) (O.written out.new) (K.keeping keeper.new) (W.health wire.new) (W.state wire.new)
+        (program_outside (I.left input.new) (O.written out.new) (K.keeping keeper.new) (W.health wire.new) (W.state wire.new)
         (C.to_come clock.new) (R.to_come chance.new) (map (λ b. meaning b) filters.new.items)) }
     ensures unmarked { is_marked (K.keeping keeper.new) ≡ false }
     ensures usage { (result ≡ 2) → ⊥ }

@@ -4,13 +4,13 @@ use Rattle.std.proofs.Common.{refl, sym, ap, ◌∙◌, subst, inl, inr, rules}
 use Rattle.std.proofs.lemmas.List.{append_cancel_left, append_cancel_right}
 use Rattle.ak_base.specs.declared.keys.HostKey.{HostKey}
 use Rattle.ak_client.specs.Outcomes.{HasOutcomeCause}
-use Rattle.ak_client.specs.Syncs.{KeepsDevice}
+use Rattle.ak_client.specs.Syncs.{KeepsDevice, ends_before_finish}
 use Rattle.ak_client.specs.declared.outcomes.Outcome.{Outcome}
 use Rattle.ak_client.specs.declared.outcomes.Outcome.TheVariants as outcomes
 use Rattle.ak_faults.specs.Causes.{Health}
 use Rattle.ak_keep.specs.Keepers.{Keeping}
 use Rattle.ak_outcomes.specs.OutcomeTexts.{outcome_text, outcome_status}
-use Rattle.ak_sync_runs.specs.SyncRuns.{EndsPrinting, EndsSync, EndsSyncOn, FinishesNext, HasStatusCause, IsSyncRun, Surroundings, TellsOutcome, is_sync_status}
+use Rattle.ak_sync_runs.specs.SyncRuns.{CommitsNextOnce, EndsPrinting, EndsSync, EndsSyncOn, FinishesNext, HasStatusCause, IsSyncRun, SyncOutside, TellsOutcome, is_early_status, is_sync_status}
 
 -- the line of a sync that is finished
 abbrev pub finished_line : List ℕ
@@ -21,7 +21,7 @@ abbrev pub unchanged_line : List ℕ
 unchanged_line = codes "no changes" ++ 10 ∷ []
 
 -- over a keeper that holds a collection, a run of a sync is how it ends
-pub ran : (host : HostKey) (status : ℕ) (before after : Surroundings) (old new : Option (List ℕ))
+pub ran : (host : HostKey) (status : ℕ) (before after : SyncOutside) (old new : Option (List ℕ))
     → true ≡ before.keeping.headed.current → IsSyncRun host status before after old new
     → EndsSync host status before after old new
 ran host status before after old new held run =
@@ -88,7 +88,7 @@ unchanged_by outcome old (inl (text, is, inr (status, part))) = absurd (search (
 unchanged_by outcome old (inr (status, nothing)) = absurd (search (status, rules))
 
 -- a run that finished
-run_finished : (host : HostKey) (before after : Surroundings) (old : List ℕ)
+run_finished : (host : HostKey) (before after : SyncOutside) (old : List ℕ)
     → IsSyncRun host 0 before after (Some old) (Some (old ++ finished_line)) → FinishesNext host before after
 run_finished host before after old run =
     let finished : run.outcome ≡ outcomes.Finished = finished_by run.outcome old run.told in (
@@ -107,7 +107,7 @@ run_finished host before after old run =
     )
 
 -- a sync that ended so, by whether a collection was held
-finished_on : (held : Bool) (host : HostKey) (before after : Surroundings) (old : List ℕ)
+finished_on : (held : Bool) (host : HostKey) (before after : SyncOutside) (old : List ℕ)
     → EndsSyncOn held host 0 before after (Some old) (Some (old ++ finished_line)) → FinishesNext host before after
 finished_on true host before after old (inl run) = run_finished host before after old run
 finished_on true host before after old (inr (same, (status, nothing))) = absurd (search (status, rules))
@@ -115,7 +115,7 @@ finished_on false host before after old (same, inl (status, written)) = absurd (
 finished_on false host before after old (same, inr (status, part)) = absurd (search (status, rules))
 
 -- what `finished` tells
-pub printed_finish : (host : HostKey) (before after : Surroundings) (old : List ℕ)
+pub printed_finish : (host : HostKey) (before after : SyncOutside) (old : List ℕ)
     → EndsSync host 0 before after (Some old) (Some (old ++ (codes "finished" ++ 10 ∷ []))) → FinishesNext host before after
 printed_finish host before after old ends = finished_on before.keeping.headed.current host before after old ends
 
@@ -147,19 +147,19 @@ status_of_told outcome status old new (inl (text, is, inr (same, part))) no_writ
 status_of_told outcome status old new (inr (same, nothing)) no_write no_memory = absurd (no_memory same)
 
 -- by whether a collection was held
-kept_on : (held : Bool) (host : HostKey) (status : ℕ) (before after : Surroundings) (old new : Option (List ℕ))
+kept_on : (held : Bool) (host : HostKey) (status : ℕ) (before after : SyncOutside) (old new : Option (List ℕ))
     → EndsSyncOn held host status before after old new → status ≢ 0 → status ≢ 5 → status ≢ 8 → status ≢ 11
     → after.keeping ≡ before.keeping
 kept_on true host status before after old new (inl run) done no_write no_memory sanity =
     kept_by run.outcome status before.keeping after.keeping before.moments after.moments
     (status_of_told run.outcome status old new run.told no_write no_memory) done sanity run.device
 kept_on true host status before after old new (inr (same, ends)) done no_write no_memory sanity =
-    ap (λ (s : Surroundings). s.keeping) same
+    ap (λ (s : SyncOutside). s.keeping) same
 kept_on false host status before after old new (same, ends) done no_write no_memory sanity =
-    ap (λ (s : Surroundings). s.keeping) same
+    ap (λ (s : SyncOutside). s.keeping) same
 
 -- what other statuses tell
-pub other_status : (host : HostKey) (status : ℕ) (before after : Surroundings) (old new : Option (List ℕ))
+pub other_status : (host : HostKey) (status : ℕ) (before after : SyncOutside) (old new : Option (List ℕ))
     → EndsSync host status before after old new → status ≢ 0 → status ≢ 5 → status ≢ 8 → status ≢ 11
     → after.keeping ≡ before.keeping
 other_status host status before after old new ends =
@@ -172,17 +172,66 @@ kept_unchanged outcome before left moments to_come unchanged kept =
     subst (λ o. KeepsDevice 1 before left moments to_come o) unchanged kept
 
 -- by whether a collection was held
-unchanged_on : (held : Bool) (host : HostKey) (before after : Surroundings) (old : List ℕ)
+unchanged_on : (held : Bool) (host : HostKey) (before after : SyncOutside) (old : List ℕ)
     → EndsSyncOn held host 0 before after (Some old) (Some (old ++ unchanged_line)) → after.keeping ≡ before.keeping
 unchanged_on true host before after old (inl run) =
     kept_unchanged run.outcome before.keeping after.keeping before.moments after.moments (unchanged_by run.outcome old run.told) run.device
-unchanged_on true host before after old (inr (same, ends)) = ap (λ (s : Surroundings). s.keeping) same
-unchanged_on false host before after old (same, ends) = ap (λ (s : Surroundings). s.keeping) same
+unchanged_on true host before after old (inr (same, ends)) = ap (λ (s : SyncOutside). s.keeping) same
+unchanged_on false host before after old (same, ends) = ap (λ (s : SyncOutside). s.keeping) same
 
 -- what `no changes` tells
-pub printed_no_changes : (host : HostKey) (before after : Surroundings) (old : List ℕ)
+pub printed_no_changes : (host : HostKey) (before after : SyncOutside) (old : List ℕ)
     → EndsSync host 0 before after (Some old) (Some (old ++ (codes "no changes" ++ 10 ∷ []))) → after.keeping ≡ before.keeping
 printed_no_changes host before after old ends = unchanged_on before.keeping.headed.current host before after old ends
+
+-- ---- what is committed
+-- an outcome with a status that comes before a finish alone
+early_by : (outcome : Outcome) → is_early_status (outcome_status outcome) ≡ true → ends_before_finish outcome ≡ true
+early_by outcomes.Finished is = absurd (search (is, rules))
+early_by outcomes.NoChanges is = refl
+early_by (outcomes.FullSchema device server) is = refl
+early_by (outcomes.FullSequence usn) is = refl
+early_by (outcomes.BadRow fault) is = refl
+early_by (outcomes.BadCounts client server) is = refl
+early_by (outcomes.ClockOff device server) is = refl
+early_by (outcomes.OwnCheck fault) is = refl
+early_by outcomes.Stopped is = refl
+early_by (outcomes.Refused code word seen) is = absurd (search (is, rules))
+early_by outcomes.Lost is = absurd (search (is, rules))
+early_by outcomes.BadReply is = absurd (search (is, rules))
+early_by outcomes.TooManyChunks is = refl
+early_by outcomes.Keep is = absurd (search (is, rules))
+early_by outcomes.Memory is = absurd (search (is, rules))
+
+-- no status of an end before the finish is that of a failed output or of want of memory
+early_told : (outcome : Outcome) (status : ℕ) (old new : Option (List ℕ)) → TellsOutcome outcome status old new
+    → is_early_status status ≡ true → ends_before_finish outcome ≡ true
+early_told outcome status old new told early =
+    let no_write : status ≢ 5 = λ is. search (sym (ap is_early_status is) ∙ early, rules) in
+    let no_memory : status ≢ 8 = λ is. search (sym (ap is_early_status is) ∙ early, rules) in
+    early_by outcome (sym (ap is_early_status (status_of_told outcome status old new told no_write no_memory)) ∙ early)
+
+-- by whether a collection was held
+once_on : (held : Bool) (host : HostKey) (status : ℕ) (before after : SyncOutside) (old new : Option (List ℕ))
+    → EndsSyncOn held host status before after old new → CommitsNextOnce host status before after
+once_on true host status before after old new (inl run) = inr (
+  run.word,
+  run.drawn,
+  λ c account log holds tells may.
+      let (now, grown, synced) = run.ended.sync.told log tells in (
+        now,
+        grown,
+        λ newer. let it = synced c account holds may newer in
+            (it.growth, it.base, _, _, it.grown, it.at_meta, it.once, λ early. it.early (early_told run.outcome status old new run.told early)),
+      ),
+)
+once_on true host status before after old new (inr (same, ends)) = inl same
+once_on false host status before after old new (same, ends) = inl same
+
+-- what any end tells
+pub any_end : (host : HostKey) (status : ℕ) (before after : SyncOutside) (old new : Option (List ℕ))
+    → EndsSync host status before after old new → CommitsNextOnce host status before after
+any_end host status before after old new ends = once_on before.keeping.headed.current host status before after old new ends
 
 -- ---- which statuses there are
 -- an outcome has one of them

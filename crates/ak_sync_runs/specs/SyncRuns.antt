@@ -3,7 +3,7 @@ use Rattle.std.specs.Prelude.{◌≡◌, ◌≢◌, ◌⊎◌, ℕ, ℤ, ◌==�
 use Rattle.std.specs.Io.KnownBytes.{Appends, Keeps}
 use Rattle.ak_base.specs.declared.keys.HostKey.{HostKey}
 use Rattle.ak_client.specs.Outcomes.{HasLostThrice, ShowsRefusal}
-use Rattle.ak_client.specs.Syncs.{IsSyncEnded, IsSyncFinished, KeepsDevice, MayBegin, TakesMoments, world_at}
+use Rattle.ak_client.specs.Syncs.{IsCommittedIn, IsSyncEnded, IsSyncFinished, KeepsDevice, MayBegin, StaysOnce, TakesMoments, world_at}
 use Rattle.ak_client.specs.declared.outcomes.Outcome.{Outcome}
 use Rattle.ak_exchange.specs.Asked.{asker}
 use Rattle.ak_exchange.specs.Phases.{holding}
@@ -13,10 +13,11 @@ use Rattle.ak_io.specs.Arrivals.{GivesNext}
 use Rattle.ak_io.specs.Scripts.{AppendsPart}
 use Rattle.ak_keep.specs.Collections.{Collection}
 use Rattle.ak_keep.specs.Keepers.{Keeping}
+use Rattle.ak_messages.specs.declared.requests.Ask.{Ask}
 use Rattle.ak_outcomes.specs.OutcomeTexts.{outcome_text, outcome_status}
 use Rattle.ak_protocol.specs.Accounts.{AccountState}
 use Rattle.ak_protocol.specs.Commits.{EachNewer, HasFreshSchema}
-use Rattle.ak_protocol.specs.Logs.{Log}
+use Rattle.ak_protocol.specs.Logs.{Event, Log, commits_of, with_growth}
 use Rattle.ak_wires.specs.Wires.{WireState}
 
 -- ---- what is printed
@@ -43,6 +44,11 @@ is_sync_status status =
     (status == 0) || (status == 3) || (status == 5) || (status == 6) || (status == 7) || (status == 8)
     || (status == 10) || (status == 11) || (status == 12) || (status == 13) || (status == 14) || (status == 15)
 
+-- the statuses of ends that come before a finish alone: another collection is needed, the sanity check was bad, the clocks are apart, or the
+-- device's own check found a fault
+abbrev pub is_early_status : ℕ → Bool
+is_early_status status = (status == 10) || (status == 11) || (status == 12) || (status == 14)
+
 -- a command ends with this status, that of a failed end, only if that end counted a fault, and never over a calm one
 pub record HasStatusCause (code : ℕ) (before now : Health) (status : ℕ) : Type 0 where
   pub goes : GoesOn before now
@@ -51,7 +57,7 @@ pub record HasStatusCause (code : ℕ) (before now : Health) (status : ℕ) : Ty
 
 -- ---- the run
 -- what is known of what a sync is given: its keeper, its wire, and the moments and words of chance to come
-pub record Surroundings : Type 0 where
+pub record SyncOutside : Type 0 where
   pub keeping : Keeping
   pub health : Health
   pub wire : WireState
@@ -59,8 +65,8 @@ pub record Surroundings : Type 0 where
   pub words : Option (List ℕ)
 
 -- the same, by its parts
-abbrev pub surroundings_of : Keeping → Health → WireState → Option (List ℤ) → Option (List ℕ) → Surroundings
-surroundings_of keeping health wire moments words =
+abbrev pub sync_outside : Keeping → Health → WireState → Option (List ℤ) → Option (List ℕ) → SyncOutside
+sync_outside keeping health wire moments words =
     record { keeping = keeping; health = health; wire = wire; moments = moments; words = words }
 
 -- who syncs: the account of the host key, in a session whose key is a word of chance
@@ -69,7 +75,7 @@ ids_of host word = record { host = host; session = record { 0 = word } }
 
 -- one sync ran, in a session whose key is the next word of chance, and its outcome was told. Whatever the status, device and server are as
 -- that outcome leaves them
-pub record IsSyncRun (host : HostKey) (status : ℕ) (before after : Surroundings) (old new : Option (List ℕ)) : Type 0 where
+pub record IsSyncRun (host : HostKey) (status : ℕ) (before after : SyncOutside) (old new : Option (List ℕ)) : Type 0 where
   pub word : ℕ
   pub outcome : Outcome
   pub drawn : GivesNext before.words after.words word
@@ -84,14 +90,14 @@ pub record IsSyncRun (host : HostKey) (status : ℕ) (before after : Surrounding
 
 -- the same, by whether a collection is held. If none is, `no collection` is printed, and the status is 3. Memory may run out before
 -- anything is asked
-abbrev pub EndsSyncOn : Bool → HostKey → ℕ → Surroundings → Surroundings → Option (List ℕ) → Option (List ℕ) → Type 0
+abbrev pub EndsSyncOn : Bool → HostKey → ℕ → SyncOutside → SyncOutside → Option (List ℕ) → Option (List ℕ) → Type 0
 EndsSyncOn true host status before after old new =
     IsSyncRun host status before after old new ⊎ (after ≡ before) × EndsUntold status old new
 EndsSyncOn false host status before after old new =
     (after ≡ before) × EndsPrinting (codes "no collection") 3 status old new
 
 -- how `sync` ends for the account of this host key
-abbrev pub EndsSync : HostKey → ℕ → Surroundings → Surroundings → Option (List ℕ) → Option (List ℕ) → Type 0
+abbrev pub EndsSync : HostKey → ℕ → SyncOutside → SyncOutside → Option (List ℕ) → Option (List ℕ) → Type 0
 EndsSync host status before after old new =
     EndsSyncOn before.keeping.headed.current host status before after old new
 
@@ -99,7 +105,7 @@ EndsSync host status before after old new =
 -- where the keeper told a collection with which this sync could begin, and the wire a log, and no upload in between gave just the device's
 -- schema moment: the session committed once. Device and commit hold the join of what both held, if these were apart. If nothing else used
 -- the wire, that was over what was committed before the sync, and is what is committed after it
-abbrev pub HasFinished : Ids → Surroundings → Surroundings → Type 0
+abbrev pub HasFinished : Ids → SyncOutside → SyncOutside → Type 0
 HasFinished ids before after = let who = asker ids in (c : Collection) (account : AccountState) (log : Log)
     → before.keeping ≡ holding c → before.wire.log ≡ Some log → MayBegin who c account log
     → (now : Log) × (after.wire.log ≡ Some now)
@@ -109,6 +115,24 @@ HasFinished ids before after = let who = asker ids in (c : Collection) (account 
     × (it.after ≡ (world_at who account now).state.committed)))
 
 -- a sync of the session whose key was the next word of chance has finished
-abbrev pub FinishesNext : HostKey → Surroundings → Surroundings → Type 0
+abbrev pub FinishesNext : HostKey → SyncOutside → SyncOutside → Type 0
 FinishesNext host before after =
     (word : ℕ) × GivesNext before.words after.words word × HasFinished (ids_of host word) before after
+
+-- ---- what any end leaves on the server
+-- under the same premises, however the sync ended: the session committed at most once, the join of the device and what was committed when its
+-- meta was answered; so it is in any later log in which nothing but metas and what this sync asked has its key. It committed nothing where
+-- its status tells an end before its finish
+abbrev pub CommitsOnce : Ids → ℕ → SyncOutside → SyncOutside → Type 0
+CommitsOnce ids status before after = let who = asker ids in (c : Collection) (account : AccountState) (log : Log)
+    → before.keeping ≡ holding c → before.wire.log ≡ Some log → MayBegin who c account log
+    → (now : Log) × (after.wire.log ≡ Some now)
+    × (EachNewer (HasFreshSchema c) (world_at who account log) (world_at who account now)
+    → (growth : List Event) × (base : Collection) × (moment : ℤ) × (asks : List Ask) × (now ≡ with_growth log growth)
+    × ((asks ≡ []) ⊎ IsCommittedIn who account log growth base) × StaysOnce who c base moment asks account now
+    × (is_early_status status ≡ true → commits_of who.session.0 (world_at who account now).commits ≡ []))
+
+-- the same of the session whose key was the next word of chance; or nothing was asked
+abbrev pub CommitsNextOnce : HostKey → ℕ → SyncOutside → SyncOutside → Type 0
+CommitsNextOnce host status before after = (after ≡ before)
+    ⊎ ((word : ℕ) × GivesNext before.words after.words word × CommitsOnce (ids_of host word) status before after)

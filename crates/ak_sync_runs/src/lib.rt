@@ -7,5 +7,5 @@ mod run_laws;
 mod sync_runs;
 
 pub use no_servers::NoServer;
-pub use run_laws::{a_printed_finish_joins, other_ends_keep_the_device};
+pub use run_laws::{a_printed_finish_joins, a_sync_commits_once, other_ends_keep_the_device};
 pub use sync_runs::run_sync;

@@ -1,12 +1,12 @@
 // What the end of a sync tells whoever reads it.
 ghost use Rattle.std.specs.Prelude.{◌≡◌, ◌≢◌, ℕ, List, [], ◌∷◌, ◌++◌, Option, Some, codes};
 ghost use Rattle.ak_base.specs.declared.keys.HostKey.{HostKey};
-ghost use Rattle.ak_sync_runs.specs.SyncRuns.{EndsSync, FinishesNext, Surroundings};
+ghost use Rattle.ak_sync_runs.specs.SyncRuns.{CommitsNextOnce, EndsSync, FinishesNext, SyncOutside};
 
 /// If `finished` is what was printed, and the status is 0, then the device holds the join of what it and the server held, and so
 /// does what the server committed for this sync, once.
 pub fn a_printed_finish_joins()
-    ensures { (host : HostKey) (before after : Surroundings) (old : List ℕ)
+    ensures { (host : HostKey) (before after : SyncOutside) (old : List ℕ)
         → EndsSync host 0 before after (Some old) (Some (old ++ (codes "finished" ++ 10 ∷ [])))
         → FinishesNext host before after }
 {}
@@ -14,10 +14,17 @@ pub fn a_printed_finish_joins()
 /// The device is as it was if `no changes` is what was printed and the status is 0, or if the status is none of 0, 5, 8 and 11. With 5
 /// and 8 it may be as any outcome leaves it, and with 11 its moments have risen.
 pub fn other_ends_keep_the_device()
-    ensures unchanged { (host : HostKey) (before after : Surroundings) (old : List ℕ)
+    ensures unchanged { (host : HostKey) (before after : SyncOutside) (old : List ℕ)
         → EndsSync host 0 before after (Some old) (Some (old ++ (codes "no changes" ++ 10 ∷ [])))
         → after.keeping ≡ before.keeping }
-    ensures unfinished { (host : HostKey) (status : ℕ) (before after : Surroundings) (old new : Option (List ℕ))
+    ensures unfinished { (host : HostKey) (status : ℕ) (before after : SyncOutside) (old new : Option (List ℕ))
         → EndsSync host status before after old new → status ≢ 0 → status ≢ 5 → status ≢ 8 → status ≢ 11
         → after.keeping ≡ before.keeping }
+{}
+
+/// Whatever was printed, and whatever the status: the server committed at most once for this sync, the join of what both held, and so it
+/// stays if what the sync asked comes again later. A lost reply to a finish is one such end.
+pub fn a_sync_commits_once()
+    ensures { (host : HostKey) (status : ℕ) (before after : SyncOutside) (old new : Option (List ℕ))
+        → EndsSync host status before after old new → CommitsNextOnce host status before after }
 {}

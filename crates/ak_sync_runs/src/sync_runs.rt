@@ -1,7 +1,7 @@
 ghost use Rattle.std.specs.Prelude.{◌≡◌, ◌≢◌, true, false};
 ghost use Rattle.ak_faults.specs.Causes.{GoesOn};
 ghost use Rattle.ak_keep.specs.Keepers.{is_marked};
-ghost use Rattle.ak_sync_runs.specs.SyncRuns.{EndsPrinting, EndsSync, HasStatusCause, TellsOutcome, is_sync_status, surroundings_of};
+ghost use Rattle.ak_sync_runs.specs.SyncRuns.{EndsPrinting, EndsSync, HasStatusCause, TellsOutcome, is_sync_status, sync_outside};
 
 use ak_base::{HostKey, Memory, SessionKey};
 use ak_client::{Ids, Outcome, sync_over};
@@ -32,9 +32,9 @@ pub fn run_sync<K: Keeper, W: Wire, C: Clock, R: Chance, O: Sink>(
 
     // What it leaves on the device and on the server, whatever the keeper and the wire, and what is written of it.
     ensures ends { EndsSync host result
-        (surroundings_of (K.keeping keeper.old) (W.health wire.old) (W.state wire.old)
+        (sync_outside (K.keeping keeper.old) (W.health wire.old) (W.state wire.old)
         (C.to_come clock.old) (R.to_come chance.old))
-        (surroundings_of (K.keeping keeper.new) (W.health wire.new) (W.state wire.new)
+        (sync_outside (K.keeping keeper.new) (W.health wire.new) (W.state wire.new)
         (C.to_come clock.new) (R.to_come chance.new))
         (O.written out.old) (O.written out.new) }
     ensures unmarked { is_marked (K.keeping keeper.new) ≡ false }

@@ -6,7 +6,7 @@ ghost use Rattle.ak_cli.specs.LabRun.{lab_run, run_left};
 ghost use Rattle.ak_cli.specs.Labs.{state_of};
 
 use crate::lab::faults::LineFault;
-use crate::lab::laboratories::Lab;
+use crate::lab::labs::Lab;
 use ak_base::Memory;
 use ak_io::{LineReader, ReadFault, ScriptEnd, Sink, Source, print_refusal};
 use std::alloc::Global;

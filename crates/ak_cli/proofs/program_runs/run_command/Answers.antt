@@ -3,7 +3,8 @@ use Rattle.ak_cli.proofs.Endings.{prints_told}
 use Rattle.ak_cli.proofs.program_runs.run_command.Goals as goal
 
 pub returns-in-Lab-clause-ends : goal.returns-in-Lab-clause-ends
-returns-in-Lab-clause-ends g c = rw c.in-Lab.is (rw c.status_of.ensures (prints_told _ _ _ _ c.run_script.ensures.told))
+returns-in-Lab-clause-ends g c = rw c.in-Lab.is
+    (_, c.status_of.ensures, rw c.status_of.ensures (prints_told _ _ _ _ c.run_script.ensures.told))
 
 pub returns-in-Init-clause-ends : goal.returns-in-Init-clause-ends
 returns-in-Init-clause-ends g c = let e = c.init_collection.ensures.ends in

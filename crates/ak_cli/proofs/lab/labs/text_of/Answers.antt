@@ -1,7 +1,7 @@
 use Rattle.std.proofs.Common.{◌≡◌, Bool, true, false, sym, refl}
 use Rattle.std.proofs.lemmas.Str.{IsUtf8-from_is_utf8, is_utf8-from_IsUtf8}
 use Rattle.std.specs.Str.{is_utf8}
-use Rattle.ak_cli.proofs.lab.laboratories.text_of.Goals as goal
+use Rattle.ak_cli.proofs.lab.labs.text_of.Goals as goal
 
 never : (b : Bool) → (b ≡ true → ⊥) → false ≡ b
 never true h = absurd (h refl)

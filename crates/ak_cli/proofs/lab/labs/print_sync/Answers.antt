@@ -2,7 +2,7 @@ use Rattle.std.proofs.Common.{◌≡◌, [], ◌∷◌, ◌++◌, ◌∙◌, ap}
 use Rattle.ak_io.proofs.Scripts.{part_longer}
 use Rattle.ak_cli.proofs.Printing.{on_err}
 use Rattle.ak_cli.specs.Labs.{sync_line}
-use Rattle.ak_cli.proofs.lab.laboratories.print_sync.Goals as goal
+use Rattle.ak_cli.proofs.lab.labs.print_sync.Goals as goal
 
 pub returns-in_err-print_line-clause-part : goal.returns-in_err-print_line-clause-part
 returns-in_err-print_line-clause-part g c =

@@ -1,6 +1,6 @@
 use Rattle.std.proofs.lemmas.Result.{err_from_is_err_and}
 use Rattle.ak_cli.proofs.Stops.{print_stopped}
-use Rattle.ak_cli.proofs.lab.laboratories.Lab.sync.Goals as goal
+use Rattle.ak_cli.proofs.lab.labs.Lab.sync.Goals as goal
 
 pub returns-in_err-print_sync-clause-err : goal.returns-in_err-print_sync-clause-err
 returns-in_err-print_sync-clause-err g c =
