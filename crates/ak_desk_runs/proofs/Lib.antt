@@ -1,7 +1,7 @@
 mod Going
 mod LineStopping
 mod Opened
-mod OpeningHeads
-mod OpeningRows
+pub mod OpeningHeads
+pub mod OpeningRows
 mod Stopping
 mod Texts

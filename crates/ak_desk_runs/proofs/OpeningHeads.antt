@@ -1,15 +1,15 @@
 -- The head of an opening collection is in its ranges.
-use Rattle.std.proofs.Common.{ℤ, pos, true, sym, subst, arith}
+use Rattle.std.proofs.Common.{ℤ, pos, Bool, true, false, sym, subst, arith}
 use Rattle.std.proofs.lemmas.Int.{ints}
 use Rattle.std.proofs.lemmas.List.Elements.{All-nil}
 use Rattle.std.specs.Prelude.{int_div, ◌*ℤ◌}
 use Rattle.std.specs.List.Sorted.{IsStrictlySortedBy}
 use Rattle.ak_base.specs.Heads.{IsConfInRange, IsHeadInRange, IsTagInRange, IsWithin}
-use Rattle.ak_base.specs.Limits.{last_stamp}
+use Rattle.ak_base.specs.Limits.{last_head_usn, last_stamp}
 use Rattle.ak_base.specs.declared.heads.Conf.{Conf}
 use Rattle.ak_base.specs.declared.heads.Head.{Head}
 use Rattle.ak_io.specs.Arrivals.{IsClockMoment}
-use Rattle.ak_openings.specs.Openings.{IsOpeningConf, IsOpeningHead}
+use Rattle.ak_openings.specs.Openings.{IsOpeningConf, IsOpeningHead, head_usn}
 
 -- the second of a moment
 pub second_within : (ms : ℤ) → IsClockMoment ms → IsWithin (pos 0) last_stamp (int_div ms (pos 1_000))
@@ -30,14 +30,18 @@ conf_within conf is = record {
   rest = rw is.rest (omega arith);
 }
 
+usn_within : (unsent : Bool) → IsWithin (pos 0) last_head_usn (head_usn unsent)
+usn_within true = record { low = omega arith; high = omega arith }
+usn_within false = record { low = omega arith; high = omega arith }
+
 -- the head
-pub head_within : (ms : ℤ) (head : Head) → IsClockMoment ms → IsOpeningHead ms true head → IsHeadInRange head
+pub head_within : (unsent : Bool) (ms : ℤ) (head : Head) → IsClockMoment ms → IsOpeningHead ms unsent head → IsHeadInRange head
 unfolding IsStrictlySortedBy
-head_within ms head within is = record {
+head_within unsent ms head within is = record {
   crt = subst (λ x. IsWithin (pos 0) last_stamp x) (sym is.crt) (day_within ms within);
   moment = rw is.moment (record { low = within.low; high = grind (arith, ints, within.high) });
   schema = rw is.schema (record { low = within.low; high = grind (arith, ints, within.high) });
-  usn = rw is.usn (record { low = omega arith; high = omega arith });
+  usn = subst (IsWithin (pos 0) last_head_usn) (sym is.usn) (usn_within unsent);
   last_sync = rw is.last_sync (record { low = omega arith; high = omega arith });
   conf = conf_within head.conf is.conf;
   tags = rw is.tags (All-nil IsTagInRange);

@@ -1,5 +1,5 @@
 -- The rows of an opening collection pass their check, and have names of their own.
-use Rattle.std.proofs.Common.{◌≡◌, ℕ, ℤ, pos, negsuc, ◌≤ℤ◌, List, [], ◌∷◌, length, map, Option, None, Ok, refl, sym, ap, ◌∙◌, subst, arith, codes}
+use Rattle.std.proofs.Common.{◌≡◌, ℕ, ℤ, pos, negsuc, Bool, true, false, ◌≤ℤ◌, List, [], ◌∷◌, length, map, Option, None, Ok, refl, sym, ap, ◌∙◌, subst, arith, codes}
 use Rattle.std.proofs.lemmas.Int.{ints}
 use Rattle.std.proofs.lemmas.List.{length-map}
 use Rattle.std.proofs.lemmas.List.Elements.{All-from_recursion}
@@ -15,7 +15,7 @@ use Rattle.ak_base.specs.Heads.{IsWithin}
 use Rattle.ak_base.specs.Limits.{last_stamp}
 use Rattle.ak_base.specs.Names.{name_cmp}
 use Rattle.ak_base.specs.NoteTypes.{IsCheckedNoteType, bad_field, bad_template, entries_fault, field_fault, fields_fault, form_faults, place_fault, template_fault, templates_fault, title_faults}
-use Rattle.ak_base.specs.OptionGroups.{IsCheckedOptions}
+use Rattle.ak_base.specs.OptionGroups.{IsCheckedOptions, general_faults, lapse_faults, new_faults, rev_faults}
 use Rattle.ak_base.specs.Rows.{IsChecked, name_of}
 use Rattle.ak_base.specs.declared.decks.Deck.{Deck}
 use Rattle.ak_base.specs.declared.errors.RowFault.{RowFault}
@@ -25,7 +25,7 @@ use Rattle.ak_base.specs.declared.note_types.NoteType.{NoteType}
 use Rattle.ak_base.specs.declared.option_groups.Options.{Options}
 use Rattle.ak_base.specs.declared.rows.Row.{Row}
 use Rattle.ak_base.specs.declared.rows.Row.TheVariants as rows
-use Rattle.ak_openings.specs.Openings.{AreDefaultOptions, AreFive, AreOpeningRows, IsBasic, IsCloze, IsDefaultDeck, IsReversed, five_rows, field_texts, template_texts}
+use Rattle.ak_openings.specs.Openings.{AreDefaultOptions, AreFive, AreOpeningRows, IsBasic, IsCloze, IsDefaultDeck, IsReversed, five_rows, field_texts, row_usn, template_texts}
 
 -- ---- fields and templates by their texts
 abbrev field_fault_of : List ℕ × List ℕ → Option RowFault
@@ -67,10 +67,11 @@ templates_pass ts texts are passes =
     ∙ ap (λ o. option_or (entries_fault 7 (length texts)) o) (templates_by_texts ts ∙ ap bad_template_of are) ∙ passes
 
 -- ---- note types
-title_passes : (t : NoteType) (second : ℤ) → id_fault t.id ≡ None → stamp_fault t.stamp ≡ None → t.usn ≡ negsuc 0 → long_fault 3 (length t.name) 512 ≡ None
+title_passes : (unsent : Bool) (t : NoteType) → id_fault t.id ≡ None → stamp_fault t.stamp ≡ None → t.usn ≡ row_usn unsent → long_fault 3 (length t.name) 512 ≡ None
     → first_fault (title_faults t) ≡ Ok tt
 unfolding title_faults code_fault
-title_passes t second id stamp usn name = rw (id, stamp, usn, name) refl
+title_passes true t id stamp usn name = rw (id, stamp, usn, name) refl
+title_passes false t id stamp usn name = rw (id, stamp, usn, name) refl
 
 form_passes : (t : NoteType) → length t.fields ≡ 2 → t.sortf ≡ pos 0 → fields_fault t.fields ≡ None → templates_fault t.templates ≡ None → t.rest.text ≡ codes "{}"
     → first_fault (form_faults t) ≡ Ok tt
@@ -83,54 +84,69 @@ type_passes t title form = fault_behind (title_faults t) (form_faults t) tt titl
 two_fields : (t : NoteType) (a b : List ℕ × List ℕ) → map field_texts t.fields ≡ a ∷ b ∷ [] → length t.fields ≡ 2
 two_fields t a b are = sym (length-map t.fields field_texts) ∙ ap length are
 
-basic_passes : (second : ℤ) (t : NoteType) → stamp_fault second ≡ None → IsBasic second (negsuc 0) t → IsCheckedNoteType t
+basic_passes : (unsent : Bool) (second : ℤ) (t : NoteType) → stamp_fault second ≡ None → IsBasic second (row_usn unsent) t → IsCheckedNoteType t
 unfolding id_fault long_fault entries_fault
-basic_passes second t passes is =
+basic_passes unsent second t passes is =
     type_passes t
-    (title_passes t second (rw is.id_is refl) (rw is.stamp passes) is.usn (rw is.name_is refl))
+    (title_passes unsent t (rw is.id_is refl) (rw is.stamp passes) is.usn (rw is.name_is refl))
     (form_passes t (two_fields t _ _ is.fields_are) is.sortf (fields_pass t.fields _ is.fields_are refl) (templates_pass t.templates _ is.templates_are refl) is.rest)
 
-cloze_passes : (second : ℤ) (t : NoteType) → stamp_fault second ≡ None → IsCloze second (negsuc 0) t → IsCheckedNoteType t
+cloze_passes : (unsent : Bool) (second : ℤ) (t : NoteType) → stamp_fault second ≡ None → IsCloze second (row_usn unsent) t → IsCheckedNoteType t
 unfolding id_fault long_fault entries_fault
-cloze_passes second t passes is =
+cloze_passes unsent second t passes is =
     type_passes t
-    (title_passes t second (rw is.id_is refl) (rw is.stamp passes) is.usn (rw is.name_is refl))
+    (title_passes unsent t (rw is.id_is refl) (rw is.stamp passes) is.usn (rw is.name_is refl))
     (form_passes t (two_fields t _ _ is.fields_are) is.sortf (fields_pass t.fields _ is.fields_are refl) (templates_pass t.templates _ is.templates_are refl) is.rest)
 
-reversed_passes : (second : ℤ) (t : NoteType) → stamp_fault second ≡ None → IsReversed second (negsuc 0) t → IsCheckedNoteType t
+reversed_passes : (unsent : Bool) (second : ℤ) (t : NoteType) → stamp_fault second ≡ None → IsReversed second (row_usn unsent) t → IsCheckedNoteType t
 unfolding id_fault long_fault entries_fault
-reversed_passes second t passes is =
+reversed_passes unsent second t passes is =
     type_passes t
-    (title_passes t second (rw is.id_is refl) (rw is.stamp passes) is.usn (rw is.name_is refl))
+    (title_passes unsent t (rw is.id_is refl) (rw is.stamp passes) is.usn (rw is.name_is refl))
     (form_passes t (two_fields t _ _ is.fields_are) is.sortf (fields_pass t.fields _ is.fields_are refl) (templates_pass t.templates _ is.templates_are refl) is.rest)
 
 -- ---- the deck and the options
-deck_title_passes : (second : ℤ) (d : Deck) → stamp_fault second ≡ None → IsDefaultDeck second (negsuc 0) d → first_fault (deck_title_faults d) ≡ Ok tt
+deck_title_passes : (unsent : Bool) (second : ℤ) (d : Deck) → stamp_fault second ≡ None → IsDefaultDeck second (row_usn unsent) d → first_fault (deck_title_faults d) ≡ Ok tt
 unfolding deck_title_faults id_fault code_fault long_fault
-deck_title_passes second d passes is = rw (is.id, is.stamp, is.usn, is.name, is.options, passes) refl
+deck_title_passes true second d passes is = rw (is.id, is.stamp, is.usn, is.name, is.options, passes) refl
+deck_title_passes false second d passes is = rw (is.id, is.stamp, is.usn, is.name, is.options, passes) refl
 
-deck_taken_passes : (second : ℤ) (d : Deck) → IsDefaultDeck second (negsuc 0) d → first_fault (taken_faults d) ≡ Ok tt
+deck_taken_passes : (unsent : Bool) (second : ℤ) (d : Deck) → IsDefaultDeck second (row_usn unsent) d → first_fault (taken_faults d) ≡ Ok tt
 unfolding taken_faults code_fault long_fault
-deck_taken_passes second d is = rw (is.new_today, is.rev_today, is.rest) refl
+deck_taken_passes unsent second d is = rw (is.new_today, is.rev_today, is.rest) refl
 
-deck_passes : (second : ℤ) (d : Deck) → stamp_fault second ≡ None → IsDefaultDeck second (negsuc 0) d → IsCheckedDeck d
-deck_passes second d passes is = fault_behind (deck_title_faults d) (taken_faults d) tt (deck_title_passes second d passes is) ∙ deck_taken_passes second d is
+deck_passes : (unsent : Bool) (second : ℤ) (d : Deck) → stamp_fault second ≡ None → IsDefaultDeck second (row_usn unsent) d → IsCheckedDeck d
+deck_passes unsent second d passes is =
+    fault_behind (deck_title_faults d) (taken_faults d) tt (deck_title_passes unsent second d passes is) ∙ deck_taken_passes unsent second d is
 
-options_pass : (second : ℤ) (o : Options) → IsWithin (pos 0) last_stamp second → AreDefaultOptions second (negsuc 0) o → IsCheckedOptions o
-options_pass second o within are =
-    subst (λ u. IsCheckedOptions (record o { usn = u })) (sym are.usn) (opening_passes second (record o { usn = negsuc 0 }) within are.opening)
+-- options that pass with a row that is to be sent pass with one that was
+options_sent : (o : Options) → IsCheckedOptions (record o { usn = negsuc 0 }) → IsCheckedOptions (record o { usn = pos 0 })
+unfolding general_faults new_faults rev_faults lapse_faults code_fault
+options_sent o passes = passes
+
+options_numbered : (unsent : Bool) (o : Options) → IsCheckedOptions (record o { usn = negsuc 0 }) → IsCheckedOptions (record o { usn = row_usn unsent })
+options_numbered true o passes = passes
+options_numbered false o passes = options_sent o passes
+
+options_pass : (unsent : Bool) (second : ℤ) (o : Options) → IsWithin (pos 0) last_stamp second → AreDefaultOptions second (row_usn unsent) o → IsCheckedOptions o
+options_pass unsent second o within are =
+    subst (λ u. IsCheckedOptions (record o { usn = u })) (sym are.usn)
+    (options_numbered unsent o (opening_passes second (record o { usn = negsuc 0 }) within are.opening))
 
 -- ---- all of them
 stamp_passes : (second : ℤ) → pos 0 ≤ℤ second → second ≤ℤ last_stamp → stamp_fault second ≡ None
 unfolding stamp_fault
 stamp_passes second low high = grind (arith, ints)
 
-five_pass : (second : ℤ) (b c r : NoteType) (d : Deck) (o : Options) → IsWithin (pos 0) last_stamp second → AreFive second (negsuc 0) b c r d o
-    → AllByRecursion IsChecked (five_rows b c r d o)
-five_pass second b c r d o within five =
+five_pass : (unsent : Bool) (second : ℤ) (b c r : NoteType) (d : Deck) (o : Options) → IsWithin (pos 0) last_stamp second
+    → AreFive second (row_usn unsent) b c r d o → AllByRecursion IsChecked (five_rows b c r d o)
+five_pass unsent second b c r d o within five =
     let passes = stamp_passes second within.low within.high in
-    let last : AllByRecursion IsChecked (rows.Deck d ∷ rows.Options o ∷ []) = (deck_passes second d passes five.is_deck, (options_pass second o within five.are_options, tt)) in
-    (basic_passes second b passes five.is_basic, (cloze_passes second c passes five.is_cloze, (reversed_passes second r passes five.is_reversed, last)))
+    let last : AllByRecursion IsChecked (rows.Deck d ∷ rows.Options o ∷ []) =
+    (deck_passes unsent second d passes five.is_deck, (options_pass unsent second o within five.are_options, tt)) in (
+      basic_passes unsent second b passes five.is_basic,
+      (cloze_passes unsent second c passes five.is_cloze, (reversed_passes unsent second r passes five.is_reversed, last)),
+    )
 
 -- their names
 five_names : (second number : ℤ) (b c r : NoteType) (d : Deck) (o : Options) → AreFive second number b c r d o
@@ -141,10 +157,10 @@ five_names second number b c r d o five =
     ((refl, (refl, (refl, (refl, tt)))), ((refl, (refl, (refl, tt))), ((refl, (refl, tt)), ((refl, tt), (tt, tt)))))
 
 -- each passes its check
-pub rows_pass : (second : ℤ) (made : List Row) → IsWithin (pos 0) last_stamp second → AreOpeningRows second (negsuc 0) made → All IsChecked made
-rows_pass second made within are =
+pub rows_pass : (unsent : Bool) (second : ℤ) (made : List Row) → IsWithin (pos 0) last_stamp second → AreOpeningRows second (row_usn unsent) made → All IsChecked made
+rows_pass unsent second made within are =
     let (b, c, r, d, o, is, five) = are.are in
-    All-from_recursion IsChecked made (subst (λ l. AllByRecursion IsChecked l) (sym is) (five_pass second b c r d o within five))
+    All-from_recursion IsChecked made (subst (λ l. AllByRecursion IsChecked l) (sym is) (five_pass unsent second b c r d o within five))
 
 -- no two have one name
 pub rows_are_apart : (second number : ℤ) (made : List Row) → AreOpeningRows second number made → IsDistinct (eq_by_cmp name_cmp) (map name_of made)

@@ -5,12 +5,14 @@ use ak_loops::{LoopWire, NothingBetween};
 use ak_undo::UndoList;
 
 impl HeldCollection {
-    ghost use Rattle.ak_client.specs.Syncs.{IsSync, KeepsDevice};
+    ghost use Rattle.ak_client.specs.Outcomes.{HasOutcomeCause};
+    ghost use Rattle.ak_client.specs.Syncs.{IsSyncEnded, KeepsDevice};
+    ghost use Rattle.ak_client.specs.declared.outcomes.Outcome.TheVariants as outcomes;
     ghost use Rattle.ak_keep.specs.Keepers.{all_known};
     ghost use Rattle.ak_loops.specs.LoopWires.{health_over, state_over};
-    ghost use Rattle.std.specs.Prelude.{◌≡◌, [], true, Some};
+    ghost use Rattle.std.specs.Prelude.{◌≡◌, ◌≢◌, [], true, Some};
 
-    /// Syncs over a wire, by a clock.
+    /// Syncs over a wire, by a clock. It never ends because the keeper failed.
     pub fn sync(
         &mut self,
         undo: &mut UndoList,
@@ -18,11 +20,14 @@ impl HeldCollection {
         clock: &mut ListClock,
         ids: Ids,
     ) -> Outcome
-        ensures syncs { IsSync ids (all_known self.old) (all_known self.new)
+        ensures ended { IsSyncEnded ids (all_known self.old) (all_known self.new)
             (health_over wire.old.counts wire.old.mishaps) (health_over wire.new.counts wire.new.mishaps)
             (state_over wire.old.server wire.old.counts wire.old.moment true)
-            (state_over wire.new.server wire.new.counts wire.new.moment true) result }
+            (state_over wire.new.server wire.new.counts wire.new.moment true) (Some clock.old) result }
         ensures device { KeepsDevice 1 (all_known self.old) (all_known self.new) (Some clock.old) (Some clock.new) result }
+        ensures unfailed { result ≢ outcomes.Keep }
+        ensures lost { HasOutcomeCause outcomes.Lost (health_over wire.old.counts wire.old.mishaps)
+            (health_over wire.new.counts wire.new.mishaps) result }
         ensures undo { undo.new ≡ [] }
     {
         sync_over(&mut self.keeper, undo, wire, clock, ids)

@@ -10,7 +10,7 @@ pub replace_all-put-requires-clause-checked : goal.replace_all-put-requires-clau
 replace_all-put-requires-clause-checked g c =
     let at : SFits w64 c.args.at = search rules in
     let made : IsOpening c.args.at true c.in_ok-made.made = rw (to_z-of_z w64 c.args.at at) at c.in_ok-made.ensures in
-    rows_pass _ _ (second_within c.args.at c.requires.moment) made.rows_are
+    rows_pass true _ _ (second_within c.args.at c.requires.moment) made.rows_are
 
 pub replace_all-put-requires-clause-distinct : goal.replace_all-put-requires-clause-distinct
 replace_all-put-requires-clause-distinct g c = rows_are_apart _ _ _ c.in_ok-made.ensures.rows_are
@@ -19,7 +19,7 @@ pub replace_all-put-requires-clause-range : goal.replace_all-put-requires-clause
 replace_all-put-requires-clause-range g c =
     let at : SFits w64 c.args.at = search rules in
     let made : IsOpening c.args.at true c.in_ok-made.made = rw (to_z-of_z w64 c.args.at at) at c.in_ok-made.ensures in
-    head_within c.args.at _ c.requires.moment made.head
+    head_within true c.args.at _ c.requires.moment made.head
 
 pub returns-clause-ok : goal.returns-clause-ok
 returns-clause-ok g c =
