@@ -1,0 +1,312 @@
+-- That a sync which nothing stops is finished, or memory ran out.
+use Rattle.std.specs.List.{AllByRecursion}
+use Rattle.std.specs.Prelude.{◌≡◌, ◌⊎◌, ◌≤◌, ◌<◌, ◌+◌, ◌/◌, ◌≤ℤ◌, ℕ, ℤ, pos, true, false, List, [], ◌∷◌, ◌++◌, length, Some, None}
+use Rattle.std.proofs.Common.{refl, sym, ap, subst, ◌∙◌, inl, inr, arith}
+use Rattle.std.proofs.lemmas.Int.{ints}
+use Rattle.std.proofs.lemmas.Option.{same_Some}
+use Rattle.ak_base.specs.Heads.{IsMoment}
+use Rattle.ak_base.specs.Limits.{last_moment}
+use Rattle.ak_base.specs.Rows.{IsChecked}
+use Rattle.ak_base.specs.declared.names.Name.{Name}
+use Rattle.ak_base.specs.declared.rows.Row.{Row}
+use Rattle.ak_client.proofs.Growing.{commits_grown, lawful_grown}
+use Rattle.ak_client.specs.Outcomes.{is_told_by_meta}
+use Rattle.ak_client.specs.Syncs.{CommitsAlone, EndsAt, IsCommittedIn, IsFairEnd, IsShown, IsSync, IsSyncEnded, Synced, Syncs, meta_tried, told_by, world_at}
+use Rattle.ak_client.specs.declared.outcomes.Outcome.{Outcome}
+use Rattle.ak_client.specs.declared.outcomes.Outcome.TheVariants as outcomes
+use Rattle.ak_exchange.specs.Asked.{TriedAsk, answers_in, asker, asks_in}
+use Rattle.ak_exchange.specs.Grants.{AreTooMany, IsCheckedLast}
+use Rattle.ak_exchange.specs.Phases.{HasTenMillionRows}
+use Rattle.ak_exchange.specs.declared.envelopes.Ids.{Ids}
+use Rattle.ak_exchange.specs.declared.stops.Stop.{Stop}
+use Rattle.ak_exchange.specs.declared.stops.Stop.TheVariants as stops
+use Rattle.ak_faults.specs.Causes.{Rose}
+use Rattle.ak_keep.proofs.RowsByName.{all_gets, named-get}
+use Rattle.ak_keep.specs.Collections.{Collection}
+use Rattle.ak_keep.specs.declared.keepers.Wanted.TheVariants.{From, Unsent}
+use Rattle.ak_merge.proofs.SoundLaws.{sound_has_no_fault}
+use Rattle.ak_merge.specs.Commits.{IsCommitted}
+use Rattle.ak_merge.specs.Holdings.{AreChecked, AreNamed, row_under}
+use Rattle.ak_merge.specs.Joins.{AreApart}
+use Rattle.ak_merge.specs.Links.{AreLinked, AreLinkedParts}
+use Rattle.ak_merge.specs.Soundness.{first_fault}
+use Rattle.ak_merge.specs.declared.checks.CheckFault.{CheckFault}
+use Rattle.ak_messages.specs.declared.replies.Word.{Word}
+use Rattle.ak_messages.specs.declared.requests.Ask.{Ask}
+use Rattle.ak_messages.specs.declared.requests.Ask.TheVariants as asks
+use Rattle.ak_messages.specs.declared.requests.SanityCounts.{SanityCounts}
+use Rattle.ak_protocol.specs.Accounts.{AccountState}
+use Rattle.ak_protocol.specs.Commits.{CommitsGrow, Leads}
+use Rattle.ak_protocol.specs.LawfulServers.{IsLawfulAccount}
+use Rattle.ak_protocol.specs.Logs.{Commit, Log, commits_of, with_growth}
+use Rattle.ak_session.proofs.Accepting.{between}
+use Rattle.ak_session.proofs.PlanLaws.{plans_are_short}
+use Rattle.ak_session.specs.Plans.{Asker, plan, planned, requests_from}
+use Rattle.ak_session.specs.Sessions.{MaySync}
+use Rattle.ak_session.specs.Slices.{wanted_graves, wanted_in_chunks}
+use Rattle.ak_sync_completes.proofs.Graves.{graves_few}
+use Rattle.ak_sync_completes.proofs.Metas.{Says, goes_on_after, meta_says}
+use Rattle.ak_sync_completes.proofs.Reading.{unread_counted}
+use Rattle.ak_sync_completes.proofs.Serving.{IsQuiet}
+use Rattle.ak_sync_completes.proofs.Undisturbed.{granted_last, quiet_or_out}
+use Rattle.ak_sync_completes.specs.Completing.{AreJoinable, EndsWell, IsSyncOver, IsUnhindered, RanOutOfMemory, SyncSides}
+use Rattle.ak_wires.specs.Forms.{is_moment}
+use Rattle.ak_wires.specs.declared.wires.MetaSaid.{MetaSaid}
+
+-- ---- the two sides
+module _ (c s : Collection) (joinable : AreJoinable c s) (lawful : IsCommitted s) (linked : AreLinked c s) where
+  named : AreNamed (row_under c)
+  named = λ name row at. named-get c.rows name row joinable.formed.named at
+
+  checked : AreChecked (row_under c)
+  checked = λ name row at. all_gets (λ (entry : Name × Row). IsChecked entry.1) c.rows name row joinable.formed.checked at
+
+  may_sync : MaySync c s
+  may_sync = record {
+    linked = parts linked;
+    named = named;
+    checked = checked;
+    head = joinable.formed.head;
+    committed = lawful;
+    apart = joinable.apart;
+  }
+    where
+      parts : AreLinked c s → AreLinkedParts c s
+      parts (inl other) = absurd (other joinable.schema)
+      parts (inr all) = all
+
+  device_sound : first_fault c.rows ≡ None
+  device_sound = (sound_has_no_fault c.rows named checked).1 joinable.sound
+
+  -- the plan has fewer requests than there are steps
+  short : (who : Asker) → length (plan who c s) ≤ 9_223_372_036_854_775_807
+  short who =
+      counted (length (plan who c s)) (length (wanted_graves Unsent c.rows)) (length (wanted_in_chunks (From c.head.usn) s.rows)) (length (wanted_in_chunks Unsent c.rows))
+      (plans_are_short who c s lawful.head.usn.low) (graves_few c.rows named joinable.formed.checked) joinable.pulled joinable.pushed
+    where
+      counted : (all graves pulled pushed : ℕ) → all + 1 ≤ 8 + graves / 250 + pulled / 250 + pushed / 250 → graves ≤ 27_021_597_764_222_973
+          → pulled < 10_000_000 → pushed < 10_000_000 → all ≤ 9_223_372_036_854_775_807
+      counted all graves pulled pushed most one two three = omega (arith, most, one, two, three)
+
+-- ---- which collection the meta was answered over
+-- commits that lead on make later moments
+moments_rise : (first last : Collection) (commits : List Commit) → Leads first commits last → first.head.moment ≤ℤ last.head.moment
+moments_rise first last [] leads = grind (arith, ints, ap (λ (k : Collection). k.head.moment) leads)
+moments_rise first last (commit ∷ commits) leads =
+    let earlier = moments_rise first commit.before commits leads.2 in
+    let here = leads.1 in
+    let end = ap (λ (k : Collection). k.head.moment) leads.0 in
+    grind (arith, ints, earlier, here, end)
+
+-- so at the same moment nothing was committed
+same_moment : (first last : Collection) (commits : List Commit) → Leads first commits last → last.head.moment ≡ first.head.moment → last ≡ first
+same_moment first last [] leads same = leads
+same_moment first last (commit ∷ commits) leads same =
+    let earlier = moments_rise first commit.before commits leads.2 in
+    let here = leads.1 in
+    let end = ap (λ (k : Collection). k.head.moment) leads.0 in
+    absurd (grind (arith, ints, earlier, here, end, same))
+
+-- ---- how it ends
+last_of_one : (one it : TriedAsk) (before : List TriedAsk) → one ∷ [] ≡ before ++ it ∷ [] → it ≡ one
+last_of_one one it [] is = grind (arith, is)
+last_of_one one it (other ∷ before) is = absurd (not_last before (grind (arith, is)))
+  where
+    not_last : (more : List TriedAsk) → more ++ it ∷ [] ≡ [] → ⊥
+    not_last [] is = grind (arith, is)
+    not_last (next ∷ more) is = grind (arith, is)
+
+nothing_tried : (tries : List TriedAsk) → asks_in tries ≡ [] → tries ≡ []
+nothing_tried [] is = refl
+nothing_tried (it ∷ more) is = grind (arith, is)
+
+module _ (ids : Ids) (c : Collection) (account : AccountState) (before after : SyncSides) (outcome : Outcome)
+    (it : IsUnhindered ids c account before after)
+    (ended : IsSyncEnded ids before.keeping after.keeping before.health after.health before.wire after.wire before.moments outcome) where
+  abbrev asker_of : Asker
+  asker_of = asker ids
+
+  abbrev held : Collection
+  held = (world_at asker_of account it.old).state.committed
+
+  abbrev own : IsSync ids before.keeping after.keeping before.health after.health before.wire after.wire outcome
+  own = ended.sync
+
+  abbrev asked : List Ask
+  asked = asks_in own.tries
+
+  synced : Synced asker_of own.moment asked c account it.old it.now after.keeping outcome
+  synced =
+      let told = own.told it.old it.begins.told in
+      let syncs : Syncs ids own.moment asked before.keeping after.keeping it.old it.now outcome =
+      subst (λ (log : Log). Syncs ids own.moment asked before.keeping after.keeping it.old log outcome)
+      (same_Some told.0 it.now (sym told.1 ∙ it.begins.told_now)) told.2 in
+      syncs c account it.begins.holds it.begins.may it.begins.fresh
+
+  lawful : IsCommitted held
+  lawful = it.begins.may.lawful.committed
+
+  -- what its meta says
+  says : (said : MetaSaid) → told_by own.meta ≡ Some said → Says held it.at said
+  says =
+      meta_says ids account it.old it.now it.growth it.begins.may.unused.opening it.grown it.at it.near
+      before.health after.health before.wire after.wire it.begins.alone it.begins.told it.begins.told_now
+      own.meta (requests_from asker_of own.moment 1 asked) (answers_in own.tries) own.tried
+
+  -- so it does not end for that
+  goes_on : is_told_by_meta outcome ≡ true → ⊥
+  goes_on =
+      goes_on_after ids c held own.meta own.moment it.at it.later own.tries before.keeping before.moments outcome says
+      it.joinable.schema it.joinable.differ it.joinable.room.usn (device_sound c held it.joinable lawful it.begins.may.linked)
+      it.begins.holds it.clock ended.because
+
+  -- if it asked more, its meta was answered over what was committed before it
+  over_held : own.moment ≡ held.head.moment → (asked ≡ []) ⊎ (synced.base ≡ held)
+  over_held same = by synced.at_meta synced.shown
+    where
+      by : (asked ≡ []) ⊎ IsCommittedIn asker_of account it.old synced.growth synced.base → IsShown asker_of account synced.base own.moment asked it.now
+          → (asked ≡ []) ⊎ (synced.base ≡ held)
+      by (inl none) shown = inl none
+      by (inr place) (inl (none, unused)) = inl none
+      by (inr place) (inr (moment, under_way)) =
+          let grown : CommitsGrow (world_at asker_of account it.old) (world_at asker_of account (with_growth it.old place.front)) =
+          commits_grown asker_of account it.old place.front in
+          let led : Leads held grown.newer synced.base = subst (Leads held grown.newer) place.place grown.lead in
+          inr (same_moment held synced.base grown.newer led (moment ∙ same))
+
+  -- what it asked is a front of the plan
+  front : (own.tries ≡ []) ⊎ ((own.moment ≡ held.head.moment) × (synced.base ≡ held))
+  front = by ended.because.more
+    where
+      known : own.moment ≡ held.head.moment → (asked ≡ []) ⊎ (synced.base ≡ held) → (own.tries ≡ []) ⊎ ((own.moment ≡ held.head.moment) × (synced.base ≡ held))
+      known same (inl none) = inl (nothing_tried own.tries none)
+      known same (inr base) = inr (same, base)
+
+      by : (own.tries ≡ []) ⊎ ((said : MetaSaid) × (told_by own.meta ≡ Some said) × (own.moment ≡ said.moment) × (is_told_by_meta outcome ≡ false))
+          → (own.tries ≡ []) ⊎ ((own.moment ≡ held.head.moment) × (synced.base ≡ held))
+      by (inl none) = inl none
+      by (inr (said, told, moment, untold)) =
+          let same : own.moment ≡ held.head.moment = moment ∙ (says said told).moment in
+          known same (over_held same)
+
+  planned_front : (own.tries ≡ []) ⊎ ((own.moment ≡ held.head.moment) × (synced.base ≡ held))
+      → (asked ≡ []) ⊎ ((own.moment ≡ held.head.moment) × ((rest : List Ask) × (asked ++ rest ≡ planned c held)))
+  planned_front (inl none) = inl (ap asks_in none)
+  planned_front (inr (same, base)) =
+      inr (
+        same,
+        subst (λ (k : Collection). (rest : List Ask) × (asked ++ rest ≡ planned c k)) base
+            (synced.front (subst (λ (k : Collection). AreApart (row_under c) (row_under k)) (sym base) it.joinable.apart)),
+      )
+
+  -- a refusal is want of memory
+  refused : (status : ℕ) (word : Word) (seen : ℤ) → EndsAt (meta_tried own.meta ∷ own.tries) after.wire (outcomes.Refused status word seen) → RanOutOfMemory it.growth
+  refused status word seen (last, (earlier, parts), (reply, answered, other, same_status, same_word, same_seen)) = by (quiet_or_out it.growth it.server)
+    where
+      by : AllByRecursion IsQuiet it.growth ⊎ RanOutOfMemory it.growth → RanOutOfMemory it.growth
+      by (inr out) = out
+      by (inl quiet) =
+          absurd (other (granted_last ids account it.old it.now it.growth it.begins.may.unused.opening it.grown quiet
+          before.health after.health before.wire after.wire it.begins.alone it.begins.told it.begins.told_now
+          c (may_sync c held it.joinable lawful it.begins.may.linked) it.joinable.room it.joinable.joins (short c held it.joinable lawful it.begins.may.linked asker_of)
+          own.meta own.moment own.tries own.granted (planned_front front) last earlier parts reply answered own.tried))
+
+  -- what its session committed is what is committed now, so its moment is in its range
+  committed_now : (made : Collection) → commits_of ids.session.0 (world_at asker_of account it.now).commits
+      ≡ record { key = ids.session.0; before = held; after = made } ∷ [] → is_moment made.head.moment ≡ true
+  committed_now made only =
+      let one : CommitsAlone asker_of account it.old it.now = own.commits it.begins.alone it.old it.now account it.begins.told it.begins.told_now it.begins.may.unused in
+      let last : made ≡ (world_at asker_of account it.now).state.committed = (one.one (record { key = ids.session.0; before = held; after = made }) only).1 in
+      let now_lawful : IsLawfulAccount (world_at asker_of account it.now).state =
+      subst (λ (log : Log). IsLawfulAccount (world_at asker_of account log).state) (sym synced.grown)
+      (lawful_grown asker_of account it.old synced.growth synced.timely it.begins.may.lawful) in
+      between (pos 0) last_moment made.head.moment (subst (λ (k : Collection). IsMoment k.head.moment) (sym last) now_lawful.committed.head.moment)
+
+  -- each answer can be read
+  readable : EndsAt (meta_tried own.meta ∷ own.tries) after.wire outcomes.BadReply → ⊥
+  readable (last, (earlier, parts), unusable) =
+      it.reading (unread_counted ids c account it.old it.now it.begins.may.unused lawful (may_sync c held it.joinable lawful it.begins.may.linked)
+      before.health after.health before.wire after.wire it.begins.alone it.begins.told it.begins.told_now committed_now
+      own.meta own.moment own.tries own.granted (planned_front front) last earlier parts own.tried unusable)
+
+  -- its meta is no sanity check
+  unchecked : (stop : Stop) → own.tries ≡ [] → IsCheckedLast (meta_tried own.meta ∷ own.tries) stop after.wire → ⊥
+  unchecked stop none check =
+      let same : check.it ≡ meta_tried own.meta =
+      last_of_one (meta_tried own.meta) check.it check.last.0 (ap (λ (l : List TriedAsk). meta_tried own.meta ∷ l) (sym none) ∙ check.last.1) in
+      let ask : asks.Meta ≡ asks.SanityCheck2 check.counts = ap (λ (t : TriedAsk). t.ask) (sym same) ∙ check.asks in
+      grind (arith, ask)
+
+  -- the sanity check is good
+  fair : own.tries ≡ [] ⊎ IsFairEnd c held outcome
+  fair = by front
+    where
+      by : (own.tries ≡ []) ⊎ ((own.moment ≡ held.head.moment) × (synced.base ≡ held)) → own.tries ≡ [] ⊎ IsFairEnd c held outcome
+      by (inl none) = inl none
+      by (inr (same, base)) =
+          inr (subst (λ (k : Collection). IsFairEnd c k outcome) base
+          (synced.fair (subst (λ (k : Collection). AreApart (row_under c) (row_under k)) (sym base) it.joinable.apart)))
+
+  bad_row : (fault : CheckFault) → outcome ≡ outcomes.BadRow fault → (own.tries ≡ [] ⊎ IsFairEnd c held outcome) → ⊥
+  bad_row fault is (inl none) =
+      unchecked (stops.BadRow fault) none (subst (EndsAt (meta_tried own.meta ∷ own.tries) after.wire) is own.ends)
+  bad_row fault is (inr fair_end) = subst (IsFairEnd c held) is fair_end it.joinable.joins
+
+  bad_counts : (client server : SanityCounts) → outcome ≡ outcomes.BadCounts client server → (own.tries ≡ [] ⊎ IsFairEnd c held outcome) → ⊥
+  bad_counts client server is (inl none) =
+      unchecked (stops.BadCounts client server) none (subst (EndsAt (meta_tried own.meta ∷ own.tries) after.wire) is own.ends)
+  bad_counts client server is (inr fair_end) = subst (IsFairEnd c held) is fair_end
+
+  -- and the chunks are few
+  too_many : outcome ≡ outcomes.TooManyChunks → (own.tries ≡ [] ⊎ IsFairEnd c held outcome) → ⊥
+  too_many is (inl none) =
+      none_many (subst (λ (l : List TriedAsk). AreTooMany (meta_tried own.meta ∷ l)) none (subst (EndsAt (meta_tried own.meta ∷ own.tries) after.wire) is own.ends))
+    where
+      none_many : AreTooMany (meta_tried own.meta ∷ []) → ⊥
+      none_many (inl came) = omega (arith, came)
+      none_many (inr sent) = omega (arith, sent)
+  too_many is (inr fair_end) = by (subst (IsFairEnd c held) is fair_end)
+    where
+      by : HasTenMillionRows c held → ⊥
+      by (inl pulled) = let less = it.joinable.pulled in omega (arith, pulled, less)
+      by (inr pushed) = let less = it.joinable.pushed in omega (arith, pushed, less)
+
+  -- so it ends well, or because a request was lost, or the device's keeper failed
+  by_outcome : (o : Outcome) → outcome ≡ o → EndsWell it.growth o ⊎ ((o ≡ outcomes.Lost) ⊎ (o ≡ outcomes.Keep))
+  by_outcome outcomes.Finished is = inl tt
+  by_outcome outcomes.NoChanges is = absurd (goes_on (ap is_told_by_meta is))
+  by_outcome (outcomes.FullSchema device server) is = absurd (goes_on (ap is_told_by_meta is))
+  by_outcome (outcomes.FullSequence usn) is = absurd (goes_on (ap is_told_by_meta is))
+  by_outcome (outcomes.BadRow fault) is = absurd (bad_row fault is fair)
+  by_outcome (outcomes.BadCounts client server) is = absurd (bad_counts client server is fair)
+  by_outcome (outcomes.ClockOff device server) is = absurd (goes_on (ap is_told_by_meta is))
+  by_outcome (outcomes.OwnCheck fault) is = absurd (goes_on (ap is_told_by_meta is))
+  by_outcome outcomes.Stopped is = absurd (goes_on (ap is_told_by_meta is))
+  by_outcome (outcomes.Refused status word seen) is =
+      inl (refused status word seen (subst (EndsAt (meta_tried own.meta ∷ own.tries) after.wire) is own.ends))
+  by_outcome outcomes.Lost is = inr (inl refl)
+  by_outcome outcomes.BadReply is = absurd (readable (subst (EndsAt (meta_tried own.meta ∷ own.tries) after.wire) is own.ends))
+  by_outcome outcomes.TooManyChunks is = absurd (too_many is fair)
+  by_outcome outcomes.Keep is = inr (inr refl)
+  by_outcome outcomes.Memory is = inl tt
+
+  pub ends_by_fault : EndsWell it.growth outcome ⊎ ((outcome ≡ outcomes.Lost) ⊎ (outcome ≡ outcomes.Keep))
+  ends_by_fault = by_outcome outcome refl
+
+-- a keeper's fault and a lost request come only of a count that rose
+module _ (ids : Ids) (c : Collection) (account : AccountState) (before after : SyncSides) (outcome : Outcome)
+    (it : IsUnhindered ids c account before after) (sync : IsSyncOver ids before after outcome) where
+  pub completes_lossy : EndsWell it.growth outcome ⊎ (outcome ≡ outcomes.Lost)
+  completes_lossy = by (ends_by_fault ids c account before after outcome it sync.ended)
+    where
+      by : EndsWell it.growth outcome ⊎ ((outcome ≡ outcomes.Lost) ⊎ (outcome ≡ outcomes.Keep)) → EndsWell it.growth outcome ⊎ (outcome ≡ outcomes.Lost)
+      by (inl well) = inl well
+      by (inr (inl lost)) = inr lost
+      by (inr (inr kept)) = absurd (it.keeper (sync.kept.failed kept))
+
+  pub completes_faultless : (Rose before.health after.health → ⊥) → EndsWell it.growth outcome
+  completes_faultless calm = by completes_lossy
+    where
+      by : EndsWell it.growth outcome ⊎ (outcome ≡ outcomes.Lost) → EndsWell it.growth outcome
+      by (inl well) = well
+      by (inr lost) = absurd (calm (sync.lost.failed lost))

@@ -1,0 +1,11 @@
+mod Asking
+mod Completing
+mod Forming
+mod Granting
+mod Graves
+mod Metas
+mod Reading
+mod Running
+mod Serving
+mod Stopping
+mod Undisturbed

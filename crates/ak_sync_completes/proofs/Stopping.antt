@@ -1,0 +1,113 @@
+-- That a sync over a wire which tells its log never ends as stopped.
+use Rattle.std.specs.Option.{option_map, option_or}
+use Rattle.std.specs.Ordering.{int_eq}
+use Rattle.std.specs.Prelude.{◌≡◌, ◌⊎◌, ℤ, not, if◌then◌else◌, Bool, true, false, List, ◌∷◌, Option, Some, None, Ok, Err}
+use Rattle.std.proofs.Common.{refl, sym, ap, subst, ◌∙◌, inl, inr}
+use Rattle.std.proofs.lemmas.Option.{none-some, same_Some}
+use Rattle.ak_base.specs.Limits.{last_head_usn}
+use Rattle.ak_client.specs.Greetings.{are_far_apart, clock_stop, meta_of}
+use Rattle.ak_client.specs.Outcomes.{is_told_by_meta, outcome_at}
+use Rattle.ak_client.specs.Syncs.{IsSyncEnded, device_stop, told_by}
+use Rattle.ak_client.specs.declared.outcomes.Outcome.{Outcome}
+use Rattle.ak_client.specs.declared.outcomes.Outcome.TheVariants as outcomes
+use Rattle.ak_exchange.specs.Asked.{AreTried, answers_in, asker, asks_in}
+use Rattle.ak_exchange.specs.Phases.{held_by, holding}
+use Rattle.ak_exchange.specs.declared.envelopes.Ids.{Ids}
+use Rattle.ak_exchange.specs.declared.stops.Stop.{Stop}
+use Rattle.ak_exchange.specs.declared.stops.Stop.TheVariants as stops
+use Rattle.ak_faults.specs.Causes.{Health}
+use Rattle.ak_keep.specs.Collections.{Collection}
+use Rattle.ak_keep.specs.Keepers.{Keeping, WhereTold}
+use Rattle.ak_merge.specs.Edits.{second_of}
+use Rattle.ak_merge.specs.Soundness.{first_fault}
+use Rattle.ak_merge.specs.declared.checks.CheckFault.{CheckFault}
+use Rattle.ak_messages.specs.declared.replies.Reply.{Reply}
+use Rattle.ak_messages.specs.declared.requests.Request.{Request}
+use Rattle.ak_protocol.proofs.Commits.{not_both}
+use Rattle.ak_protocol.specs.Accounts.{AccountState}
+use Rattle.ak_protocol.specs.Logs.{Grows, Log, with_growth}
+use Rattle.ak_protocol.specs.Replies.{meta_reply}
+use Rattle.ak_protocol.specs.Serving.{Setback, Undisturbed, KeeperFault, OutOfMemory, served}
+use Rattle.ak_protocol.specs.Syncs.{world_of}
+use Rattle.ak_session.specs.Plans.{requests_from}
+use Rattle.ak_sync_completes.proofs.Metas.{one_of}
+use Rattle.ak_sync_completes.proofs.Serving.{Answer, reply_at_place}
+use Rattle.ak_wires.specs.Forms.{is_meta_in_range, meta_told}
+use Rattle.ak_wires.specs.Wires.{Carries, WireState}
+use Rattle.ak_wires.specs.declared.wires.MetaSaid.{MetaSaid}
+
+-- ---- what is no such end
+abbrev is_stopped : Outcome → Bool
+is_stopped outcomes.Stopped = true
+is_stopped outcome = false
+
+-- the server lets the sync go on, so the clocks do not stop it so
+clocks_other : (said : MetaSaid) (second : ℤ) (stop : Stop) → said.cont ≡ true → clock_stop said second ≡ Some stop → is_stopped (outcome_at stop) ≡ false
+clocks_other said second stop goes is =
+    by (are_far_apart second said.ts)
+    (sym (ap (λ (b : Bool). if not b then Some stops.Stopped else if are_far_apart second said.ts then Some (stops.ClockOff second said.ts) else None) goes) ∙ is)
+  where
+    by : (b : Bool) → (if b then Some (stops.ClockOff second said.ts) else None) ≡ Some stop → is_stopped (outcome_at stop) ≡ false
+    by true found = ap (λ (s : Stop). is_stopped (outcome_at s)) (sym (same_Some (stops.ClockOff second said.ts) stop found))
+    by false found = absurd (none-some stop found)
+
+-- and neither does the device
+device_other : (said : MetaSaid) (c : Collection) (stop : Stop) → device_stop said (held_by c) ≡ Some stop → is_stopped (outcome_at stop) ≡ false
+device_other said c stop = by (int_eq c.head.moment said.moment) (int_eq c.head.schema said.scm) (int_eq said.usn last_head_usn)
+  where
+    own : (o : Option CheckFault) → option_map (λ (fault : CheckFault). stops.OwnCheck fault) o ≡ Some stop → is_stopped (outcome_at stop) ≡ false
+    own None found = absurd (none-some stop found)
+    own (Some fault) found = ap (λ (s : Stop). is_stopped (outcome_at s)) (sym (same_Some (stops.OwnCheck fault) stop found))
+
+    by : (moments schemas last : Bool)
+        → option_or (if moments then Some stops.NoChanges
+        else if not schemas then Some (stops.FullSchema c.head.schema said.scm)
+        else if last then Some (stops.FullSequence said.usn)
+        else None) (option_map (λ (fault : CheckFault). stops.OwnCheck fault) (first_fault c.rows)) ≡ Some stop → is_stopped (outcome_at stop) ≡ false
+    by true schemas last found = ap (λ (s : Stop). is_stopped (outcome_at s)) (sym (same_Some stops.NoChanges stop found))
+    by false false last found = ap (λ (s : Stop). is_stopped (outcome_at s)) (sym (same_Some (stops.FullSchema c.head.schema said.scm) stop found))
+    by false true true found = ap (λ (s : Stop). is_stopped (outcome_at s)) (sym (same_Some (stops.FullSequence said.usn) stop found))
+    by false true false found = own (first_fault c.rows) found
+
+-- ---- the meta
+-- a meta that is granted lets the sync go on
+meta_goes : (account : AccountState) (ids : Ids) (now : ℤ) (setback : Setback) (reply : Reply) (said : MetaSaid)
+    → (served account (meta_of ids) now setback).reply ≡ reply → told_by (Ok reply) ≡ Some said → said.cont ≡ true
+meta_goes account ids now Undisturbed reply said is told =
+    let meta = meta_reply account.committed.head now in
+    ap (λ (m : MetaSaid). m.cont)
+    (sym (one_of (is_meta_in_range meta) (meta_told meta) said (subst (λ (r : Reply). told_by (Ok r) ≡ Some said) (sym is) told)))
+meta_goes account ids now KeeperFault reply said is told = absurd (none-some said (subst (λ (r : Reply). told_by (Ok r) ≡ Some said) (sym is) told))
+meta_goes account ids now OutOfMemory reply said is told = absurd (none-some said (subst (λ (r : Reply). told_by (Ok r) ≡ Some said) (sym is) told))
+
+module _ (ids : Ids) (account : AccountState) (old : Log) (opening : old.opening ids.host.digits ≡ Some account) (h0 h1 : Health) (w0 w1 : WireState)
+    (told_old : w0.log ≡ Some old) where
+  said_goes : (answer : Answer) (more : List Request) (answers : List Answer) → AreTried (meta_of ids ∷ more) (answer ∷ answers) h0 h1 w0 w1
+      → (said : MetaSaid) → told_by answer ≡ Some said → said.cont ≡ true
+  said_goes (Err end) more answers tried said told = absurd (none-some said told)
+  said_goes (Ok reply) more answers tried said told =
+      let carried : (new : Log) × (tried.1.log ≡ Some new) × Grows old new (meta_of ids) (Ok reply) =
+      subst (λ (o : Option Log). Carries o tried.1.log (meta_of ids) (Ok reply)) told_old tried.2.carries in
+      let r = carried.2.reply in
+      meta_goes (world_of ids.host.digits account (with_growth old r.before)).state ids r.now r.setback reply said (reply_at_place (meta_of ids) account old carried.2.growth reply r opening) told
+
+  pub never_stopped : (c : Collection) (before left : Keeping) (moments : Option (List ℤ)) (outcome : Outcome) → before ≡ holding c
+      → IsSyncEnded ids before left h0 h1 w0 w1 moments outcome → outcome ≡ outcomes.Stopped → ⊥
+  never_stopped c before left moments outcome holds ended stopped = by (told_by ended.sync.meta) refl
+    where
+      goes : (said : MetaSaid) → told_by ended.sync.meta ≡ Some said → said.cont ≡ true
+      goes = said_goes ended.sync.meta (requests_from (asker ids) ended.sync.moment 1 (asks_in ended.sync.tries)) (answers_in ended.sync.tries) ended.sync.tried
+
+      of_stop : (said : MetaSaid) (second : ℤ) → said.cont ≡ true → (stop : Stop) → outcome ≡ outcome_at stop
+          → (clock_stop said second ≡ Some stop) ⊎ ((clock_stop said second ≡ None) × WhereTold before (λ h. device_stop said h ≡ Some stop)) → ⊥
+      of_stop said second cont stop is (inl found) = not_both (ap is_stopped (sym is ∙ stopped)) (clocks_other said second stop cont found)
+      of_stop said second cont stop is (inr (pass, found)) =
+          not_both (ap is_stopped (sym is ∙ stopped))
+          (device_other said c stop (subst (λ (k : Keeping). WhereTold k (λ h. device_stop said h ≡ Some stop)) holds found))
+
+      by : (o : Option MetaSaid) → told_by ended.sync.meta ≡ o → ⊥
+      by None none = not_both (ap is_told_by_meta stopped) (ended.because.unmet none)
+      by (Some said) is =
+          let met = ended.because.met said is in
+          let why = met.3.only (ap is_told_by_meta stopped) in
+          of_stop said (second_of met.0) (goes said is) why.0 why.1 why.2

@@ -1,0 +1,21 @@
+// How a sync ends that nothing stops.
+ghost use Rattle.std.specs.Prelude.{◌≡◌, ◌⊎◌};
+ghost use Rattle.ak_client.specs.declared.outcomes.Outcome.{Outcome};
+ghost use Rattle.ak_client.specs.declared.outcomes.Outcome.TheVariants as outcomes;
+ghost use Rattle.ak_exchange.specs.declared.envelopes.Ids.{Ids};
+ghost use Rattle.ak_faults.specs.Causes.{Rose};
+ghost use Rattle.ak_keep.specs.Collections.{Collection};
+ghost use Rattle.ak_protocol.specs.Accounts.{AccountState};
+ghost use Rattle.ak_sync_completes.specs.Completing.{EndsWell, IsSyncOver, IsUnhindered, SyncSides};
+
+/// A sync that nothing stops is finished, or memory ran out, on the device or at the server. If calls of its wire fail
+/// too, one of its requests may be lost besides. A sync over a wire within the program to whose server nobody else comes,
+/// with a keeper in memory and a clock that is a list of moments, is such a sync if the two collections are joinable.
+pub fn syncs_complete()
+    ensures faultless { (ids : Ids) (c : Collection) (account : AccountState) (before after : SyncSides) (outcome : Outcome)
+        → (it : IsUnhindered ids c account before after) → IsSyncOver ids before after outcome
+        → (Rose before.health after.health → ⊥) → EndsWell it.growth outcome }
+    ensures lossy { (ids : Ids) (c : Collection) (account : AccountState) (before after : SyncSides) (outcome : Outcome)
+        → (it : IsUnhindered ids c account before after) → IsSyncOver ids before after outcome
+        → EndsWell it.growth outcome ⊎ (outcome ≡ outcomes.Lost) }
+{}
