@@ -2,7 +2,6 @@
 #![tactic(auto)]
 
 mod runs;
-mod times;
 
 use crate::runs::Runs;
 use ak_io::{StdSink, StdSource};

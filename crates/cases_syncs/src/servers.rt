@@ -1,18 +1,15 @@
-ghost use Rattle.std.specs.Prelude.{◌≡◌, ◌<◌, ◌≤◌, pos, [], IfOk};
 ghost use Rattle.ak_io.specs.Arrivals.{IsClockMoment};
-ghost use Rattle.ak_loops.specs.Entries.{collection_in};
-ghost use Rattle.ak_merge.specs.Commits.{IsCommitted};
 
-use crate::shown::{all, moment_at, sum};
+use crate::shown::{all, sum};
 use ak_answers::whole_of;
-use ak_base::{Conf, Head, HostKey, List, Memory, Rest, SessionKey, Text};
+use ak_base::{List, SessionKey};
 use ak_keep::{KeepFault, Lookup, MemoryKeeper};
 use ak_loops::{LoggedServer, keeper_with};
-use ak_openings::Opening;
 use ak_server_copies::view_all;
 use ak_wire::{Ask, Request, Whole, write_reply};
+use cases_accounts::{empty_account, host_key, moment_at};
 use cases_keepers::{answer_of, value_of};
-use cases_lines::{Unread, number_at};
+use cases_lines::Unread;
 use std::alloc::Global;
 
 /// The server, if it was opened.
@@ -37,12 +34,10 @@ impl Host {
     }
 
     /// `open [AT]`: a server whose account holds no row, and was changed last at this moment.
-    #[tactic(auto, using(crate::proofs::Empty::are_distinct))]
     fn open(&mut self, alloc: Global, rest: &str) -> Result<String, Unread> {
         let arguments = value_of(alloc, rest)?;
-        let opening = empty_opening(alloc, moment_at(&arguments, 0)?)?;
-        let name = Text::of(alloc, "account")?;
-        self.logged = Some(LoggedServer::new(alloc, name, host_key()?, opening)?);
+        let at = moment_at(&arguments, 0)?;
+        self.logged = Some(empty_account(alloc, at)?);
         Ok(String::from_str(alloc, "ok")?)
     }
 
@@ -73,53 +68,6 @@ impl Host {
             None => Err(Unread::Bad),
         }
     }
-}
-
-/// The host key of the one account: 32 letters `a`.
-fn host_key() -> Result<HostKey, Unread> {
-    HostKey::of("aaaaaaaaaaaaaaaaaaaaaaaaaaaaaaaa").ok_or(Unread::Bad)
-}
-
-/// A collection without rows.
-fn empty_opening(alloc: Global, at: i64) -> Result<Opening, Unread>
-    ensures rows { IfOk result (λ it. it.rows ≡ []) }
-    ensures committed { IfOk result (λ it. IsCommitted (collection_in it)) }
-{
-    let head = Head {
-        crt: 0,
-        moment: at,
-        schema: at,
-        usn: 1,
-        last_sync: 0,
-        conf: settings(alloc)?,
-        tags: List::new(alloc),
-    };
-    opening_of(alloc, head)
-}
-
-fn opening_of(alloc: Global, head: Head) -> Result<Opening, Unread>
-    requires { head.tags ≡ [] }
-    ensures rows { IfOk result (λ it. it.rows ≡ []) }
-    ensures committed { IfOk result (λ it. IsCommitted (collection_in it)) }
-{
-    if !head.is_in_range() {
-        return Err(Unread::Bad);
-    }
-    Ok(Opening {
-        rows: List::new(alloc),
-        head,
-    })
-}
-
-fn settings(alloc: Global) -> Result<Conf, Memory> {
-    Ok(Conf {
-        new_spread: 0,
-        collapse: 1_200,
-        day_learn_first: false,
-        next_pos: 1,
-        last_unburied: 0,
-        rest: Rest::empty(alloc)?,
-    })
 }
 
 fn calls_of(alloc: Global, rest: &str) -> Result<List<u64>, Unread> {

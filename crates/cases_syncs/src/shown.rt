@@ -1,10 +1,7 @@
-ghost use Rattle.std.specs.Prelude.{IfOk};
-ghost use Rattle.ak_io.specs.Arrivals.{IsClockMoment};
-
 use ak_base::{List, Row, Table};
 use ak_keep::{KeepFault, Lookup, MemoryKeeper, Readable};
 use cases_keepers::{answer_of, failed};
-use cases_lines::{Unread, number_at, row_text};
+use cases_lines::{Unread, row_text};
 use serde_json::Value;
 use sha1::Sha1;
 use std::alloc::Global;
@@ -59,15 +56,4 @@ pub fn sum(alloc: Global, keeper: &mut MemoryKeeper) -> Result<String, Unread> {
     let digest = Sha1::digest(text.as_bytes());
     let number = u32::from_be_bytes([digest[0], digest[1], digest[2], digest[3]]);
     Ok(format!(in alloc; "{number}")?)
-}
-
-/// The moment of a clock at a place of the arguments, in milliseconds.
-pub fn moment_at(arguments: &Value, place: usize) -> Result<i64, Unread>
-    ensures { IfOk result IsClockMoment }
-{
-    let moment = number_at(arguments, place)?;
-    if moment < 0 || moment > 4_294_967_294_999 {
-        return Err(Unread::Bad);
-    }
-    Ok(moment)
 }

@@ -1,5 +1,5 @@
-use Rattle.cases_syncs.proofs.Empty.{is_committed}
-use Rattle.cases_syncs.proofs.servers.opening_of.Goals as goal
+use Rattle.cases_accounts.proofs.Empty.{is_committed}
+use Rattle.cases_accounts.proofs.empty_accounts.opening_of.Goals as goal
 
 pub returns-clause-committed : goal.returns-clause-committed
 returns-clause-committed c =

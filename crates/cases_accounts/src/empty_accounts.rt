@@ -1,0 +1,65 @@
+ghost use Rattle.std.specs.Prelude.{◌≡◌, [], IfOk};
+ghost use Rattle.ak_loops.specs.Entries.{collection_in};
+ghost use Rattle.ak_merge.specs.Commits.{IsCommitted};
+
+use ak_base::{Conf, Head, HostKey, List, Memory, Rest, Text};
+use ak_loops::LoggedServer;
+use ak_openings::Opening;
+use cases_lines::Unread;
+use std::alloc::Global;
+
+/// A server whose account holds no row, and was made and changed last at this moment, in milliseconds. Its host key is 32
+/// letters `a`.
+#[tactic(auto, using(crate::proofs::Empty::are_distinct))]
+pub fn empty_account(alloc: Global, at: i64) -> Result<LoggedServer, Unread> {
+    let opening = empty_opening(alloc, at)?;
+    let name = Text::of(alloc, "account")?;
+    Ok(LoggedServer::new(alloc, name, host_key()?, opening)?)
+}
+
+/// The host key of the one account: 32 letters `a`.
+pub fn host_key() -> Result<HostKey, Unread> {
+    HostKey::of("aaaaaaaaaaaaaaaaaaaaaaaaaaaaaaaa").ok_or(Unread::Bad)
+}
+
+/// A collection without rows.
+fn empty_opening(alloc: Global, at: i64) -> Result<Opening, Unread>
+    ensures rows { IfOk result (λ it. it.rows ≡ []) }
+    ensures committed { IfOk result (λ it. IsCommitted (collection_in it)) }
+{
+    let head = Head {
+        crt: 0,
+        moment: at,
+        schema: at,
+        usn: 1,
+        last_sync: 0,
+        conf: settings(alloc)?,
+        tags: List::new(alloc),
+    };
+    opening_of(alloc, head)
+}
+
+fn opening_of(alloc: Global, head: Head) -> Result<Opening, Unread>
+    requires { head.tags ≡ [] }
+    ensures rows { IfOk result (λ it. it.rows ≡ []) }
+    ensures committed { IfOk result (λ it. IsCommitted (collection_in it)) }
+{
+    if !head.is_in_range() {
+        return Err(Unread::Bad);
+    }
+    Ok(Opening {
+        rows: List::new(alloc),
+        head,
+    })
+}
+
+fn settings(alloc: Global) -> Result<Conf, Memory> {
+    Ok(Conf {
+        new_spread: 0,
+        collapse: 1_200,
+        day_learn_first: false,
+        next_pos: 1,
+        last_unburied: 0,
+        rest: Rest::empty(alloc)?,
+    })
+}

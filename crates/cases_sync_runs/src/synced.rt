@@ -1,0 +1,96 @@
+ghost use Rattle.ak_io.specs.Arrivals.{IsClockMoment};
+
+use crate::servers::{row_counts, server_moment};
+use ak_base::List;
+use ak_keep::Lookup;
+use ak_loops::{LoggedServer, LoopWire, NothingBetween};
+use ak_memory::MemoryKeeper;
+use cases_accounts::{empty_account, moment_at};
+use cases_lines::{Answers, Unread};
+use cases_programs::{RunsCases, numbers_at, run_text, run_texts};
+use serde_json::Value;
+use std::alloc::Global;
+
+/// Nothing is kept from one line to the next.
+#[derive(Drop)]
+pub struct Synced;
+
+impl Answers for Synced {
+    fn answer(&mut self, alloc: Global, word: &str, rest: &str) -> Result<String, Unread> {
+        match (word, Value::from_str(alloc, rest)) {
+            ("synced", Ok(arguments)) => run_synced(alloc, &arguments),
+            _ => Err(Unread::Bad),
+        }
+    }
+}
+
+/// `synced [OPENING-MOMENT, FAILING-CALLS, [RUN, ..]]`: what each run over one keeper, and a wire in memory to one server, is
+/// told as, the faults of the keeper, and how many rows of each table the server holds then.
+fn run_synced(alloc: Global, arguments: &Value) -> Result<String, Unread> {
+    let moment = moment_at(arguments, 0)?;
+    match empty_account(alloc, moment) {
+        Ok(server) => run_with(alloc, server, arguments),
+        Err(unread) => Err(unread),
+    }
+}
+
+fn run_with(alloc: Global, server: LoggedServer, arguments: &Value) -> Result<String, Unread> {
+    let mut sides = Sides {
+        keeper: MemoryKeeper::new(alloc),
+        server: Some(server),
+    };
+    sides.texts(alloc, arguments)
+}
+
+/// The device's keeper, and the server while no wire has it.
+#[derive(Drop)]
+struct Sides {
+    keeper: MemoryKeeper,
+    server: Option<LoggedServer>,
+}
+
+impl Sides {
+    fn texts(&mut self, alloc: Global, arguments: &Value) -> Result<String, Unread> {
+        self.keeper.fail_at(numbers_at(alloc, arguments, 1)?);
+        let mut texts = run_texts(alloc, self, arguments, 2)?;
+        let faults = self.keeper.faults();
+        texts.push_str(format!(in alloc; "keeper {faults} server")?.as_str())?;
+        texts.push_str(self.counts(alloc)?.as_str())?;
+        Ok(texts)
+    }
+
+    fn counts(&mut self, alloc: Global) -> Result<String, Unread> {
+        match &mut self.server {
+            Some(server) => row_counts(alloc, server),
+            None => Err(Unread::Bad),
+        }
+    }
+
+    /// A run over a wire to this server, which it hands back.
+    fn text_over(
+        &mut self,
+        alloc: Global,
+        server: LoggedServer,
+        moment: i64,
+        run: &Value,
+    ) -> Result<String, Unread>
+        requires clock { IsClockMoment moment }
+    {
+        let mut wire = LoopWire::new(server, moment, List::new(alloc), NothingBetween);
+        let text = run_text(alloc, &mut self.keeper, &mut wire, run);
+        let (server, _nothing) = wire.into_parts();
+        self.server = Some(server);
+        text
+    }
+}
+
+impl RunsCases for Sides {
+    /// What a run is told as. The server's clock stands at the moment behind the run's words of chance, or at 1700000000000.
+    fn next_text(&mut self, alloc: Global, run: &Value) -> Result<String, Unread> {
+        let moment = server_moment(run)?;
+        match self.server.take() {
+            Some(server) => self.text_over(alloc, server, moment, run),
+            None => Err(Unread::Bad),
+        }
+    }
+}
