@@ -2,6 +2,7 @@
 
 Needs Python 3.8 or later and the toolchain, whose command `rt` is a Python program on the PATH. From it are used the
 functions edits_alone, read_edit, must_fail, checked, linked, copy_crates, where_disk_lasts and share_work, and its crates.
+Earlier versions of the toolchain lack some of these; `completed` stands in for them.
 """
 import importlib.machinery
 import importlib.util
@@ -41,7 +42,27 @@ def toolchain():
     made = importlib.util.module_from_spec(spec)
     sys.modules["rt"] = made
     loader.exec_module(made)
-    return made
+    return completed(made)
+
+
+def completed(rt):
+    """Gives `rt` what versions before 13f lack: they keep no proofs from one run to the next, and tell of an edit only whether it was refused."""
+    if hasattr(rt, "share_work"):
+        return rt
+    edits_alone = rt.edits_alone
+
+    def copy_crates(top, to):
+        shutil.copytree(f"{top}/crates", f"{to}/crates", ignore=shutil.ignore_patterns("out"))
+        for name in ("crates.txt", "HANDLES"):
+            shutil.copyfile(f"{top}/{name}", f"{to}/{name}")
+
+    rt.MISSED, rt.REFUSED, rt.AT_LIMIT = False, True, "at a limit"
+    rt.copy_crates = copy_crates
+    rt.linked = lambda old, new: shutil.copytree(old, new, copy_function=os.link)
+    rt.share_work = lambda shares: None
+    rt.where_disk_lasts = lambda call, words: call(words)
+    rt.edits_alone = lambda words: edits_alone([it for it in words if not it.startswith("-")])
+    return rt
 
 
 def names_of_crates():
