@@ -21,8 +21,10 @@ use Rattle.ak_base.specs.declared.rows.Row.{Row}
 use Rattle.ak_keep.specs.Collections.{Rows, StandsUnderNames, row_count}
 use Rattle.ak_keep.proofs.Counting.{below_nine}
 use Rattle.ak_keep.proofs.RowsByName.{both_first, both_second, same_of_tied, none_below, below_more, named-empty, named-insert, all-remove, IsNamed}
+use Rattle.ak_memory.specs.HeldRows.{row_in}
 use Rattle.ak_memory.specs.Indexes.{AreCounts, IsCounted}
-use Rattle.ak_memory.specs.Places.{is_changed, one_if, row_at, row_in, rows_at, unchanged_count, with_under}
+use Rattle.ak_memory.specs.Places.{is_changed, one_if, row_at, rows_at, unchanged_count, with_under}
+use Rattle.ak_memory.specs.declared.held_rows.Replacement.{Replacement}
 use Rattle.ak_memory.specs.declared.places.Place.{Place}
 use Rattle.ak_memory.specs.declared.versions.Version.{Version}
 use Rattle.ak_memory.proofs.RowsUnder.{get-with_under, with_none}
@@ -231,6 +233,6 @@ pub named-with : (name : Name) (o : Option Row) (rows : Rows) → StandsUnderNam
 named-with name None rows named h = all-remove IsNamed rows name named
 named-with name (Some row) rows named h = subst (λ (n : Name). StandsUnderNames (insert rows n row)) h (named-insert rows row named)
 
-pub some_in : (row : Option (Box Row)) → is_some row ≡ is_some (row_in row)
+pub some_in : (row : Option (Box Replacement)) → is_some row ≡ is_some (row_in row)
 some_in None = refl
 some_in (Some row) = refl

@@ -1,9 +1,11 @@
 -- The rows in places, as finite maps.
-use Rattle.std.specs.Prelude.{◌≡◌, Bool, true, false, T, cond, Option, Some, None, List, [], ◌∷◌}
+use Rattle.std.specs.Prelude.{◌≡◌, Bool, true, false, T, cond, not, ◌&&◌, Option, Some, None, is_some, IsSome, List, [], ◌∷◌}
 use Rattle.std.proofs.Common.{refl, sym, ap, subst, ◌∙◌}
+use Rattle.std.proofs.lemmas.Map.{lookup-set_value}
 use Rattle.std.specs.BTreeMap.{is_at}
 use Rattle.std.specs.Cmp.{eq_by_cmp_equiv}
 use Rattle.std.specs.FinMap.{get, get-empty, get-insert, get-remove, same_map}
+use Rattle.std.specs.Map.{set_value}
 use Rattle.std.specs.Option.{option_and_then}
 use Rattle.ak_base.proofs.NameOrder.{names_exact}
 use Rattle.ak_base.specs.Names.{name_cmp, names_total}
@@ -11,9 +13,9 @@ use Rattle.ak_base.specs.declared.names.Name.{Name}
 use Rattle.ak_base.specs.declared.rows.Row.{Row}
 use Rattle.ak_keep.specs.Collections.{Rows}
 use Rattle.ak_keep.proofs.RowsByName.{same_of_tied}
-use Rattle.ak_memory.specs.Places.{row_at, row_under, rows_at, with_under, place_under, is_changed, is_changed_place, is_changed_under, is_apart, row_before}
+use Rattle.ak_memory.specs.Places.{row_at, row_under, rows_at, with_under, place_under, is_changed, is_changed_place, is_changed_under, is_empty_place, AreFull, AreFullBut}
 use Rattle.ak_memory.specs.declared.places.Place.{Place}
-use Rattle.ak_memory.specs.declared.places.Before.TheVariants.{Same, Other}
+use Rattle.ak_memory.specs.declared.places.Place.TheVariants.{Empty, Opened, Same, Added, Removed, Replaced}
 use Rattle.ak_memory.specs.declared.versions.Version.{Version}
 use Rattle.ak_memory.specs.declared.versions.Version.TheVariants.{Now, Mark}
 
@@ -66,11 +68,12 @@ no_place version es name none = ap (option_and_then (row_at version)) none
 
 unchanged_row : (v : Version) (place : Place) → is_changed place ≡ false → row_at v place ≡ row_at Now place
 unchanged_row Now place h = refl
-unchanged_row Mark place h =
-    elim place.before as (λ b. is_apart b ≡ false → row_before place.row b ≡ row_at Now place) [
-      | Same ↦ λ _. refl
-      | Other row ↦ λ h. absurd (subst T h tt)
-    ] h
+unchanged_row Mark Empty h = refl
+unchanged_row Mark Opened h = absurd (subst T h tt)
+unchanged_row Mark (Same row) h = refl
+unchanged_row Mark (Added row) h = absurd (subst T h tt)
+unchanged_row Mark (Removed row) h = absurd (subst T h tt)
+unchanged_row Mark (Replaced both) h = absurd (subst T h tt)
 
 unchanged_found : (v : Version) (found : Option Place) → is_changed_place found ≡ false → option_and_then (row_at v) found ≡ option_and_then (row_at Now) found
 unchanged_found v None h = refl
@@ -79,3 +82,51 @@ unchanged_found v (Some place) h = unchanged_row v place h
 -- where nothing was changed, both versions have the same row
 pub unchanged_under : (v w : Version) (es : List (Name × Place)) (q : Name) → is_changed_under es q ≡ false → row_under v es q ≡ row_under w es q
 unchanged_under v w es q h = unchanged_found v (place_under es q) h ∙ sym (unchanged_found w (place_under es q) h)
+
+-- ---- a place that is another now
+some_found : (o : Option Place) (place : Place) → o ≡ Some place → IsSome o
+some_found o place is = ap is_some is
+
+pub place_under-set : (name : Name) (es : List (Name × Place)) (old new : Place) → place_under es name ≡ Some old
+    → (q : Name) → place_under (set_value (is_at (name_cmp name)) es new) q ≡ cond (is_at (name_cmp name) q) (Some new) (place_under es q)
+place_under-set name es old new found q =
+    lookup-set_value (eq_by_cmp_equiv names_total) (is_at (name_cmp name)) (λ x y is. ap (λ (n : Name). is_at (name_cmp n) y) (same_of_tied name x is)) q new es (some_found _ old found)
+
+-- it holds what the old one held, in this version or another
+pub placed_under : (v w : Version) (name : Name) (es : List (Name × Place)) (old new : Place) → place_under es name ≡ Some old → row_at v new ≡ row_at w old
+    → (q : Name) → row_under v (set_value (is_at (name_cmp name)) es new) q ≡ cond (is_at (name_cmp name) q) (row_under w es q) (row_under v es q)
+placed_under v w name es old new found is q =
+    ap (option_and_then (row_at v)) (place_under-set name es old new found q)
+    ∙ elim (is_at (name_cmp name) q) as (λ b. is_at (name_cmp name) q ≡ b → option_and_then (row_at v) (cond b (Some new) (place_under es q)) ≡ cond b (row_under w es q) (row_under v es q)) [
+      | true ↦ λ same. is ∙ ap (option_and_then (row_at w)) (sym found) ∙ ap (row_under w es) (same_of_tied name q same)
+      | false ↦ λ _. refl
+    ] refl
+
+either : (b : Bool) (o : Option Row) → cond b o o ≡ o
+either true o = refl
+either false o = refl
+
+pub kept_under : (v : Version) (name : Name) (es : List (Name × Place)) (old new : Place) → place_under es name ≡ Some old → row_at v new ≡ row_at v old
+    → (q : Name) → row_under v (set_value (is_at (name_cmp name)) es new) q ≡ row_under v es q
+kept_under v name es old new found is q = placed_under v v name es old new found is q ∙ either (is_at (name_cmp name) q) (row_under v es q)
+
+-- ---- places that are not empty
+pub full_with : (name : Name) (es fs : List (Name × Place)) (new : Place) → ((q : Name) → place_under fs q ≡ cond (is_at (name_cmp name) q) (Some new) (place_under es q)) → is_changed new ≡ true
+    → AreFull es → AreFull fs
+full_with name es fs new same changed full q =
+    ap is_empty_place (same q)
+    ∙ elim (is_at (name_cmp name) q) as (λ b. is_empty_place (cond b (Some new) (place_under es q)) ≡ false) [
+      | true ↦ ap (λ b. not b && not (is_some (row_at Now new))) changed
+      | false ↦ full q
+    ]
+
+pub full_but : (name : Name) (es fs : List (Name × Place)) (new : Place) → ((q : Name) → place_under fs q ≡ cond (is_at (name_cmp name) q) (Some new) (place_under es q)) → AreFull es → AreFullBut name fs
+full_but name es fs new same full q other = ap is_empty_place (same q) ∙ ap (λ b. is_empty_place (cond b (Some new) (place_under es q))) other ∙ full q
+
+pub full_without : (name : Name) (es fs : List (Name × Place)) → ((q : Name) → place_under fs q ≡ cond (is_at (name_cmp name) q) None (place_under es q)) → AreFullBut name es → AreFull fs
+full_without name es fs same but q =
+    ap is_empty_place (same q)
+    ∙ elim (is_at (name_cmp name) q) as (λ b. is_at (name_cmp name) q ≡ b → is_empty_place (cond b None (place_under es q)) ≡ false) [
+      | true ↦ λ _. refl
+      | false ↦ λ other. but q other
+    ] refl

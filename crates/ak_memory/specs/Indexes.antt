@@ -8,7 +8,7 @@ use Rattle.ak_base.specs.declared.names.Table.{Table}
 use Rattle.ak_base.specs.declared.rows.Row.{Row}
 use Rattle.ak_keep.specs.Collections.{Rows, StandsUnderNames, row_count}
 use Rattle.ak_keep.specs.NoteKeys.{NoteKey, has_key, is_note, note_of_card}
-use Rattle.ak_memory.specs.Places.{is_among, is_changed_under, row_under, rows_at, unchanged_count}
+use Rattle.ak_memory.specs.Places.{AreFull, is_among, is_changed_under, row_under, rows_at, unchanged_count}
 use Rattle.ak_memory.specs.declared.indexed.IndexedPlaces.{IndexedPlaces}
 use Rattle.ak_memory.specs.declared.places.Place.{Place}
 use Rattle.ak_memory.specs.declared.versions.Version.{Version}
@@ -39,10 +39,11 @@ pub record IsCounted (numbers : List ℕ) (rows : Rows) : Type 0 where
 abbrev pub rows_of : Version → IndexedPlaces → Rows
 rows_of version indexed = rows_at version indexed.places.entries
 
--- what is kept beside the places is right, and there is room to note each place that was not changed yet
+-- what is kept beside the places is right, none of them is empty, and there is room to note each place that was not changed yet
 pub record IsIndexed (indexed : IndexedPlaces) : Type 0 where
   pub current : IsCounted indexed.counts (rows_of Now indexed)
   pub mark : IsCounted indexed.mark_counts (rows_of Mark indexed)
   pub keys : HaveAllKeys indexed.cards.keys indexed.places.entries
   pub noted : AreNoted indexed.noted.items indexed.places.entries
+  pub full : AreFull indexed.places.entries
   pub room : vec_len indexed.noted + unchanged_count indexed.places.entries ≤ vec_capacity indexed.noted

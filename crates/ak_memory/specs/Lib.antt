@@ -1,5 +1,6 @@
 pub mod Collections
 pub mod Heads
+pub mod HeldRows
 pub mod Indexes
 pub mod Places
 pub mod Versions

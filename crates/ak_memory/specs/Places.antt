@@ -1,46 +1,55 @@
 -- The places of rows: what is held under a name now, and what was held there at the mark.
-use Rattle.std.specs.Prelude.{ℕ, ℤ, if◌then◌else◌, Bool, true, false, not, Option, Some, None, List, [], ◌∷◌, ◌++◌, ◌==◌, filter, length}
+use Rattle.std.specs.Prelude.{◌≡◌, ℕ, ℤ, if◌then◌else◌, Bool, true, false, not, ◌&&◌, ◌||◌, Option, Some, None, is_some, List, [], ◌∷◌, ◌++◌, ◌==◌, filter, length}
 use Rattle.std.specs.BTreeMap.{is_at}
 use Rattle.std.specs.FinMap.{empty, insert, remove}
-use Rattle.std.specs.Global.{Box}
 use Rattle.std.specs.List.{list_any}
 use Rattle.std.specs.Map.{lookup}
-use Rattle.std.specs.Option.{option_map, option_and_then, option_to_list}
+use Rattle.std.specs.Option.{option_and_then, option_eq, option_to_list}
+use Rattle.std.specs.Ordering.{int_eq}
 use Rattle.ak_base.specs.Names.{name_cmp, table_place}
 use Rattle.ak_base.specs.declared.names.Name.{Name}
 use Rattle.ak_base.specs.declared.names.Table.{Table}
 use Rattle.ak_base.specs.declared.rows.Row.{Row}
 use Rattle.ak_keep.specs.Collections.{Rows}
 use Rattle.ak_keep.specs.NoteKeys.{note_of_card}
+use Rattle.ak_memory.specs.HeldRows.{held_in, held_row}
 use Rattle.ak_memory.specs.declared.places.Place.{Place}
-use Rattle.ak_memory.specs.declared.places.Before.{Before}
-use Rattle.ak_memory.specs.declared.places.Before.TheVariants.{Same, Other}
+use Rattle.ak_memory.specs.declared.places.Place.TheVariants.{Empty, Opened, Same, Added, Removed, Replaced}
 use Rattle.ak_memory.specs.declared.versions.Version.{Version}
 use Rattle.ak_memory.specs.declared.versions.Version.TheVariants.{Now, Mark}
 
 -- ---- one place
--- the row in a box, if there is one
-abbrev pub row_in : Option (Box Row) → Option Row
-row_in boxed = option_map (λ b. b.value) boxed
+-- the row that is held now
+abbrev pub row_now : Place → Option Row
+row_now Empty = None
+row_now Opened = None
+row_now (Same row) = Some (held_row row)
+row_now (Added row) = Some (held_row row)
+row_now (Removed row) = None
+row_now (Replaced both) = Some (held_row both.value.row)
 
--- the row at the mark, beside the one that is held now
-abbrev pub row_before : Option (Box Row) → Before → Option Row
-row_before row Same = row_in row
-row_before row (Other before) = row_in before
+-- the row that was held at the mark
+abbrev pub row_before : Place → Option Row
+row_before Empty = None
+row_before Opened = None
+row_before (Same row) = Some (held_row row)
+row_before (Added row) = None
+row_before (Removed row) = Some (held_row row)
+row_before (Replaced both) = held_in both.value.before
 
 -- the row that is held now, or that was held at the mark
 abbrev pub row_at : Version → Place → Option Row
-row_at Now place = row_in place.row
-row_at Mark place = row_before place.row place.before
-
--- whether what was held at the mark is kept apart
-abbrev pub is_apart : Before → Bool
-is_apart Same = false
-is_apart (Other before) = true
+row_at Now place = row_now place
+row_at Mark place = row_before place
 
 -- whether a row was put in or taken out since the mark
 abbrev pub is_changed : Place → Bool
-is_changed place = is_apart place.before
+is_changed Empty = false
+is_changed Opened = true
+is_changed (Same row) = false
+is_changed (Added row) = true
+is_changed (Removed row) = true
+is_changed (Replaced both) = true
 
 -- ---- places by their names
 -- the place under a name
@@ -55,6 +64,10 @@ row_under version places name = option_and_then (row_at version) (place_under pl
 abbrev pub note_under : Version → List (Name × Place) → Name → Option ℤ
 note_under version places name = option_and_then note_of_card (row_under version places name)
 
+-- whether the row under a name is a card of this note, or was one at the mark; with no note, whether it is none or was none
+abbrev pub is_needed : Option ℤ → Name → List (Name × Place) → Bool
+is_needed note name places = option_eq int_eq (note_under Now places name) note || option_eq int_eq (note_under Mark places name) note
+
 -- whether there is a place, and it was changed
 abbrev pub is_changed_place : Option Place → Bool
 is_changed_place None = false
@@ -63,6 +76,23 @@ is_changed_place (Some place) = is_changed place
 -- whether the place under a name was changed
 abbrev pub is_changed_under : List (Name × Place) → Name → Bool
 is_changed_under places name = is_changed_place (place_under places name)
+
+-- whether there is a place, which holds nothing and held nothing at the mark
+abbrev pub is_empty_place : Option Place → Bool
+is_empty_place None = false
+is_empty_place (Some place) = not (is_changed place) && not (is_some (row_at Now place))
+
+-- whether there is an empty place under a name
+abbrev pub is_empty_under : List (Name × Place) → Name → Bool
+is_empty_under places name = is_empty_place (place_under places name)
+
+-- no place is empty
+abbrev pub AreFull : List (Name × Place) → Type 0
+AreFull places = (name : Name) → is_empty_under places name ≡ false
+
+-- no place is empty but for the one under this name
+abbrev pub AreFullBut : Name → List (Name × Place) → Type 0
+AreFullBut name places = (other : Name) → is_at (name_cmp name) other ≡ false → is_empty_under places other ≡ false
 
 -- how many places were not changed
 abbrev pub unchanged_count : List (Name × Place) → ℕ

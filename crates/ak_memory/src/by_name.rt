@@ -6,22 +6,24 @@ ghost use Rattle.std.specs.Ordering.{int_eq};
 ghost use Rattle.ak_base.specs.Names.{name_cmp};
 ghost use Rattle.ak_base.specs.declared.names.Name.{Name as RowName};
 ghost use Rattle.ak_keep.specs.NoteKeys.{is_note};
-ghost use Rattle.ak_memory.specs.Places.{is_changed_under, note_under, one_if, place_under, row_in, row_under, unchanged_count};
+ghost use Rattle.ak_memory.specs.HeldRows.{held_in, row_in};
+ghost use Rattle.ak_memory.specs.Places.{AreFull, AreFullBut, is_changed_under, is_empty_under, is_needed, note_under, one_if, place_under, row_under, unchanged_count};
 ghost use Rattle.ak_memory.specs.declared.versions.Version.{Version as WhichVersion};
 ghost use Rattle.ak_memory.specs.declared.versions.Version.TheVariants.{Mark, Now};
 
+use crate::held_rows::{HeldRow, Replacement};
 use crate::note_keys::is_note;
 use crate::places::{Change, Place};
 use crate::versions::Version;
-use ak_base::{Memory, Name, Row};
+use ak_base::{Memory, Name};
 use std::collections::BTreeMap;
 
 /// The places of rows by the rows' names.
 pub(crate) type Places = BTreeMap<Name, Place>;
 
 /// The row that is held under the name.
-pub(crate) fn row_of<'a>(places: &'a Places, name: &Name) -> Option<&'a Row>
-    ensures { option_copied result ≡ row_under Now places.now.entries name.now }
+pub(crate) fn row_of<'a>(places: &'a Places, name: &Name) -> Option<&'a HeldRow>
+    ensures { held_in (option_copied result) ≡ row_under Now places.now.entries name.now }
 {
     match places.get(name) {
         Some(place) => place.row(),
@@ -41,7 +43,8 @@ pub(crate) fn holds_card(places: &Places, name: &Name, note: &i64) -> bool
 
 /// Whether a card of the note is held under the name, or was at the mark; with no note, whether no card is or was.
 pub(crate) fn needs_key(places: &Places, name: &Name, note: &Option<i64>) -> bool
-    ensures { result ≡ false → (version : WhichVersion) → option_eq int_eq (note_under version places.now.entries name.now) note.now ≡ false }
+    ensures apart { result ≡ false → (version : WhichVersion) → option_eq int_eq (note_under version places.now.entries name.now) note.now ≡ false }
+    ensures needed { result ≡ true → is_needed note.now name.now places.now.entries ≡ true }
 {
     match places.get(name) {
         Some(place) => place.note(Version::Now) == *note || place.note(Version::Mark) == *note,
@@ -55,6 +58,7 @@ pub(crate) fn add_place(places: &mut Places, name: Name) -> Result<(), Memory>
     ensures there { OnOk result (is_some (place_under places.new.entries name) ≡ true) }
     ensures rows { (each : WhichVersion) (q : RowName) → row_under each places.new.entries q ≡ row_under each places.old.entries q }
     ensures changed { OnOk result ((q : RowName) → is_changed_under places.new.entries q ≡ (is_at (name_cmp name) q || is_changed_under places.old.entries q)) }
+    ensures full { OnOk result (AreFull places.old.entries → AreFull places.new.entries) }
     ensures count { unchanged_count places.new.entries ≡ unchanged_count places.old.entries }
     ensures err { OnErr result (places.new.entries ≡ places.old.entries) }
 {
@@ -63,7 +67,11 @@ pub(crate) fn add_place(places: &mut Places, name: Name) -> Result<(), Memory>
 }
 
 /// Holds the row under the name from now on, or none, if there is a place. It takes no memory.
-pub(crate) fn hold_under(places: &mut Places, name: Name, row: Option<Box<Row>>) -> Option<Change>
+pub(crate) fn hold_under(
+    places: &mut Places,
+    name: Name,
+    row: Option<Box<Replacement>>,
+) -> Option<Change>
     ensures none { result ≡ None → place_under places.old.entries name ≡ None }
     ensures unchanged { result ≡ None → places.new.entries ≡ places.old.entries }
     ensures held { IfSome result (λ change. change.held ≡ is_some (row_under Now places.old.entries name)) }
@@ -71,6 +79,7 @@ pub(crate) fn hold_under(places: &mut Places, name: Name, row: Option<Box<Row>>)
     ensures now { OnSome result ((q : RowName) → row_under Now places.new.entries q ≡ cond (is_at (name_cmp name) q) (row_in row) (row_under Now places.old.entries q)) }
     ensures mark { OnSome result ((q : RowName) → row_under Mark places.new.entries q ≡ row_under Mark places.old.entries q) }
     ensures changed { OnSome result ((q : RowName) → is_changed_under places.new.entries q ≡ (is_at (name_cmp name) q || is_changed_under places.old.entries q)) }
+    ensures full { OnSome result (AreFull places.old.entries → AreFull places.new.entries) }
     ensures first { IfSome result (λ change. change.first ≡ not (is_changed_under places.old.entries name)) }
     ensures count { IfSome result (λ change. unchanged_count places.new.entries + one_if change.first ≡ unchanged_count places.old.entries) }
 {
@@ -85,6 +94,7 @@ pub(crate) fn hold_under(places: &mut Places, name: Name, row: Option<Box<Row>>)
 pub(crate) fn settle_under(places: &mut Places, name: Name, version: Version) -> Option<i64>
     ensures rows { (each : WhichVersion) (q : RowName) → row_under each places.new.entries q ≡ cond (is_at (name_cmp name) q) (row_under version places.old.entries q) (row_under each places.old.entries q) }
     ensures changed { (q : RowName) → is_changed_under places.new.entries q ≡ (not (is_at (name_cmp name) q) && is_changed_under places.old.entries q) }
+    ensures full { AreFull places.old.entries → AreFullBut name places.new.entries }
     ensures count { unchanged_count places.new.entries ≤ unchanged_count places.old.entries + 1 }
 {
     match places.get_mut(&name) {
@@ -101,6 +111,7 @@ pub(crate) fn settle_under(places: &mut Places, name: Name, version: Version) ->
 pub(crate) fn drop_empty(places: &mut Places, name: Name)
     ensures rows { (each : WhichVersion) (q : RowName) → row_under each places.new.entries q ≡ row_under each places.old.entries q }
     ensures changed { (q : RowName) → is_changed_under places.new.entries q ≡ is_changed_under places.old.entries q }
+    ensures full { AreFullBut name places.old.entries → AreFull places.new.entries }
     ensures count { unchanged_count places.new.entries ≤ unchanged_count places.old.entries }
 {
     if is_empty_under(places, &name) {
@@ -110,6 +121,7 @@ pub(crate) fn drop_empty(places: &mut Places, name: Name)
 
 /// Whether there is a place under the name, and it is empty.
 fn is_empty_under(places: &Places, name: &Name) -> bool
+    ensures empty { result ≡ is_empty_under places.now.entries name.now }
     ensures changed { result ≡ true → is_changed_under places.now.entries name.now ≡ false }
     ensures now { result ≡ true → row_under Now places.now.entries name.now ≡ None }
 {

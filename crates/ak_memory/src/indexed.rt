@@ -12,13 +12,15 @@ ghost use Rattle.ak_base.specs.Rows.{name_of};
 ghost use Rattle.ak_base.specs.declared.names.Name.{Name as RowName};
 ghost use Rattle.ak_keep.specs.Collections.{cards_of, row_count};
 ghost use Rattle.ak_keep.specs.NoteKeys.{has_key, is_note, note_of_card};
+ghost use Rattle.ak_memory.specs.HeldRows.{held_in, row_in};
 ghost use Rattle.ak_memory.specs.Indexes.{HaveAllKeys, IsIndexed, rows_of};
-ghost use Rattle.ak_memory.specs.Places.{is_among, is_changed_under, place_under, one_if, row_in, row_under, rows_at, unchanged_count, with_under};
+ghost use Rattle.ak_memory.specs.Places.{AreFull, is_among, is_changed_under, place_under, one_if, row_under, rows_at, unchanged_count, with_under};
 ghost use Rattle.ak_memory.specs.declared.versions.Version.{Version as WhichVersion};
 ghost use Rattle.ak_memory.specs.declared.versions.Version.TheVariants.{Mark, Now};
 
 use crate::by_name::{Places, add_place, drop_empty, hold_under, row_of, settle_under};
-use crate::note_keys::{NoteKey, add_key, forget_key, ids_of, note_of_card};
+use crate::held_rows::{HeldRow, Replacement};
+use crate::note_keys::{NoteKey, add_key, forget_key, ids_of};
 use crate::places::Change;
 use crate::versions::Version;
 use ak_base::{List, Memory, Name, Row, Table};
@@ -59,8 +61,8 @@ impl IndexedPlaces {
     }
 
     /// The row that is held under the name.
-    pub(crate) fn get(&self, name: &Name) -> Option<&Row>
-        ensures { option_copied result ≡ finite.get (rows_of Now self.now) name.now }
+    pub(crate) fn get(&self, name: &Name) -> Option<&HeldRow>
+        ensures { held_in (option_copied result) ≡ finite.get (rows_of Now self.now) name.now }
     {
         row_of(&self.places, name)
     }
@@ -97,8 +99,8 @@ impl IndexedPlaces {
     {
         // Memory comes first: all that follows takes none.
         let name = row.name();
-        let note = note_of_card(&row);
-        let row = Box::new(alloc, row)?;
+        let row = Replacement::of(alloc, row)?;
+        let note = row.row.note();
         self.make_place(name)?;
         add_key(&mut self.cards, note, name)?;
         self.exchange(name, Some(row));
@@ -132,7 +134,7 @@ impl IndexedPlaces {
     }
 
     /// Holds the row under the name from now on, or none. For a row there are a place and a key. It takes no memory.
-    fn exchange(&mut self, name: Name, row: Option<Box<Row>>)
+    fn exchange(&mut self, name: Name, row: Option<Box<Replacement>>)
         requires indexed { IsIndexed self.old }
         requires place { place_under self.old.places.entries name ≡ None → row_in row ≡ None }
         requires key { (note : ℤ) → is_note note (option_and_then note_of_card (row_in row)) ≡ true → has_key self.old.cards.keys (note, Some name) ≡ true }
@@ -191,6 +193,7 @@ fn settle_all(places: &mut Places, cards: &mut BTreeSet<NoteKey>, names: &[Name]
     ensures keys { HaveAllKeys cards.new.keys places.new.entries }
     ensures rows { (each : WhichVersion) (q : RowName) → row_under each places.new.entries q ≡ cond (is_among names.now q) (row_under version places.old.entries q) (row_under each places.old.entries q) }
     ensures changed { (q : RowName) → is_changed_under places.new.entries q ≡ (not (is_among names.now q) && is_changed_under places.old.entries q) }
+    ensures full { AreFull places.old.entries → AreFull places.new.entries }
     ensures count { unchanged_count places.new.entries ≤ unchanged_count places.old.entries + length names.now }
 {
     for name in names {
@@ -204,6 +207,7 @@ fn settle_one(places: &mut Places, cards: &mut BTreeSet<NoteKey>, name: Name, ve
     ensures keys { HaveAllKeys cards.new.keys places.new.entries }
     ensures rows { (each : WhichVersion) (q : RowName) → row_under each places.new.entries q ≡ cond (is_at (name_cmp name) q) (row_under version places.old.entries q) (row_under each places.old.entries q) }
     ensures changed { (q : RowName) → is_changed_under places.new.entries q ≡ (not (is_at (name_cmp name) q) && is_changed_under places.old.entries q) }
+    ensures full { AreFull places.old.entries → AreFull places.new.entries }
     ensures count { unchanged_count places.new.entries ≤ unchanged_count places.old.entries + 1 }
 {
     let note = settle_under(places, name, version);

@@ -6,6 +6,7 @@ mod by_name;
 mod calls;
 mod collections;
 mod heads;
+mod held_rows;
 mod indexed;
 mod keepers;
 mod marked_rows;

@@ -83,7 +83,10 @@ impl MarkedRows {
     fn holds(&self, name: &Name) -> bool
         ensures { result ≡ is_some (map.get self.now.current name.now) }
     {
-        self.indexed.get(name).is_some()
+        match self.indexed.get(name) {
+            Some(_) => true,
+            None => false,
+        }
     }
 
     /// A copy of the row that is held under this name.

@@ -1,43 +1,22 @@
 // The keys by which the cards of a note are found. There may be more of them than cards.
 ghost use Rattle.std.specs.Prelude.{◌≡◌, true, false, ◌++◌, map, filter, IfOk, OnOk, OnErr};
 ghost use Rattle.std.specs.List.Sorted.{IsStrictlySortedBy};
-ghost use Rattle.std.specs.Option.{option_and_then};
 ghost use Rattle.std.specs.Ordering.{int_eq};
 ghost use Rattle.ak_base.specs.declared.names.Name.{Name as RowName};
 ghost use Rattle.ak_keep.specs.NoteCards.{keys_from, name_in, names_run};
-ghost use Rattle.ak_keep.specs.NoteKeys.{AreSetWhere, is_key_of, is_note, key_cmp, note_of_card};
+ghost use Rattle.ak_keep.specs.NoteKeys.{AreSetWhere, NoteKey, has_key, is_key_of, is_note, key_cmp};
 ghost use Rattle.ak_memory.specs.Indexes.{HaveAllKeys};
-ghost use Rattle.ak_memory.specs.Places.{note_under, row_in};
+ghost use Rattle.ak_memory.specs.Places.{is_needed, note_under};
 ghost use Rattle.ak_memory.specs.declared.versions.Version.TheVariants.{Now};
 
 use crate::by_name::{Places, holds_card, needs_key};
-use ak_base::{List, Memory, Name, Row};
+use ak_base::{List, Memory, Name};
 use std::alloc::Global;
 use std::collections::BTreeSet;
 use std::ops::Bound;
 
 /// What a card is found by: its note, and its name. With no name it comes before all cards of the note.
 pub(crate) type NoteKey = (i64, Option<Name>);
-
-/// The note that the row is a card of.
-pub(crate) fn note_of_card(row: &Row) -> Option<i64>
-    ensures { result ≡ note_of_card row.now }
-{
-    match row {
-        Row::Card(card) => Some(card.nid),
-        _ => None,
-    }
-}
-
-/// The note that the row is a card of, if there is a row.
-pub(crate) fn note_in(row: &Option<Box<Row>>) -> Option<i64>
-    ensures { result ≡ option_and_then note_of_card (row_in row.now) }
-{
-    match row {
-        Some(row) => note_of_card(row),
-        None => None,
-    }
-}
 
 /// Whether there is a note, and it is this one.
 pub(crate) fn is_note(other: &Option<i64>, note: &i64) -> bool
@@ -76,7 +55,8 @@ pub(crate) fn forget_key(
     name: Name,
 )
     requires { HaveAllKeys keys.old.keys places.now.entries }
-    ensures { HaveAllKeys keys.new.keys places.now.entries }
+    ensures all { HaveAllKeys keys.new.keys places.now.entries }
+    ensures gone { is_needed note name places.now.entries ≡ false → (key : NoteKey) → is_key_of note name key ≡ true → has_key keys.new.keys key ≡ false }
 {
     if needs_key(places, &name, &note) {
         return;

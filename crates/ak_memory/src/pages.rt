@@ -6,10 +6,12 @@ ghost use Rattle.std.specs.Option.{option_to_list};
 ghost use Rattle.std.specs.declared.ops.Bound.TheVariants.{Excluded, Unbounded};
 ghost use Rattle.ak_base.specs.Names.{name_cmp};
 ghost use Rattle.ak_keep.specs.Pages.{is_picked};
+ghost use Rattle.ak_memory.specs.HeldRows.{held_row};
 ghost use Rattle.ak_memory.specs.Places.{held_run, row_at};
 ghost use Rattle.ak_memory.specs.declared.versions.Version.TheVariants.{Now};
 
 use crate::by_name::Places;
+use crate::held_rows::HeldRow;
 use crate::places::Place;
 use ak_base::{List, Memory, Name, Row};
 use ak_keep::Wanted;
@@ -54,11 +56,12 @@ fn push_picked(page: &mut List<Row>, want: &Option<Wanted>, place: &Place) -> Re
 }
 
 /// Whether a page takes the row: any row, or the wanted ones.
-fn is_picked(want: &Option<Wanted>, row: &Row) -> bool
-    ensures { result ≡ is_picked want.now row.now }
+fn is_picked(want: &Option<Wanted>, row: &HeldRow) -> bool
+    ensures { result ≡ is_picked want.now (held_row row.now) }
 {
     match want {
-        Some(want) => want.takes(row),
+        Some(Wanted::Unsent) => row.usn() == -1,
+        Some(Wanted::From(usn)) => row.usn() >= *usn,
         None => true,
     }
 }

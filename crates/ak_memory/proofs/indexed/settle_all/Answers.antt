@@ -14,5 +14,6 @@ loop-name-preserved c =
       keys = step.keys;
       rows = λ each q. rows-step (drop i names) (drop (i + 1) names) _ c.args.version c.loop-name.places.entries c.settle_one.new.places.entries parts step.rows each q ∙ inv.rows each q;
       changed = λ q. changed-step (drop i names) (drop (i + 1) names) _ c.loop-name.places.entries c.settle_one.new.places.entries parts step.changed q ∙ inv.changed q;
+      full = λ f. step.full (inv.full f);
       count = let left = ap length parts in omega (arith, left, step.count, inv.count);
     }

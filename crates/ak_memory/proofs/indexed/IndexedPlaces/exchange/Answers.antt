@@ -4,7 +4,8 @@ use Rattle.ak_base.specs.declared.rows.Row.{Row}
 use Rattle.ak_memory.specs.declared.places.Place.{Place}
 use Rattle.ak_memory.specs.declared.versions.Version.TheVariants.{Mark, Now}
 use Rattle.ak_memory.specs.Indexes.{AreNoted, HaveAllKeys, IsCounted}
-use Rattle.ak_memory.specs.Places.{row_in, rows_at, unchanged_count, with_under}
+use Rattle.ak_memory.specs.HeldRows.{row_in}
+use Rattle.ak_memory.specs.Places.{AreFull, rows_at, unchanged_count, with_under}
 use Rattle.ak_memory.proofs.Counting.{counts-fit, counts-held, counts-with, named-with, some_in}
 use Rattle.ak_memory.proofs.Keys.{keys-held}
 use Rattle.ak_memory.proofs.RowsUnder.{get-rows_at, no_place, rows_at-same, rows_at-with, with_none}
@@ -20,6 +21,7 @@ returns-in_default-clause-indexed c =
       mark = subst (λ (es : List (Name × Place)). IsCounted c.args.self.now.mark_counts (rows_at Mark es)) same was.mark;
       keys = subst (λ (es : List (Name × Place)). HaveAllKeys c.args.self.now.cards.keys es) same was.keys;
       noted = subst (λ (es : List (Name × Place)). AreNoted c.args.self.now.noted.items es) same was.noted;
+      full = subst AreFull same was.full;
       room = let count = ap unchanged_count same in omega (arith, count, was.room);
     }
 
@@ -60,8 +62,9 @@ returns-clause-indexed c =
             named = named-with name o (rows_at Now es) was.current.named c.requires.named;
           });
       mark = subst (IsCounted c.args.self.now.mark_counts) (sym (rows_at-same Mark Mark es fs c.in-Some.ensures.mark)) was.mark;
-      keys = c.forget_key.ensures;
+      keys = c.forget_key.ensures.all;
       noted = noted-change c.args.self.now.noted.items c.note_change.new.noted.items es fs name c.in-Some.change.first c.in-Some.ensures.changed was.noted c.in-Some.ensures.first c.note_change.ensures.names;
+      full = c.in-Some.ensures.full was.full;
       room = omega (arith, was.room, c.in-Some.ensures.count, c.note_change.ensures.len, c.note_change.ensures.capacity);
     }
 

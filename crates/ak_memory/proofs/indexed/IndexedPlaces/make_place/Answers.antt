@@ -3,7 +3,7 @@ use Rattle.ak_base.specs.declared.names.Name.{Name}
 use Rattle.ak_memory.specs.declared.places.Place.{Place}
 use Rattle.ak_memory.specs.declared.versions.Version.TheVariants.{Mark, Now}
 use Rattle.ak_memory.specs.Indexes.{AreNoted, HaveAllKeys, IsCounted}
-use Rattle.ak_memory.specs.Places.{rows_at, unchanged_count}
+use Rattle.ak_memory.specs.Places.{AreFull, rows_at, unchanged_count}
 use Rattle.ak_memory.proofs.Counting.{unchanged-few}
 use Rattle.ak_memory.proofs.Keys.{keys-same}
 use Rattle.ak_memory.proofs.RowsUnder.{rows_at-same}
@@ -19,6 +19,7 @@ returns-in_err-add_place-clause-indexed c =
       mark = subst (λ (es : List (Name × Place)). IsCounted c.args.self.now.mark_counts (rows_at Mark es)) same c.requires.mark;
       keys = subst (λ (es : List (Name × Place)). HaveAllKeys c.args.self.now.cards.keys es) same c.requires.keys;
       noted = subst (λ (ns : List Name). AreNoted ns fs) (sym c.reserve.ensures.items) (subst (λ (es : List (Name × Place)). AreNoted c.args.self.now.noted.items es) same c.requires.noted);
+      full = subst AreFull same c.requires.full;
       room = let count = ap unchanged_count same in omega (arith, count, c.reserve.ensures.len, c.reserve.ensures.capacity, c.requires.room);
     }
 
@@ -33,6 +34,7 @@ returns-clause-indexed c =
       keys = keys-same c.args.self.now.cards.keys es fs rows c.requires.keys;
       noted = subst (λ (ns : List Name). AreNoted ns fs) (sym (c.push_reserved.ensures.items ∙ ap (λ (ns : List Name). ns ++ c.args.name ∷ []) c.reserve.ensures.items))
           (noted-more c.args.self.now.noted.items es fs c.args.name c.in_ok-add_place.ensures.changed c.requires.noted);
+      full = c.in_ok-add_place.ensures.full c.requires.full;
       room = omega (arith, c.push_reserved.ensures.len, c.push_reserved.ensures.capacity, c.in_ok-reserve.ensures.ok, c.in_ok-add_place.ensures.count, unchanged-few es, c.len.ensures.len);
     }
 

@@ -1,9 +1,9 @@
-use Rattle.std.proofs.Common.{List, [], ◌∷◌, T, sym, ap, subst, arith}
+use Rattle.std.proofs.Common.{List, [], ◌∷◌, T, refl, sym, ap, subst, arith}
 use Rattle.ak_base.specs.declared.names.Name.{Name}
 use Rattle.ak_memory.specs.declared.places.Place.{Place}
 use Rattle.ak_memory.specs.declared.versions.Version.TheVariants.{Mark, Now}
 use Rattle.ak_memory.specs.Indexes.{AreNoted, HaveAllKeys, IsCounted}
-use Rattle.ak_memory.specs.Places.{rows_at, unchanged_count}
+use Rattle.ak_memory.specs.Places.{AreFull, rows_at, unchanged_count}
 use Rattle.ak_memory.proofs.Counting.{counted-none}
 use Rattle.ak_memory.proofs.indexed.IndexedPlaces.new.Goals as goal
 
@@ -15,5 +15,6 @@ returns-clause-indexed c =
       mark = subst (λ (es : List (Name × Place)). IsCounted (0 ∷ 0 ∷ 0 ∷ 0 ∷ 0 ∷ 0 ∷ 0 ∷ 0 ∷ 0 ∷ []) (rows_at Mark es)) none counted-none;
       keys = subst (λ (es : List (Name × Place)). HaveAllKeys c.new-2.result.keys es) none (λ version note q is. absurd (subst T (sym is) tt));
       noted = subst (λ (es : List (Name × Place)). AreNoted c.new-3.result.items es) none (λ q is. absurd (subst T (sym is) tt));
+      full = subst (λ (es : List (Name × Place)). AreFull es) none (λ q. refl);
       room = let few = ap unchanged_count c.new.ensures.empty in omega (arith, c.new-3.ensures.len, few);
     }

@@ -12,6 +12,7 @@ returns-in_err-add_key-clause-indexed c =
       mark = made.mark;
       keys = subst (λ (keys : List NoteKey). HaveAllKeys keys c.make_place.new.self.places.entries) (sym c.in_err-add_key.ensures.err) made.keys;
       noted = made.noted;
+      full = made.full;
       room = made.room;
     }
 
@@ -23,5 +24,6 @@ exchange-requires-clause-indexed c =
       mark = made.mark;
       keys = keys-added c.make_place.new.self.cards.keys c.add_key.new.keys.keys c.make_place.new.self.places.entries _ _ made.keys c.in_ok-add_key.ensures.ok;
       noted = made.noted;
+      full = made.full;
       room = made.room;
     }

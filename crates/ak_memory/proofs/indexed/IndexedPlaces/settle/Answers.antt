@@ -16,6 +16,7 @@ returns-in-Now-clause-indexed c =
       mark = subst (IsCounted c.args.self.now.counts) (sym (all-settled c.as_slice.result.now es fs c.args.version are c.settle_all.ensures.rows Mark ∙ ap (λ v. rows_at v es) c.in-Now.is)) c.requires.current;
       keys = c.settle_all.ensures.keys;
       noted = subst (λ (ns : List Name). AreNoted ns fs) (sym c.clear.ensures.items) (none-changed c.as_slice.result.now es fs are c.settle_all.ensures.changed);
+      full = c.settle_all.ensures.full c.requires.full;
       room = omega (arith, c.clear.ensures.len, c.clear.ensures.capacity, c.settle_all.ensures.count, c.as_slice.ensures.len, c.requires.room);
     }
 
@@ -34,6 +35,7 @@ returns-in-Mark-clause-indexed c =
       mark = subst (IsCounted c.args.self.now.mark_counts) (sym (all-settled c.as_slice.result.now es fs c.args.version are c.settle_all.ensures.rows Mark ∙ ap (λ v. rows_at v es) c.in-Mark.is)) c.requires.mark;
       keys = c.settle_all.ensures.keys;
       noted = subst (λ (ns : List Name). AreNoted ns fs) (sym c.clear.ensures.items) (none-changed c.as_slice.result.now es fs are c.settle_all.ensures.changed);
+      full = c.settle_all.ensures.full c.requires.full;
       room = omega (arith, c.clear.ensures.len, c.clear.ensures.capacity, c.settle_all.ensures.count, c.as_slice.ensures.len, c.requires.room);
     }
 
