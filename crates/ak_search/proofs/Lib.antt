@@ -1,6 +1,7 @@
 pub mod Answering
 pub mod Faulting
 pub mod Grammars
+pub mod Levels
 pub mod Lexing
 pub mod Looking
 pub mod OnePass
@@ -9,5 +10,6 @@ pub mod Parsing
 pub mod Passing
 pub mod Places
 pub mod Sets
+pub mod Skipping
 pub mod Telling
 pub mod Walking

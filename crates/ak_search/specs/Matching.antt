@@ -1,6 +1,7 @@
 -- How a pattern is matched in one pass over the characters: a row of truth values, one before each item and one
 -- behind the last, says which item may come next.
-use Rattle.std.specs.Prelude.{ℕ, zero, suc, Bool, false, ◌&&◌, ◌||◌, List, [], ◌∷◌}
+use Rattle.std.specs.Prelude.{◌≡◌, ℕ, zero, suc, Bool, true, false, ◌&&◌, ◌||◌, List, [], ◌∷◌, length}
+use Rattle.std.specs.Str.{IsUtf8, chars}
 use Rattle.ak_search.specs.declared.patterns.PatternItem.{PatternItem}
 use Rattle.ak_search.specs.Patterns.{is_any, takes}
 
@@ -27,3 +28,8 @@ abbrev pub ended : Bool → List Bool → List PatternItem → Bool
 ended skipped [] pattern = false
 ended skipped (live ∷ row) [] = live || skipped
 ended skipped (live ∷ row) (item ∷ pattern) = ended (is_any item && (live || skipped)) row pattern
+
+-- the row of a pattern behind a text, which is given by its bytes
+pub record IsRowAt (pattern : List PatternItem) (row : List Bool) (text : List ℕ) : Type 0 where
+  pub utf8 : IsUtf8 text
+  pub is : row ≡ advanced_by (chars text) (true ∷ falses (length pattern)) pattern

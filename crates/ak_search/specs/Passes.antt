@@ -1,5 +1,5 @@
 -- What one pass over the cards keeps.
-use Rattle.std.specs.Prelude.{◌≡◌, Bool, true, false, ◌||◌, ℤ, pos, int_lt, IsTrue, List, [], ◌∷◌, ◌++◌, ⊤}
+use Rattle.std.specs.Prelude.{◌≡◌, ℕ, zero, suc, Bool, true, false, ◌||◌, ℤ, pos, int_lt, IsTrue, List, [], ◌∷◌, ◌++◌, Option, Some, None, ⊤}
 use Rattle.std.specs.BTreeMap.{get}
 use Rattle.std.specs.Ordering.{int_cmp, ordering_then}
 use Rattle.std.specs.declared.cmp.Ordering.{Ordering}
@@ -37,6 +37,18 @@ seen_by answers c related = record { card = c; note = related.note; note_type = 
 -- what the pieces that are left ask, for an evaluator that came so far
 abbrev pub evaluated_from : Evaluator → (Term → Bool) → List Piece → Bool
 evaluated_from evaluator holds ps = walk holds evaluator.outer.items evaluator.either evaluator.all ps
+
+-- what is left behind the `)` of a group in which so many more are open; none if it is not closed
+abbrev pub behind_group : ℕ → List Piece → Option (List Piece)
+behind_group depth [] = None
+behind_group depth (Test negated term ∷ ps) = behind_group depth ps
+behind_group depth (BadValue ∷ ps) = behind_group depth ps
+behind_group depth (Open negated ∷ ps) = behind_group (suc depth) ps
+behind_group zero (Close ∷ ps) = Some ps
+behind_group (suc depth) (Close ∷ ps) = behind_group depth ps
+behind_group depth (Or ∷ ps) = behind_group depth ps
+behind_group depth (And ∷ ps) = behind_group depth ps
+behind_group depth (OpenQuote ∷ ps) = behind_group depth ps
 
 -- what the pieces of a search ask
 abbrev pub asked : List Piece → (Term → Bool) → Bool

@@ -1,10 +1,13 @@
 // What is known of a card while the pieces of an expression are gone through.
-ghost use Rattle.std.specs.Prelude.{◌≡◌, ◌∷◌, ◌&&◌, ◌||◌, Bool, true, false, [], List, OnOk};
+ghost use Rattle.std.specs.Prelude.{◌≡◌, ◌≤◌, ◌∷◌, ◌&&◌, ◌||◌, not, Bool, true, false, [], List, length, Some, OnOk, IfSome};
+ghost use Rattle.ak_search.specs.Grammar.{pieces_in};
 ghost use Rattle.ak_search.specs.Meanings.{negated_by, walk};
+ghost use Rattle.ak_search.specs.Passes.{behind_group, evaluated_from};
 ghost use Rattle.ak_search.specs.declared.terms.Term.{Term as Asked};
 ghost use Rattle.ak_search.specs.declared.tokens.Piece.{Piece as Part};
 ghost use Rattle.ak_search.specs.declared.tokens.Piece.TheVariants as pieces;
 
+use crate::tokens::{Piece, Token};
 use ak_base::Memory;
 use std::alloc::Global;
 use std::collections::VecDeque;
@@ -45,6 +48,28 @@ impl Evaluator {
         ensures { result ≡ (self.now.either || self.now.all) }
     {
         self.either || self.all
+    }
+
+    /// Whether no term or group matters before the group ends or an `or` comes: an alternative was met, or a part failed.
+    fn is_settled(&self) -> bool
+        ensures { result ≡ (self.now.either || not self.now.all) }
+    {
+        self.either || !self.all
+    }
+
+    /// What is left behind the piece, with the rest of its group, if it is a term or a group that no longer matters.
+    pub(crate) fn skip<'a>(&self, piece: &Piece, others: &'a [Token]) -> Option<&'a [Token]>
+        ensures same { IfSome result (λ rest. (holds : Asked → Bool) → evaluated_from self.now holds (piece.now ∷ pieces_in others.now) ≡ evaluated_from self.now holds (pieces_in rest.now)) }
+        ensures shorter { IfSome result (λ rest. length rest.now ≤ length others.now) }
+    {
+        if !self.is_settled() {
+            return None;
+        }
+        match piece {
+            Piece::Test(_, _) => Some(others),
+            Piece::Open(_) => past_group(others),
+            _ => None,
+        }
     }
 
     /// A term, and whether the card meets it.
@@ -95,4 +120,27 @@ fn negated_by(negated: bool, holds: bool) -> bool
     ensures { result ≡ negated_by negated holds }
 {
     if negated { !holds } else { holds }
+}
+
+/// What is left behind the group that opens before these tokens, if it is closed.
+fn past_group(tokens: &[Token]) -> Option<&[Token]>
+    ensures behind { IfSome result (λ rest. behind_group 0 (pieces_in tokens.now) ≡ Some (pieces_in rest.now)) }
+    ensures shorter { IfSome result (λ rest. length rest.now ≤ length tokens.now) }
+{
+    let mut depth = 0usize;
+    let mut rest = tokens;
+    while let Some((token, others)) = rest.split_first() {
+        match token.piece {
+            Piece::Open(_) => depth += 1,
+            Piece::Close => {
+                if depth == 0 {
+                    return Some(others);
+                }
+                depth -= 1;
+            }
+            _ => {}
+        }
+        rest = others;
+    }
+    None
 }

@@ -1,6 +1,6 @@
 // Whether a pattern matches a text, in one pass over its characters.
-ghost use Rattle.std.specs.Prelude.{◌≡◌, ◌+◌, ◌∷◌, ◌++◌, [], true, false, length, IfOk, OnOk};
-ghost use Rattle.ak_search.specs.Matching.{falses, advanced, advanced_by, ended};
+ghost use Rattle.std.specs.Prelude.{◌≡◌, ◌+◌, ◌∷◌, ◌++◌, [], true, false, List, ℕ, length, IfOk, OnOk};
+ghost use Rattle.ak_search.specs.Matching.{falses, advanced, advanced_by, ended, IsRowAt};
 ghost use Rattle.ak_search.specs.Patterns.{fits, matches, matches_spaced};
 
 use crate::PatternItem;
@@ -25,7 +25,7 @@ fn fits(alloc: Global, pattern: &[PatternItem], letters: &[char]) -> Result<bool
 }
 
 /// Which items may come next before any character: the first alone.
-fn first_row(alloc: Global, count: usize) -> Result<Vec<bool>, Memory>
+pub(crate) fn first_row(alloc: Global, count: usize) -> Result<Vec<bool>, Memory>
     ensures { IfOk result (λ row. row.items ≡ true ∷ falses count) }
 {
     let mut row = vec![in alloc; true]?;
@@ -75,8 +75,24 @@ fn advance(row: &mut [bool], pattern: &[PatternItem], letter: char)
     row[place] = taken;
 }
 
+/// Moves the row past one more part of a text.
+pub(crate) fn read_on(
+    alloc: Global,
+    row: &mut [bool],
+    pattern: &[PatternItem],
+    part: &str,
+) -> Result<(), Memory>
+    requires { length row.old ≡ length pattern.now + 1 }
+    ensures row { OnOk result ((text : List ℕ) → IsRowAt pattern.now row.old text → IsRowAt pattern.now row.new (text ++ part.now)) }
+    ensures size { length row.new ≡ length row.old }
+{
+    let letters = letters_of(alloc, part)?;
+    advance_by(row, pattern, &letters);
+    Ok(())
+}
+
 /// Whether the pattern may end at the row.
-fn may_end(row: &[bool], pattern: &[PatternItem]) -> bool
+pub(crate) fn may_end(row: &[bool], pattern: &[PatternItem]) -> bool
     requires { length row.now ≡ length pattern.now + 1 }
     ensures { result ≡ ended false row.now pattern.now }
 {

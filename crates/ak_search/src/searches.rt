@@ -203,7 +203,7 @@ fn related_if_needed<R: Lookup>(
     }
 }
 
-/// Whether the card meets the tokens.
+/// Whether the card meets the tokens. What no longer matters is not asked.
 fn meets(
     context: &SearchContext,
     card: &Card,
@@ -215,8 +215,13 @@ fn meets(
     let mut evaluator = Evaluator::new(context.alloc);
     let mut rest = tokens;
     while let Some((token, others)) = rest.split_first() {
-        take_piece(context, card, related, &mut evaluator, &token.piece)?;
-        rest = others;
+        match evaluator.skip(&token.piece, others) {
+            Some(behind) => rest = behind,
+            None => {
+                take_piece(context, card, related, &mut evaluator, &token.piece)?;
+                rest = others;
+            }
+        }
     }
     Ok(evaluator.holds())
 }

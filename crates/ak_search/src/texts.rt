@@ -1,13 +1,15 @@
 // The fields and tags of a note, and the names that patterns are tried on.
-ghost use Rattle.std.specs.Prelude.{◌≡◌, ◌<◌, ◌∷◌, ◌++◌, ◌==◌, ◌&&◌, if◌then◌else◌, [], false, ℕ, List, codes, length, map, filter, IfOk, IfSome, IfNone};
+ghost use Rattle.std.specs.Prelude.{◌≡◌, ◌<◌, ◌∷◌, ◌++◌, ◌==◌, ◌&&◌, if◌then◌else◌, [], true, false, ℕ, List, codes, length, map, filter, IfOk, IfSome, IfNone};
 ghost use Rattle.std.specs.List.{list_any, slice_split};
 ghost use Rattle.std.specs.Str.{str_eq_ignore_ascii_case};
 ghost use Rattle.ak_base.specs.NoteTexts.{fields_in, tags_in};
 ghost use Rattle.ak_filters.specs.Strips.{stripped};
 ghost use Rattle.ak_search.specs.Holds.{passes, path_matches};
 ghost use Rattle.ak_search.specs.CardFacts.{field_count, filled, some_field, named_field};
+ghost use Rattle.ak_search.specs.Matching.{falses};
 ghost use Rattle.ak_search.specs.Patterns.{matches};
 
+use crate::matching::{first_row, may_end, read_on};
 use crate::{PatternItem, matches, matches_spaced};
 use ak_base::{FieldDef, Memory, Note, NoteType, next_part};
 use ak_template::strip;
@@ -22,7 +24,8 @@ pub(crate) enum MatchMode {
     Spaced,
 }
 
-/// Whether the name of a deck or tag matches, or that of one that it is below.
+/// Whether the name of a deck or tag matches, or that of one that it is below. The pattern goes over the name once, and may
+/// end at each `::`.
 pub(crate) fn path_matches(
     alloc: Global,
     pattern: &[PatternItem],
@@ -30,18 +33,31 @@ pub(crate) fn path_matches(
 ) -> Result<bool, Memory>
     ensures { IfOk result (λ does. does ≡ path_matches pattern.now name.now) }
 {
-    let mut above = String::new(alloc);
+    let mut row = first_row(alloc, pattern.len())?;
+    path_matches_by(alloc, &mut row, pattern, name)
+}
+
+/// The same, in a row of places that it may change.
+fn path_matches_by(
+    alloc: Global,
+    row: &mut [bool],
+    pattern: &[PatternItem],
+    name: &str,
+) -> Result<bool, Memory>
+    requires { row.old ≡ true ∷ falses (length pattern.now) }
+    ensures { IfOk result (λ does. does ≡ path_matches pattern.now name.now) }
+{
     let mut rest = name;
     while let Some((level, below)) = next_part(rest) {
-        above.push_str(level)?;
-        if matches(alloc, pattern, above.as_str())? {
+        read_on(alloc, row, pattern, level)?;
+        if may_end(row, pattern) {
             return Ok(true);
         }
-        above.push_str("::")?;
+        read_on(alloc, row, pattern, "::")?;
         rest = below;
     }
-    above.push_str(rest)?;
-    matches(alloc, pattern, above.as_str())
+    read_on(alloc, row, pattern, rest)?;
+    Ok(may_end(row, pattern))
 }
 
 /// Whether some tag matches, or one that it is below.
