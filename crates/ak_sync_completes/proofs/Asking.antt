@@ -32,6 +32,24 @@ pub replies_of : (before : List TriedAsk) → AllGranted before → AllByRecursi
 replies_of [] all = tt
 replies_of (one ∷ more) all = ((all.0.reply, all.0.is), replies_of more all.1)
 
+-- the last of one is that
+pub last_of_one : (one it : TriedAsk) (before : List TriedAsk) → one ∷ [] ≡ before ++ it ∷ [] → it ≡ one
+last_of_one one it [] is = grind (arith, is)
+last_of_one one it (other ∷ before) is = absurd (not_last before (grind (arith, is)))
+  where
+    not_last : (more : List TriedAsk) → more ++ it ∷ [] ≡ [] → ⊥
+    not_last [] is = grind (arith, is)
+    not_last (next ∷ more) is = grind (arith, is)
+
+-- what asked nothing tried nothing
+pub nothing_tried : (tries : List TriedAsk) → asks_in tries ≡ [] → tries ≡ []
+nothing_tried [] is = refl
+nothing_tried (it ∷ more) is = grind (arith, is)
+
+-- the first that was tried, and what was tried after it
+pub first_tried : (one other : TriedAsk) (more rest : List TriedAsk) → one ∷ more ≡ other ∷ rest → (one ≡ other) × (more ≡ rest)
+first_tried one other more rest is = (grind (arith, is), grind (arith, is))
+
 -- ---- the requests
 pub requests_of_host : (who : Asker) (base : ℤ) (step : ℕ) (list : List Ask)
     → AllByRecursion (λ (request : Request). request.host.digits ≡ who.host.digits) (requests_from who base step list)

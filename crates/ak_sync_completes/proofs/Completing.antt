@@ -1,17 +1,11 @@
 -- That a sync which nothing stops is finished, or memory ran out.
 use Rattle.std.specs.List.{AllByRecursion}
-use Rattle.std.specs.Prelude.{◌≡◌, ◌⊎◌, ◌≤◌, ◌<◌, ◌+◌, ◌/◌, ◌≤ℤ◌, ℕ, ℤ, pos, true, false, List, [], ◌∷◌, ◌++◌, length, Some, None}
+use Rattle.std.specs.Prelude.{◌≡◌, ◌⊎◌, ◌≤◌, ◌<◌, ◌+◌, ◌/◌, ℕ, ℤ, true, false, List, [], ◌∷◌, ◌++◌, length, Some, None}
 use Rattle.std.proofs.Common.{refl, sym, ap, subst, ◌∙◌, inl, inr, arith}
-use Rattle.std.proofs.lemmas.Int.{ints}
 use Rattle.std.proofs.lemmas.Option.{same_Some}
-use Rattle.ak_base.specs.Heads.{IsMoment}
-use Rattle.ak_base.specs.Limits.{last_moment}
-use Rattle.ak_base.specs.Rows.{IsChecked}
-use Rattle.ak_base.specs.declared.names.Name.{Name}
-use Rattle.ak_base.specs.declared.rows.Row.{Row}
-use Rattle.ak_client.proofs.Growing.{commits_grown, lawful_grown}
+use Rattle.ak_client.proofs.Growing.{commits_grown}
 use Rattle.ak_client.specs.Outcomes.{is_told_by_meta}
-use Rattle.ak_client.specs.Syncs.{CommitsAlone, EndsAt, IsCommittedIn, IsFairEnd, IsShown, IsSync, IsSyncEnded, Synced, Syncs, meta_tried, told_by, world_at}
+use Rattle.ak_client.specs.Syncs.{EndsAt, IsCommittedIn, IsFairEnd, IsShown, IsSync, IsSyncEnded, Synced, Syncs, meta_tried, told_by, world_at}
 use Rattle.ak_client.specs.declared.outcomes.Outcome.{Outcome}
 use Rattle.ak_client.specs.declared.outcomes.Outcome.TheVariants as outcomes
 use Rattle.ak_exchange.specs.Asked.{TriedAsk, answers_in, asker, asks_in}
@@ -21,14 +15,13 @@ use Rattle.ak_exchange.specs.declared.envelopes.Ids.{Ids}
 use Rattle.ak_exchange.specs.declared.stops.Stop.{Stop}
 use Rattle.ak_exchange.specs.declared.stops.Stop.TheVariants as stops
 use Rattle.ak_faults.specs.Causes.{Rose}
-use Rattle.ak_keep.proofs.RowsByName.{all_gets, named-get}
 use Rattle.ak_keep.specs.Collections.{Collection}
 use Rattle.ak_keep.specs.declared.keepers.Wanted.TheVariants.{From, Unsent}
 use Rattle.ak_merge.proofs.SoundLaws.{sound_has_no_fault}
 use Rattle.ak_merge.specs.Commits.{IsCommitted}
-use Rattle.ak_merge.specs.Holdings.{AreChecked, AreNamed, row_under}
+use Rattle.ak_merge.specs.Holdings.{row_under}
 use Rattle.ak_merge.specs.Joins.{AreApart}
-use Rattle.ak_merge.specs.Links.{AreLinked, AreLinkedParts}
+use Rattle.ak_merge.specs.Links.{AreLinked}
 use Rattle.ak_merge.specs.Soundness.{first_fault}
 use Rattle.ak_merge.specs.declared.checks.CheckFault.{CheckFault}
 use Rattle.ak_messages.specs.declared.replies.Word.{Word}
@@ -37,17 +30,18 @@ use Rattle.ak_messages.specs.declared.requests.Ask.TheVariants as asks
 use Rattle.ak_messages.specs.declared.requests.SanityCounts.{SanityCounts}
 use Rattle.ak_protocol.specs.Accounts.{AccountState}
 use Rattle.ak_protocol.specs.Commits.{CommitsGrow, Leads}
-use Rattle.ak_protocol.specs.LawfulServers.{IsLawfulAccount}
-use Rattle.ak_protocol.specs.Logs.{Commit, Log, commits_of, with_growth}
-use Rattle.ak_session.proofs.Accepting.{between}
+use Rattle.ak_protocol.specs.Logs.{Log, commits_of, with_growth}
 use Rattle.ak_session.proofs.PlanLaws.{plans_are_short}
 use Rattle.ak_session.specs.Plans.{Asker, plan, planned, requests_from}
 use Rattle.ak_session.specs.Sessions.{MaySync}
 use Rattle.ak_session.specs.Slices.{wanted_graves, wanted_in_chunks}
+use Rattle.ak_sync_completes.proofs.Asking.{last_of_one, nothing_tried}
+use Rattle.ak_sync_completes.proofs.Bases.{commit_is_timed, same_moment}
 use Rattle.ak_sync_completes.proofs.Graves.{graves_few}
 use Rattle.ak_sync_completes.proofs.Metas.{Says, goes_on_after, meta_says}
 use Rattle.ak_sync_completes.proofs.Reading.{unread_counted}
 use Rattle.ak_sync_completes.proofs.Serving.{IsQuiet}
+use Rattle.ak_sync_completes.proofs.Sides.{checked_of, named_of, sides_may_sync}
 use Rattle.ak_sync_completes.proofs.Undisturbed.{granted_last, quiet_or_out}
 use Rattle.ak_sync_completes.specs.Completing.{AreJoinable, EndsWell, IsSyncOver, IsUnhindered, RanOutOfMemory, SyncSides}
 use Rattle.ak_wires.specs.Forms.{is_moment}
@@ -55,71 +49,23 @@ use Rattle.ak_wires.specs.declared.wires.MetaSaid.{MetaSaid}
 
 -- ---- the two sides
 module _ (c s : Collection) (joinable : AreJoinable c s) (lawful : IsCommitted s) (linked : AreLinked c s) where
-  named : AreNamed (row_under c)
-  named = λ name row at. named-get c.rows name row joinable.formed.named at
-
-  checked : AreChecked (row_under c)
-  checked = λ name row at. all_gets (λ (entry : Name × Row). IsChecked entry.1) c.rows name row joinable.formed.checked at
-
   may_sync : MaySync c s
-  may_sync = record {
-    linked = parts linked;
-    named = named;
-    checked = checked;
-    head = joinable.formed.head;
-    committed = lawful;
-    apart = joinable.apart;
-  }
-    where
-      parts : AreLinked c s → AreLinkedParts c s
-      parts (inl other) = absurd (other joinable.schema)
-      parts (inr all) = all
+  may_sync = sides_may_sync c s joinable.formed joinable.schema linked lawful joinable.apart
 
   device_sound : first_fault c.rows ≡ None
-  device_sound = (sound_has_no_fault c.rows named checked).1 joinable.sound
+  device_sound = (sound_has_no_fault c.rows (named_of c joinable.formed) (checked_of c joinable.formed)).1 joinable.sound
 
   -- the plan has fewer requests than there are steps
   short : (who : Asker) → length (plan who c s) ≤ 9_223_372_036_854_775_807
   short who =
       counted (length (plan who c s)) (length (wanted_graves Unsent c.rows)) (length (wanted_in_chunks (From c.head.usn) s.rows)) (length (wanted_in_chunks Unsent c.rows))
-      (plans_are_short who c s lawful.head.usn.low) (graves_few c.rows named joinable.formed.checked) joinable.pulled joinable.pushed
+      (plans_are_short who c s lawful.head.usn.low) (graves_few c.rows (named_of c joinable.formed) joinable.formed.checked) joinable.pulled joinable.pushed
     where
       counted : (all graves pulled pushed : ℕ) → all + 1 ≤ 8 + graves / 250 + pulled / 250 + pushed / 250 → graves ≤ 27_021_597_764_222_973
           → pulled < 10_000_000 → pushed < 10_000_000 → all ≤ 9_223_372_036_854_775_807
       counted all graves pulled pushed most one two three = omega (arith, most, one, two, three)
 
--- ---- which collection the meta was answered over
--- commits that lead on make later moments
-moments_rise : (first last : Collection) (commits : List Commit) → Leads first commits last → first.head.moment ≤ℤ last.head.moment
-moments_rise first last [] leads = grind (arith, ints, ap (λ (k : Collection). k.head.moment) leads)
-moments_rise first last (commit ∷ commits) leads =
-    let earlier = moments_rise first commit.before commits leads.2 in
-    let here = leads.1 in
-    let end = ap (λ (k : Collection). k.head.moment) leads.0 in
-    grind (arith, ints, earlier, here, end)
-
--- so at the same moment nothing was committed
-same_moment : (first last : Collection) (commits : List Commit) → Leads first commits last → last.head.moment ≡ first.head.moment → last ≡ first
-same_moment first last [] leads same = leads
-same_moment first last (commit ∷ commits) leads same =
-    let earlier = moments_rise first commit.before commits leads.2 in
-    let here = leads.1 in
-    let end = ap (λ (k : Collection). k.head.moment) leads.0 in
-    absurd (grind (arith, ints, earlier, here, end, same))
-
 -- ---- how it ends
-last_of_one : (one it : TriedAsk) (before : List TriedAsk) → one ∷ [] ≡ before ++ it ∷ [] → it ≡ one
-last_of_one one it [] is = grind (arith, is)
-last_of_one one it (other ∷ before) is = absurd (not_last before (grind (arith, is)))
-  where
-    not_last : (more : List TriedAsk) → more ++ it ∷ [] ≡ [] → ⊥
-    not_last [] is = grind (arith, is)
-    not_last (next ∷ more) is = grind (arith, is)
-
-nothing_tried : (tries : List TriedAsk) → asks_in tries ≡ [] → tries ≡ []
-nothing_tried [] is = refl
-nothing_tried (it ∷ more) is = grind (arith, is)
-
 module _ (ids : Ids) (c : Collection) (account : AccountState) (before after : SyncSides) (outcome : Outcome)
     (it : IsUnhindered ids c account before after)
     (ended : IsSyncEnded ids before.keeping after.keeping before.health after.health before.wire after.wire before.moments outcome) where
@@ -211,16 +157,11 @@ module _ (ids : Ids) (c : Collection) (account : AccountState) (before after : S
           c (may_sync c held it.joinable lawful it.begins.may.linked) it.joinable.room it.joinable.joins (short c held it.joinable lawful it.begins.may.linked asker_of)
           own.meta own.moment own.tries own.granted (planned_front front) last earlier parts reply answered own.tried))
 
-  -- what its session committed is what is committed now, so its moment is in its range
+  -- what its session committed has a moment in its range
   committed_now : (made : Collection) → commits_of ids.session.0 (world_at asker_of account it.now).commits
       ≡ record { key = ids.session.0; before = held; after = made } ∷ [] → is_moment made.head.moment ≡ true
-  committed_now made only =
-      let one : CommitsAlone asker_of account it.old it.now = own.commits it.begins.alone it.old it.now account it.begins.told it.begins.told_now it.begins.may.unused in
-      let last : made ≡ (world_at asker_of account it.now).state.committed = (one.one (record { key = ids.session.0; before = held; after = made }) only).1 in
-      let now_lawful : IsLawfulAccount (world_at asker_of account it.now).state =
-      subst (λ (log : Log). IsLawfulAccount (world_at asker_of account log).state) (sym synced.grown)
-      (lawful_grown asker_of account it.old synced.growth synced.timely it.begins.may.lawful) in
-      between (pos 0) last_moment made.head.moment (subst (λ (k : Collection). IsMoment k.head.moment) (sym last) now_lawful.committed.head.moment)
+  committed_now =
+      commit_is_timed asker_of account it.old it.now synced.growth synced.grown it.begins.may.unused it.begins.may.lawful synced.timely held
 
   -- each answer can be read
   readable : EndsAt (meta_tried own.meta ∷ own.tries) after.wire outcomes.BadReply → ⊥

@@ -34,6 +34,8 @@ use Rattle.ak_messages.specs.declared.replies.Give.TheVariants as gives
 use Rattle.ak_messages.specs.declared.requests.Ask.{Ask}
 use Rattle.ak_messages.specs.declared.requests.Ask.TheVariants as asks
 use Rattle.ak_messages.specs.declared.requests.Changes.{Changes}
+use Rattle.ak_messages.specs.declared.requests.Chunk.{Chunk}
+use Rattle.ak_messages.specs.declared.requests.GraveIds.{GraveIds}
 use Rattle.ak_messages.specs.declared.requests.SanityCounts.{SanityCounts}
 use Rattle.ak_protocol.specs.Replies.{meta_reply}
 use Rattle.ak_sync_completes.proofs.Graves.{checked_id}
@@ -158,42 +160,42 @@ changes_fit c s changes may =
     ap (λ (r : Received). is_in_form (asks.ApplyChanges changes) (gives.Changes (changes_of r))) (changes_given c s may)
     ∙ formed (are_changes_in_range (changes_of came)) (changes_of came) (rw (rows_fit, tags_fit, newer_fits) refl)
 
--- ---- where the changes stand
+-- ---- where the changes and the check stand
 abbrev is_changes : Ask → Bool
 is_changes (asks.ApplyChanges changes) = true
 is_changes ask = false
 
-abbrev AreOthers : List Ask → Type 0
-AreOthers list = AllByRecursion (λ (ask : Ask). is_changes ask ≡ false) list
+abbrev pub is_check : Ask → Bool
+is_check (asks.SanityCheck2 counts) = true
+is_check ask = false
 
-all_at : (xs : List Ask) (ask : Ask) (ys : List Ask) → AreOthers (xs ++ ask ∷ ys) → is_changes ask ≡ false
-all_at [] ask ys all = all.0
-all_at (x ∷ xs) ask ys all = all_at xs ask ys all.1
+abbrev AreOthers : (Ask → Bool) → List Ask → Type 0
+AreOthers test list = AllByRecursion (λ (ask : Ask). test ask ≡ false) list
 
-only_place : (xs ys : List Ask) (x : Ask) (before rest : List Ask) (ask : Ask) → AreOthers xs → AreOthers ys → is_changes ask ≡ true → before ++ ask ∷ rest ≡ xs ++ x ∷ ys → before ≡ xs
-only_place [] ys x [] rest ask one two is same = refl
-only_place [] ys x (b ∷ before) rest ask one two is same =
-    absurd (not_both is (all_at before ask rest (subst AreOthers (sym (tail_of b (before ++ ask ∷ rest) x ys same)) two)))
-  where
-    tail_of : (a : Ask) (xs : List Ask) (b : Ask) (ys : List Ask) → a ∷ xs ≡ b ∷ ys → xs ≡ ys
-    tail_of a xs b ys is = grind (arith, is)
-only_place (x' ∷ xs) ys x [] rest ask one two is same = absurd (not_both (sym (ap is_changes (head_of ask rest x' (xs ++ x ∷ ys) same)) ∙ is) one.0)
-  where
-    head_of : (a : Ask) (xs : List Ask) (b : Ask) (ys : List Ask) → a ∷ xs ≡ b ∷ ys → a ≡ b
-    head_of a xs b ys is = grind (arith, is)
-only_place (x' ∷ xs) ys x (b ∷ before) rest ask one two is same =
+all_at : (test : Ask → Bool) (xs : List Ask) (ask : Ask) (ys : List Ask) → AreOthers test (xs ++ ask ∷ ys) → test ask ≡ false
+all_at test [] ask ys all = all.0
+all_at test (x ∷ xs) ask ys all = all_at test xs ask ys all.1
+
+-- the parts of two lists that are one
+parts_of : (a : Ask) (xs : List Ask) (b : Ask) (ys : List Ask) → a ∷ xs ≡ b ∷ ys → (a ≡ b) × (xs ≡ ys)
+parts_of a xs b ys is = (grind (arith, is), grind (arith, is))
+
+-- what passes a test that the others do not pass stands at the one place
+only_place : (test : Ask → Bool) (xs ys : List Ask) (x : Ask) (before rest : List Ask) (ask : Ask) → AreOthers test xs → AreOthers test ys → test ask ≡ true
+    → before ++ ask ∷ rest ≡ xs ++ x ∷ ys → (before ≡ xs) × (ask ≡ x)
+only_place test [] ys x [] rest ask one two is same = (refl, (parts_of ask rest x ys same).0)
+only_place test [] ys x (b ∷ before) rest ask one two is same =
+    absurd (not_both is (all_at test before ask rest (subst (AreOthers test) (sym (parts_of b (before ++ ask ∷ rest) x ys same).1) two)))
+only_place test (x' ∷ xs) ys x [] rest ask one two is same =
+    absurd (not_both (sym (ap test (parts_of ask rest x' (xs ++ x ∷ ys) same).0) ∙ is) one.0)
+only_place test (x' ∷ xs) ys x (b ∷ before) rest ask one two is same =
     let both = parts_of b (before ++ ask ∷ rest) x' (xs ++ x ∷ ys) same in
-    ap (λ (l : List Ask). b ∷ l) (only_place xs ys x before rest ask one.1 two is both.1) ∙ ap (λ (a : Ask). a ∷ xs) both.0
-  where
-    parts_of : (a : Ask) (xs : List Ask) (b : Ask) (ys : List Ask) → a ∷ xs ≡ b ∷ ys → (a ≡ b) × (xs ≡ ys)
-    parts_of a xs b ys is = (grind (arith, is), grind (arith, is))
+    let later = only_place test xs ys x before rest ask one.1 two is both.1 in
+    (ap (λ (l : List Ask). b ∷ l) later.0 ∙ ap (λ (a : Ask). a ∷ xs) both.0, later.1)
 
-others_each : (f : List Row → Ask) → ((part : List Row) → is_changes (f part) ≡ false) → (parts : List (List Row)) → AreOthers (map f parts)
-others_each f other [] = tt
-others_each f other (part ∷ parts) = (other part, others_each f other parts)
-
-abbrev IsOther : Ask → Type 0
-IsOther other = is_changes other ≡ false
+others_each : (test : Ask → Bool) (f : List Row → Ask) → ((part : List Row) → test (f part) ≡ false) → (parts : List (List Row)) → AreOthers test (map f parts)
+others_each test f other [] = tt
+others_each test f other (part ∷ parts) = (other part, others_each test f other parts)
 
 module _ (c s : Collection) where
   abbrev graves : List Row
@@ -214,19 +216,43 @@ module _ (c s : Collection) where
   abbrev last : List Ask
   last = check ∷ asks.Finish ∷ []
 
+  -- the parts of a plan before its changes, and after them, up to the check
+  others_before : (test : Ask → Bool) → ((usn moment : ℤ) → test (asks.Start usn moment) ≡ false) → ((ids : GraveIds) → test (asks.ApplyGraves ids) ≡ false)
+      → AreOthers test (planned_graves c s)
+  others_before test start each =
+      all_append (λ (ask : Ask). test ask ≡ false) (planned_start c) (graves_to_send graves) (start c.head.usn c.head.moment, tt)
+      (others_each test (λ (part : List Row). asks.ApplyGraves (grave_ids part)) (λ part. each (grave_ids part)) (filled_slices graves))
+
+  others_chunked : (test : Ask → Bool) → test asks.Chunk ≡ false → ((chunk : Chunk) → test (asks.ApplyChunk chunk) ≡ false) → AreOthers test (chunks ++ pushes)
+  others_chunked test asked sent =
+      all_append (λ (ask : Ask). test ask ≡ false) chunks pushes
+      (others_each test (λ (part : List Row). asks.Chunk) (λ part. asked) (slices_until_short (server_rows s (planned_changes c s))))
+      (others_each test (λ (part : List Row). asks.ApplyChunk (chunk_of part)) (λ part. sent (chunk_of part))
+      (slices_until_short (wanted_in_chunks Unsent (device_rows c s (planned_chunks c s)))))
+
   -- the changes of a plan come after its graves
   changes_place : (before rest : List Ask) (ask : Ask) → is_changes ask ≡ true → before ++ ask ∷ rest ≡ planned c s → before ≡ planned_graves c s
   changes_place before rest ask is place =
-      only_place (planned_graves c s) (chunks ++ (pushes ++ last)) changes before rest ask
-      (all_append IsOther (planned_start c) (graves_to_send graves) (refl, tt) (others_each (λ (part : List Row). asks.ApplyGraves (grave_ids part)) (λ part. refl) (filled_slices graves)))
-      (all_append IsOther chunks (pushes ++ last) (others_each (λ (part : List Row). asks.Chunk) (λ part. refl) (slices_until_short (server_rows s (planned_changes c s))))
-      (all_append IsOther pushes last (others_each (λ (part : List Row). asks.ApplyChunk (chunk_of part)) (λ part. refl) (slices_until_short (wanted_in_chunks Unsent (device_rows c s (planned_chunks c s))))) (refl, (refl, tt))))
+      (only_place is_changes (planned_graves c s) ((chunks ++ pushes) ++ last) changes before rest ask
+      (others_before is_changes (λ usn moment. refl) (λ ids. refl))
+      (all_append (λ (other : Ask). is_changes other ≡ false) (chunks ++ pushes) last (others_chunked is_changes refl (λ chunk. refl)) (refl, (refl, tt)))
       is
       (place
       ∙ append_assoc (planned_pushes c s) (check ∷ []) (asks.Finish ∷ [])
       ∙ append_assoc (planned_chunks c s) pushes last
       ∙ append_assoc (planned_changes c s) chunks (pushes ++ last)
-      ∙ append_assoc (planned_graves c s) (changes ∷ []) (chunks ++ (pushes ++ last)))
+      ∙ ap (λ (l : List Ask). planned_changes c s ++ l) (sym (append_assoc chunks pushes last))
+      ∙ append_assoc (planned_graves c s) (changes ∷ []) ((chunks ++ pushes) ++ last))).0
+
+  -- its check comes after all that the device sends, with the device's counts
+  pub check_place : (before rest : List Ask) (ask : Ask) → is_check ask ≡ true → before ++ ask ∷ rest ≡ planned c s → (before ≡ planned_pushes c s) × (ask ≡ check)
+  check_place before rest ask is place =
+      only_place is_check (planned_pushes c s) (asks.Finish ∷ []) check before rest ask
+      (subst (AreOthers is_check)
+      (sym (append_assoc (planned_changes c s) chunks pushes ∙ append_assoc (planned_graves c s) (changes ∷ []) (chunks ++ pushes)))
+      (all_append (λ (other : Ask). is_check other ≡ false) (planned_graves c s) (changes ∷ (chunks ++ pushes))
+      (others_before is_check (λ usn moment. refl) (λ ids. refl)) (refl, others_chunked is_check refl (λ chunk. refl))))
+      (refl, tt) is (place ∙ append_assoc (planned_pushes c s) (check ∷ []) (asks.Finish ∷ []))
 
 -- ---- an answer
 -- what a server gives for what a sync asks has the form of that

@@ -1,5 +1,9 @@
 mod Asking
+mod Bases
+mod Checks
 mod Completing
+mod Disturbed
+mod Faults
 mod Forming
 mod Granting
 mod Graves
@@ -7,5 +11,6 @@ mod Metas
 mod Reading
 mod Running
 mod Serving
+mod Sides
 mod Stopping
 mod Undisturbed

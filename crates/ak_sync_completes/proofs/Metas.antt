@@ -35,7 +35,7 @@ use Rattle.ak_protocol.specs.Logs.{Event, View, Asked, IsReplyIn, Log, World, wi
 use Rattle.ak_protocol.specs.Replies.{granted, meta_reply}
 use Rattle.ak_protocol.specs.Serving.{Setback, Undisturbed, KeeperFault, OutOfMemory, served}
 use Rattle.ak_sync_completes.proofs.Serving.{Answer, all_own, same_growth, reply_at_place, served_alone, servings_are_of}
-use Rattle.ak_sync_completes.specs.Completing.{IsServedNear}
+use Rattle.ak_sync_completes.specs.Completing.{IsMetaNear}
 use Rattle.ak_wires.specs.Forms.{is_meta_in_range, meta_told}
 use Rattle.ak_wires.specs.Wires.{IsServing, WireState}
 use Rattle.ak_wires.specs.declared.wires.MetaSaid.{MetaSaid}
@@ -69,7 +69,7 @@ one_of true x y is = same_Some x y is
 one_of false x y is = absurd (none-some y is)
 
 said_by : (s : Collection) (account : AccountState) (ids : Ids) (at now : ℤ) (said : MetaSaid) (reply : Reply) → account.committed ≡ s → (setback : Setback)
-    → (served account (meta_of ids) now setback).reply ≡ reply → IsServedNear at (Asked (meta_of ids) now setback) → told_by (Ok reply) ≡ Some said → Says s at said
+    → (served account (meta_of ids) now setback).reply ≡ reply → IsMetaNear at (Asked (meta_of ids) now setback) → told_by (Ok reply) ≡ Some said → Says s at said
 said_by s account ids at now said reply same Undisturbed is near told =
     let own : reply ≡ granted (gives.Meta (meta_reply s.head now)) = sym is ∙ ap (λ (k : Collection). granted (gives.Meta (meta_reply k.head now))) same in
     let meta : MetaReply = meta_reply s.head now in
@@ -77,7 +77,7 @@ said_by s account ids at now said reply same Undisturbed is near told =
     one_of (is_meta_in_range meta) (meta_told meta) said (subst (λ (r : Reply). told_by (Ok r) ≡ Some said) own told) in
     record {
       cont = sym (ap (λ (m : MetaSaid). m.cont) one);
-      near = subst (λ (m : MetaSaid). are_far_apart (second_of at) m.ts ≡ false) one near;
+      near = subst (λ (m : MetaSaid). are_far_apart (second_of at) m.ts ≡ false) one (near refl);
       moment = sym (ap (λ (m : MetaSaid). m.moment) one);
       schema = sym (ap (λ (m : MetaSaid). m.scm) one);
       usn = sym (ap (λ (m : MetaSaid). m.usn) one);
@@ -102,7 +102,7 @@ held_at_meta ids account old mine reply servings r =
         (subst (AllByRecursion (IsServing (meta_of ids))) (sym r.place) servings)
 
 module _ (ids : Ids) (account : AccountState) (old now : Log) (growth : List Event) (opening : old.opening ids.host.digits ≡ Some account)
-    (grown : now ≡ with_growth old growth) (at : ℤ) (near : AllByRecursion (IsServedNear at) growth)
+    (grown : now ≡ with_growth old growth) (at : ℤ) (near : AllByRecursion (IsMetaNear at) growth)
     (h0 h1 : Health) (w0 w1 : WireState) (alone : w0.alone ≡ true) (told_old : w0.log ≡ Some old) (told_now : w1.log ≡ Some now) where
   abbrev committed : Collection
   committed = (world_at (asker ids) account old).state.committed
@@ -120,13 +120,13 @@ module _ (ids : Ids) (account : AccountState) (old now : Log) (growth : List Eve
       ∙ rest.grown
       ∙ ap (λ (log : Log). with_growth log rest.growth) first.2.grown
       ∙ ap (λ (events : List Event). record old { events = events }) (append_assoc old.events first.2.growth rest.growth)) grown in
-      at_place first.2.growth first.2.servings (all_front (IsServedNear at) first.2.growth rest.growth (subst (AllByRecursion (IsServedNear at)) (sym whole) near)) first.2.reply
+      at_place first.2.growth first.2.servings (all_front (IsMetaNear at) first.2.growth rest.growth (subst (AllByRecursion (IsMetaNear at)) (sym whole) near)) first.2.reply
     where
-      at_place : (mine : List Event) → AllByRecursion (IsServing (meta_of ids)) mine → AllByRecursion (IsServedNear at) mine → IsReplyIn old mine (meta_of ids) reply → Says committed at said
+      at_place : (mine : List Event) → AllByRecursion (IsServing (meta_of ids)) mine → AllByRecursion (IsMetaNear at) mine → IsReplyIn old mine (meta_of ids) reply → Says committed at said
       at_place mine servings close r =
           said_by committed (world_at (asker ids) account (with_growth old r.before)).state ids at r.now said reply (held_at_meta ids account old mine reply servings r) r.setback
           (reply_at_place (meta_of ids) account old mine reply r opening)
-          (all_back (IsServedNear at) r.before (Asked (meta_of ids) r.now r.setback ∷ r.after) (subst (AllByRecursion (IsServedNear at)) (sym r.place) close)).0 told
+          (all_back (IsMetaNear at) r.before (Asked (meta_of ids) r.now r.setback ∷ r.after) (subst (AllByRecursion (IsMetaNear at)) (sym r.place) close)).0 told
 
 -- ---- it lets the sync go on
 clocks_pass : (s : Collection) (at : ℤ) (said : MetaSaid) → Says s at said → clock_stop said (second_of at) ≡ None

@@ -1,6 +1,6 @@
 -- That each answer which can be read has the form of what was asked, if nothing else comes to the server.
 use Rattle.std.specs.Result.{IsErrOf}
-use Rattle.std.specs.Prelude.{◌≡◌, ◌⊎◌, ℕ, ℤ, Bool, true, false, List, [], ◌∷◌, ◌++◌, Option, Some, Ok, Err}
+use Rattle.std.specs.Prelude.{◌≡◌, ◌⊎◌, ℕ, ℤ, Bool, true, false, List, [], ◌∷◌, ◌++◌, Option, Some, Ok}
 use Rattle.std.proofs.Common.{refl, sym, ap, subst, ◌∙◌, inl, inr, append_assoc}
 use Rattle.std.proofs.lemmas.Option.{same_Some}
 use Rattle.ak_base.specs.declared.keys.HostKey.{HostKey}
@@ -13,7 +13,7 @@ use Rattle.ak_exchange.specs.Asked.{AreTried, TriedAsk, answers_in, asker, asks_
 use Rattle.ak_exchange.specs.Grants.{AllGranted, AllGrantedButLast, IsNotGranted, is_in_form}
 use Rattle.ak_exchange.specs.declared.envelopes.Ids.{Ids}
 use Rattle.ak_faults.proofs.Healths.{cause_after}
-use Rattle.ak_faults.specs.Causes.{Health, Rose}
+use Rattle.ak_faults.specs.Causes.{HasCauseOf, Health, Rose}
 use Rattle.ak_keep.specs.Collections.{Collection}
 use Rattle.ak_merge.specs.Commits.{IsCommitted}
 use Rattle.ak_messages.specs.declared.replies.Give.TheVariants as gives
@@ -39,11 +39,12 @@ use Rattle.ak_session.specs.Sessions.{MaySync}
 use Rattle.ak_sync_completes.proofs.Asking.{IsAskedOf, first_and_others, granted_before, last_ask, place_in_plan}
 use Rattle.ak_sync_completes.proofs.Forming.{answers_fit, formed, metas_fit}
 use Rattle.ak_sync_completes.proofs.Metas.{held_at_meta}
-use Rattle.ak_sync_completes.proofs.Serving.{Answer, IsServedAlone, TriedLast, served_alone, tried_last}
+use Rattle.ak_sync_completes.proofs.Serving.{Answer, IsServedAlone, TriedLast, grows_by, served_alone, tried_last}
 use Rattle.ak_wires.specs.Forms.{is_meta_in_range, is_moment, meta_told}
 use Rattle.ak_wires.specs.Tries.{Tried}
 use Rattle.ak_wires.specs.Wires.{Carries, WireState}
 use Rattle.ak_wires.specs.declared.asks.Unanswered.TheVariants as unanswered
+use Rattle.ak_wires.specs.declared.wires.WireEnd.{WireEnd}
 use Rattle.ak_wires.specs.declared.wires.WireEnd.TheVariants as ends
 
 -- ---- a sync under way
@@ -122,15 +123,16 @@ module _ (ids : Ids) (c : Collection) (account : AccountState) (old : Log) (unus
 -- a granted request of the plan has the form of what was asked; a finish, if what was committed has a moment in its range
 module _ (who : Asker) (c s : Collection) (may : MaySync c s) (account : AccountState) (old new : Log) (on : IsOn who c s account old)
     (before : List Request) (request : Request) (after : List Request) (place : before ++ request ∷ after ≡ plan who c s)
-    (reply : Reply) (served : IsServedAlone old new request (Ok reply)) (ok : reply.status ≡ 200)
+    (reply : Reply) (served : Grows {E = WireEnd} old new request (Ok reply)) (ok : reply.status ≡ 200)
     (committed : (it : Collection) → commits_of who.session.0 (world_at who account new).commits ≡ record { key = who.session.0; before = s; after = it } ∷ [] → is_moment it.head.moment ≡ true) where
   abbrev opening : old.opening request.host.digits ≡ Some account
   opening = (on_for who c s account before request after place old on).opening
 
-  told : Tells request.session.0 (plan who c s) s request (asked_at who c s account before request after place)
+  -- what it tells
+  pub call_told : Tells request.session.0 (plan who c s) s request (asked_at who c s account before request after place)
       (world_of request.host.digits account (with_growth old served.reply.before)).state.committed
       (world_of request.host.digits account (with_growth old served.growth)).commits reply
-  told =
+  call_told =
       calls_tell request account old served.growth served.may reply served.reply opening (plan who c s) s (on_for who c s account before request after place old on)
       (asked_at who c s account before request after place) (each_planned who c s before request after place).later ok
 
@@ -138,13 +140,13 @@ module _ (who : Asker) (c s : Collection) (may : MaySync c s) (account : Account
   unfolding answer
   plain_formed plain =
       let one = each_planned who c s before request after place in
-      ap (λ (r : Reply). is_in_form request.ask r.give) (told.answers plain one.reads_nothing)
+      ap (λ (r : Reply). is_in_form request.ask r.give) (call_told.answers plain one.reads_nothing)
       ∙ answers_fit c s (asks_of before) (asks_of after) request.ask may (asked_place who c s before request after place) one.later one.reads_nothing plain
 
   finish_formed : asks_commit request.ask ≡ true → is_in_form request.ask reply.give ≡ true
   finish_formed commits =
       let finish : request.ask ≡ asks.Finish = (finish_is_last who c s before request after place commits).0 in
-      let made = told.commits commits in
+      let made = call_told.commits commits in
       let it : Collection = closed s before request made.0 in
       let keys = own_keys who c s account before request after place in
       let only : commits_of who.session.0 (world_at who account new).commits ≡ record { key = who.session.0; before = s; after = it } ∷ [] =
@@ -165,6 +167,12 @@ module _ (who : Asker) (c s : Collection) (may : MaySync c s) (account : Account
       by false plain = plain_formed plain
 
 -- ---- what was answered last
+-- an answer that could not be read was counted
+pub last_is_counted : (list : List Request) (answers : List Answer) (answer : Answer) (h0 h1 : Health) (w0 w1 : WireState)
+    → TriedLast list answers answer h0 h1 w0 w1 → HasCauseOf ends.BadReply w0.reading w1.reading answer
+last_is_counted list answers answer h0 h1 w0 w1 last =
+    cause_after (tried_reads last.front answers h0 last.health w0 last.wire last.earlier) last.tried.unread
+
 module _ (ids : Ids) (c : Collection) (account : AccountState) (old now : Log) (unused : IsUnused ids.host.digits ids.session.0 account old)
     (lawful : IsCommitted (world_at (asker ids) account old).state.committed) (may : MaySync c (world_at (asker ids) account old).state.committed)
     (h0 h1 : Health) (w0 w1 : WireState) (alone : w0.alone ≡ true) (told_old : w0.log ≡ Some old) (told_now : w1.log ≡ Some now)
@@ -196,12 +204,6 @@ module _ (ids : Ids) (c : Collection) (account : AccountState) (old now : Log) (
       only : last.wire.alone ≡ true
       only = alone_stays last.front (answers_in before) h0 last.health w0 last.wire last.earlier ∙ alone
 
-      -- an answer that could not be read was counted
-      counted : it.answer ≡ Err ends.BadReply → Rose w0.reading w1.reading
-      counted is =
-          (cause_after (tried_reads last.front (answers_in before) h0 last.health w0 last.wire last.earlier) last.tried.unread).failed
-          (subst (λ (a : Answer). IsErrOf a ends.BadReply) (sym is) refl)
-
       module _ (reply : Reply) (answered : it.answer ≡ Ok reply) (ok : reply.status ≡ 200) where
         tried_so : Tried last.health h1 last.wire w1 last.request (Ok reply)
         tried_so = subst (λ (a : Answer). Tried last.health h1 last.wire w1 last.request a) answered last.tried
@@ -219,7 +221,8 @@ module _ (ids : Ids) (c : Collection) (account : AccountState) (old now : Log) (
             let there = place_in_plan (asker ids) c s moment (asks_in tries) more last.request others asked in
             let on = on_before last.front before last.health last.wire (granted_before before it (subst AllGrantedButLast parts granted)) last.earlier more last.request there.0 is there.1 in
             let here = served_alone last.health h1 last.wire w1 last.request (Ok reply) on.0 tried_so only on.1 in
-            plan_formed (asker ids) c s may account on.0 here.0 on.2 more last.request there.0 there.1 reply here.2 ok
+            plan_formed (asker ids) c s may account on.0 here.0 on.2 more last.request there.0 there.1 reply
+            (grows_by on.0 here.0 last.request (Ok reply) here.2) ok
             (subst (λ (log : Log). (k : Collection) → commits_of ids.session.0 (world_at (asker ids) account log).commits
             ≡ record { key = ids.session.0; before = s; after = k } ∷ [] → is_moment k.head.moment ≡ true) (same_Some now here.0 (sym told_now ∙ here.1)) committed)
 
@@ -241,5 +244,6 @@ module _ (ids : Ids) (c : Collection) (account : AccountState) (old now : Log) (
         (subst (λ (x : List Answer). AreTried list x h0 h1 w0 w1) (ap answers_in parts ∙ answers_append before (it ∷ [])) tried))
       where
         by : TriedLast list (answers_in before) it.answer h0 h1 w0 w1 → IsNotGranted it unanswered.BadReply → Rose w0.reading w1.reading
-        by last (inl is) = counted last is
+        by last (inl is) =
+            (last_is_counted list (answers_in before) it.answer h0 h1 w0 w1 last).failed (subst (λ (a : Answer). IsErrOf a ends.BadReply) (sym is) refl)
         by last (inr (reply, answered, ok, wrong)) = absurd (not_both (formed_last last reply answered ok) wrong)

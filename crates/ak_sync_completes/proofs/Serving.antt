@@ -65,6 +65,10 @@ pub record IsServedAlone (old now : Log) (request : Request) (answer : Answer) :
   pub may : IsGrowth old request growth
   pub reply : IfOk answer (IsReplyIn old growth request)
 
+-- that is what a call makes of a log
+pub grows_by : (old now : Log) (request : Request) (answer : Answer) → IsServedAlone old now request answer → Grows old now request answer
+grows_by old now request answer it = record { growth = it.growth; grown = it.grown; may = it.may; reply = it.reply }
+
 -- what a log grew by is told by what it became
 pub same_growth : (old now : Log) (one other : List Event) → now ≡ with_growth old one → now ≡ with_growth old other → one ≡ other
 same_growth old now one other is so = append_cancel_left old.events one other (ap (λ (log : Log). log.events) (sym is ∙ so))

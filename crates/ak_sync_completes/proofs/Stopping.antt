@@ -24,8 +24,9 @@ use Rattle.ak_merge.specs.declared.checks.CheckFault.{CheckFault}
 use Rattle.ak_messages.specs.declared.replies.Reply.{Reply}
 use Rattle.ak_messages.specs.declared.requests.Request.{Request}
 use Rattle.ak_protocol.proofs.Commits.{not_both}
+use Rattle.ak_protocol.proofs.Syncs.{unknown_keys_are_told}
 use Rattle.ak_protocol.specs.Accounts.{AccountState}
-use Rattle.ak_protocol.specs.Logs.{Grows, Log, with_growth}
+use Rattle.ak_protocol.specs.Logs.{Event, Grows, IsReplyIn, Log, with_growth}
 use Rattle.ak_protocol.specs.Replies.{meta_reply}
 use Rattle.ak_protocol.specs.Serving.{Setback, Undisturbed, KeeperFault, OutOfMemory, served}
 use Rattle.ak_protocol.specs.Syncs.{world_of}
@@ -80,16 +81,21 @@ meta_goes account ids now Undisturbed reply said is told =
 meta_goes account ids now KeeperFault reply said is told = absurd (none-some said (subst (λ (r : Reply). told_by (Ok r) ≡ Some said) (sym is) told))
 meta_goes account ids now OutOfMemory reply said is told = absurd (none-some said (subst (λ (r : Reply). told_by (Ok r) ≡ Some said) (sym is) told))
 
-module _ (ids : Ids) (account : AccountState) (old : Log) (opening : old.opening ids.host.digits ≡ Some account) (h0 h1 : Health) (w0 w1 : WireState)
-    (told_old : w0.log ≡ Some old) where
+module _ (ids : Ids) (old : Log) (h0 h1 : Health) (w0 w1 : WireState) (told_old : w0.log ≡ Some old) where
   said_goes : (answer : Answer) (more : List Request) (answers : List Answer) → AreTried (meta_of ids ∷ more) (answer ∷ answers) h0 h1 w0 w1
       → (said : MetaSaid) → told_by answer ≡ Some said → said.cont ≡ true
   said_goes (Err end) more answers tried said told = absurd (none-some said told)
   said_goes (Ok reply) more answers tried said told =
       let carried : (new : Log) × (tried.1.log ≡ Some new) × Grows old new (meta_of ids) (Ok reply) =
       subst (λ (o : Option Log). Carries o tried.1.log (meta_of ids) (Ok reply)) told_old tried.2.carries in
-      let r = carried.2.reply in
-      meta_goes (world_of ids.host.digits account (with_growth old r.before)).state ids r.now r.setback reply said (reply_at_place (meta_of ids) account old carried.2.growth reply r opening) told
+      by carried.2.growth carried.2.reply (old.opening ids.host.digits) refl
+    where
+      by : (growth : List Event) → IsReplyIn old growth (meta_of ids) reply → (o : Option AccountState) → old.opening ids.host.digits ≡ o → said.cont ≡ true
+      by growth r None none =
+          absurd (none-some said (subst (λ (one : Reply). told_by (Ok one) ≡ Some said) (unknown_keys_are_told (meta_of ids) old growth reply none r) told))
+      by growth r (Some account) opening =
+          meta_goes (world_of ids.host.digits account (with_growth old r.before)).state ids r.now r.setback reply said
+          (reply_at_place (meta_of ids) account old growth reply r opening) told
 
   pub never_stopped : (c : Collection) (before left : Keeping) (moments : Option (List ℤ)) (outcome : Outcome) → before ≡ holding c
       → IsSyncEnded ids before left h0 h1 w0 w1 moments outcome → outcome ≡ outcomes.Stopped → ⊥

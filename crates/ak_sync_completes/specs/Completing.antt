@@ -1,6 +1,6 @@
 -- When nothing stops a sync, and how it ends then.
 use Rattle.std.specs.List.{AllByRecursion}
-use Rattle.std.specs.Prelude.{◌≡◌, ◌≢◌, ◌⊎◌, ◌<◌, ℤ, false, List, [], ◌∷◌, length, Option, Some, ⊤}
+use Rattle.std.specs.Prelude.{◌≡◌, ◌≢◌, ◌⊎◌, ◌<◌, ℤ, true, false, List, [], ◌∷◌, length, Option, Some, ⊤}
 use Rattle.ak_client.specs.Greetings.{are_far_apart}
 use Rattle.ak_client.specs.Outcomes.{HasOutcomeCause}
 use Rattle.ak_client.specs.Syncs.{IsSyncEnded, world_at}
@@ -20,6 +20,7 @@ use Rattle.ak_merge.specs.Soundness.{IsSound}
 use Rattle.ak_protocol.specs.Accounts.{AccountState}
 use Rattle.ak_protocol.specs.Logs.{Event, View, Asked, Log, with_growth}
 use Rattle.ak_protocol.specs.Serving.{KeeperFault, OutOfMemory}
+use Rattle.ak_session.specs.Requests.{is_meta}
 use Rattle.ak_session.specs.Sessions.{HaveRoom}
 use Rattle.ak_session.specs.Slices.{wanted_in_chunks}
 use Rattle.ak_sync_ends.specs.Alone.{BeginsAlone}
@@ -63,10 +64,10 @@ pub record AreJoinable (c s : Collection) : Type 0 where
   pub pulled : length (wanted_in_chunks (From c.head.usn) s.rows) < 10_000_000
   pub pushed : length (wanted_in_chunks Unsent c.rows) < 10_000_000
 
--- a request was served at most 300 seconds from this moment
-abbrev pub IsServedNear : ℤ → Event → Type 0
-IsServedNear at (View host) = ⊤
-IsServedNear at (Asked request now setback) = are_far_apart (second_of at) (second_of now) ≡ false
+-- a meta, if this is one, was served at most 300 seconds from this moment
+abbrev pub IsMetaNear : ℤ → Event → Type 0
+IsMetaNear at (View host) = ⊤
+IsMetaNear at (Asked request now setback) = is_meta request.ask ≡ true → are_far_apart (second_of at) (second_of now) ≡ false
 
 -- a request met no fault of the server's keeper
 abbrev pub HasNoKeeperFault : Event → Type 0
@@ -83,11 +84,11 @@ pub record IsUnhindered (ids : Ids) (c : Collection) (account : AccountState) (b
   -- what came to the server meanwhile
   pub growth : List Event
   pub grown : now ≡ with_growth old growth
-  -- the device's clock tells its next moment, and the server's clock is near it
+  -- the device's clock tells its next moment, and the server's clock was near it at the meta
   pub at : ℤ
   pub later : List ℤ
   pub clock : before.moments ≡ Some (at ∷ later)
-  pub near : AllByRecursion (IsServedNear at) growth
+  pub near : AllByRecursion (IsMetaNear at) growth
   -- neither keeper fails
   pub server : AllByRecursion HasNoKeeperFault growth
   pub keeper : Rose before.keeper after.keeper → ⊥

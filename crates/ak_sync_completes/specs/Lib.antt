@@ -1,2 +1,3 @@
+pub mod Causes
 pub mod Completing
 pub mod Runs

@@ -1,10 +1,12 @@
-// That a sync which nothing stops is finished, as laws over what `sync_over` and `run_sync` promise.
+// That a sync which nothing stops is finished, and why another one ends, as laws over what `sync_over` and `run_sync` promise.
 #![tactic(auto)]
 
+mod causes;
 mod completeness;
 mod runs;
 mod stops;
 
+pub use causes::told_ends_have_causes;
 pub use completeness::syncs_complete;
 pub use runs::runs_complete;
 pub use stops::syncs_are_never_stopped;

@@ -8,16 +8,15 @@ ghost use Rattle.ak_exchange.specs.declared.envelopes.Ids.{Ids};
 ghost use Rattle.ak_faults.specs.Causes.{Health};
 ghost use Rattle.ak_keep.specs.Collections.{Collection};
 ghost use Rattle.ak_keep.specs.Keepers.{Keeping};
-ghost use Rattle.ak_protocol.specs.Accounts.{AccountState};
 ghost use Rattle.ak_protocol.specs.Logs.{Log};
 ghost use Rattle.ak_wires.specs.Wires.{WireState};
 
-/// Over a wire that tells its log, with the host key of an account, a sync of a collection that the keeper tells never ends
-/// as stopped, whatever else comes to the server: each meta that is granted lets the sync go on.
+/// Over a wire that tells its log a sync of a collection that the keeper tells never ends as stopped, whatever its host key
+/// is and whatever else comes to the server: each meta that is granted lets the sync go on.
 pub fn syncs_are_never_stopped()
-    ensures { (ids : Ids) (account : AccountState) (old : Log) (c : Collection) (before left : Keeping)
+    ensures { (ids : Ids) (old : Log) (c : Collection) (before left : Keeping)
         → (health_before health_now : Health) (wire_before wire_now : WireState) (moments : Option (List ℤ)) (outcome : Outcome)
-        → old.opening ids.host.digits ≡ Some account → wire_before.log ≡ Some old → before ≡ holding c
+        → wire_before.log ≡ Some old → before ≡ holding c
         → IsSyncEnded ids before left health_before health_now wire_before wire_now moments outcome
         → outcome ≢ outcomes.Stopped }
 {}
