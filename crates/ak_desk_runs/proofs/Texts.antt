@@ -18,7 +18,7 @@ text_known line bytes given text is same told utf8 =
     ap text_in is ∙ ap (λ b. if b then Some bytes else None) ok ∙ ap Some (sym (told ∙ same))
 
 -- bytes that are not
-pub no_text : (line : Line) (bytes given : List ℕ) → line ≡ Whole bytes → given ≡ bytes → (IsUtf8 given → ⊥) → (text_in line ≡ None) × (codes "bad line" ≡ textless line)
+pub no_text : (line : Line) (bytes given : List ℕ) → line ≡ Whole bytes → given ≡ bytes → (IsUtf8 given → ⊥) → (text_in line ≡ None) × (codes "not text" ≡ textless line)
 no_text line bytes given is same other =
     let off : is_utf8 bytes ≡ false = never (is_utf8 bytes) (λ e. other (subst IsUtf8 (sym same) (IsUtf8-from_is_utf8 bytes e))) in
     (ap text_in is ∙ ap (λ b. if b then Some bytes else None) off, sym (ap textless is))

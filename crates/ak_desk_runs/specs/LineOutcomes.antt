@@ -50,8 +50,8 @@ takes_word PastInput = false
 
 -- why a line without a text is refused
 abbrev pub textless : Line → List ℕ
-textless (Whole bytes) = codes "bad line"
-textless TooLong = codes "bad line"
+textless (Whole bytes) = codes "not text"
+textless TooLong = codes "long line"
 textless PastInput = codes "long input"
 
 -- ---- what a line takes

@@ -1,5 +1,5 @@
 // The commands `init` and `desk`, over any keeper, clock, chance, filters, input and output: how each ends, what it
-// leaves and what it writes. Nothing here knows of the program's words.
+// leaves and what it writes; and the text of a line. Nothing here knows of the program's words.
 #![tactic(auto)]
 
 mod command_ends;
@@ -14,3 +14,4 @@ mod turn_takings;
 pub use command_ends::CommandEnd;
 pub use desk_runs::run_desk;
 pub use inits::init_collection;
+pub use line_texts::{is_skipped_line, text_of};

@@ -6,7 +6,7 @@ use ak_lines::is_skipped;
 use std::str;
 
 /// Whether a line is skipped. One that is too long, or no text, is not, whatever it begins with.
-pub(crate) fn is_skipped_line(line: &Line) -> bool
+pub fn is_skipped_line(line: &Line) -> bool
     ensures { result ≡ is_skipped_line line.now }
 {
     match text_of(line) {
@@ -16,16 +16,16 @@ pub(crate) fn is_skipped_line(line: &Line) -> bool
 }
 
 /// The text of a line, or why it is refused if it has none.
-pub(crate) fn text_of(line: &Line) -> Result<&str, &'static str>
+pub fn text_of(line: &Line) -> Result<&str, &'static str>
     ensures ok { IfOk result (λ text. text_in line.now ≡ Some text.now) }
     ensures err { IfErr result (λ why. (text_in line.now ≡ None) × (why.now ≡ textless line.now)) }
 {
     match line {
         Line::PastInput => Err("long input"),
-        Line::TooLong => Err("bad line"),
+        Line::TooLong => Err("long line"),
         Line::Whole(bytes) => match str::from_utf8(bytes.as_slice()) {
             Ok(text) => Ok(text),
-            Err(_) => Err("bad line"),
+            Err(_) => Err("not text"),
         },
     }
 }
