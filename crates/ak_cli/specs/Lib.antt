@@ -1,13 +1,2 @@
-pub mod Commands
-pub mod Devices
-pub mod LabRun
-pub mod Labs
-pub mod Laws
 pub mod ProgramEnds
 pub mod Programs
-pub mod NewReviews
-pub mod Sides
-pub mod Stores
-pub mod Steps
-pub mod Syncs
-pub mod Tables

@@ -1,9 +1,8 @@
 -- What each command of the program does, and what it leaves alone.
-use Rattle.std.specs.Io.KnownBytes.{Appends}
-use Rattle.std.specs.Prelude.{◌≡◌, ◌⊎◌, ℕ, ℤ, Bool, true, false, List, Option, Some, None, IfSome}
+use Rattle.std.specs.Io.KnownBytes.{Appends, Keeps}
+use Rattle.std.specs.Prelude.{◌≡◌, ◌⊎◌, ℕ, ℤ, Bool, true, false, List, Option, Some, None}
 use Rattle.ak_base.specs.declared.keys.HostKey.{HostKey}
-use Rattle.ak_cli.specs.LabRun.{lab_run}
-use Rattle.ak_cli.specs.Programs.{Named, Lab, Init, Desk, Sync, Prints, command_status, status_of, usage_line}
+use Rattle.ak_cli.specs.Programs.{Named, Lab, Init, Desk, Sync, command_status, status_of, usage_line}
 use Rattle.ak_desk_runs.specs.DeskRuns.{EndsDesk, input_lines}
 use Rattle.ak_desk_runs.specs.Inits.{EndsInit}
 use Rattle.ak_desk_runs.specs.RunStates.{Outside, outside_of}
@@ -13,12 +12,16 @@ use Rattle.ak_filters.specs.Meanings.{Meaning}
 use Rattle.ak_io.specs.Arrivals.{GivesNext, IsClockMoment}
 use Rattle.ak_io.specs.Scripts.{AppendsPart}
 use Rattle.ak_io.specs.declared.endings.ScriptEnd.{ScriptEnd}
+use Rattle.ak_io.specs.declared.endings.ScriptEnd.TheVariants as ends
+use Rattle.ak_io.specs.declared.lines.Line.{Line}
 use Rattle.ak_keep.specs.Keepers.{Keeping}
+use Rattle.ak_lab.specs.LabRuns.{RunsLab}
+use Rattle.ak_loops.specs.declared.logs.Entry.{Entry}
 use Rattle.ak_sync_runs.specs.SyncRuns.{EndsSync, SyncOutside, sync_outside}
 use Rattle.ak_wires.specs.Wires.{WireState}
 
 -- what is known of what a command is given: the bytes to read, those that were written, the keeper, the wire, the moments and words of
--- chance to come, and the filters
+-- chance to come, what came to a lab's server, and the filters
 pub record ProgramOutside : Type 0 where
   pub left : Option (List ℕ)
   pub written : Option (List ℕ)
@@ -27,12 +30,13 @@ pub record ProgramOutside : Type 0 where
   pub wire : WireState
   pub moments : Option (List ℤ)
   pub words : Option (List ℕ)
+  pub log : List Entry
   pub filters : List Meaning
 
 -- the same, by its parts
 abbrev pub program_outside : Option (List ℕ) → Option (List ℕ) → Keeping → Health → WireState → Option (List ℤ) → Option (List ℕ)
-    → List Meaning → ProgramOutside
-program_outside left written keeping health wire moments words filters = record {
+    → List Entry → List Meaning → ProgramOutside
+program_outside left written keeping health wire moments words log filters = record {
   left = left;
   written = written;
   keeping = keeping;
@@ -40,6 +44,7 @@ program_outside left written keeping health wire moments words filters = record 
   wire = wire;
   moments = moments;
   words = words;
+  log = log;
   filters = filters;
 }
 
@@ -59,11 +64,17 @@ reads_input (Some Desk) = true
 reads_input (Some (Sync digits)) = false
 reads_input None = false
 
--- how a command ends with a status. `lab` prints what its script comes to, with 0, 3, 4, 5 or 8; `init` puts the opening collection of the
--- next moment; `desk` does the lines of the input; `sync` syncs with the account of its key; and if there is none, `usage` is printed
+-- how `lab` ends over these lines: a lab ran them, and its server's log is handed out. Or memory was out before the first of them, and
+-- nothing is done
+abbrev pub EndsLab : ScriptEnd → Option (List Line) → ProgramOutside → ProgramOutside → Type 0
+EndsLab end all a b =
+    RunsLab end all b.log a.written b.written ⊎ (end ≡ ends.Memory) × Keeps a.written b.written × (b.log ≡ a.log)
+
+-- how a command ends with a status. `lab` runs the lines of the input in a lab of its own, and ends with 0, 3, 4, 5 or 8; `init` puts the
+-- opening collection of the next moment; `desk` does the lines of the input; `sync` syncs with the account of its key; and if there is
+-- none, `usage` is printed
 abbrev pub EndsBy : Option Named → ℕ → ProgramOutside → ProgramOutside → Type 0
-EndsBy (Some Lab) status a b = (end : ScriptEnd)
-    × (status ≡ status_of end) × IfSome a.left (λ script. Prints status (lab_run script) a.written b.written)
+EndsBy (Some Lab) status a b = (end : ScriptEnd) × (status ≡ status_of end) × EndsLab end (input_lines a.left) a b
 EndsBy (Some Init) status a b = (at : ℤ) × (end : CommandEnd)
     × IsClockMoment at × GivesNext a.moments b.moments at × EndsInit at end a.keeping b.keeping a.written b.written
     × (status ≡ command_status end)
@@ -74,9 +85,9 @@ EndsBy (Some (Sync digits)) status a b = (host : HostKey)
 EndsBy None status a b =
     (status ≡ 2) × Appends a.written b.written usage_line ⊎ (status ≡ 5) × AppendsPart a.written b.written usage_line
 
--- what a command leaves alone: all but what is named here
+-- what a command leaves alone: all but what is named here. So a log that was empty stays so, but that of `lab`
 abbrev pub LeavesBy : Option Named → ProgramOutside → ProgramOutside → Type 0
-LeavesBy (Some Lab) a b = b ≡ record a { left = b.left; written = b.written }
+LeavesBy (Some Lab) a b = b ≡ record a { left = b.left; written = b.written; log = b.log }
 LeavesBy (Some Init) a b = b ≡ record a { written = b.written; keeping = b.keeping; moments = b.moments }
 LeavesBy (Some Desk) a b = b ≡ record a {
   left = b.left;

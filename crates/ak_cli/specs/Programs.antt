@@ -1,12 +1,9 @@
 -- What the program `anki` prints, and the statuses with which it ends.
-use Rattle.std.specs.Prelude.{◌≡◌, ◌<◌, ℕ, Bool, true, false, if◌then◌else◌, List, [], ◌∷◌, ◌++◌, Option, Some, None, IsSome, codes, ◌⊎◌}
-use Rattle.std.specs.Io.KnownBytes.{Appends}
-use Rattle.std.specs.Prelude.{String, string_bytes}
+use Rattle.std.specs.Cmp.Lexicographic.{pointwise}
+use Rattle.std.specs.Prelude.{◌≡◌, ◌⊎◌, ◌==◌, ◌<◌, ℕ, Bool, if◌then◌else◌, List, [], ◌∷◌, ◌++◌, Option, Some, None, String, string_bytes, codes}
 use Rattle.std.specs.Option.{option_map}
 use Rattle.std.specs.declared.alloc.Global.{Global}
 use Rattle.ak_base.specs.Keys.{host_digits}
-use Rattle.ak_io.specs.Scripts.{Run, output_of, AppendsPart}
-use Rattle.ak_cli.specs.Commands.{same_text}
 use Rattle.ak_cli.specs.declared.program_commands.ProgramCommand.{ProgramCommand}
 use Rattle.ak_cli.specs.declared.program_commands.ProgramCommand.TheVariants as programs
 use Rattle.ak_desk_runs.specs.declared.command_ends.CommandEnd.{CommandEnd}
@@ -28,6 +25,10 @@ named_by programs.Lab = Lab
 named_by programs.Init = Init
 named_by programs.Desk = Desk
 named_by (programs.Sync host) = Sync host.digits
+
+-- the two texts are one
+abbrev pub same_text : List ℕ → List ℕ → Bool
+same_text = pointwise ◌==◌
 
 -- the command of a single word
 abbrev pub command_named : List ℕ → Option Named
@@ -60,17 +61,6 @@ status_of ends.Refused = 3
 status_of ends.ReadFailed = 4
 status_of ends.WriteFailed = 5
 status_of ends.Memory = 8
-
--- what is written of the script's run by the end with this status
-pub record Prints (status : ℕ) (run : Run) (old new : Option (List ℕ)) : Type 0 where
-  -- whatever the status, a front of what the run prints
-  pub part : AppendsPart old new (output_of run)
-  -- where the work is done, no line is refused, and all is written
-  pub done : status ≡ 0 → (run.refusal ≡ None) × Appends old new (output_of run)
-  -- where a line is refused, all is written, the refusal's text at its end
-  pub refused : status ≡ 3 → IsSome run.refusal × Appends old new (output_of run)
-  -- a run that is refused ends so, unless the input or the output failed or memory was wanting before the text was written
-  pub only_refused : IsSome run.refusal → (status ≡ 3) ⊎ (status ≡ 4) ⊎ (status ≡ 5) ⊎ (status ≡ 8)
 
 -- the status of the end of `init` or `desk`: as that of a script, and 6 where the keeper failed
 abbrev pub command_status : CommandEnd → ℕ

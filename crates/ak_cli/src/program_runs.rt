@@ -1,4 +1,4 @@
-ghost use Rattle.std.specs.Prelude.{◌≡◌, ◌⊎◌, ◌<◌, ◌≤◌, ℕ, map, false, true, None, Some};
+ghost use Rattle.std.specs.Prelude.{◌≡◌, ◌⊎◌, ◌<◌, ◌≤◌, ℕ, map, false, true, [], None, Some};
 ghost use Rattle.std.specs.Io.KnownBytes.{Appends, IsAtEnd};
 ghost use Rattle.ak_cli.specs.ProgramEnds.{EndsBy, LeavesBy, program_outside, reads_input};
 ghost use Rattle.ak_cli.specs.Programs.{command_of, named_by, usage_line, Tells};
@@ -6,19 +6,21 @@ ghost use Rattle.ak_faults.specs.Causes.{GoesOn, Rose};
 ghost use Rattle.ak_io.specs.Scripts.{AppendsPart};
 ghost use Rattle.ak_keep.specs.Keepers.{is_marked};
 
-use crate::lab::scripts::run_script;
 use crate::program_commands::{ProgramCommand, command_of};
 use crate::statuses::{USAGE, WRITE_FAILED, command_status, status_of};
 use ak_desk_runs::{init_collection, run_desk};
 use ak_filters::FieldFilter;
 use ak_io::{Chance, Clock, Failed, Sink, Source, write_all};
 use ak_keep::Keeper;
+use ak_lab::run_lab;
+use ak_loops::Log;
 use ak_sync_runs::run_sync;
 use ak_wires::Wire;
 use std::alloc::Global;
 
 /// Does the command that the words name, and answers the status with which the program ends. `init`, `desk` and `sync` work on
-/// the collection of the keeper, and `sync` on the server to which the wire leads; `lab` has collections of its own.
+/// the collection of the keeper, and `sync` on the server to which the wire leads; `lab` has collections of its own, and hands
+/// out the log of what came to its server.
 pub fn run<I: Source, O: Sink, K: Keeper, W: Wire, C: Clock, R: Chance>(
     alloc: Global,
     words: &[String],
@@ -28,26 +30,28 @@ pub fn run<I: Source, O: Sink, K: Keeper, W: Wire, C: Clock, R: Chance>(
     wire: &mut W,
     clock: &mut C,
     chance: &mut R,
+    log: &mut Log,
     filters: &mut Vec<Box<dyn FieldFilter>>,
 ) -> u8
     requires unmarked { is_marked (K.keeping keeper.old) ≡ false }
+    requires empty { log.old.entries ≡ [] }
 
     // What the command does and prints, and the status that tells it: 5 in its place if the output counted a fault meanwhile,
     // also one that only a flush met. Of words that name no command `usage` is printed.
     ensures ends { (status : ℕ) × EndsBy (command_of words.now) status
         (program_outside (I.left input.old) (O.written out.old) (K.keeping keeper.old) (W.health wire.old) (W.state wire.old)
-        (C.to_come clock.old) (R.to_come chance.old) (map (λ b. meaning b) filters.old.items))
+        (C.to_come clock.old) (R.to_come chance.old) log.old.entries (map (λ b. meaning b) filters.old.items))
         (program_outside (I.left input.new) (O.written out.new) (K.keeping keeper.new) (W.health wire.new) (W.state wire.new)
-        (C.to_come clock.new) (R.to_come chance.new) (map (λ b. meaning b) filters.new.items))
+        (C.to_come clock.new) (R.to_come chance.new) log.new.entries (map (λ b. meaning b) filters.new.items))
         × Tells status (O.health out.old) (O.health out.new) result }
     ensures faulted { (O.health out.old).faults < (O.health out.new).faults → result ≡ 5 }
 
     // What it leaves alone.
     ensures leaves { LeavesBy (command_of words.now)
         (program_outside (I.left input.old) (O.written out.old) (K.keeping keeper.old) (W.health wire.old) (W.state wire.old)
-        (C.to_come clock.old) (R.to_come chance.old) (map (λ b. meaning b) filters.old.items))
+        (C.to_come clock.old) (R.to_come chance.old) log.old.entries (map (λ b. meaning b) filters.old.items))
         (program_outside (I.left input.new) (O.written out.new) (K.keeping keeper.new) (W.health wire.new) (W.state wire.new)
-        (C.to_come clock.new) (R.to_come chance.new) (map (λ b. meaning b) filters.new.items)) }
+        (C.to_come clock.new) (R.to_come chance.new) log.new.entries (map (λ b. meaning b) filters.new.items)) }
     ensures unmarked { is_marked (K.keeping keeper.new) ≡ false }
 
     // Words that name no command, and they alone, end with status 2, unless the output failed.
@@ -64,7 +68,7 @@ pub fn run<I: Source, O: Sink, K: Keeper, W: Wire, C: Clock, R: Chance>(
 {
     let before = out.faults();
     let status = run_words(
-        alloc, words, input, out, keeper, wire, clock, chance, filters,
+        alloc, words, input, out, keeper, wire, clock, chance, log, filters,
     );
     told(before, out.faults(), status)
 }
@@ -91,19 +95,20 @@ fn run_words<I: Source, O: Sink, K: Keeper, W: Wire, C: Clock, R: Chance>(
     wire: &mut W,
     clock: &mut C,
     chance: &mut R,
+    log: &mut Log,
     filters: &mut Vec<Box<dyn FieldFilter>>,
 ) -> u8
     requires unmarked { is_marked (K.keeping keeper.old) ≡ false }
     ensures ends { EndsBy (command_of words.now) result
         (program_outside (I.left input.old) (O.written out.old) (K.keeping keeper.old) (W.health wire.old) (W.state wire.old)
-        (C.to_come clock.old) (R.to_come chance.old) (map (λ b. meaning b) filters.old.items))
+        (C.to_come clock.old) (R.to_come chance.old) log.old.entries (map (λ b. meaning b) filters.old.items))
         (program_outside (I.left input.new) (O.written out.new) (K.keeping keeper.new) (W.health wire.new) (W.state wire.new)
-        (C.to_come clock.new) (R.to_come chance.new) (map (λ b. meaning b) filters.new.items)) }
+        (C.to_come clock.new) (R.to_come chance.new) log.new.entries (map (λ b. meaning b) filters.new.items)) }
     ensures leaves { LeavesBy (command_of words.now)
         (program_outside (I.left input.old) (O.written out.old) (K.keeping keeper.old) (W.health wire.old) (W.state wire.old)
-        (C.to_come clock.old) (R.to_come chance.old) (map (λ b. meaning b) filters.old.items))
+        (C.to_come clock.old) (R.to_come chance.old) log.old.entries (map (λ b. meaning b) filters.old.items))
         (program_outside (I.left input.new) (O.written out.new) (K.keeping keeper.new) (W.health wire.new) (W.state wire.new)
-        (C.to_come clock.new) (R.to_come chance.new) (map (λ b. meaning b) filters.new.items)) }
+        (C.to_come clock.new) (R.to_come chance.new) log.new.entries (map (λ b. meaning b) filters.new.items)) }
     ensures unmarked { is_marked (K.keeping keeper.new) ≡ false }
     ensures usage { result ≡ 2 → command_of words.now ≡ None }
     ensures only_usage { command_of words.now ≡ None → (result ≡ 2) ⊎ (result ≡ 5) }
@@ -117,7 +122,7 @@ fn run_words<I: Source, O: Sink, K: Keeper, W: Wire, C: Clock, R: Chance>(
 {
     match command_of(words) {
         Some(command) => run_command(
-            alloc, command, input, out, keeper, wire, clock, chance, filters,
+            alloc, command, input, out, keeper, wire, clock, chance, log, filters,
         ),
         None => print_usage(out),
     }
@@ -133,19 +138,20 @@ fn run_command<I: Source, O: Sink, K: Keeper, W: Wire, C: Clock, R: Chance>(
     wire: &mut W,
     clock: &mut C,
     chance: &mut R,
+    log: &mut Log,
     filters: &mut Vec<Box<dyn FieldFilter>>,
 ) -> u8
     requires unmarked { is_marked (K.keeping keeper.old) ≡ false }
     ensures ends { EndsBy (Some (named_by command)) result
         (program_outside (I.left input.old) (O.written out.old) (K.keeping keeper.old) (W.health wire.old) (W.state wire.old)
-        (C.to_come clock.old) (R.to_come chance.old) (map (λ b. meaning b) filters.old.items))
+        (C.to_come clock.old) (R.to_come chance.old) log.old.entries (map (λ b. meaning b) filters.old.items))
         (program_outside (I.left input.new) (O.written out.new) (K.keeping keeper.new) (W.health wire.new) (W.state wire.new)
-        (C.to_come clock.new) (R.to_come chance.new) (map (λ b. meaning b) filters.new.items)) }
+        (C.to_come clock.new) (R.to_come chance.new) log.new.entries (map (λ b. meaning b) filters.new.items)) }
     ensures leaves { LeavesBy (Some (named_by command))
         (program_outside (I.left input.old) (O.written out.old) (K.keeping keeper.old) (W.health wire.old) (W.state wire.old)
-        (C.to_come clock.old) (R.to_come chance.old) (map (λ b. meaning b) filters.old.items))
+        (C.to_come clock.old) (R.to_come chance.old) log.old.entries (map (λ b. meaning b) filters.old.items))
         (program_outside (I.left input.new) (O.written out.new) (K.keeping keeper.new) (W.health wire.new) (W.state wire.new)
-        (C.to_come clock.new) (R.to_come chance.new) (map (λ b. meaning b) filters.new.items)) }
+        (C.to_come clock.new) (R.to_come chance.new) log.new.entries (map (λ b. meaning b) filters.new.items)) }
     ensures unmarked { is_marked (K.keeping keeper.new) ≡ false }
     ensures usage { (result ≡ 2) → ⊥ }
     ensures ended { result ≡ 0 → reads_input (Some (named_by command)) ≡ true → IsAtEnd (I.left input.new) }
@@ -157,7 +163,7 @@ fn run_command<I: Source, O: Sink, K: Keeper, W: Wire, C: Clock, R: Chance>(
     ensures goes { GoesOn (O.health out.old) (O.health out.new) }
 {
     match command {
-        ProgramCommand::Lab => status_of(run_script(alloc, input, out)),
+        ProgramCommand::Lab => status_of(run_lab(alloc, input, out, log)),
         ProgramCommand::Init => command_status(init_collection(alloc, keeper, clock, out)),
         ProgramCommand::Desk => {
             let end = run_desk(alloc, keeper, clock, chance, filters, input, out);

@@ -9,6 +9,7 @@ use ak_cli::{KEEPER_FAILED, NO_MEMORY, print_usage, run};
 use ak_filters::{FieldFilter, HintFilter, TextFilter};
 use ak_io::{Clock, Sink, Source, StdChance, StdClock, StdSink, StdSource};
 use ak_keep::{KeepFault, Keeper};
+use ak_loops::Log;
 use ak_memory::MemoryKeeper;
 use ak_sqlite::SqliteKeeper;
 use ak_sync_runs::NoServer;
@@ -97,6 +98,8 @@ fn run_with<K: Keeper, I: Source, O: Sink>(
     let mut wire = NoServer::new();
     let mut clock = StdClock::new(rt);
     let mut chance = StdChance::new(clock.now() as u64);
+    // What comes to a lab's server. Nothing here reads it.
+    let mut log = Log::new(alloc);
     let status = run(
         alloc,
         words,
@@ -106,6 +109,7 @@ fn run_with<K: Keeper, I: Source, O: Sink>(
         &mut wire,
         &mut clock,
         &mut chance,
+        &mut log,
         &mut filters,
     );
     Ok(status)

@@ -4,6 +4,7 @@ use ak_cli::run;
 use ak_filters::{FieldFilter, HintFilter, TextFilter};
 use ak_io::{End, MemorySink, MemorySource, Sink, Source};
 use ak_keep::Keeper;
+use ak_loops::Log;
 use ak_wires::Wire;
 use cases_lines::{Unread, list_at, natural_at, quoted, text_at};
 use serde_json::Value;
@@ -32,6 +33,7 @@ pub fn run_text<K: Keeper, W: Wire>(
     let mut filters: Vec<Box<dyn FieldFilter>> = Vec::new(alloc);
     filters.push(Box::new(alloc, TextFilter::new(alloc))?)?;
     filters.push(Box::new(alloc, HintFilter::new(alloc))?)?;
+    let mut log = Log::new(alloc);
     let status = run(
         alloc,
         words.as_slice(),
@@ -41,6 +43,7 @@ pub fn run_text<K: Keeper, W: Wire>(
         wire,
         &mut clock,
         &mut chance,
+        &mut log,
         &mut filters,
     );
     told(alloc, status, &input, &out)

@@ -1,10 +1,10 @@
 use Rattle.std.proofs.Common.{refl}
-use Rattle.ak_cli.proofs.Endings.{prints_told}
+use Rattle.ak_cli.proofs.LabEnds.{lab_ended}
 use Rattle.ak_cli.proofs.program_runs.run_command.Goals as goal
 
 pub returns-in-Lab-clause-ends : goal.returns-in-Lab-clause-ends
 returns-in-Lab-clause-ends g c = rw c.in-Lab.is
-    (_, c.status_of.ensures, rw c.status_of.ensures (prints_told _ _ _ _ c.run_script.ensures.told))
+    (_, c.status_of.ensures, lab_ended _ _ _ _ _ _ c.run_lab.ensures.runs)
 
 pub returns-in-Init-clause-ends : goal.returns-in-Init-clause-ends
 returns-in-Init-clause-ends g c = let e = c.init_collection.ensures.ends in

@@ -1,0 +1,31 @@
+use Rattle.std.proofs.Common.{List, pos, ap, arith, sym, subst, ◌∙◌}
+use Rattle.ak_io.specs.Arrivals.{IsClockMoment}
+use Rattle.ak_lab.proofs.Openings.{lab_opened, opened_ready, opening_is_checked, opening_is_committed, opening_is_distinct}
+use Rattle.ak_lab.specs.LabStates.{IsReady, LabState}
+use Rattle.ak_lab_devices.specs.declared.devices.Device.{Device}
+use Rattle.ak_lab.proofs.labs.Lab.open.Goals as goal
+
+within : IsClockMoment (pos 1_700_000_000_000)
+within = record { low = omega arith; high = omega arith }
+
+pub new-requires-clause-checked : goal.new-requires-clause-checked
+new-requires-clause-checked c = opening_is_checked (pos 1_700_000_000_000) c.in_ok-made.made within c.in_ok-made.ensures
+
+pub new-requires-clause-distinct : goal.new-requires-clause-distinct
+new-requires-clause-distinct c = opening_is_distinct (pos 1_700_000_000_000) c.in_ok-made.made c.in_ok-made.ensures
+
+pub new-requires-clause-lawful : goal.new-requires-clause-lawful
+new-requires-clause-lawful c = opening_is_committed (pos 1_700_000_000_000) c.in_ok-made.made within c.in_ok-made.ensures
+
+pub returns-clause-opened : goal.returns-clause-opened
+returns-clause-opened c = (
+  c.in_ok-made.made,
+  c.in_ok-made.ensures,
+  ap (λ (devices : List Device). let s : LabState = record { clock = pos 1_700_000_000_000; server = c.in_ok-server.server; sessions = 0; devices = devices } in s) c.new-2.ensures.items
+      ∙ lab_opened c.lab_key.result.digits c.in_ok-made.made c.in_ok-server.server c.in_ok-server.ensures c.lab_key.ensures,
+)
+
+pub returns-clause-ready : goal.returns-clause-ready
+returns-clause-ready c =
+    subst (λ (devices : List Device). IsReady (record { clock = pos 1_700_000_000_000; server = c.in_ok-server.server; sessions = 0; devices = devices })) (sym c.new-2.ensures.items)
+    (opened_ready c.lab_key.result.digits c.in_ok-made.made c.in_ok-server.server c.in_ok-server.ensures)

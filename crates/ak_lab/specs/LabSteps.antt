@@ -1,0 +1,131 @@
+-- What the lines of a lab's script do, each by its form.
+use Rattle.std.specs.Prelude.{◌≡◌, ◌⊎◌, ℕ, ℤ, ◌+ℤ◌, true, false, ◌<◌, ◌≤◌, List, [], ◌∷◌, ◌++◌, length, Option, Some, None, Result, Ok, Err, codes}
+use Rattle.ak_client.specs.declared.outcomes.Outcome.{Outcome}
+use Rattle.ak_base.specs.declared.names.Name.{Name}
+use Rattle.ak_desk_runs.specs.LineOutcomes.{SaysNoLine}
+use Rattle.ak_edit.specs.declared.desk_faults.DeskFault.{DeskFault}
+use Rattle.ak_keep.specs.Collections.{Collection}
+use Rattle.ak_lab_devices.specs.Devices.{are_in_time, device_of, is_clock_moment, new_device}
+use Rattle.ak_lab.specs.LabDesks.{EndsDo, EndsReview}
+use Rattle.ak_lab.specs.LabStates.{LabState, with_changed}
+use Rattle.ak_lab.specs.LabSyncs.{EndsSync, FindsTie}
+use Rattle.ak_lab_devices.specs.declared.devices.Device.{Device}
+use Rattle.ak_lab_keepers.specs.RestingKeepers.{Holds}
+use Rattle.ak_lab_keepers.specs.Shown.{shown_lines}
+use Rattle.ak_lab_lines.specs.LabTexts.{counts_text, no_device_text, requests_text, sync_text, tie_text}
+use Rattle.ak_lab_lines.specs.declared.lab_lines.LabLine.{LabLine}
+use Rattle.ak_lab_lines.specs.declared.lab_lines.LabLine.TheVariants as lines
+use Rattle.ak_lab_lines.specs.declared.lab_lines.Side.{Side}
+use Rattle.ak_lab_lines.specs.declared.lab_lines.Side.TheVariants as sides
+use Rattle.ak_lab_sides.specs.declared.new_reviews.ReviewPlan.{ReviewPlan}
+use Rattle.ak_outcomes.specs.OutcomeTexts.{outcome_text}
+use Rattle.ak_server_copies.specs.Copies.{IsViewed, committed_in}
+use Rattle.ak_session.specs.Answers.{counts_of}
+use Rattle.ak_texts.specs.AnswerTexts.{answer_text}
+use Rattle.ak_texts.specs.FaultTexts.{desk_fault_text}
+use Rattle.ak_texts.specs.declared.answers.DeskAnswer.{DeskAnswer}
+
+-- ---- what is looked at
+-- a side holds this collection. The server is read by views
+abbrev pub SideHolds : Side → LabState → LabState → Collection → Type 0
+SideHolds sides.Server s t c =
+    (committed_in s.server ≡ Some c) × IsViewed s.server t.server × (t ≡ record s { server = t.server })
+SideHolds (sides.Device name) s t c =
+    (t ≡ s) × (d : Device) × (device_of name s.devices ≡ Some d) × Holds d.collection c
+
+-- ---- lines that are accepted
+-- `device <name>`: the server is read, and a device with a copy of its collection comes last
+pub record AddsDevice (name : List ℕ) (s t : LabState) : Type 0 where
+  pub committed : Collection
+  pub new : device_of name s.devices ≡ None
+  pub room : length s.devices < 16
+  pub is : committed_in s.server ≡ Some committed
+  pub read : IsViewed s.server t.server
+  pub left : t ≡ record s { server = t.server; devices = s.devices ++ new_device name committed ∷ [] }
+
+-- `shift <device> <ms>`: the device's clock is the lab's plus this, if a clock may stand there
+pub record Shifts (name : List ℕ) (by : ℤ) (s t : LabState) : Type 0 where
+  pub d : Device
+  pub found : device_of name s.devices ≡ Some d
+  pub in_time : is_clock_moment (s.clock +ℤ by) ≡ true
+  pub left : t ≡ with_changed (record d { shift = by }) s
+
+-- the plan of new reviews that a line says
+abbrev pub plan_of : ℤ → ℤ → ℕ → ReviewPlan
+plan_of card ease count = record { card = card; ease = ease; count = count }
+
+-- a line is accepted, and prints these lines
+abbrev pub Accepts : LabLine → LabState → LabState → List (List ℕ) → Type 0
+Accepts (lines.Clock at) s t printed =
+    (are_in_time at s.devices ≡ true) × (t ≡ record s { clock = at }) × (printed ≡ [])
+Accepts (lines.Device name) s t printed = AddsDevice name s t × (printed ≡ [])
+Accepts (lines.Shift name by) s t printed = Shifts name by s t × (printed ≡ [])
+Accepts (lines.Review name card ease count) s t printed =
+    EndsReview name (plan_of card ease count) s t (Ok tt) × (printed ≡ [])
+Accepts (lines.Do name text) s t printed =
+    (answer : DeskAnswer) × EndsDo name text s t (Ok answer) × (printed ≡ answer_text answer ∷ [])
+Accepts (lines.Sync name) s t printed =
+    (outcome : Outcome) × (text : List ℕ) × EndsSync name s t outcome × (outcome_text outcome ≡ Some text)
+    × (printed ≡ sync_text name text ∷ [])
+Accepts (lines.Show side what) s t printed = (c : Collection) × SideHolds side s t c × (printed ≡ shown_lines what c)
+Accepts (lines.Count side) s t printed =
+    (c : Collection) × SideHolds side s t c × (printed ≡ counts_text (counts_of c.rows) ∷ [])
+Accepts (lines.Requests name) s t printed =
+    (t ≡ s) × (d : Device) × (device_of name s.devices ≡ Some d) × (printed ≡ requests_text name d.calls ∷ [])
+
+-- ---- lines that are refused
+-- there is no device of this name
+abbrev pub NoDevice : List ℕ → LabState → LabState → List ℕ → Type 0
+NoDevice name s t why = (t ≡ s) × (device_of name s.devices ≡ None) × (why ≡ no_device_text name)
+
+-- the same of a side
+abbrev pub NoSide : Side → LabState → LabState → List ℕ → Type 0
+NoSide sides.Server s t why = ⊥
+NoSide (sides.Device name) s t why = NoDevice name s t why
+
+-- a new device may not have a name that is held, and there are at most 16 devices
+abbrev pub RefusesDevice : List ℕ → LabState → List ℕ → Type 0
+RefusesDevice name s why =
+    ((d : Device) × (device_of name s.devices ≡ Some d) × (why ≡ codes "device held"))
+    ⊎ (device_of name s.devices ≡ None) × (16 ≤ length s.devices) × (why ≡ codes "too many devices")
+
+-- the device's clock may not stand there
+pub record RefusesShift (name : List ℕ) (by : ℤ) (s : LabState) (why : List ℕ) : Type 0 where
+  pub d : Device
+  pub found : device_of name s.devices ≡ Some d
+  pub out : is_clock_moment (s.clock +ℤ by) ≡ false
+  pub text : why ≡ codes "bad line"
+
+-- the text says no line of the desk
+pub record SaysNoDeskLine (name text : List ℕ) (s t : LabState) (why : List ℕ) : Type 0 where
+  pub d : Device
+  pub found : device_of name s.devices ≡ Some d
+  pub none : SaysNoLine text why
+  pub left : t ≡ s
+
+-- a line is refused by this text. It leaves all as it was, but for what a refused line of the desk leaves, and for views of the server
+abbrev pub RefusesWith : LabLine → LabState → LabState → List ℕ → Type 0
+RefusesWith (lines.Clock at) s t why = (t ≡ s) × (are_in_time at s.devices ≡ false) × (why ≡ codes "bad line")
+RefusesWith (lines.Device name) s t why = (t ≡ s) × RefusesDevice name s why
+RefusesWith (lines.Shift name by) s t why = NoDevice name s t why ⊎ (t ≡ s) × RefusesShift name by s why
+RefusesWith (lines.Review name card ease count) s t why = NoDevice name s t why
+    ⊎ (fault : DeskFault) × EndsReview name (plan_of card ease count) s t (Err fault) × (desk_fault_text fault ≡ Some why)
+RefusesWith (lines.Do name text) s t why = NoDevice name s t why ⊎ SaysNoDeskLine name text s t why
+    ⊎ (fault : DeskFault) × EndsDo name text s t (Err fault) × (desk_fault_text fault ≡ Some why)
+RefusesWith (lines.Sync name) s t why = NoDevice name s t why ⊎ (tie : Name) × FindsTie name s t tie × (why ≡ tie_text tie)
+RefusesWith (lines.Show side what) s t why = NoSide side s t why
+RefusesWith (lines.Count side) s t why = NoSide side s t why
+RefusesWith (lines.Requests name) s t why = NoDevice name s t why
+
+-- ---- lines in which memory runs out
+-- the server was viewed some times, or not at all
+abbrev pub OnlyViews : LabState → LabState → Type 0
+OnlyViews s t = IsViewed s.server t.server × (t ≡ record s { server = t.server })
+
+-- memory ran out in a line: before it did more than read the server, or at the desk or in the sync, or for the text of what these came to
+abbrev pub RunsShort : LabLine → LabState → LabState → Type 0
+RunsShort (lines.Review name card ease count) s t = OnlyViews s t
+    ⊎ (result : Result (Unit {0}) DeskFault) × EndsReview name (plan_of card ease count) s t result
+RunsShort (lines.Do name text) s t = OnlyViews s t ⊎ (result : Result DeskAnswer DeskFault) × EndsDo name text s t result
+RunsShort (lines.Sync name) s t = OnlyViews s t ⊎ (outcome : Outcome) × EndsSync name s t outcome
+RunsShort line s t = OnlyViews s t

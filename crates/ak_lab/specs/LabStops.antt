@@ -1,0 +1,31 @@
+-- Why a line of a lab does not go.
+use Rattle.std.specs.Prelude.{◌≡◌, ⊤, ℕ, List, [], ◌∷◌, Some, Result, Ok, Err}
+use Rattle.ak_client.specs.declared.outcomes.Outcome.{Outcome}
+use Rattle.ak_edit.specs.declared.desk_faults.DeskFault.{DeskFault}
+use Rattle.ak_lab.specs.declared.lab_stops.LabStop.{LabStop}
+use Rattle.ak_lab.specs.declared.lab_stops.LabStop.TheVariants as stops
+use Rattle.ak_lab_lines.specs.LabTexts.{sync_text}
+use Rattle.ak_lines.specs.declared.line_faults.LineFault.{LineFault}
+use Rattle.ak_outcomes.specs.OutcomeTexts.{outcome_text}
+use Rattle.ak_texts.specs.FaultTexts.{desk_fault_text, line_fault_text}
+
+-- it is refused by this text, or memory was out for it
+abbrev pub IsStopBy : List ℕ → LabStop → Type 0
+IsStopBy text (stops.Refused why) = why ≡ text
+IsStopBy text stops.Memory = ⊤
+
+-- the stop for a text that says no line of the desk
+abbrev pub IsLineStop : LineFault → LabStop → Type 0
+IsLineStop fault (stops.Refused why) = line_fault_text fault ≡ Some why
+IsLineStop fault stops.Memory = ⊤
+
+-- the stop for a line that the desk refuses
+abbrev pub IsDeskStop : DeskFault → LabStop → Type 0
+IsDeskStop fault (stops.Refused why) = desk_fault_text fault ≡ Some why
+IsDeskStop fault stops.Memory = ⊤
+
+-- the line of a sync that ended so, or memory was out for it. An outcome that has no text is that memory was out
+abbrev pub PrintsOutcome : List ℕ → Outcome → Result (List (List ℕ)) LabStop → Type 0
+PrintsOutcome name outcome (Ok printed) =
+    (text : List ℕ) × (outcome_text outcome ≡ Some text) × (printed ≡ sync_text name text ∷ [])
+PrintsOutcome name outcome (Err stop) = stop ≡ stops.Memory

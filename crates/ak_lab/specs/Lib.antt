@@ -1,0 +1,9 @@
+pub mod LabStates
+pub mod LabSyncs
+pub mod LabDesks
+pub mod LabSteps
+pub mod LineOutcomes
+pub mod LineStops
+pub mod LabRuns
+pub mod LabStops
+pub mod RunLines

@@ -1,0 +1,367 @@
+// What the lines of a script do.
+ghost use Rattle.std.specs.Prelude.{◌≡◌, pos, true, [], ◌∷◌, List as Sequence, Some, IfErr, IfOk};
+ghost use Rattle.std.specs.Result.{IsErrOf};
+ghost use Rattle.ak_base.specs.Heads.{IsWithin};
+ghost use Rattle.ak_desk_lines.specs.LineEnds.{AppliesFilters, EndsLine};
+ghost use Rattle.ak_edit.specs.declared.desk_faults.DeskFault.TheVariants as desks;
+ghost use Rattle.ak_filters.specs.Meanings.{Meaning};
+ghost use Rattle.ak_io.specs.Arrivals.{IsClockMoment};
+ghost use Rattle.ak_keep.specs.Collections.{Collection, IsId};
+ghost use Rattle.ak_lab_devices.specs.Devices.{keeping_of, new_device};
+ghost use Rattle.ak_lab.specs.LabDesks.{IsObeyed, desk_of, turn_of};
+ghost use Rattle.ak_lab.specs.LabStates.{IsReady, state_of};
+ghost use Rattle.ak_lab.specs.LineStops.{CameOut};
+ghost use Rattle.ak_lab.specs.declared.lab_stops.LabStop.TheVariants as stops;
+ghost use Rattle.ak_lab_keepers.specs.RestingKeepers.{Holds};
+ghost use Rattle.ak_lab_keepers.specs.Shown.{shown_lines};
+ghost use Rattle.ak_lab_lines.specs.LabTexts.{counts_text};
+ghost use Rattle.ak_lab_lines.specs.Written.{AreReviews, IsLabLine};
+ghost use Rattle.ak_lab_lines.specs.declared.lab_lines.LabLine.TheVariants as lines;
+ghost use Rattle.ak_lab_lines.specs.declared.lab_lines.Side.TheVariants as sides;
+ghost use Rattle.ak_lab_sides.specs.NewReviews.{EndsReviews};
+ghost use Rattle.ak_lines.specs.DeskLines.{IsInRange};
+ghost use Rattle.ak_loops.specs.Entries.{health_in};
+ghost use Rattle.ak_server_copies.specs.Copies.{IsViewed, committed_in};
+ghost use Rattle.ak_session.specs.Answers.{counts_of};
+ghost use Rattle.ak_texts.specs.AnswerTexts.{answer_text};
+
+use crate::lab_stops::{LabStop, desk_stop, line_stop, no_device, stop_by};
+use crate::lab_syncs::sync;
+use crate::labs::Lab;
+use crate::server_copies::{copy_for_device, counted_of_server, shown_of_server};
+use ak_base::{List, Memory, Text};
+use ak_desk_lines::{Turn, counted};
+use ak_edit::DeskFault;
+use ak_lab_devices::{Device, are_in_time, is_shifted_in_time, place_of};
+use ak_lab_lines::{LabLine, Shown, Side, write_counts, write_requests};
+use ak_lab_sides::ReviewPlan;
+use ak_lines::{DeskLine, read_line};
+use ak_loops::LoggedServer;
+use ak_texts::{DeskAnswer, write_answer};
+use ak_undo::UndoList;
+use std::alloc::Global;
+
+/// How many devices a lab holds.
+const DEVICE_LIMIT: usize = 16;
+
+/// Does what a line says, and gives the lines that it prints.
+pub(crate) fn obey(lab: Lab, said: LabLine) -> (Lab, Result<List<Text>, LabStop>)
+    requires ready { IsReady (state_of lab) }
+    requires line { IsLabLine said }
+    ensures ends { CameOut said (state_of lab) (state_of result.0) result.1 }
+    ensures ready { IfOk result.1 (λ printed. IsReady (state_of result.0)) }
+{
+    let mut lab = lab;
+    match said {
+        LabLine::Clock(at) => {
+            let came = lab.set_clock(at);
+            (lab, came)
+        }
+        LabLine::Device(name) => {
+            let came = lab.add_device(name);
+            (lab, came)
+        }
+        LabLine::Shift { device, by } => {
+            let came = lab.shift(&device, by);
+            (lab, came)
+        }
+        LabLine::Review {
+            device,
+            card,
+            ease,
+            count,
+        } => {
+            let came = lab.review(&device, ReviewPlan { card, ease, count });
+            (lab, came)
+        }
+        LabLine::Do { device, line } => {
+            let came = lab.do_line(&device, &line);
+            (lab, came)
+        }
+        LabLine::Sync(name) => sync(lab, &name),
+        LabLine::Show { side, what } => {
+            let came = lab.show(&side, what);
+            (lab, came)
+        }
+        LabLine::Count(side) => {
+            let came = lab.count(&side);
+            (lab, came)
+        }
+        LabLine::Requests(name) => {
+            let came = lab.requests(&name);
+            (lab, came)
+        }
+    }
+}
+
+impl Lab {
+    /// `clock <ms>`
+    fn set_clock(&mut self, at: i64) -> Result<List<Text>, LabStop>
+        requires ready { IsReady (state_of self.old) }
+        ensures ends { CameOut (lines.Clock at) (state_of self.old) (state_of self.new) result }
+        ensures ready { IsReady (state_of self.new) }
+    {
+        if !are_in_time(at, self.devices.as_slice()) {
+            return Err(stop_by(self.alloc, "bad line"));
+        }
+        self.clock = at;
+        Ok(List::new(self.alloc))
+    }
+
+    /// `device <name>`
+    fn add_device(&mut self, name: Text) -> Result<List<Text>, LabStop>
+        requires ready { IsReady (state_of self.old) }
+        ensures ends { CameOut (lines.Device name) (state_of self.old) (state_of self.new) result }
+        ensures ready { IsReady (state_of self.new) }
+    {
+        match place_of(self.devices.as_slice(), &name) {
+            Some(_) => return Err(stop_by(self.alloc, "device held")),
+            None => {}
+        }
+        if self.devices.as_slice().len() >= DEVICE_LIMIT {
+            return Err(stop_by(self.alloc, "too many devices"));
+        }
+        let device = new_device(self.alloc, name, &mut self.server)?;
+        self.devices.push(device)?;
+        Ok(List::new(self.alloc))
+    }
+
+    /// `shift <device> <ms>`
+    fn shift(&mut self, name: &Text, by: i64) -> Result<List<Text>, LabStop>
+        requires ready { IsReady (state_of self.old) }
+        ensures ends { CameOut (lines.Shift name.now by) (state_of self.old) (state_of self.new) result }
+        ensures ready { IsReady (state_of self.new) }
+    {
+        let Some(place) = place_of(self.devices.as_slice(), name) else {
+            return Err(no_device(self.alloc, name));
+        };
+        if !is_shifted_in_time(self.clock, by) {
+            return Err(stop_by(self.alloc, "bad line"));
+        }
+        self.devices[place].shift = by;
+        Ok(List::new(self.alloc))
+    }
+
+    /// `review <device> <card> <ease> <count>`
+    fn review(&mut self, name: &Text, plan: ReviewPlan) -> Result<List<Text>, LabStop>
+        requires ready { IsReady (state_of self.old) }
+        requires range { AreReviews plan.card plan.ease plan.count }
+        ensures ends { CameOut (lines.Review name.now plan.card plan.ease plan.count)
+            (state_of self.old) (state_of self.new) result }
+        ensures ready { IsReady (state_of self.new) }
+    {
+        let Some(place) = place_of(self.devices.as_slice(), name) else {
+            return Err(no_device(self.alloc, name));
+        };
+        let at = self.clock + self.devices[place].shift;
+        match review_on(&mut self.devices[place], plan, at) {
+            Ok(()) => Ok(List::new(self.alloc)),
+            Err(fault) => Err(desk_stop(self.alloc, &fault)),
+        }
+    }
+
+    /// `do <device> <line>`
+    fn do_line(&mut self, name: &Text, text: &Text) -> Result<List<Text>, LabStop>
+        requires ready { IsReady (state_of self.old) }
+        ensures ends { CameOut (lines.Do name.now text.now) (state_of self.old) (state_of self.new) result }
+        ensures ready { IsReady (state_of self.new) }
+    {
+        let Some(place) = place_of(self.devices.as_slice(), name) else {
+            return Err(no_device(self.alloc, name));
+        };
+        let at = self.clock + self.devices[place].shift;
+        let said = match read_line(self.alloc, text.as_str()) {
+            Ok(said) => said,
+            Err(fault) => return Err(line_stop(self.alloc, &fault)),
+        };
+        match obey_on(&mut self.devices[place], said, at) {
+            Ok(answer) => print_answer(self.alloc, &answer),
+            Err(fault) => Err(desk_stop(self.alloc, &fault)),
+        }
+    }
+
+    /// `show <side> <table>`
+    fn show(&mut self, side: &Side, what: Shown) -> Result<List<Text>, LabStop>
+        requires ready { IsReady (state_of self.old) }
+        ensures ends { CameOut (lines.Show side.now what) (state_of self.old) (state_of self.new) result }
+        ensures ready { IsReady (state_of self.new) }
+    {
+        match side {
+            Side::Server => self.show_server(what),
+            Side::Device(name) => self.show_device(name, what),
+        }
+    }
+
+    /// `show server <table>`
+    fn show_server(&mut self, what: Shown) -> Result<List<Text>, LabStop>
+        requires ready { IsReady (state_of self.old) }
+        ensures ends { CameOut (lines.Show sides.Server what) (state_of self.old) (state_of self.new) result }
+        ensures ready { IsReady (state_of self.new) }
+    {
+        match shown_of_server(self.alloc, &mut self.server, what) {
+            Ok(texts) => Ok(texts),
+            Err(Memory) => Err(LabStop::Memory),
+        }
+    }
+
+    /// `show <device> <table>`
+    fn show_device(&mut self, name: &Text, what: Shown) -> Result<List<Text>, LabStop>
+        requires ready { IsReady (state_of self.old) }
+        ensures ends { CameOut (lines.Show (sides.Device name.now) what)
+            (state_of self.old) (state_of self.new) result }
+        ensures ready { IsReady (state_of self.new) }
+    {
+        let Some(place) = place_of(self.devices.as_slice(), name) else {
+            return Err(no_device(self.alloc, name));
+        };
+        match shown_on(self.alloc, &mut self.devices[place], what) {
+            Ok(texts) => Ok(texts),
+            Err(Memory) => Err(LabStop::Memory),
+        }
+    }
+
+    /// `count <side>`
+    fn count(&mut self, side: &Side) -> Result<List<Text>, LabStop>
+        requires ready { IsReady (state_of self.old) }
+        ensures ends { CameOut (lines.Count side.now) (state_of self.old) (state_of self.new) result }
+        ensures ready { IsReady (state_of self.new) }
+    {
+        match side {
+            Side::Server => self.count_server(),
+            Side::Device(name) => self.count_device(name),
+        }
+    }
+
+    /// `count server`
+    fn count_server(&mut self) -> Result<List<Text>, LabStop>
+        requires ready { IsReady (state_of self.old) }
+        ensures ends { CameOut (lines.Count sides.Server) (state_of self.old) (state_of self.new) result }
+        ensures ready { IsReady (state_of self.new) }
+    {
+        match counted_of_server(self.alloc, &mut self.server) {
+            Ok(text) => one_line(self.alloc, text),
+            Err(Memory) => Err(LabStop::Memory),
+        }
+    }
+
+    /// `count <device>`
+    fn count_device(&mut self, name: &Text) -> Result<List<Text>, LabStop>
+        requires ready { IsReady (state_of self.old) }
+        ensures ends { CameOut (lines.Count (sides.Device name.now)) (state_of self.old) (state_of self.new) result }
+        ensures ready { IsReady (state_of self.new) }
+    {
+        let Some(place) = place_of(self.devices.as_slice(), name) else {
+            return Err(no_device(self.alloc, name));
+        };
+        match counted_on(self.alloc, &mut self.devices[place]) {
+            Ok(text) => one_line(self.alloc, text),
+            Err(Memory) => Err(LabStop::Memory),
+        }
+    }
+
+    /// `requests <device>`
+    fn requests(&mut self, name: &Text) -> Result<List<Text>, LabStop>
+        requires ready { IsReady (state_of self.old) }
+        ensures ends { CameOut (lines.Requests name.now) (state_of self.old) (state_of self.new) result }
+        ensures ready { IsReady (state_of self.new) }
+    {
+        let Some(place) = place_of(self.devices.as_slice(), name) else {
+            return Err(no_device(self.alloc, name));
+        };
+        match write_requests(self.alloc, name.as_str(), self.devices[place].calls) {
+            Ok(text) => one_line(self.alloc, text),
+            Err(Memory) => Err(LabStop::Memory),
+        }
+    }
+}
+
+/// The line of an answer of the desk.
+fn print_answer(alloc: Global, answer: &DeskAnswer) -> Result<List<Text>, LabStop>
+    ensures ok { IfOk result (λ printed. printed ≡ answer_text answer.now ∷ []) }
+    ensures err { IfErr result (λ stop. stop ≡ stops.Memory) }
+{
+    let text = write_answer(alloc, answer)?;
+    one_line(alloc, text)
+}
+
+/// This line alone.
+pub(crate) fn one_line(alloc: Global, text: Text) -> Result<List<Text>, LabStop>
+    ensures ok { IfOk result (λ printed. printed ≡ text ∷ []) }
+    ensures err { IfErr result (λ stop. stop ≡ stops.Memory) }
+{
+    let mut printed = List::new(alloc);
+    printed.push(text)?;
+    Ok(printed)
+}
+
+/// A device with a copy of the server's collection.
+fn new_device(alloc: Global, name: Text, server: &mut LoggedServer) -> Result<Device, Memory>
+    requires calm { (health_in server.old).calm ≡ true }
+    ensures made { IfOk result (λ device. (c : Collection) × (committed_in server.old ≡ Some c)
+        × (device ≡ new_device name c)) }
+    ensures viewed { IsViewed server.old server.new }
+    ensures calm { (health_in server.new).calm ≡ true }
+{
+    let collection = copy_for_device(alloc, server)?;
+    let undo = UndoList::new(alloc)?;
+    Ok(Device {
+        name,
+        collection,
+        undo,
+        shift: 0,
+        done: 0,
+        calls: 0,
+    })
+}
+
+/// Does a line of the desk on a device at a moment in milliseconds, and counts it if it is an answer that is accepted.
+fn obey_on(device: &mut Device, said: DeskLine, at: i64) -> Result<DeskAnswer, DeskFault>
+    requires moment { IsClockMoment at }
+    requires range { IsInRange said }
+    ensures ends { EndsLine said (turn_of at device.old) (desk_of device.old) (desk_of device.new) result }
+    ensures filters { (turned : Sequence Meaning) × AppliesFilters said (keeping_of device.old) [] turned result }
+    ensures rest { IsObeyed device.old device.new result }
+    ensures unfailed { IsErrOf result desks.Failed → ⊥ }
+{
+    let turn = Turn {
+        at,
+        chance: 0,
+        done: device.done,
+    };
+    let came = device.collection.obey(&mut device.undo, said, turn);
+    if let Ok(answer) = &came {
+        device.done = counted(answer, device.done);
+    }
+    came
+}
+
+/// Adds the reviews of a plan to a device at a moment in milliseconds.
+fn review_on(device: &mut Device, plan: ReviewPlan, at: i64) -> Result<(), DeskFault>
+    requires card { IsId plan.card }
+    requires ease { IsWithin (pos 0) (pos 4) plan.ease }
+    ensures ends { EndsReviews at plan (keeping_of device.old) (keeping_of device.new)
+        device.old.undo device.new.undo result }
+    ensures rest { device.new ≡ record device.old { collection = device.new.collection; undo = device.new.undo } }
+    ensures unfailed { IsErrOf result desks.Failed → ⊥ }
+{
+    device.collection.review(&mut device.undo, plan, at)
+}
+
+/// The lines of what is shown of a device's collection.
+fn shown_on(alloc: Global, device: &mut Device, what: Shown) -> Result<List<Text>, Memory>
+    ensures shown { IfOk result (λ texts. (c : Collection) × Holds device.old.collection c
+        × (texts ≡ shown_lines what c)) }
+    ensures same { device.new ≡ device.old }
+{
+    device.collection.shown(alloc, what)
+}
+
+/// How many rows of each kind a device's collection holds, as a line.
+fn counted_on(alloc: Global, device: &mut Device) -> Result<Text, Memory>
+    ensures counted { IfOk result (λ text. (c : Collection) × Holds device.old.collection c
+        × (text ≡ counts_text (counts_of c.rows))) }
+    ensures same { device.new ≡ device.old }
+{
+    let counts = device.collection.counts()?;
+    write_counts(alloc, &counts)
+}

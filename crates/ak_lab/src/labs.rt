@@ -1,0 +1,60 @@
+ghost use Rattle.std.specs.Prelude.{◌≡◌, true, IfOk, IfErr, OnOk, OnErr};
+ghost use Rattle.ak_lab.specs.LabStates.{IsReady, at_line, opened_lab, state_of};
+ghost use Rattle.ak_lab.specs.LabRuns.{IsLabOpening};
+ghost use Rattle.ak_openings.specs.declared.whole_collections.Opening.{Opening};
+
+use crate::lab_syncs::lab_key;
+use ak_base::{Memory, Text};
+use ak_lab_devices::Device;
+use ak_loops::{Log, LoggedServer};
+use ak_openings::opening;
+use std::alloc::Global;
+
+/// The moment at which a lab's clock stands at first, and at which its server was opened, in milliseconds.
+const OPENING_MOMENT: i64 = 1_700_000_000_000;
+
+/// A server and its devices.
+#[derive(Drop)]
+pub(crate) struct Lab {
+    pub(crate) alloc: Global,
+    /// In milliseconds.
+    pub(crate) clock: i64,
+    pub(crate) server: LoggedServer,
+    /// How many syncs began. At the last `u64` it stays.
+    pub(crate) sessions: u64,
+    pub(crate) devices: Vec<Device>,
+}
+
+impl Lab {
+    /// A server with the opening collection, and no device.
+    pub(crate) fn open(alloc: Global) -> Result<Lab, Memory>
+        ensures opened { IfOk result (λ lab. (made : Opening) × IsLabOpening made × (state_of lab ≡ opened_lab made)) }
+        ensures ready { IfOk result (λ lab. IsReady (state_of lab)) }
+    {
+        let made = opening(alloc, OPENING_MOMENT, false)?;
+        let name = Text::of(alloc, "lab")?;
+        let server = LoggedServer::new(alloc, name, lab_key(), made)?;
+        Ok(Lab {
+            alloc,
+            clock: OPENING_MOMENT,
+            server,
+            sessions: 0,
+            devices: Vec::new(alloc),
+        })
+    }
+
+    /// Goes to the line of this number: what comes to the server is written down with it.
+    pub(crate) fn at_line(&mut self, number: u64)
+        ensures at { state_of self.new ≡ at_line number (state_of self.old) }
+        ensures ready { IsReady (state_of self.old) → IsReady (state_of self.new) }
+    {
+        self.server.at_line(number);
+    }
+
+    /// All that came to the server.
+    pub(crate) fn into_log(self) -> Log
+        ensures { result.entries ≡ self.server.entries }
+    {
+        self.server.into_log()
+    }
+}

@@ -1,0 +1,263 @@
+-- The law of a lab's sync: finished, both sides hold the join; otherwise they hold what they held.
+use Rattle.std.specs.Prelude.{◌≡◌, ◌≢◌, ◌⊎◌, ℕ, ◌+◌, ◌<◌, ◌≤◌, ◌+ℤ◌, List, [], ◌∷◌, length, Some}
+use Rattle.std.proofs.Common.{refl, sym, ap, subst, ◌∙◌, inl, inr, arith, rules}
+use Rattle.std.proofs.lemmas.Option.{same_Some}
+use Rattle.ak_client.specs.declared.outcomes.Outcome.{Outcome}
+use Rattle.ak_client.specs.declared.outcomes.Outcome.TheVariants as outcomes
+use Rattle.ak_faults.specs.Causes.{one_more}
+use Rattle.ak_io.specs.declared.lines.Line.{Line}
+use Rattle.ak_keep.specs.Collections.{Collection}
+use Rattle.ak_lab_joins.proofs.Devices.{changed_found, others_found}
+use Rattle.ak_lab_joins.proofs.Lines as law_lines
+use Rattle.ak_lab_joins.proofs.Lines.{LinesStep, all_linked, at_line_linked, base_of, opened_linked, sync_linked}
+use Rattle.ak_lab_joins.proofs.Servers.{committed_is, viewed_grows, views_stay_quiet}
+use Rattle.ak_lab_joins.proofs.Syncs.{CommitsNoneOrJoin}
+use Rattle.ak_lab_joins.proofs.Synced as synced
+use Rattle.ak_lab_joins.proofs.Synced.{holds_is}
+use Rattle.ak_lab_joins.proofs.Worlds.{commit_as, StaysQuiet}
+use Rattle.ak_lab_joins.specs.LabJoins.{CommitsOnceIn, Finishes, HasSession, IsLinkedDevice, IsLinkedLab, KeepsCommitted, KeepsOthers, KeepsSides, RunsToSync, StillHolds, world_in}
+use Rattle.ak_lab.specs.LabRuns.{AllGo, IsLabOpening}
+use Rattle.ak_lab.specs.LabStates.{LabState, at_line, lab_host, opened_lab}
+use Rattle.ak_lab.specs.LabSyncs.{EndsSync}
+use Rattle.ak_lab_devices.proofs.Places.{found_has_name}
+use Rattle.ak_lab_devices.specs.Devices.{device_of}
+use Rattle.ak_lab_devices.specs.declared.devices.Device.{Device}
+use Rattle.ak_lab_keepers.specs.RestingKeepers.{Holds}
+use Rattle.ak_loops.specs.Entries.{account_opened}
+use Rattle.ak_merge.specs.Exchanges.{AreExchanged, HoldsJoin}
+use Rattle.ak_openings.specs.declared.whole_collections.Opening.{Opening}
+use Rattle.ak_protocol.specs.Accounts.{AccountState}
+use Rattle.ak_protocol.specs.Logs.{Commit, World}
+
+-- ---- what is said over a server that was viewed is said over the one before
+over_viewed : (key key' : ℕ) (c : Collection) (before met after : World) → key ≡ key' → StaysQuiet before met → CommitsNoneOrJoin key c met after
+    → KeepsCommitted before after ⊎ CommitsOnceIn key' before after × HoldsJoin c before.state.committed after.state.committed
+over_viewed key key' c before met after own quiet (inl stays) = inl (stays.committed ∙ quiet.committed, stays.commits ∙ quiet.commits)
+over_viewed key key' c before met after own quiet (inr (one, joins)) =
+    inr (
+      one ∙ ap (λ (k : ℕ). commit_as k met.state.committed after.state.committed ∷ met.commits) own
+          ∙ ap (λ (base : Collection). commit_as key' base after.state.committed ∷ met.commits) quiet.committed
+          ∙ ap (λ (l : List Commit). commit_as key' before.state.committed after.state.committed ∷ l) quiet.commits,
+      subst (λ (base : Collection). HoldsJoin c base after.state.committed) quiet.committed joins,
+    )
+
+once_over_viewed : (key key' : ℕ) (before met after : World) → key ≡ key' → StaysQuiet before met → CommitsOnceIn key met after → CommitsOnceIn key' before after
+once_over_viewed key key' before met after own quiet one =
+    one ∙ ap (λ (k : ℕ). commit_as k met.state.committed after.state.committed ∷ met.commits) own
+    ∙ ap (λ (base : Collection). commit_as key' base after.state.committed ∷ met.commits) quiet.committed
+    ∙ ap (λ (l : List Commit). commit_as key' before.state.committed after.state.committed ∷ l) quiet.commits
+
+-- ---- a sync
+module _ (account : AccountState) (name : List ℕ) (s t : LabState) (outcome : Outcome) (linked : IsLinkedLab account s) (room : HasSession s)
+    (ends : EndsSync name s t outcome) (enough : outcome ≢ outcomes.Memory) where
+  abbrev host : List ℕ
+  host = ends.syncs.ids.host.digits
+
+  abbrev same_host : host ≡ lab_host
+  same_host = ends.syncs.of.host
+
+  abbrev own : IsLinkedDevice (base_of account s) ends.d
+  own = linked.devices name ends.d ends.found
+
+  quiet : StaysQuiet (world_in lab_host account s.server) (world_in lab_host account ends.met)
+  quiet = views_stay_quiet lab_host account s.server ends.met (viewed_grows s.server ends.met ends.read)
+
+  lab_now : IsLinkedLab account t
+  lab_now = sync_linked account name s t outcome linked room ends enough
+
+  -- the device of the name
+  own_name : ends.made.name ≡ name
+  own_name = ap (λ (x : Device). x.name) ends.syncs.rest ∙ found_has_name name s.devices ends.d ends.found
+
+  now_found : device_of name t.devices ≡ Some ends.made
+  now_found =
+      ap (λ (x : LabState). device_of name x.devices) ends.left
+      ∙ changed_found ends.made ends.d s.devices name own_name ends.found
+
+  was_held : (d : Device) → device_of name s.devices ≡ Some d → Holds d.collection own.c
+  was_held d found =
+      subst (λ (x : Device). Holds x.collection own.c) (same_Some ends.d d (sym ends.found ∙ found)) (holds_is ends.d own.c own.holds)
+
+  pub keeps_others : KeepsOthers name s t
+  keeps_others = record {
+    clock = ap (λ (x : LabState). x.clock) ends.left;
+    sessions = ap (λ (x : LabState). x.sessions) ends.left;
+    others = λ other differ. ap (λ (x : LabState). device_of other x.devices) ends.left
+        ∙ others_found ends.made s.devices other (λ is. differ (sym is ∙ own_name));
+    d = ends.d;
+    made = ends.made;
+    was = ends.found;
+    now = now_found;
+    rest = ends.syncs.rest
+        ∙ ap (λ (n : ℕ). let made : Device = record ends.d { collection = ends.made.collection; undo = []; calls = n } in made)
+        (sym (ap (λ (x : Device). x.calls) ends.syncs.rest));
+  }
+
+  -- what was committed, by the lab's host key
+  abbrev Committed : List ℕ → Type 0
+  Committed h = CommitsNoneOrJoin ends.syncs.ids.session.0 own.c (world_in h account ends.met) (world_in h account t.server)
+
+  pub committed_so : KeepsCommitted (world_in lab_host account s.server) (world_in lab_host account t.server)
+      ⊎ CommitsOnceIn (one_more s.sessions) (world_in lab_host account s.server) (world_in lab_host account t.server)
+      × HoldsJoin own.c (base_of account s) (base_of account t)
+  committed_so =
+      over_viewed ends.syncs.ids.session.0 (one_more s.sessions) own.c (world_in lab_host account s.server) (world_in lab_host account ends.met) (world_in lab_host account t.server)
+      ends.syncs.of.session quiet
+      (subst Committed same_host
+      (synced.committed account s.sessions s.clock (s.clock +ℤ ends.d.shift) ends.d ends.made ends.met t.server outcome room ends.syncs enough
+      (law_lines.met_server account name s t outcome linked room ends enough) (law_lines.device_met account name s t outcome linked room ends enough)
+      (law_lines.apart_met account name s t outcome linked room ends enough)))
+
+  -- ---- not finished
+  pub keeps_sides : outcome ≢ outcomes.Finished → KeepsSides account name s t outcome
+  keeps_sides other = record {
+    c = own.c;
+    held = was_held;
+    device = λ d found. subst (λ (x : Device). StillHolds own.c outcome x) (same_Some ends.made d (sym now_found ∙ found))
+        (synced.still_holds account s.sessions s.clock (s.clock +ℤ ends.d.shift) ends.d ends.made ends.met t.server outcome room ends.syncs enough
+        (law_lines.met_server account name s t outcome linked room ends enough) (law_lines.device_met account name s t outcome linked room ends enough)
+        (law_lines.apart_met account name s t outcome linked room ends enough) other);
+    server = λ early. let stays = subst (λ (h : List ℕ). StaysQuiet (world_in h account ends.met) (world_in h account t.server)) same_host
+        (synced.early_quiet account s.sessions s.clock (s.clock +ℤ ends.d.shift) ends.d ends.made ends.met t.server outcome room ends.syncs enough
+        (law_lines.met_server account name s t outcome linked room ends enough) (law_lines.device_met account name s t outcome linked room ends enough)
+        (law_lines.apart_met account name s t outcome linked room ends enough) early) in
+        (stays.committed ∙ quiet.committed, stays.commits ∙ quiet.commits);
+    once = committed_so;
+    keeps = keeps_others;
+  }
+
+  -- ---- finished
+  pub finishes : outcome ≡ outcomes.Finished → Finishes account name s t
+  finishes is =
+      let it = synced.finished_now account s.sessions s.clock (s.clock +ℤ ends.d.shift) ends.d ends.made ends.met t.server outcome room ends.syncs enough
+      (law_lines.met_server account name s t outcome linked room ends enough) (law_lines.device_met account name s t outcome linked room ends enough)
+      (law_lines.apart_met account name s t outcome linked room ends enough) is in
+      let exchanged : AreExchanged own.c (base_of account s) it.device (base_of account t) =
+      subst (λ (h : List ℕ). AreExchanged own.c (base_of account s) it.device (world_in h account t.server).state.committed) same_host
+      (subst (λ (base : Collection). AreExchanged own.c base it.device (world_in host account t.server).state.committed)
+      (law_lines.met_base account name s t outcome linked room ends enough) it.exchanged) in
+      let moment : it.device.head.moment ≡ (base_of account t).head.moment =
+      subst (λ (h : List ℕ). it.device.head.moment ≡ (world_in h account t.server).state.committed.head.moment) same_host it.moment in
+      let once : CommitsOnceIn (one_more s.sessions) (world_in lab_host account s.server) (world_in lab_host account t.server) =
+      once_over_viewed ends.syncs.ids.session.0 (one_more s.sessions) (world_in lab_host account s.server) (world_in lab_host account ends.met) (world_in lab_host account t.server)
+      ends.syncs.of.session quiet
+      (subst (λ (h : List ℕ). CommitsOnceIn ends.syncs.ids.session.0 (world_in h account ends.met) (world_in h account t.server)) same_host it.once) in
+      record {
+        joins = record {
+          device = own.c;
+          server = base_of account s;
+          device_now = it.device;
+          server_now = base_of account t;
+          held = was_held;
+          committed = committed_is lab_host account s.sessions s.server linked.server;
+          held_now = λ d found. subst (λ (x : Device). Holds x.collection it.device) (same_Some ends.made d (sym now_found ∙ found))
+              (holds_is ends.made it.device it.kept);
+          committed_now = committed_is lab_host account t.sessions t.server lab_now.server;
+          same = exchanged.same;
+          joined = exchanged.server;
+          past_device = exchanged.past_device;
+          past_server = exchanged.past_server;
+          moment = moment;
+          last_sync = exchanged.last_sync;
+        };
+        once = once;
+        keeps = keeps_others;
+      }
+
+-- ---- one line
+not_memory : outcomes.Finished ≢ outcomes.Memory
+not_memory is = absurd (search (is, rules))
+
+pub finished_joins : (account : AccountState) (name : List ℕ) (s t : LabState) → IsLinkedLab account s → HasSession s → EndsSync name s t outcomes.Finished
+    → Finishes account name s t
+finished_joins account name s t linked room ends = finishes account name s t outcomes.Finished linked room ends not_memory refl
+
+-- ---- over a run
+-- the lab before a line of this number is the lab before it
+lines_aside_finishes : (account : AccountState) (number : ℕ) (name : List ℕ) (s t : LabState) → Finishes account name (at_line number s) t → Finishes account name s t
+lines_aside_finishes account number name s t it = record {
+  joins = record {
+    device = it.joins.device;
+    server = it.joins.server;
+    device_now = it.joins.device_now;
+    server_now = it.joins.server_now;
+    held = it.joins.held;
+    committed = it.joins.committed;
+    held_now = it.joins.held_now;
+    committed_now = it.joins.committed_now;
+    same = it.joins.same;
+    joined = it.joins.joined;
+    past_device = it.joins.past_device;
+    past_server = it.joins.past_server;
+    moment = it.joins.moment;
+    last_sync = it.joins.last_sync;
+  };
+  once = it.once;
+  keeps = lines_aside_others number name s t it.keeps;
+}
+  where
+    lines_aside_others : (number : ℕ) (name : List ℕ) (s t : LabState) → KeepsOthers name (at_line number s) t → KeepsOthers name s t
+    lines_aside_others number name s t it = record {
+      clock = it.clock;
+      sessions = it.sessions;
+      others = it.others;
+      d = it.d;
+      made = it.made;
+      was = it.was;
+      now = it.now;
+      rest = it.rest;
+    }
+
+lines_aside_keeps : (account : AccountState) (number : ℕ) (name : List ℕ) (s t : LabState) (outcome : Outcome) → KeepsSides account name (at_line number s) t outcome
+    → KeepsSides account name s t outcome
+lines_aside_keeps account number name s t outcome it = record {
+  c = it.c;
+  held = it.held;
+  device = it.device;
+  server = it.server;
+  once = it.once;
+  keeps = record {
+    clock = it.keeps.clock;
+    sessions = it.keeps.sessions;
+    others = it.keeps.others;
+    d = it.keeps.d;
+    made = it.keeps.made;
+    was = it.keeps.was;
+    now = it.keeps.now;
+    rest = it.keeps.rest;
+  };
+}
+
+-- after the lines of a run
+pub run_linked : LinesStep → (opening : Opening) (all : List Line) (s : LabState) (printed : List (List ℕ)) → IsLabOpening opening
+    → length all < 18_446_744_073_709_551_615 → AllGo 1 all (opened_lab opening) s printed → IsLinkedLab (account_opened opening) s × HasSession s
+run_linked steps opening all s printed opens room goes =
+    let it = all_linked steps (account_opened opening) 1 all (opened_lab opening) s printed (opened_linked opening opens) (few (length all) room) goes in
+    (it.0, low s.sessions (length all) it.1 room)
+  where
+    few : (n : ℕ) → n < 18_446_744_073_709_551_615 → 0 + n < 18_446_744_073_709_551_615
+    few n low = omega (arith, low)
+
+    low : (a n : ℕ) → a ≤ 0 + n → n < 18_446_744_073_709_551_615 → a < 18_446_744_073_709_551_615
+    low a n most room = omega (arith, most, room)
+
+module _ (steps : LinesStep) (opening : Opening) (all : List Line) (name : List ℕ) (s t : LabState) (outcome : Outcome)
+    (runs : RunsToSync opening all name s t outcome) where
+  abbrev here : IsLinkedLab (account_opened opening) s × HasSession s
+  here = run_linked steps opening all s runs.printed runs.opens runs.room runs.goes
+
+  abbrev before : LabState
+  before = at_line (length all + 1) s
+
+  linked_before : IsLinkedLab (account_opened opening) (at_line (length all + 1) s)
+  linked_before = at_line_linked (account_opened opening) (length all + 1) s here.0
+
+  pub run_finishes : outcome ≡ outcomes.Finished → Finishes (account_opened opening) name s t
+  run_finishes is =
+      lines_aside_finishes (account_opened opening) (length all + 1) name s t
+      (finishes (account_opened opening) name before t outcome linked_before here.1 runs.comes (λ wrong. not_memory (sym is ∙ wrong)) is)
+
+  pub run_keeps : outcome ≢ outcomes.Finished → outcome ≢ outcomes.Memory → KeepsSides (account_opened opening) name s t outcome
+  run_keeps other enough =
+      lines_aside_keeps (account_opened opening) (length all + 1) name s t outcome
+      (keeps_sides (account_opened opening) name before t outcome linked_before here.1 runs.comes enough other)

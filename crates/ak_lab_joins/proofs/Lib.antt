@@ -1,0 +1,11 @@
+mod Apart
+mod Devices
+mod Edits
+mod Ends
+mod Lines
+mod Metas
+mod Prints
+mod Servers
+mod Synced
+mod Syncs
+mod Worlds

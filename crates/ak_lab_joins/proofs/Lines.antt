@@ -1,0 +1,339 @@
+-- Each accepted line of a lab's script leaves its devices linked with the server.
+use Rattle.std.specs.Prelude.{◌≡◌, ◌≢◌, ◌⊎◌, ℕ, suc, ℤ, ◌+◌, ◌<◌, ◌≤◌, ◌≤ℤ◌, ◌+ℤ◌, List, [], ◌∷◌, length, Some, None, Result, Ok}
+use Rattle.std.proofs.Common.{refl, sym, ap, subst, ◌∙◌, inl, inr, arith}
+use Rattle.std.proofs.lemmas.Int.{ints}
+use Rattle.std.proofs.lemmas.List.Elements.{All-nil}
+use Rattle.std.proofs.lemmas.Option.{none-some, same_Some}
+use Rattle.ak_client.specs.declared.outcomes.Outcome.{Outcome}
+use Rattle.ak_client.specs.declared.outcomes.Outcome.TheVariants as client_outcomes
+use Rattle.ak_desk_lines.specs.DeskStates.{DeskState}
+use Rattle.ak_desk_lines.specs.LineEnds.{EndsLine}
+use Rattle.ak_desk_lines.specs.LineSteps.{IsOneStep, LinksWith}
+use Rattle.ak_desk_lines.specs.declared.turns.Turn.{Turn}
+use Rattle.ak_edit.specs.declared.desk_faults.DeskFault.{DeskFault}
+use Rattle.ak_exchange.specs.Phases.{holding}
+use Rattle.ak_faults.specs.Causes.{one_more}
+use Rattle.ak_io.specs.declared.lines.Line.{Line}
+use Rattle.ak_keep.specs.Collections.{Collection}
+use Rattle.ak_keep.specs.Keepers.{Keeping, WhereHeld}
+use Rattle.ak_lab_joins.proofs.Apart.{apart_by_other}
+use Rattle.ak_lab_joins.proofs.Devices.{changed_or_old, new_or_old}
+use Rattle.ak_lab_joins.proofs.Edits.{finished_so, reviews_are_admitted, stepped_so}
+use Rattle.ak_lab_joins.proofs.Servers.{committed_is, opened_server, viewed_grows, viewed_server, views_stay_quiet}
+use Rattle.ak_lab_joins.proofs.Synced as synced
+use Rattle.ak_lab_joins.proofs.Synced.{device_linked, held_once, linked_device}
+use Rattle.ak_lab.specs.LabDesks.{EndsDo, EndsReview, desk_of, turn_of}
+use Rattle.ak_lab_joins.specs.LabJoins.{HasSession, IsLinkedDevice, IsLinkedLab, IsLinkedServer, world_in}
+use Rattle.ak_lab.specs.LabRuns.{AllGo, IsLabOpening}
+use Rattle.ak_lab.specs.LabStates.{LabState, at_line, lab_host, opened_lab, with_changed}
+use Rattle.ak_lab.specs.LabSteps.{Accepts, AddsDevice, Shifts, SideHolds, plan_of}
+use Rattle.ak_lab.specs.LabSyncs.{EndsSync, TestsTie}
+use Rattle.ak_lab.specs.LineOutcomes.{Accepted, EndsAs}
+use Rattle.ak_lab_devices.specs.Devices.{as_downloaded, device_of, keeping_of, new_device}
+use Rattle.ak_lab_devices.specs.declared.devices.Device.{Device}
+use Rattle.ak_lab_lines.specs.declared.lab_lines.LabLine.{LabLine}
+use Rattle.ak_lab_lines.specs.declared.lab_lines.LabLine.TheVariants as lines
+use Rattle.ak_lab_lines.specs.declared.lab_lines.Side.{Side}
+use Rattle.ak_lab_lines.specs.declared.lab_lines.Side.TheVariants as sides
+use Rattle.ak_lab_sides.specs.NewReviews.{EndsReviews, with_reviews}
+use Rattle.ak_lines.specs.declared.desk_lines.DeskLine.{DeskLine}
+use Rattle.ak_loops.specs.Entries.{LoggedState, account_opened}
+use Rattle.ak_merge.proofs.EditBuildingLaws.{unedited_is_admitted}
+use Rattle.ak_merge.proofs.FirstLinks.{copies_are_linked}
+use Rattle.ak_merge.specs.Commits.{IsCommitted}
+use Rattle.ak_merge.specs.Conflicts.{first_conflict}
+use Rattle.ak_merge.specs.EditBuilding.{unedited}
+use Rattle.ak_merge.specs.Holdings.{row_under}
+use Rattle.ak_merge.specs.Joins.{AreApart}
+use Rattle.ak_merge.specs.Undoing.{StepFits}
+use Rattle.ak_openings.specs.declared.whole_collections.Opening.{Opening}
+use Rattle.ak_outcomes.specs.OutcomeTexts.{outcome_text}
+use Rattle.ak_protocol.specs.Accounts.{AccountState}
+use Rattle.ak_server_copies.specs.Copies.{IsViewed}
+use Rattle.ak_texts.specs.declared.answers.DeskAnswer.{DeskAnswer}
+
+-- a line of the desk is one step
+abbrev pub LinesStep : Type 0
+LinesStep = (line : DeskLine) (t : Turn) (was now : DeskState) (result : Result DeskAnswer DeskFault)
+    → EndsLine line t was now result → WhereHeld was.keeping (λ c. IsOneStep t.at c was now)
+
+-- what the server of a lab committed
+abbrev pub base_of : AccountState → LabState → Collection
+base_of account s = (world_in lab_host account s.server).state.committed
+
+-- ---- the lab that is opened
+pub opened_linked : (opening : Opening) → IsLabOpening opening → IsLinkedLab (account_opened opening) (opened_lab opening)
+opened_linked opening is = record {
+  server = opened_server opening is;
+  devices = λ name d found. absurd (none-some d found);
+}
+
+-- ---- views
+-- the devices are linked with the server once it was viewed
+module _ (account : AccountState) (s : LabState) (server : LoggedState) (linked : IsLinkedLab account s) (viewed : IsViewed s.server server) where
+  pub server_viewed : IsLinkedServer lab_host account s.sessions server
+  server_viewed = viewed_server lab_host account s.server server (viewed_grows s.server server viewed) s.sessions linked.server
+
+  pub base_viewed : (world_in lab_host account server).state.committed ≡ base_of account s
+  base_viewed = (views_stay_quiet lab_host account s.server server (viewed_grows s.server server viewed)).committed
+
+  pub device_viewed : (d : Device) → IsLinkedDevice (base_of account s) d → IsLinkedDevice (world_in lab_host account server).state.committed d
+  device_viewed d is = subst (λ (base : Collection). IsLinkedDevice base d) (sym base_viewed) is
+
+  pub lab_viewed : IsLinkedLab account (record s { server = server })
+  lab_viewed = record { server = server_viewed; devices = λ name d found. device_viewed d (linked.devices name d found) }
+
+-- ---- a device that was changed
+pub changed_linked : (account : AccountState) (s : LabState) (made : Device) → IsLinkedLab account s → IsLinkedDevice (base_of account s) made
+    → IsLinkedLab account (with_changed made s)
+changed_linked account s made linked is = record {
+  server = linked.server;
+  devices = λ name d found. by name d (changed_or_old made s.devices name d found);
+}
+  where
+    by : (name : List ℕ) (d : Device) → (made ≡ d) ⊎ (device_of name s.devices ≡ Some d) → IsLinkedDevice (base_of account s) d
+    by name d (inl same) = subst (λ (x : Device). IsLinkedDevice (base_of account s) x) same is
+    by name d (inr found) = linked.devices name d found
+
+-- ---- a new device
+copy_linked : (base : Collection) (name : List ℕ) → IsCommitted base → IsLinkedDevice base (new_device name base)
+copy_linked base name lawful = record {
+  c = as_downloaded base;
+  holds = refl;
+  named = lawful.named;
+  links = record {
+    linked = inr (copies_are_linked base (as_downloaded base) lawful (record { rows = refl; head = refl }));
+    fit = All-nil (λ step. StepFits (as_downloaded base) step base);
+  };
+  suits = lawful.single;
+  schema = itself base.head.schema;
+}
+  where
+    itself : (a : ℤ) → a ≤ℤ a
+    itself a = omega (arith, ints)
+
+device_added : (account : AccountState) (name : List ℕ) (s t : LabState) → IsLinkedLab account s → AddsDevice name s t → IsLinkedLab account t
+device_added account name s t linked adds =
+    let base : Collection = base_of account s in
+    let same : adds.committed ≡ base =
+    same_Some adds.committed base (sym adds.is ∙ committed_is lab_host account s.sessions s.server linked.server) in
+    subst (IsLinkedLab account) (sym adds.left) (record {
+      server = server_viewed account s t.server linked adds.read;
+      devices = λ other d found. by same other d (new_or_old (new_device name adds.committed) s.devices other d found);
+    })
+  where
+    by : adds.committed ≡ base_of account s → (other : List ℕ) (d : Device) → (new_device name adds.committed ≡ d) ⊎ (device_of other s.devices ≡ Some d)
+        → IsLinkedDevice (world_in lab_host account t.server).state.committed d
+    by same other d (inl is) =
+        device_viewed account s t.server linked adds.read d
+        (subst (λ (x : Device). IsLinkedDevice (base_of account s) x) (ap (new_device name) (sym same) ∙ is)
+        (copy_linked (base_of account s) name linked.server.lawful.committed))
+    by same other d (inr found) = device_viewed account s t.server linked adds.read d (linked.devices other d found)
+
+-- ---- another clock
+shifted : (account : AccountState) (name : List ℕ) (by : ℤ) (s t : LabState) → IsLinkedLab account s → Shifts name by s t → IsLinkedLab account t
+shifted account name by s t linked shifts =
+    let it = linked.devices name shifts.d shifts.found in
+    subst (IsLinkedLab account) (sym shifts.left)
+    (changed_linked account s (record shifts.d { shift = by }) linked
+    (record { c = it.c; holds = it.holds; named = it.named; links = it.links; suits = it.suits; schema = it.schema }))
+
+-- ---- new reviews, and lines of the desk
+reviewed : (account : AccountState) (name : List ℕ) (card ease : ℤ) (count : ℕ) (s t : LabState) → IsLinkedLab account s
+    → EndsReview name (plan_of card ease count) s t (Ok tt) → IsLinkedLab account t
+reviewed account name card ease count s t linked ends =
+    let it = device_linked (base_of account s) ends.d (linked.devices name ends.d ends.found) in
+    let at : EndsReviews (s.clock +ℤ ends.d.shift) (plan_of card ease count) (holding it.c) (keeping_of ends.made) ends.d.undo ends.made.undo (Ok tt) =
+    subst (λ (k : Keeping). EndsReviews (s.clock +ℤ ends.d.shift) (plan_of card ease count) k (keeping_of ends.made) ends.d.undo ends.made.undo (Ok tt)) it.holds ends.ends in
+    let adds = at.done in
+    subst (IsLinkedLab account) (sym ends.left)
+    (changed_linked account s ends.made linked
+    (linked_device (base_of account s) ends.made
+    (finished_so (s.clock +ℤ ends.d.shift) it.c (base_of account s) (with_reviews adds.reviews (unedited it.c)) (keeping_of ends.made) ends.d.undo ends.made.undo
+    (reviews_are_admitted it.c (plan_of card ease count) _ count adds.reviews (unedited it.c) refl adds.planned (unedited_is_admitted it.c it.linked.named))
+    adds.done it.linked)))
+
+obeyed : LinesStep → (account : AccountState) (name text : List ℕ) (s t : LabState) (result : Result DeskAnswer DeskFault) → IsLinkedLab account s
+    → EndsDo name text s t result → IsLinkedLab account t
+obeyed steps account name text s t result linked ends =
+    let it = device_linked (base_of account s) ends.d (linked.devices name ends.d ends.found) in
+    let at : ℤ = s.clock +ℤ ends.d.shift in
+    let step : IsOneStep at it.c (desk_of ends.d) (desk_of ends.made) =
+    subst (λ (k : Keeping). WhereHeld k (λ c. IsOneStep at c (desk_of ends.d) (desk_of ends.made))) it.holds
+    (steps ends.said (turn_of at ends.d) (desk_of ends.d) (desk_of ends.made) result ends.ends) in
+    subst (IsLinkedLab account) (sym ends.left)
+    (changed_linked account s ends.made linked
+    (linked_device (base_of account s) ends.made (stepped_so at it.c (base_of account s) (desk_of ends.d) (desk_of ends.made) it.holds step it.linked)))
+
+-- ---- what is looked at
+looked : (account : AccountState) (side : Side) (s t : LabState) (c : Collection) → IsLinkedLab account s → SideHolds side s t c → IsLinkedLab account t
+looked account sides.Server s t c linked (committed, viewed, left) =
+    subst (IsLinkedLab account) (sym left) (lab_viewed account s t.server linked viewed)
+looked account (sides.Device name) s t c linked holds = subst (IsLinkedLab account) (sym holds.0) linked
+
+-- ---- a sync
+-- the device of a sync and what the server committed are apart
+pub tested_apart : (account : AccountState) (s : LabState) (d : Device) → IsLinkedServer lab_host account s.sessions s.server → (it : IsLinkedDevice (base_of account s) d)
+    → TestsTie d s.server None → AreApart (row_under it.c) (row_under (base_of account s))
+tested_apart account s d server it (c, base, holds, committed, none) =
+    let own : c ≡ it.c = held_once d it.c c it.holds holds in
+    let theirs : base ≡ base_of account s = same_Some base (base_of account s) (sym committed ∙ committed_is lab_host account s.sessions s.server server) in
+    apart_by_other it.c.rows (base_of account s).rows it.named server.lawful.committed.named server.lawful.committed.checked
+    (sym (none ∙ ap (λ (x : Collection). first_conflict x.rows base.rows) own ∙ ap (λ (y : Collection). first_conflict it.c.rows y.rows) theirs))
+
+-- a sync that is told has an outcome with a text
+pub told_enough : (outcome : Outcome) (text : List ℕ) → outcome_text outcome ≡ Some text → outcome ≢ client_outcomes.Memory
+told_enough outcome text told is = none-some text (sym (ap outcome_text is) ∙ told)
+
+module _ (account : AccountState) (name : List ℕ) (s t : LabState) (outcome : Outcome) (linked : IsLinkedLab account s) (room : HasSession s)
+    (ends : EndsSync name s t outcome) (enough : outcome ≢ client_outcomes.Memory) where
+  -- by the host key of the sync, which is the lab's
+  abbrev pub host : List ℕ
+  host = ends.syncs.ids.host.digits
+
+  abbrev pub same_host : lab_host ≡ host
+  same_host = sym ends.syncs.of.host
+
+  abbrev own : IsLinkedDevice (base_of account s) ends.d
+  own = linked.devices name ends.d ends.found
+
+  abbrev met_device : (d : Device) → IsLinkedDevice (base_of account s) d → IsLinkedDevice (world_in host account ends.met).state.committed d
+  met_device d it =
+      subst (λ (h : List ℕ). IsLinkedDevice (world_in h account ends.met).state.committed d) same_host (device_viewed account s ends.met linked ends.read d it)
+
+  pub met_server : IsLinkedServer host account s.sessions ends.met
+  met_server = subst (λ (h : List ℕ). IsLinkedServer h account s.sessions ends.met) same_host (server_viewed account s ends.met linked ends.read)
+
+  pub met_base : (world_in host account ends.met).state.committed ≡ base_of account s
+  met_base =
+      subst (λ (h : List ℕ). (world_in h account ends.met).state.committed ≡ base_of account s) same_host (base_viewed account s ends.met linked ends.read)
+
+  -- the device as it met the server
+  abbrev pub device_met : IsLinkedDevice (world_in host account ends.met).state.committed ends.d
+  device_met = record {
+    c = own.c;
+    holds = own.holds;
+    named = own.named;
+    links = subst (λ (base : Collection). LinksWith own.c ends.d.undo base) (sym met_base) own.links;
+    suits = own.suits;
+    schema = subst (λ (base : Collection). base.head.schema ≤ℤ own.c.head.schema) (sym met_base) own.schema;
+  }
+
+  pub apart_met : AreApart (row_under own.c) (row_under (world_in host account ends.met).state.committed)
+  apart_met =
+      subst (λ (base : Collection). AreApart (row_under own.c) (row_under base)) (sym met_base)
+      (tested_apart account s ends.d linked.server own ends.apart)
+
+  server_left : IsLinkedServer lab_host account (one_more s.sessions) t.server
+  server_left =
+      subst (λ (h : List ℕ). IsLinkedServer h account (one_more s.sessions) t.server) (sym same_host)
+      (synced.server_now account s.sessions s.clock (s.clock +ℤ ends.d.shift) ends.d ends.made ends.met t.server outcome room ends.syncs enough met_server device_met apart_met)
+
+  made_left : IsLinkedDevice (world_in lab_host account t.server).state.committed ends.made
+  made_left =
+      subst (λ (h : List ℕ). IsLinkedDevice (world_in h account t.server).state.committed ends.made) (sym same_host)
+      (synced.device_now account s.sessions s.clock (s.clock +ℤ ends.d.shift) ends.d ends.made ends.met t.server outcome room ends.syncs enough met_server device_met apart_met)
+
+  other_left : (e : Device) → IsLinkedDevice (base_of account s) e → IsLinkedDevice (world_in lab_host account t.server).state.committed e
+  other_left e it =
+      subst (λ (h : List ℕ). IsLinkedDevice (world_in h account t.server).state.committed e) (sym same_host)
+      (synced.others_now account s.sessions s.clock (s.clock +ℤ ends.d.shift) ends.d ends.made ends.met t.server outcome room ends.syncs enough met_server device_met apart_met
+      e (met_device e it))
+
+  pub sync_linked : IsLinkedLab account t
+  sync_linked =
+      subst (IsLinkedLab account) (sym ends.left) (record {
+        server = server_left;
+        devices = λ other d found. by other d (changed_or_old ends.made s.devices other d found);
+      })
+    where
+      by : (other : List ℕ) (d : Device) → (ends.made ≡ d) ⊎ (device_of other s.devices ≡ Some d) → IsLinkedDevice (world_in lab_host account t.server).state.committed d
+      by other d (inl is) = subst (λ (x : Device). IsLinkedDevice (world_in lab_host account t.server).state.committed x) is made_left
+      by other d (inr found) = other_left d (linked.devices other d found)
+
+-- ---- a line
+said_linked : LinesStep → (account : AccountState) (said : LabLine) (s t : LabState) (printed : List (List ℕ)) → IsLinkedLab account s → HasSession s
+    → Accepts said s t printed → IsLinkedLab account t
+said_linked steps account (lines.Clock at) s t printed linked room (in_time, left, none) =
+    subst (IsLinkedLab account) (sym left) (record { server = linked.server; devices = linked.devices })
+said_linked steps account (lines.Device name) s t printed linked room (adds, none) = device_added account name s t linked adds
+said_linked steps account (lines.Shift name by) s t printed linked room (shifts, none) = shifted account name by s t linked shifts
+said_linked steps account (lines.Review name card ease count) s t printed linked room (ends, none) = reviewed account name card ease count s t linked ends
+said_linked steps account (lines.Do name text) s t printed linked room (answer, ends, is) = obeyed steps account name text s t (Ok answer) linked ends
+said_linked steps account (lines.Sync name) s t printed linked room (outcome, text, ends, told, is) =
+    sync_linked account name s t outcome linked room ends (told_enough outcome text told)
+said_linked steps account (lines.Show side what) s t printed linked room (c, holds, is) = looked account side s t c linked holds
+said_linked steps account (lines.Count side) s t printed linked room (c, holds, is) = looked account side s t c linked holds
+said_linked steps account (lines.Requests name) s t printed linked room is = subst (IsLinkedLab account) (sym is.0) linked
+
+-- what comes to the server later is written down with another line
+pub at_line_linked : (account : AccountState) (number : ℕ) (s : LabState) → IsLinkedLab account s → IsLinkedLab account (at_line number s)
+at_line_linked account number s linked = record {
+  server = record {
+    host_is = linked.server.host_is;
+    unused = linked.server.unused;
+    lawful = linked.server.lawful;
+    number = linked.server.number;
+    schema = linked.server.schema;
+  };
+  devices = linked.devices;
+}
+
+pub line_linked : LinesStep → (account : AccountState) (number : ℕ) (line : Line) (s t : LabState) (printed : List (List ℕ)) → IsLinkedLab account s → HasSession s
+    → EndsAs number line s t (Accepted printed) → IsLinkedLab account t
+line_linked steps account number line s t printed linked room (inl nothing) =
+    subst (IsLinkedLab account) (sym nothing.0) (at_line_linked account number s linked)
+line_linked steps account number line s t printed linked room (inr (said, says, accepts)) =
+    said_linked steps account said (at_line number s) t printed (at_line_linked account number s linked) room accepts
+
+-- ---- the count of sessions rises by at most one in a line
+one_at_most : (n : ℕ) → one_more n ≤ n + 1
+one_at_most n = omega arith
+
+same_count : (s t : LabState) → t.sessions ≡ s.sessions → t.sessions ≤ s.sessions + 1
+same_count s t same = no_more t.sessions s.sessions same
+  where
+    no_more : (a b : ℕ) → a ≡ b → a ≤ b + 1
+    no_more a b is = omega (arith, is)
+
+said_count : (said : LabLine) (s t : LabState) (printed : List (List ℕ)) → Accepts said s t printed → t.sessions ≤ s.sessions + 1
+said_count (lines.Clock at) s t printed (in_time, left, none) = same_count s t (ap (λ (x : LabState). x.sessions) left)
+said_count (lines.Device name) s t printed (adds, none) = same_count s t (ap (λ (x : LabState). x.sessions) adds.left)
+said_count (lines.Shift name by) s t printed (shifts, none) = same_count s t (ap (λ (x : LabState). x.sessions) shifts.left)
+said_count (lines.Review name card ease count) s t printed (ends, none) = same_count s t (ap (λ (x : LabState). x.sessions) ends.left)
+said_count (lines.Do name text) s t printed (answer, ends, is) = same_count s t (ap (λ (x : LabState). x.sessions) ends.left)
+said_count (lines.Sync name) s t printed (outcome, text, ends, told, is) =
+    subst (λ (n : ℕ). n ≤ s.sessions + 1) (sym (ap (λ (x : LabState). x.sessions) ends.left)) (one_at_most s.sessions)
+said_count (lines.Show sides.Server what) s t printed (c, holds, is) = same_count s t (ap (λ (x : LabState). x.sessions) holds.2)
+said_count (lines.Show (sides.Device name) what) s t printed (c, holds, is) = same_count s t (ap (λ (x : LabState). x.sessions) holds.0)
+said_count (lines.Count sides.Server) s t printed (c, holds, is) = same_count s t (ap (λ (x : LabState). x.sessions) holds.2)
+said_count (lines.Count (sides.Device name)) s t printed (c, holds, is) = same_count s t (ap (λ (x : LabState). x.sessions) holds.0)
+said_count (lines.Requests name) s t printed is = same_count s t (ap (λ (x : LabState). x.sessions) is.0)
+
+pub line_count : (number : ℕ) (line : Line) (s t : LabState) (printed : List (List ℕ)) → EndsAs number line s t (Accepted printed) → t.sessions ≤ s.sessions + 1
+line_count number line s t printed (inl nothing) = same_count s t (ap (λ (x : LabState). x.sessions) nothing.0)
+line_count number line s t printed (inr (said, says, accepts)) = said_count said (at_line number s) t printed accepts
+
+-- ---- all lines
+pub all_linked : LinesStep → (account : AccountState) (number : ℕ) (all : List Line) (s t : LabState) (printed : List (List ℕ)) → IsLinkedLab account s
+    → s.sessions + length all < 18_446_744_073_709_551_615 → AllGo number all s t printed → IsLinkedLab account t × (t.sessions ≤ s.sessions + length all)
+all_linked steps account number [] s t printed linked room (same, none) =
+    (subst (IsLinkedLab account) (sym same) linked, still t.sessions s.sessions (ap (λ (x : LabState). x.sessions) same))
+  where
+    still : (a b : ℕ) → a ≡ b → a ≤ b + 0
+    still a b is = omega (arith, is)
+all_linked steps account number (line ∷ more) s t printed linked room (mid, first, others, ends, goes, is) =
+    let count = line_count number line s mid first ends in
+    let rest = all_linked steps account (number + 1) more mid t others
+    (line_linked steps account number line s mid first linked (enough s.sessions (length more) room) ends)
+    (enough_left s.sessions mid.sessions (length more) room count) goes in
+    (rest.0, all s.sessions mid.sessions t.sessions (length more) count rest.1)
+  where
+    enough : (a n : ℕ) → a + suc n < 18_446_744_073_709_551_615 → a < 18_446_744_073_709_551_615
+    enough a n low = omega (arith, low)
+
+    enough_left : (a b n : ℕ) → a + suc n < 18_446_744_073_709_551_615 → b ≤ a + 1 → b + n < 18_446_744_073_709_551_615
+    enough_left a b n low at = omega (arith, low, at)
+
+    all : (a b e n : ℕ) → b ≤ a + 1 → e ≤ b + n → e ≤ a + suc n
+    all a b e n first rest = omega (arith, first, rest)

@@ -1,0 +1,300 @@
+-- What a sync of a lab leaves on both sides, and that all devices are linked with the server then.
+use Rattle.std.specs.List.{All}
+use Rattle.std.specs.Prelude.{◌≡◌, ◌≢◌, ℕ, ℤ, ◌<◌, ◌≤ℤ◌, ◌<ℤ◌, true, List, [], ◌∷◌, Option, Some}
+use Rattle.std.proofs.Common.{refl, sym, ap, subst, ◌∙◌, inl, arith}
+use Rattle.std.proofs.lemmas.Int.{ints}
+use Rattle.std.proofs.lemmas.List.Elements.{All-nil, All-weaker}
+use Rattle.std.proofs.lemmas.Option.{same_Some}
+use Rattle.ak_base.specs.Limits.{last_moment}
+use Rattle.ak_base.specs.declared.heads.Head.{Head}
+use Rattle.ak_base.specs.declared.heads.Tag.{Tag}
+use Rattle.ak_client.specs.Syncs.{EndsBecause, HasRaised, KeepsDevice, MayBegin, ends_before_finish}
+use Rattle.ak_client.specs.declared.outcomes.Outcome.{Outcome}
+use Rattle.ak_client.specs.declared.outcomes.Outcome.TheVariants as outcomes
+use Rattle.ak_device.specs.Devices.{advanced_moment, moments_raised}
+use Rattle.ak_edit.specs.Steps.{reversals_in}
+use Rattle.ak_edit.specs.Undos.{SuitsNow}
+use Rattle.ak_exchange.specs.Asked.{asker}
+use Rattle.ak_exchange.specs.Phases.{holding}
+use Rattle.ak_faults.specs.Causes.{one_more}
+use Rattle.ak_keep.specs.Collections.{Collection, Holding, collection_of}
+use Rattle.ak_keep.specs.Keepers.{Keeping, all_known, changed}
+use Rattle.ak_keep.specs.Marks.{WithMark}
+use Rattle.ak_lab_joins.proofs.Edits.{HoldsLinked}
+use Rattle.ak_lab_joins.proofs.Syncs as syncs
+use Rattle.ak_lab_joins.proofs.Syncs.{CommitsNoneOrJoin}
+use Rattle.ak_lab_joins.proofs.Worlds.{commit_as, StaysQuiet, others_of_session}
+use Rattle.ak_lab_joins.specs.LabJoins.{HasOtherMoments, IsLinkedDevice, IsLinkedServer, StillHolds, world_in}
+use Rattle.ak_lab.specs.LabSyncs.{IsLabSync}
+use Rattle.ak_lab_devices.specs.Devices.{keeping_of}
+use Rattle.ak_lab_devices.specs.declared.devices.Device.{Device}
+use Rattle.ak_lab_keepers.specs.RestingKeepers.{Holds, kept_of}
+use Rattle.ak_loops.specs.Entries.{LoggedState, log_in}
+use Rattle.ak_loops.specs.LoopWires.{health_over, no_calls, state_over}
+use Rattle.ak_merge.specs.Edits.{Reversal}
+use Rattle.ak_merge.specs.Exchanges.{AreExchanged}
+use Rattle.ak_merge.specs.Holdings.{AreNamed, IsSingle, RowsByName, row_under}
+use Rattle.ak_merge.specs.Joins.{AreApart}
+use Rattle.ak_merge.specs.Links.{AreLinked}
+use Rattle.ak_merge.specs.Undoing.{StepFits, StepsSuit}
+use Rattle.ak_protocol.proofs.ContentLaws.{some_of_all}
+use Rattle.ak_protocol.proofs.Syncs.{events_leave_unused}
+use Rattle.ak_protocol.specs.Accounts.{AccountState}
+use Rattle.ak_protocol.specs.Logs.{Log, World}
+use Rattle.ak_protocol.specs.Sessions.{IsMetaOrOther}
+use Rattle.ak_protocol.specs.Syncs.{IsUnused}
+use Rattle.ak_undo.specs.declared.steps.Step.{Step}
+
+-- ---- what a device holds
+-- what a device's keeper is known to hold
+pub kept_is : (d : Device) (c : Collection) → keeping_of d ≡ holding c → d.collection ≡ kept_of c
+kept_is d c is = same_Some d.collection (kept_of c) (ap (λ (k : Keeping). k.told) is)
+
+pub known_is : (d : Device) (c : Collection) → d.collection ≡ kept_of c → keeping_of d ≡ holding c
+known_is d c is = ap all_known is
+
+pub holds_is : (d : Device) (c : Collection) → d.collection ≡ kept_of c → Holds d.collection c
+holds_is d c is = ap (λ (k : WithMark Holding). collection_of k.current) is
+
+-- the collection of a device is one
+pub held_once : (d : Device) (c other : Collection) → d.collection ≡ kept_of c → Holds d.collection other → other ≡ c
+held_once d c other is holds = same_Some other c (sym holds ∙ holds_is d c is)
+
+pub linked_device : (s : Collection) (d : Device) → HoldsLinked s (keeping_of d) d.undo → IsLinkedDevice s d
+linked_device s d it = record {
+  c = it.c;
+  holds = kept_is d it.c it.holds;
+  named = it.linked.named;
+  links = it.linked.links;
+  suits = it.linked.suits;
+  schema = it.linked.schema;
+}
+
+pub device_linked : (s : Collection) (d : Device) → IsLinkedDevice s d → HoldsLinked s (keeping_of d) d.undo
+device_linked s d it = record {
+  c = it.c;
+  holds = known_is d it.c it.holds;
+  linked = record { named = it.named; links = it.links; suits = it.suits; schema = it.schema };
+}
+
+-- no row stands beside its own grave where an undo list suits
+single_of : (steps : List Reversal) (at : RowsByName) (tags : List Tag) → StepsSuit steps at tags → IsSingle at
+single_of [] at tags suits = suits
+single_of (step ∷ steps) at tags suits = suits.0
+
+-- a device with nothing to undo
+nothing_to_undo : (s c : Collection) (d : Device) → d.collection ≡ kept_of c → d.undo ≡ [] → AreNamed (row_under c) → IsSingle (row_under c) → AreLinked c s
+    → s.head.schema ≤ℤ c.head.schema → IsLinkedDevice s d
+nothing_to_undo s c d holds none named single linked schema = record {
+  c = c;
+  holds = holds;
+  named = named;
+  links = record { linked = linked; fit = subst (λ (steps : List Step). All (λ step. StepFits c step s) (reversals_in steps)) (sym none) (All-nil (λ step. StepFits c step s)) };
+  suits = subst (λ (steps : List Step). SuitsNow steps c) (sym none) single;
+  schema = schema;
+}
+
+-- ---- a moment that rises
+raised_past : (at c s : ℤ) → s ≤ℤ c → s <ℤ last_moment → s <ℤ advanced_moment at c
+raised_past at c s low early = grind (arith, ints, low, early)
+
+not_itself : (a b : ℤ) → a <ℤ b → b ≡ a → ⊥
+not_itself a b low is = omega (arith, ints, low, is)
+
+no_more : (a b : ℤ) → a <ℤ b → a ≤ℤ b
+no_more a b low = omega (arith, ints, low)
+
+-- ---- the sync
+module _ (account : AccountState) (sessions : ℕ) (at device_at : ℤ) (d made : Device) (met new : LoggedState) (outcome : Outcome) (room : sessions < 18_446_744_073_709_551_615)
+    (sync : IsLabSync (one_more sessions) at device_at d made met new outcome) (enough : outcome ≢ outcomes.Memory)
+    (server : IsLinkedServer sync.ids.host.digits account sessions met)
+    (linked : IsLinkedDevice (world_in sync.ids.host.digits account met).state.committed d)
+    (apart : AreApart (row_under linked.c) (row_under (world_in sync.ids.host.digits account met).state.committed)) where
+  abbrev pub host : List ℕ
+  host = sync.ids.host.digits
+
+  abbrev pub was : World
+  was = world_in host account met
+
+  abbrev pub is_now : World
+  is_now = world_in host account new
+
+  abbrev pub c : Collection
+  c = linked.c
+
+  below_next : sessions < one_more sessions
+  below_next = next_over sessions room
+    where
+      next_over : (n : ℕ) → n < 18_446_744_073_709_551_615 → n < one_more n
+      next_over n low = omega (arith, low)
+
+  abbrev pub known : keeping_of d ≡ holding c
+  known = known_is d c linked.holds
+
+  pub may : MayBegin (asker sync.ids) c account (log_in met)
+  may = record {
+    unused = server.unused sync.ids.session.0 (subst (λ (key : ℕ). sessions < key) (sym sync.of.session) below_next);
+    lawful = server.lawful;
+    linked = linked.links.linked;
+  }
+
+  abbrev ended : EndsBecause sync.ended.sync.meta sync.ended.sync.moment sync.ended.sync.tries (keeping_of d) (Some (device_at ∷ [])) outcome
+  ended = sync.ended.because
+
+  -- what was committed
+  pub committed : CommitsNoneOrJoin sync.ids.session.0 c was is_now
+  committed =
+      syncs.committed sync.ids account (log_in met) (log_in new) (keeping_of d) (keeping_of made) (health_over no_calls []) sync.health (state_over met no_calls at true) sync.wire
+      (Some (device_at ∷ [])) outcome c refl refl sync.log known sync.ended.sync ended sync.unfailed enough may apart
+
+  schema_stays : is_now.state.committed.head.schema ≡ was.state.committed.head.schema
+  schema_stays =
+      syncs.schema_stays sync.ids account (log_in met) (log_in new) (keeping_of d) (keeping_of made) (health_over no_calls []) sync.health (state_over met no_calls at true) sync.wire
+      (Some (device_at ∷ [])) outcome c refl refl sync.log known sync.ended.sync ended sync.unfailed enough may apart server.number
+
+  linked_now : (e : Collection) → AreLinked e was.state.committed → AreLinked e is_now.state.committed
+  linked_now e is =
+      syncs.linked_now sync.ids account (log_in met) (log_in new) (keeping_of d) (keeping_of made) (health_over no_calls []) sync.health (state_over met no_calls at true) sync.wire
+      (Some (device_at ∷ [])) outcome c refl refl sync.log known sync.ended.sync ended sync.unfailed enough may apart server.number e is
+
+  fits_now : (e : Collection) (step : Reversal) → StepFits e step was.state.committed → StepFits e step is_now.state.committed
+  fits_now e step is =
+      syncs.fits_now sync.ids account (log_in met) (log_in new) (keeping_of d) (keeping_of made) (health_over no_calls []) sync.health (state_over met no_calls at true) sync.wire
+      (Some (device_at ∷ [])) outcome c refl refl sync.log known sync.ended.sync ended sync.unfailed enough may apart server.number e step is
+
+  abbrev own_growth : syncs.GrowsOwn sync.ids.session.0 (log_in met) (log_in new)
+  own_growth =
+      syncs.own_growth sync.ids account (log_in met) (log_in new) (keeping_of d) (keeping_of made) (health_over no_calls []) sync.health (state_over met no_calls at true) sync.wire
+      (Some (device_at ∷ [])) outcome c refl refl sync.log known sync.ended.sync ended sync.unfailed enough may
+
+  -- ---- the server
+  unused_now : (key : ℕ) → one_more sessions < key → IsUnused host key account (log_in new)
+  unused_now key over =
+      subst (λ (log : Log). IsUnused host key account log) (sym own_growth.grown)
+      (events_leave_unused host key account (log_in met) (server.unused key (further sessions (one_more sessions) key below_next over)) own_growth.growth
+      (some_of_all (IsMetaOrOther key) host own_growth.growth
+      (others_of_session sync.ids.session.0 key own_growth.growth
+      (λ same. never (one_more sessions) key over (sym sync.of.session ∙ same)) own_growth.all)))
+    where
+      further : (a b e : ℕ) → a < b → b < e → a < e
+      further a b e low high = omega (arith, low, high)
+
+      never : (a b : ℕ) → a < b → a ≡ b → ⊥
+      never a b low is = omega (arith, low, is)
+
+  pub server_now : IsLinkedServer host account (one_more sessions) new
+  server_now = record {
+    host_is = sync.served.host ∙ server.host_is;
+    unused = unused_now;
+    lawful =
+        syncs.lawful_now sync.ids account (log_in met) (log_in new) (keeping_of d) (keeping_of made) (health_over no_calls []) sync.health (state_over met no_calls at true) sync.wire
+        (Some (device_at ∷ [])) outcome c refl refl sync.log known sync.ended.sync ended sync.unfailed enough may apart server.number;
+    number =
+        syncs.number_stays sync.ids account (log_in met) (log_in new) (keeping_of d) (keeping_of made) (health_over no_calls []) sync.health (state_over met no_calls at true) sync.wire
+        (Some (device_at ∷ [])) outcome c refl refl sync.log known sync.ended.sync ended sync.unfailed enough may apart server.number;
+    schema = subst (λ (schema : ℤ). schema <ℤ last_moment) (sym schema_stays) server.schema;
+  }
+
+  -- ---- the other devices
+  pub others_now : (e : Device) → IsLinkedDevice was.state.committed e → IsLinkedDevice is_now.state.committed e
+  others_now e it = record {
+    c = it.c;
+    holds = it.holds;
+    named = it.named;
+    links = record {
+      linked = linked_now it.c it.links.linked;
+      fit = All-weaker (λ step. StepFits it.c step was.state.committed) (λ step. StepFits it.c step is_now.state.committed)
+          (λ step. fits_now it.c step) (reversals_in e.undo) it.links.fit;
+    };
+    suits = it.suits;
+    schema = subst (λ (schema : ℤ). schema ≤ℤ it.c.head.schema) (sym schema_stays) it.schema;
+  }
+
+  -- ---- the device
+  undone : made.undo ≡ []
+  undone = ap (λ (x : Device). x.undo) sync.rest
+
+  single : IsSingle (row_under c)
+  single = single_of (reversals_in d.undo) (row_under c) c.head.tags linked.suits
+
+  schema_low : is_now.state.committed.head.schema ≤ℤ c.head.schema
+  schema_low = subst (λ (schema : ℤ). schema ≤ℤ c.head.schema) (sym schema_stays) linked.schema
+
+  -- a device that is as it was
+  same_now : keeping_of made ≡ keeping_of d → IsLinkedDevice is_now.state.committed made × Holds made.collection c
+  same_now is =
+      let kept : made.collection ≡ kept_of c = kept_is made c (is ∙ known) in (
+        nothing_to_undo is_now.state.committed c made kept undone linked.named single (linked_now c linked.links.linked) schema_low,
+        holds_is made c kept,
+      )
+
+  -- a device whose moments have risen
+  raised_now : (earlier : ℕ) (before after : Option (List ℤ)) → HasRaised earlier (keeping_of d) (keeping_of made) before after
+      → IsLinkedDevice is_now.state.committed made × HasOtherMoments c made
+  raised_now earlier before after raised =
+      let head : Head = record c.head { moment = advanced_moment raised.at c.head.moment; schema = advanced_moment raised.at c.head.schema } in
+      let left : Collection = record c { head = head } in
+      let kept : made.collection ≡ kept_of left =
+      kept_is made left (raised.raises ∙ ap (changed (moments_raised raised.at)) known) in
+      let past : is_now.state.committed.head.schema <ℤ head.schema =
+      raised_past raised.at c.head.schema is_now.state.committed.head.schema schema_low server_now.schema in (
+        nothing_to_undo is_now.state.committed left made kept undone linked.named single
+            (inl (not_itself is_now.state.committed.head.schema head.schema past)) (no_more is_now.state.committed.head.schema head.schema past),
+        record { moment = head.moment; schema = head.schema; holds = holds_is made left kept },
+      )
+
+  -- what a sync that finished leaves
+  pub record FinishedSo : Type 0 where
+    pub device : Collection
+    pub kept : made.collection ≡ kept_of device
+    pub exchanged : AreExchanged c was.state.committed device is_now.state.committed
+    pub moment : device.head.moment ≡ is_now.state.committed.head.moment
+    pub once : is_now.commits ≡ commit_as sync.ids.session.0 was.state.committed is_now.state.committed ∷ was.commits
+    pub linked_made : IsLinkedDevice is_now.state.committed made
+
+  pub finished_now : outcome ≡ outcomes.Finished → FinishedSo
+  finished_now is =
+      let it = syncs.finished sync.ids account (log_in met) (log_in new) (keeping_of d) (keeping_of made) (health_over no_calls []) sync.health (state_over met no_calls at true) sync.wire
+      (Some (device_at ∷ [])) outcome c refl refl sync.log known sync.ended.sync ended sync.unfailed enough may apart is in
+      let device : Collection = it.0.device in
+      let kept : made.collection ≡ kept_of device = kept_is made device it.0.holds in
+      record {
+        device = device;
+        kept = kept;
+        exchanged = it.1;
+        moment = it.2;
+        once = it.3;
+        linked_made = nothing_to_undo is_now.state.committed device made kept undone it.1.named it.1.linked.own_single it.4
+            (subst (λ (schema : ℤ). is_now.state.committed.head.schema ≤ℤ schema) (sym it.0.schema) schema_low);
+      }
+
+  -- the device after any end
+  device_by : (o : Outcome) → outcome ≡ o → KeepsDevice 1 (keeping_of d) (keeping_of made) (Some (device_at ∷ [])) sync.to_come o
+      → IsLinkedDevice is_now.state.committed made × (o ≢ outcomes.Finished → StillHolds c o made)
+  device_by outcomes.Finished is keeps = ((finished_now is).linked_made, λ other. absurd (other refl))
+  device_by (outcomes.BadRow fault) is keeps = let it = raised_now 1 (Some (device_at ∷ [])) sync.to_come keeps in (it.0, λ _. it.1)
+  device_by (outcomes.BadCounts client server) is keeps = let it = raised_now 1 (Some (device_at ∷ [])) sync.to_come keeps in (it.0, λ _. it.1)
+  device_by outcomes.NoChanges is keeps = let it = same_now keeps in (it.0, λ _. it.1)
+  device_by (outcomes.FullSchema device server) is keeps = let it = same_now keeps in (it.0, λ _. it.1)
+  device_by (outcomes.FullSequence usn) is keeps = let it = same_now keeps in (it.0, λ _. it.1)
+  device_by (outcomes.ClockOff device server) is keeps = let it = same_now keeps in (it.0, λ _. it.1)
+  device_by (outcomes.OwnCheck fault) is keeps = let it = same_now keeps in (it.0, λ _. it.1)
+  device_by outcomes.Stopped is keeps = let it = same_now keeps in (it.0, λ _. it.1)
+  device_by (outcomes.Refused status word seen) is keeps = let it = same_now keeps in (it.0, λ _. it.1)
+  device_by outcomes.Lost is keeps = let it = same_now keeps in (it.0, λ _. it.1)
+  device_by outcomes.BadReply is keeps = let it = same_now keeps in (it.0, λ _. it.1)
+  device_by outcomes.TooManyChunks is keeps = let it = same_now keeps in (it.0, λ _. it.1)
+  device_by outcomes.Keep is keeps = let it = same_now keeps in (it.0, λ _. it.1)
+  device_by outcomes.Memory is keeps = let it = same_now keeps in (it.0, λ _. it.1)
+
+  pub device_now : IsLinkedDevice is_now.state.committed made
+  device_now = (device_by outcome refl sync.device).0
+
+  pub still_holds : outcome ≢ outcomes.Finished → StillHolds c outcome made
+  still_holds other = (device_by outcome refl sync.device).1 other
+
+  -- an end before the finish leaves what is committed
+  pub early_quiet : ends_before_finish outcome ≡ true → StaysQuiet was is_now
+  early_quiet early =
+      syncs.quiet_if_early sync.ids account (log_in met) (log_in new) (keeping_of d) (keeping_of made) (health_over no_calls []) sync.health (state_over met no_calls at true) sync.wire
+      (Some (device_at ∷ [])) outcome c refl refl sync.log known sync.ended.sync ended sync.unfailed enough may early

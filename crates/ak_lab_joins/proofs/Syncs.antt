@@ -1,0 +1,246 @@
+-- What a sync leaves on the server of a lab and on the device, over a device that is linked with the server.
+use Rattle.std.specs.List.{AllByRecursion}
+use Rattle.std.specs.Ordering.{int_eq}
+use Rattle.std.specs.Cmp.{signed_Decides}
+use Rattle.std.specs.Prelude.{◌≡◌, ◌≢◌, ◌⊎◌, ℕ, ℤ, pos, ◌+ℤ◌, ◌≤ℤ◌, ◌<ℤ◌, Bool, true, false, List, [], ◌∷◌, ◌++◌, Option, Some}
+use Rattle.std.proofs.Common.{refl, sym, ap, subst, ◌∙◌, append-nil, inl, inr, arith}
+use Rattle.std.proofs.lemmas.Int.{ints}
+use Rattle.std.proofs.lemmas.List.{append_cancel_right}
+use Rattle.std.proofs.lemmas.Option.{same_Some}
+use Rattle.ak_client.proofs.Growing.{lawful_grown, linked_grown}
+use Rattle.ak_client.specs.Greetings.{meta_of}
+use Rattle.ak_client.specs.Syncs.{CommitsAlone, CommitsAtMostOnce, EndsBecause, IsSync, IsSyncFinished, MayBegin, Synced, Syncs, ends_before_finish, world_at}
+use Rattle.ak_client.specs.declared.outcomes.Outcome.{Outcome}
+use Rattle.ak_client.specs.declared.outcomes.Outcome.TheVariants as outcomes
+use Rattle.ak_exchange.specs.Asked.{AreTried, TriedAsk, answers_in, asker, asks_in}
+use Rattle.ak_exchange.specs.Phases.{holding}
+use Rattle.ak_exchange.specs.declared.envelopes.Ids.{Ids}
+use Rattle.ak_faults.specs.Causes.{Health}
+use Rattle.ak_keep.specs.Collections.{Collection}
+use Rattle.ak_keep.specs.Keepers.{Keeping}
+use Rattle.ak_lab_joins.proofs.Metas.{asks_nothing, schema_is}
+use Rattle.ak_lab_joins.proofs.Worlds.{commit_as, GrowsSo, IsOfSession, IsQuiet, StaysQuiet, grows_so, quiet_after, requests_of_session, world_grown}
+use Rattle.ak_merge.specs.Edits.{Reversal}
+use Rattle.ak_merge.specs.Exchanges.{AreExchanged, HoldsJoin}
+use Rattle.ak_merge.specs.Holdings.{row_under}
+use Rattle.ak_merge.specs.Joins.{AreApart}
+use Rattle.ak_merge.specs.Links.{AreLinked}
+use Rattle.ak_merge.specs.Undoing.{StepFits}
+use Rattle.ak_protocol.proofs.ContentLaws.{commits_are_made, fits_stay, old_schemas_stay_old, some_of_all}
+use Rattle.ak_protocol.specs.Accounts.{AccountState}
+use Rattle.ak_protocol.specs.Commits.{EachNewer, HasFreshSchema, IsMade}
+use Rattle.ak_protocol.specs.LawfulServers.{IsLawfulAccount}
+use Rattle.ak_protocol.specs.Logs.{Commit, Event, IsTimely, Log, World, events_of, world_after}
+use Rattle.ak_session.specs.Plans.{Asker, requests_from}
+use Rattle.ak_wires.specs.Wires.{WireState}
+
+-- a log grows by requests of one session
+abbrev pub GrowsOwn : ℕ → Log → Log → Type 0
+GrowsOwn key old now = GrowsSo (IsOfSession key) old now
+
+-- a commit leaves the schema moment
+abbrev pub LeavesSchema : Commit → Type 0
+LeavesSchema commit = commit.after.head.schema ≡ commit.before.head.schema
+
+-- what is committed is as it was; or the session committed once, the join
+abbrev pub CommitsNoneOrJoin : ℕ → Collection → World → World → Type 0
+CommitsNoneOrJoin key c before after =
+    StaysQuiet before after
+    ⊎ (after.commits ≡ commit_as key before.state.committed after.state.committed ∷ before.commits)
+    × HoldsJoin c before.state.committed after.state.committed
+
+all_leave : (commits : List Commit) (c : Collection) → AllByRecursion LeavesSchema commits → AllByRecursion (HasFreshSchema c) commits
+all_leave [] c all = tt
+all_leave (commit ∷ commits) c all = (inl all.0, all_leave commits c all.1)
+
+not_zero : (usn : ℤ) → pos 1 ≡ usn +ℤ pos 1 → pos 0 <ℤ usn → ⊥
+not_zero usn is over = omega (arith, ints, is, over)
+
+module _ (ids : Ids) (account : AccountState) (old now : Log) (before left : Keeping) (h0 h1 : Health) (w0 w1 : WireState) (to_come : Option (List ℤ)) (outcome : Outcome) (c : Collection)
+    (alone : w0.alone ≡ true) (told : w0.log ≡ Some old) (told_now : w1.log ≡ Some now) (holds : before ≡ holding c)
+    (sync : IsSync ids before left h0 h1 w0 w1 outcome) (because : EndsBecause sync.meta sync.moment sync.tries before to_come outcome)
+    (unfailed : outcome ≢ outcomes.Keep) (enough : outcome ≢ outcomes.Memory)
+    (may : MayBegin (asker ids) c account old) where
+  abbrev pub who : Asker
+  who = asker ids
+
+  abbrev pub was : World
+  was = world_at who account old
+
+  abbrev pub is_now : World
+  is_now = world_at who account now
+
+  -- ---- schemas that differ
+  nothing_asked : c.head.schema ≢ was.state.committed.head.schema → sync.tries ≡ []
+  nothing_asked differ =
+      asks_nothing sync.meta sync.moment sync.tries c to_come outcome was.state.committed.head.schema
+      (subst (λ (k : Keeping). EndsBecause sync.meta sync.moment sync.tries k to_come outcome) holds because)
+      (λ said is. schema_is ids account old may.unused said h0 sync.tried.0 w0 sync.tried.1 sync.meta sync.tried.2 alone told is)
+      unfailed enough differ
+
+  only_meta : c.head.schema ≢ was.state.committed.head.schema → StaysQuiet was is_now
+  only_meta differ =
+      let tried : AreTried (meta_of ids ∷ []) (sync.meta ∷ []) h0 h1 w0 w1 =
+      subst (λ (tries : List TriedAsk). AreTried (meta_of ids ∷ requests_from (asker ids) sync.moment 1 (asks_in tries)) (sync.meta ∷ answers_in tries) h0 h1 w0 w1)
+      (nothing_asked differ) sync.tried in
+      let grows : GrowsSo IsQuiet old now =
+      grows_so IsQuiet (meta_of ids ∷ []) (sync.meta ∷ []) h0 h1 w0 w1 old now tried ((λ at setback. refl), tt) alone told told_now in
+      subst (λ (w : World). StaysQuiet was w)
+      (sym (ap (world_at who account) grows.grown ∙ world_grown who.host.digits account old grows.growth))
+      (quiet_after was (events_of who.host.digits grows.growth) (some_of_all IsQuiet who.host.digits grows.growth grows.all))
+
+  none_newer : StaysQuiet was is_now → (P : Commit → Type 0) → EachNewer P was is_now
+  none_newer quiet P newer is =
+      subst (AllByRecursion P) (append_cancel_right [] newer was.commits (sym quiet.commits ∙ is)) tt
+
+  -- ---- what the log is
+  pub own_growth : GrowsSo (IsOfSession ids.session.0) old now
+  own_growth =
+      grows_so (IsOfSession ids.session.0) (meta_of ids ∷ requests_from (asker ids) sync.moment 1 (asks_in sync.tries)) (sync.meta ∷ answers_in sync.tries)
+      h0 h1 w0 w1 old now sync.tried ((λ at setback. refl), requests_of_session (asker ids) sync.moment 1 (asks_in sync.tries)) alone told told_now
+
+  fresh_if_same : c.head.schema ≡ was.state.committed.head.schema → EachNewer (HasFreshSchema c) was is_now
+  fresh_if_same same =
+      subst (EachNewer (HasFreshSchema c) was)
+      (sym (ap (world_at who account) own_growth.grown ∙ world_grown who.host.digits account old own_growth.growth))
+      (old_schemas_stay_old was (events_of who.host.digits own_growth.growth) c (no_more c.head.schema was.state.committed.head.schema same))
+    where
+      no_more : (a b : ℤ) → a ≡ b → a ≤ℤ b
+      no_more a b is = omega (arith, ints, is)
+
+  pub fresh : EachNewer (HasFreshSchema c) was is_now
+  fresh = by (int_eq c.head.schema was.state.committed.head.schema) refl
+    where
+      not_both : {b : Bool} → b ≡ true → b ≡ false → ⊥
+      not_both is not = grind (arith, is, not)
+
+      by : (b : Bool) → int_eq c.head.schema was.state.committed.head.schema ≡ b → EachNewer (HasFreshSchema c) was is_now
+      by true is = fresh_if_same ((signed_Decides c.head.schema was.state.committed.head.schema).0 is)
+      by false is = none_newer (only_meta (λ same. not_both ((signed_Decides c.head.schema was.state.committed.head.schema).1 same) is)) (HasFreshSchema c)
+
+  -- ---- what the client promises
+  pub synced : Synced who sync.moment (asks_in sync.tries) c account old now left outcome
+  synced =
+      let it = sync.told old told in
+      let syncs : Syncs ids sync.moment (asks_in sync.tries) before left old now outcome =
+      subst (λ (log : Log). Syncs ids sync.moment (asks_in sync.tries) before left old log outcome)
+      (same_Some it.0 now (sym it.1 ∙ told_now)) it.2 in
+      syncs c account holds may fresh
+
+  pub commits : CommitsAlone who account old now
+  commits = sync.commits alone old now account told told_now may.unused
+
+  pub quiet_if_early : ends_before_finish outcome ≡ true → StaysQuiet was is_now
+  quiet_if_early early =
+      let none = synced.early early in
+      record { committed = commits.stays none; commits = commits.commits ∙ ap (λ (l : List Commit). l ++ was.commits) none }
+
+  -- what is committed now is what was, or the join
+  module _ (apart : AreApart (row_under c) (row_under was.state.committed)) where
+    once_now : CommitsAtMostOnce ids.session.0 c synced.base is_now.commits
+    once_now =
+        subst (λ (log : Log). CommitsAtMostOnce ids.session.0 c synced.base (world_at who account log).commits)
+        (ap (λ (events : List Event). record now { events = events }) (append-nil now.events))
+        (synced.once [] tt tt)
+
+    committed_by : CommitsAtMostOnce ids.session.0 c synced.base is_now.commits → CommitsNoneOrJoin ids.session.0 c was is_now
+    committed_by (inl none) =
+        inl (record { committed = commits.stays none; commits = commits.commits ∙ ap (λ (l : List Commit). l ++ was.commits) none })
+    committed_by (inr joined) =
+        let one = commits.one (commit_as ids.session.0 synced.base joined.after) joined.only in
+        let joins : HoldsJoin c was.state.committed joined.after =
+        subst (λ (s : Collection). HoldsJoin c s joined.after) one.0
+        (joined.joins (subst (λ (s : Collection). AreApart (row_under c) (row_under s)) (sym one.0) apart)) in
+        inr (
+          commits.commits ∙ ap (λ (l : List Commit). l ++ was.commits) joined.only
+              ∙ ap (λ (s : Collection). commit_as ids.session.0 s joined.after ∷ was.commits) one.0
+              ∙ ap (λ (t : Collection). commit_as ids.session.0 was.state.committed t ∷ was.commits) one.1,
+          subst (λ (t : Collection). HoldsJoin c was.state.committed t) one.1 joins,
+        )
+
+    pub committed : CommitsNoneOrJoin ids.session.0 c was is_now
+    committed = committed_by once_now
+
+    -- ---- the schema moment stays: a finish leaves it, and an upload would set the number back to 1
+    module _ (number : pos 0 <ℤ was.state.committed.head.usn) where
+      grown : is_now ≡ world_after was (events_of who.host.digits synced.growth)
+      grown = ap (world_at who account) synced.grown ∙ world_grown who.host.digits account old synced.growth
+
+      made : EachNewer IsMade was is_now
+      made = subst (EachNewer IsMade was) (sym grown)
+          (commits_are_made was (events_of who.host.digits synced.growth) (some_of_all IsTimely who.host.digits synced.growth synced.timely) may.lawful)
+
+      leaves : HoldsJoin c was.state.committed is_now.state.committed
+          → IsMade (commit_as ids.session.0 was.state.committed is_now.state.committed)
+          → is_now.state.committed.head.schema ≡ was.state.committed.head.schema
+      leaves joins (inl (came, finish)) = finish.commits.schema
+      leaves joins (inr (came, upload)) =
+          absurd (not_zero was.state.committed.head.usn (sym upload.uploads.usn ∙ joins.usn) number)
+
+      schema_by : CommitsNoneOrJoin ids.session.0 c was is_now → is_now.state.committed.head.schema ≡ was.state.committed.head.schema
+      schema_by (inl quiet) = ap (λ (s : Collection). s.head.schema) quiet.committed
+      schema_by (inr (one, joins)) =
+          leaves joins (made (commit_as ids.session.0 was.state.committed is_now.state.committed ∷ []) one).0
+
+      pub schema_stays : is_now.state.committed.head.schema ≡ was.state.committed.head.schema
+      schema_stays = schema_by committed
+
+      number_by : CommitsNoneOrJoin ids.session.0 c was is_now → pos 0 <ℤ is_now.state.committed.head.usn
+      number_by (inl quiet) = subst (λ (s : Collection). pos 0 <ℤ s.head.usn) (sym quiet.committed) number
+      number_by (inr (one, joins)) = up was.state.committed.head.usn is_now.state.committed.head.usn number joins.usn
+        where
+          up : (a b : ℤ) → pos 0 <ℤ a → b ≡ a +ℤ pos 1 → pos 0 <ℤ b
+          up a b low is = omega (arith, ints, low, is)
+
+      pub number_stays : pos 0 <ℤ is_now.state.committed.head.usn
+      number_stays = number_by committed
+
+      each_by : CommitsNoneOrJoin ids.session.0 c was is_now → EachNewer LeavesSchema was is_now
+      each_by (inl quiet) newer is = none_newer quiet LeavesSchema newer is
+      each_by (inr (one, joins)) newer is =
+          subst (AllByRecursion LeavesSchema)
+          (append_cancel_right (commit_as ids.session.0 was.state.committed is_now.state.committed ∷ []) newer was.commits (sym one ∙ is))
+          (schema_stays, tt)
+
+      each_fresh : (e : Collection) → EachNewer (HasFreshSchema e) was is_now
+      each_fresh e newer is = all_leave newer e (each_by committed newer is)
+
+      -- ---- whoever was linked is linked
+      pub lawful_now : IsLawfulAccount is_now.state
+      lawful_now =
+          subst (λ (log : Log). IsLawfulAccount (world_at who account log).state) (sym synced.grown)
+          (lawful_grown who account old synced.growth synced.timely may.lawful)
+
+      pub linked_now : (e : Collection) → AreLinked e was.state.committed → AreLinked e is_now.state.committed
+      linked_now e linked =
+          subst (λ (log : Log). AreLinked e (world_at who account log).state.committed) (sym synced.grown)
+          (linked_grown who account old synced.growth synced.timely may.lawful e
+          (subst (λ (log : Log). EachNewer (HasFreshSchema e) was (world_at who account log)) synced.grown (each_fresh e)) linked)
+
+      pub fits_now : (e : Collection) (step : Reversal) → StepFits e step was.state.committed → StepFits e step is_now.state.committed
+      fits_now e step fits =
+          subst (λ (w : World). StepFits e step w.state.committed) (sym grown)
+          (fits_stay was (events_of who.host.digits synced.growth) e step
+          (subst (EachNewer (HasFreshSchema e) was) grown (each_fresh e)) fits)
+
+    -- ---- a sync that finished
+    pub finished : outcome ≡ outcomes.Finished
+        → (it : IsSyncFinished who c synced.base account now left)
+        × AreExchanged c was.state.committed it.device is_now.state.committed
+        × (it.device.head.moment ≡ is_now.state.committed.head.moment)
+        × (is_now.commits ≡ commit_as ids.session.0 was.state.committed is_now.state.committed ∷ was.commits)
+        × AreLinked it.device is_now.state.committed
+    finished is =
+        let it = synced.finished is in
+        let one = commits.one (commit_as ids.session.0 synced.base it.after) it.only in
+        let apart_at : AreApart (row_under c) (row_under synced.base) =
+        subst (λ (s : Collection). AreApart (row_under c) (row_under s)) (sym one.0) apart in (
+          it,
+          subst (λ (s : Collection). AreExchanged c s it.device is_now.state.committed) one.0
+              (subst (λ (t : Collection). AreExchanged c synced.base it.device t) one.1 (it.exchanged apart_at)),
+          it.moment ∙ ap (λ (t : Collection). t.head.moment) one.1,
+          commits.commits ∙ ap (λ (l : List Commit). l ++ was.commits) it.only
+              ∙ ap (λ (s : Collection). commit_as ids.session.0 s it.after ∷ was.commits) one.0
+              ∙ ap (λ (t : Collection). commit_as ids.session.0 was.state.committed t ∷ was.commits) one.1,
+          it.linked apart_at,
+        )

@@ -1,0 +1,5 @@
+use Rattle.ak_lab_joins.proofs.Ends.{run_linked}
+use Rattle.ak_lab_joins.proofs.lab_laws.runs_keep_labs_linked.Goals as goal
+
+pub returns : goal.returns
+returns c = run_linked c.lines_are_single_steps.ensures

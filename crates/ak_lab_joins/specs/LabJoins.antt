@@ -1,0 +1,152 @@
+-- What a user may rely on in a lab: each device stays linked with the server, so that a finished sync leaves both with the join.
+use Rattle.std.specs.Prelude.{◌≡◌, ◌≢◌, ◌⊎◌, ℕ, ℤ, pos, ◌+◌, ◌<◌, ◌≤ℤ◌, ◌<ℤ◌, true, List, [], ◌∷◌, length, Some}
+use Rattle.ak_base.specs.Limits.{last_moment}
+use Rattle.ak_client.specs.Syncs.{ends_before_finish}
+use Rattle.ak_client.specs.declared.outcomes.Outcome.{Outcome}
+use Rattle.ak_client.specs.declared.outcomes.Outcome.TheVariants as outcomes
+use Rattle.ak_desk_lines.specs.LineSteps.{LinksWith}
+use Rattle.ak_edit.specs.Undos.{SuitsNow}
+use Rattle.ak_faults.specs.Causes.{one_more}
+use Rattle.ak_io.specs.declared.lines.Line.{Line}
+use Rattle.ak_keep.specs.Collections.{Collection}
+use Rattle.ak_lab.specs.LabRuns.{AllGo, IsLabOpening}
+use Rattle.ak_lab.specs.LabStates.{LabState, at_line, lab_host, opened_lab}
+use Rattle.ak_lab.specs.LabSyncs.{EndsSync}
+use Rattle.ak_lab_devices.specs.Devices.{device_of}
+use Rattle.ak_lab_devices.specs.declared.devices.Device.{Device}
+use Rattle.ak_lab_keepers.specs.RestingKeepers.{Holds, kept_of}
+use Rattle.ak_loops.specs.Entries.{LoggedState, log_in}
+use Rattle.ak_merge.specs.Exchanges.{HoldsJoin}
+use Rattle.ak_merge.specs.Holdings.{AreNamed, SameContent, content_of, row_under}
+use Rattle.ak_merge.specs.Joins.{join}
+use Rattle.ak_openings.specs.declared.whole_collections.Opening.{Opening}
+use Rattle.ak_protocol.specs.Accounts.{AccountState}
+use Rattle.ak_protocol.specs.LawfulServers.{IsLawfulAccount}
+use Rattle.ak_protocol.specs.Logs.{World}
+use Rattle.ak_protocol.specs.Syncs.{IsUnused, world_of}
+use Rattle.ak_server_copies.specs.Copies.{committed_in}
+
+-- ---- between two lines
+-- a device holds a collection that is linked with what the server committed, and its undo list suits the one and fits the other. Its schema
+-- moment is at least the server's, which stays: nothing is uploaded in a lab
+pub record IsLinkedDevice (committed : Collection) (d : Device) : Type 0 where
+  pub c : Collection
+  pub holds : d.collection ≡ kept_of c
+  pub named : AreNamed (row_under c)
+  pub links : LinksWith c d.undo committed
+  pub suits : SuitsNow d.undo c
+  pub schema : committed.head.schema ≤ℤ c.head.schema
+
+-- the account that a lab's server was opened with, as all that came to it left it
+abbrev pub world_in : List ℕ → AccountState → LoggedState → World
+world_in host account server = world_of host account (log_in server)
+
+-- the same of a lab
+abbrev pub lab_world : AccountState → LabState → World
+lab_world account s = world_in lab_host account s.server
+
+-- the server has one account, of this host key, which was opened so. No request with the key of a session past the last one came to it. What it
+-- committed is what a server may hold, gives a number over 0 in the next sync, and has a schema moment that is not the last one
+pub record IsLinkedServer (host : List ℕ) (account : AccountState) (sessions : ℕ) (server : LoggedState) : Type 0 where
+  pub host_is : server.host ≡ host
+  pub unused : (key : ℕ) → sessions < key → IsUnused host key account (log_in server)
+  pub lawful : IsLawfulAccount (world_in host account server).state
+  pub number : pos 0 <ℤ (world_in host account server).state.committed.head.usn
+  pub schema : (world_in host account server).state.committed.head.schema <ℤ last_moment
+
+-- a lab whose devices are each linked with what its server committed
+pub record IsLinkedLab (account : AccountState) (s : LabState) : Type 0 where
+  pub server : IsLinkedServer lab_host account s.sessions s.server
+  pub devices : (name : List ℕ) (d : Device) → device_of name s.devices ≡ Some d
+      → IsLinkedDevice (lab_world account s).state.committed d
+
+-- another sync may begin: its session has a key that none had before. At the last `u64` keys would come again
+abbrev pub HasSession : LabState → Type 0
+HasSession s = s.sessions < 18_446_744_073_709_551_615
+
+-- ---- what a sync leaves
+-- what a line leaves as it was that syncs the device of this name: the clock, the other devices, and of the device its name, its clock and its
+-- count of answers. There is nothing to undo then
+pub record KeepsOthers (name : List ℕ) (s t : LabState) : Type 0 where
+  pub clock : t.clock ≡ s.clock
+  pub sessions : t.sessions ≡ one_more s.sessions
+  pub others : (other : List ℕ) → other ≢ name → device_of other t.devices ≡ device_of other s.devices
+  pub d : Device
+  pub made : Device
+  pub was : device_of name s.devices ≡ Some d
+  pub now : device_of name t.devices ≡ Some made
+  pub rest : made ≡ record d { collection = made.collection; undo = []; calls = made.calls }
+
+-- the server committed once in a session: over what it had committed before, what it has committed now
+abbrev pub CommitsOnceIn : ℕ → World → World → Type 0
+CommitsOnceIn key before after =
+    after.commits ≡ record { key = key; before = before.state.committed; after = after.state.committed } ∷ before.commits
+
+-- the device of this name and the server hold one content then: the join of what they held before. Both have a new moment
+pub record JoinsSides (name : List ℕ) (s t : LabState) : Type 0 where
+  -- what device and server held before, and what they hold now
+  pub device : Collection
+  pub server : Collection
+  pub device_now : Collection
+  pub server_now : Collection
+  pub held : (d : Device) → device_of name s.devices ≡ Some d → Holds d.collection device
+  pub committed : committed_in s.server ≡ Some server
+  pub held_now : (d : Device) → device_of name t.devices ≡ Some d → Holds d.collection device_now
+  pub committed_now : committed_in t.server ≡ Some server_now
+  pub same : SameContent (content_of device_now) (content_of server_now)
+  pub joined : SameContent (content_of server_now) (join device server)
+  -- the moment is the server's, past both that were; and the device's last sync is at it
+  pub past_device : device.head.moment <ℤ server_now.head.moment
+  pub past_server : server.head.moment <ℤ server_now.head.moment
+  pub moment : device_now.head.moment ≡ server_now.head.moment
+  pub last_sync : device_now.head.last_sync ≡ server_now.head.moment
+
+-- a sync of the device of this name finished: the two sides hold the join, the server committed once, and all else is as it was
+pub record Finishes (account : AccountState) (name : List ℕ) (s t : LabState) : Type 0 where
+  pub joins : JoinsSides name s t
+  pub once : CommitsOnceIn (one_more s.sessions) (lab_world account s) (lab_world account t)
+  pub keeps : KeepsOthers name s t
+
+-- what was committed is as it was
+abbrev pub KeepsCommitted : World → World → Type 0
+KeepsCommitted before after =
+    (after.state.committed ≡ before.state.committed) × (after.commits ≡ before.commits)
+
+-- a device holds c, but for the moment of its last change and its schema moment
+pub record HasOtherMoments (c : Collection) (d : Device) : Type 0 where
+  pub moment : ℤ
+  pub schema : ℤ
+  pub holds : Holds d.collection (record c { head = record c.head { moment = moment; schema = schema } })
+
+-- a device that held c holds it still; after a bad sanity check it has other moments
+abbrev pub StillHolds : Collection → Outcome → Device → Type 0
+StillHolds c (outcomes.BadRow fault) d = HasOtherMoments c d
+StillHolds c (outcomes.BadCounts client server) d = HasOtherMoments c d
+StillHolds c outcome d = Holds d.collection c
+
+-- a sync of the device of this name ended and did not finish. The device holds what it held, and the server has committed what it had. If the
+-- last request was refused, or its reply was not the one that was asked for, that may have been the finish: then the server may have committed,
+-- once, the join of the two
+pub record KeepsSides (account : AccountState) (name : List ℕ) (s t : LabState) (outcome : Outcome) : Type 0 where
+  pub c : Collection
+  pub held : (d : Device) → device_of name s.devices ≡ Some d → Holds d.collection c
+  pub device : (d : Device) → device_of name t.devices ≡ Some d → StillHolds c outcome d
+  pub server : ends_before_finish outcome ≡ true → KeepsCommitted (lab_world account s) (lab_world account t)
+  pub once : KeepsCommitted (lab_world account s) (lab_world account t)
+      ⊎ CommitsOnceIn (one_more s.sessions) (lab_world account s) (lab_world account t)
+      × HoldsJoin c (lab_world account s).state.committed (lab_world account t).state.committed
+  pub keeps : KeepsOthers name s t
+
+-- the line of this number syncs the device of this name, and comes to this outcome
+abbrev pub ComesTo : ℕ → List ℕ → LabState → LabState → Outcome → Type 0
+ComesTo number name s t outcome = EndsSync name (at_line number s) t outcome
+
+-- a lab was opened and ran these lines one after another, and a sync of the device of this name came next, with this outcome. There are too few
+-- lines for the sessions to reach the last `u64`
+pub record RunsToSync (opening : Opening) (all : List Line) (name : List ℕ) (s t : LabState)
+    (outcome : Outcome) : Type 0 where
+  pub opens : IsLabOpening opening
+  pub printed : List (List ℕ)
+  pub goes : AllGo 1 all (opened_lab opening) s printed
+  pub room : length all < 18_446_744_073_709_551_615
+  pub comes : ComesTo (length all + 1) name s t outcome
