@@ -20,7 +20,6 @@ pub mod FaultLaws
 pub mod ConflictLaws
 pub mod Examples
 pub mod ExchangeExample
-pub mod UnionLaws
 pub mod TagPlaces
 pub mod PartLaws
 pub mod GraveLaws

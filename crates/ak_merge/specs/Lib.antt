@@ -1,4 +1,3 @@
-pub mod Unions
 pub mod Holdings
 pub mod Joins
 pub mod Takings

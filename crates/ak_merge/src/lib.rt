@@ -16,7 +16,6 @@ mod part_laws;
 mod tag_laws;
 mod tags;
 mod takes;
-mod unions;
 
 pub use checks::{CheckFault, check};
 pub use commit_laws::{commits_keep_fits, commits_keep_links, commits_stay_lawful};
@@ -57,4 +56,3 @@ pub use tag_laws::{
 };
 pub use tags::{settle_tags, take_tags};
 pub use takes::{newer, take_row};
-pub use unions::{join_into, tie_between, union_commutes, union_is_join};

@@ -1,7 +1,7 @@
 use crate::faults::check_fault;
 use ak_base::{Row, cut};
 use ak_keep::{Keeper, MemoryKeeper};
-use ak_merge::{apart, check, join_into, newer, take_row, tie_between};
+use ak_merge::{apart, check, newer, take_row};
 use cases_keepers::{failed, name_text, row_of, value_of};
 use cases_lines::{Unread, row_at, table_of, text_at, truth};
 use serde_json::Value;
@@ -34,7 +34,7 @@ fn taken(alloc: Global, keeper: &mut MemoryKeeper, usn: i64, row: Row) -> Result
     }
 }
 
-/// What the two sides are together: `apart`, `tie`, and `join`, by which A gets what B has.
+/// `both apart`: the first name by which the two sides are not apart.
 pub fn answer_of_both(
     alloc: Global,
     first: &mut MemoryKeeper,
@@ -45,11 +45,6 @@ pub fn answer_of_both(
         "apart" => match apart(first, second) {
             Ok(name) => name_text(alloc, name),
             Err(fault) => failed(alloc, fault),
-        },
-        "tie" => name_text(alloc, tie_between(first.rows(), second.rows())?),
-        "join" => {
-            join_into(first, second)?;
-            Ok(String::from_str(alloc, "ok")?)
         },
         _ => Err(Unread::Bad),
     }
