@@ -16,7 +16,7 @@ use Rattle.ak_base.specs.declared.names.Name.{Name}
 use Rattle.ak_base.specs.declared.names.Table.{Table}
 use Rattle.ak_base.specs.declared.names.Table.TheVariants as tables
 use Rattle.ak_base.specs.declared.rows.Row.{Row}
-use Rattle.ak_keep.proofs.Counting.{below_nine}
+use Rattle.ak_keep.proofs.TablePlaces.{below_nine}
 use Rattle.ak_keep.proofs.Paging.{picked}
 use Rattle.ak_keep.proofs.RowsByName.{both_first, both_second}
 use Rattle.ak_keep.specs.Collections.{Rows, Holding, IsWellFormed, is_past}

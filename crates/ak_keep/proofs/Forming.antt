@@ -5,7 +5,6 @@ use Rattle.std.proofs.Common.{sym, subst, ◌∙◌}
 use Rattle.std.proofs.lemmas.List.Elements.{All-take, All-filter, All-map, All-from_recursion, recursion_from_All}
 use Rattle.std.specs.FinMap.{get, insert, empty, entries, get-empty, get-insert, get-from_entries}
 use Rattle.std.specs.List.{All, AllByRecursion}
-use Rattle.std.specs.Option.{option_or}
 use Rattle.ak_base.specs.Heads.{IsHeadInRange}
 use Rattle.ak_base.specs.Names.{name_cmp, names_total}
 use Rattle.ak_base.specs.Rows.{IsChecked, name_of}
@@ -13,8 +12,8 @@ use Rattle.ak_base.specs.declared.heads.Head.{Head}
 use Rattle.ak_base.specs.declared.names.Name.{Name}
 use Rattle.ak_base.specs.declared.names.Table.{Table}
 use Rattle.ak_base.specs.declared.rows.Row.{Row}
-use Rattle.ak_keep.specs.Collections.{Rows, Holding, IsWellFormed, union, rows_of, is_past, rows_past, wanted_past, is_wanted, with_row, without, with_head, with_rows_of, made_of}
-use Rattle.ak_keep.proofs.RowsByName.{IsNamed, named-empty, named-insert, named-union, named-rows_of, all_from_gets, all_find, all_gets, all-remove, get-union}
+use Rattle.ak_keep.specs.Collections.{Rows, Holding, IsWellFormed, rows_of, is_past, rows_past, wanted_past, is_wanted, with_row, without, made_of}
+use Rattle.ak_keep.proofs.RowsByName.{IsNamed, named-empty, named-insert, named-rows_of, all_from_gets, all_find, all_gets, all-remove}
 use Rattle.ak_keep.specs.declared.keepers.Wanted.{Wanted}
 
 checked_gets : (rows : Rows) (q : Name) (row : Row) → AllByRecursion (λ (entry : Name × Row). IsChecked entry.1) (entries rows) → get rows q ≡ Some row → IsChecked row
@@ -46,21 +45,6 @@ pub formed-without : (name : Name) (c : Holding) → IsWellFormed c → IsWellFo
 formed-without name c h = record {
   named = all-remove IsNamed c.rows name h.named;
   checked = all-remove (λ entry. IsChecked entry.1) c.rows name h.checked;
-  head = h.head;
-}
-
-pub formed-with_head : (head : Head) (c : Holding) → IsHeadInRange head → IsWellFormed c → IsWellFormed (with_head head c)
-formed-with_head head c range h = record { named = h.named; checked = h.checked; head = range }
-
-checked_or : (a b : Option Row) (row : Row) → (a ≡ Some row → IsChecked row) → (b ≡ Some row → IsChecked row) → option_or a b ≡ Some row → IsChecked row
-checked_or (Some x) b row h k is = h is
-checked_or None b row h k is = k is
-
-pub formed-with_rows_of : (from c : Holding) → IsWellFormed from → IsWellFormed c → IsWellFormed (with_rows_of from c)
-formed-with_rows_of from c g h = record {
-  named = named-union c.rows from.rows h.named g.named;
-  checked = checked_from_gets (union c.rows from.rows) (λ q row is.
-      checked_or (get c.rows q) (get from.rows q) row (checked_gets c.rows q row h.checked) (checked_gets from.rows q row g.checked) (sym (get-union c.rows from.rows q) ∙ is));
   head = h.head;
 }
 

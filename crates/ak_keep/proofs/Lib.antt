@@ -1,10 +1,8 @@
 pub mod CardIds
-pub mod CardKeys
-pub mod CardRuns
 pub mod Causing
-pub mod Counting
 pub mod Forming
 pub mod Paging
 pub mod RowsByName
+pub mod TablePlaces
 pub mod Told
 pub mod Walking

@@ -1,6 +1,6 @@
 -- A page of a table: a run of the entries, and what comes after it.
 use Rattle.std.specs.Prelude.{◌≡◌, ℕ, suc, ℤ, ◌-◌, ◌<◌, ◌≤◌, None, Bool, true, false, T, cond, ◌&&◌, ◌==◌, int_lt, List, [], ◌∷◌, ◌++◌, map, filter, length, take, drop, get_or, min}
-use Rattle.std.proofs.Common.{refl, sym, ap, subst, ◌∙◌, arith, length-append, append_assoc, append-nil}
+use Rattle.std.proofs.Common.{refl, sym, ap, subst, ◌∙◌, arith}
 use Rattle.std.proofs.lemmas.Bool.{ne_eqb}
 use Rattle.std.proofs.lemmas.List.{length-take, take-append-drop, take_all}
 use Rattle.std.specs.BTreeMap.Range.{entries_between}
@@ -30,30 +30,6 @@ picked table past es = map (λ (entry : Name × Row). entry.1) (filter (λ (entr
 pub any_picked : (rows : List Row) → filter (is_picked None) rows ≡ rows
 any_picked [] = refl
 any_picked (row ∷ rows) = ap (λ ys. row ∷ ys) (any_picked rows)
-
--- a page that has room takes the next row of the table, if it is picked
-pub page_goes_on : (w : Row → Bool) (table : Table) (limit : ℕ) (page all : List Row) (entry : Name × Row) (es : List (Name × Row))
-    → page ++ take (limit - length page) (filter w (first_run table (entry ∷ es))) ≡ all → (table_place entry.0.table == table_place table) ≡ true → length page < limit
-    → (page ++ filter w (entry.1 ∷ [])) ++ take (limit - length (page ++ filter w (entry.1 ∷ []))) (filter w (first_run table es)) ≡ all
-page_goes_on w table limit page all entry es is same room =
-    let left = filter w (first_run table es) in
-    let n = limit - length (page ++ entry.1 ∷ []) in
-    let more : suc n ≡ limit - length page = omega (arith, length-append page (entry.1 ∷ []), room) in
-    let next : page ++ take (limit - length page) (filter w (entry.1 ∷ first_run table es)) ≡ all =
-    ap (λ b. page ++ take (limit - length page) (filter w (cond b (entry.1 ∷ first_run table es) []))) (sym same) ∙ is in
-    elim (w entry.1) as (λ b. page ++ take (limit - length page) (cond b (entry.1 ∷ left) left) ≡ all
-    → (page ++ cond b (entry.1 ∷ []) []) ++ take (limit - length (page ++ cond b (entry.1 ∷ []) [])) left ≡ all) [
-      | true ↦ λ is. append_assoc page (entry.1 ∷ []) (take n left) ∙ ap (λ m. page ++ take m (entry.1 ∷ left)) more ∙ is
-      | false ↦ λ is. subst (λ (ps : List Row). ps ++ take (limit - length ps) left ≡ all) (sym (append-nil page)) is
-    ] next
-
--- it does not grow past its limit
-pub page_fits : (w : Row → Bool) (limit : ℕ) (page : List Row) (row : Row) → length page < limit → length (page ++ filter w (row ∷ [])) ≤ limit
-page_fits w limit page row room =
-    elim (w row) as (λ b. length (page ++ cond b (row ∷ []) []) ≤ limit) [
-      | true ↦ omega (arith, length-append page (row ∷ []), room)
-      | false ↦ omega (arith, length-append page [], room)
-    ]
 
 -- ---- numbers and names
 and_false : (a b : Bool) → b ≡ false → (a && b) ≡ false

@@ -1,10 +1,10 @@
 -- A keeper's entries, as the finite map of them.
-use Rattle.std.specs.Prelude.{◌≡◌, Bool, true, false, T, not, ◌&&◌, Option, Some, None, is_some, List, [], ◌∷◌, ◌++◌, map, cond, length}
+use Rattle.std.specs.Prelude.{◌≡◌, Bool, true, false, T, not, ◌&&◌, Option, Some, None, is_some, List, [], ◌∷◌, map, cond, length}
 use Rattle.std.proofs.lemmas.Option.{none-some, same_Some}
 use Rattle.std.proofs.Common.{refl, sym, ap, subst, ◌∙◌, arith}
 use Rattle.std.specs.BTreeMap.{is_at}
 use Rattle.std.specs.Cmp.{eq_by_cmp_equiv, tied_itself}
-use Rattle.std.specs.FinMap.{find, put, get, insert, remove, empty, entries, entries_sorted, from_entries, is_sorted, get-entries, get-insert, get-remove, get-from_entries, entries-insert, len-entries, len-empty, same_map}
+use Rattle.std.specs.FinMap.{find, put, get, insert, remove, empty, entries, entries_sorted, from_entries, is_sorted, get-entries, get-remove, get-from_entries, entries-insert, len-entries, len-empty}
 use Rattle.std.specs.FinMap.Entries.{by_order, below_all, same_entries}
 use Rattle.std.specs.List.{AllByRecursion}
 use Rattle.std.specs.List.Sorted.{IsStrictlySortedBy}
@@ -18,8 +18,8 @@ use Rattle.ak_base.specs.Names.{name_cmp, names_total}
 use Rattle.ak_base.specs.Rows.{name_of}
 use Rattle.ak_base.specs.declared.names.Name.{Name}
 use Rattle.ak_base.specs.declared.rows.Row.{Row}
-use Rattle.ak_keep.specs.Collections.{Rows, StandsUnderNames, union, rows_of}
-use Rattle.ak_keep.specs.Entries.{row_at, IsPut, IsTakenOut, IsFilled}
+use Rattle.ak_keep.specs.Collections.{Rows, StandsUnderNames, rows_of}
+use Rattle.ak_keep.specs.Entries.{row_at, IsPut, IsFilled}
 
 pub both_first : (a b : Bool) → T (a && b) → T a
 both_first true b h = tt
@@ -46,12 +46,6 @@ find-row_at (e ∷ es) q = ap (cond (is_at (name_cmp q) e.0) (Some e.1)) (find-r
 -- what the map that the entries make has under a name
 pub get-row_at : (es : List (Name × Row)) (q : Name) → get (from_entries {R = name_cmp} es) q ≡ row_at es q
 get-row_at es q = get-from_entries names_total es q ∙ find-row_at es q
-
--- entries that differ under one name make maps that differ there
-pub one_put : (es fs : List (Name × Row)) (name : Name) (row : Row) → IsPut es name row fs → from_entries {R = name_cmp} fs ≡ insert (from_entries es) name row
-one_put es fs name row h = same_map names_total names_exact _ _ (λ q.
-    get-row_at fs q ∙ h q ∙ ap (λ b. cond b (Some row) (row_at es q)) ((eq_by_cmp_equiv names_total).symm name q)
-    ∙ sym (get-insert names_total (from_entries es) name row q ∙ ap (cond (is_at (name_cmp q) name) (Some row)) (get-row_at es q)))
 
 or_none : (o : Option Row) → o ≡ option_or o None
 or_none None = refl
@@ -85,27 +79,6 @@ put_filled es fs name row free h q =
       | false ↦ λ is. or_none (row_at es q)
     ] refl
 
-find-append_or : (q : Name) (es fs : List (Name × Row)) → find name_cmp q (es ++ fs) ≡ option_or (find name_cmp q es) (find name_cmp q fs)
-find-append_or q [] fs = refl
-find-append_or q (e ∷ es) fs =
-    ap (cond (eq_by_cmp name_cmp q e.0) (Some e.1)) (find-append_or q es fs)
-    ∙ elim (eq_by_cmp name_cmp q e.0) as (λ b. cond b (Some e.1) (option_or (find name_cmp q es) (find name_cmp q fs)) ≡ option_or (cond b (Some e.1) (find name_cmp q es)) (find name_cmp q fs)) [ true ↦ refl | false ↦ refl ]
-
--- what a union has under a name
-pub get-union : (a b : Rows) (q : Name) → get (union a b) q ≡ option_or (get a q) (get b q)
-get-union a b q =
-    get-from_entries names_total (entries a ++ entries b) q ∙ find-append_or q (entries a) (entries b)
-    ∙ sym (ap (λ o. option_or o (get b q)) (get-entries a q) ∙ ap (option_or (find name_cmp q (entries a))) (get-entries b q))
-
-pub filled_by : (es fs made : List (Name × Row)) → IsFilled es fs made → from_entries {R = name_cmp} made ≡ union (from_entries es) (from_entries fs)
-filled_by es fs made h = same_map names_total names_exact _ _ (λ q.
-    get-row_at made q ∙ h q
-    ∙ sym (get-union (from_entries es) (from_entries fs) q ∙ ap (λ o. option_or o (get (from_entries {R = name_cmp} fs) q)) (get-row_at es q) ∙ ap (option_or (row_at es q)) (get-row_at fs q)))
-
--- entries that fill nothing are the same map
-pub filled_from_none : (es made : List (Name × Row)) → IsFilled [] es made → from_entries {R = name_cmp} made ≡ from_entries es
-filled_from_none es made h = same_map names_total names_exact _ _ (λ q. get-row_at made q ∙ h q ∙ sym (get-row_at es q))
-
 -- a row under its own name
 abbrev pub IsNamed : Name × Row → Type 0
 IsNamed entry = name_of entry.1 ≡ entry.0
@@ -122,12 +95,6 @@ named-put row (e ∷ es) h =
 pub named-insert : (rows : Rows) (row : Row) → StandsUnderNames rows → StandsUnderNames (insert rows (name_of row) row)
 named-insert rows row h = subst (AllByRecursion IsNamed) (sym (entries-insert names_total rows (name_of row) row)) (named-put row (entries rows) h)
 
--- entries that lack one name, and are else the same, make the map without it
-pub one_removed : (es fs : List (Name × Row)) (name : Name) → IsTakenOut es name fs → from_entries {R = name_cmp} fs ≡ remove (from_entries es) name
-one_removed es fs name h = same_map names_total names_exact _ _ (λ q.
-    get-row_at fs q ∙ h q ∙ ap (λ b. cond b None (row_at es q)) ((eq_by_cmp_equiv names_total).symm name q)
-    ∙ sym (get-remove names_total (from_entries es) name q ∙ ap (cond (is_at (name_cmp q) name) None) (get-row_at es q)))
-
 named-none : (es : List (Name × Row)) → length es ≡ 0 → AllByRecursion IsNamed es
 named-none [] is = tt
 named-none (e ∷ es) is = absurd (omega arith)
@@ -140,19 +107,12 @@ named-from_entries [] h = named-empty
 named-from_entries (e ∷ es) h =
     subst (λ (name : Name). StandsUnderNames (insert (from_entries es) name e.1)) h.0 (named-insert (from_entries es) e.1 (named-from_entries es h.1))
 
-named-append : (es fs : List (Name × Row)) → AllByRecursion IsNamed es → AllByRecursion IsNamed fs → AllByRecursion IsNamed (es ++ fs)
-named-append [] fs g h = h
-named-append (e ∷ es) fs g h = (g.0, named-append es fs g.1 h)
-
 named-rows : (rows : List Row) → AllByRecursion IsNamed (map (λ row. (name_of row, row)) rows)
 named-rows [] = tt
 named-rows (row ∷ rows) = (refl, named-rows rows)
 
 pub named-rows_of : (rows : List Row) → StandsUnderNames (rows_of rows)
 named-rows_of rows = named-from_entries (map (λ row. (name_of row, row)) rows) (named-rows rows)
-
-pub named-union : (a b : Rows) → StandsUnderNames a → StandsUnderNames b → StandsUnderNames (union a b)
-named-union a b g h = named-from_entries (entries a ++ entries b) (named-append (entries a) (entries b) g h)
 
 named-find : (q : Name) (row : Row) (es : List (Name × Row)) → AllByRecursion IsNamed es → find name_cmp q es ≡ Some row → name_of row ≡ q
 named-find q row [] h is =
@@ -167,10 +127,6 @@ named-find q row (e ∷ es) h is =
 -- the row found under a name bears it
 pub named-get : (rows : Rows) (q : Name) (row : Row) → StandsUnderNames rows → get rows q ≡ Some row → name_of row ≡ q
 named-get rows q row h is = named-find q row (entries rows) h (sym (get-entries rows q) ∙ is)
-
--- a map that equals one with rows under their names has them so
-pub named-same : (m n : Rows) → m ≡ n → StandsUnderNames n → StandsUnderNames m
-named-same m n is h = subst StandsUnderNames (sym is) h
 
 -- entries in the order of their names are those of their map
 true_is : (b : Bool) → T b → b ≡ true

@@ -24,10 +24,6 @@ Rows = FinMap name_cmp Row
 abbrev pub StandsUnderNames : Rows → Type 0
 StandsUnderNames rows = AllByRecursion (λ entry. name_of entry.1 ≡ entry.0) (entries rows)
 
--- the rows of both, and under a name that both hold the row of the first
-abbrev pub union : Rows → Rows → Rows
-union a b = from_entries (entries a ++ entries b)
-
 -- these rows, each under its name; if two have one name, the first of them stays
 abbrev pub rows_of : List Row → Rows
 rows_of rows = from_entries (map (λ row. (name_of row, row)) rows)
@@ -141,10 +137,6 @@ with_head head h = record h { head = Some head }
 abbrev pub with_moments : ℤ → ℤ → ℤ → ℤ → Holding → Holding
 with_moments moment schema usn last_sync h =
     record h { head = option_map (λ (head : Head). record head { moment = moment; schema = schema; usn = usn; last_sync = last_sync }) h.head }
-
--- with the rows of another under names that are not held
-abbrev pub with_rows_of : Holding → Holding → Holding
-with_rows_of from h = record h { rows = union h.rows from.rows }
 
 -- these rows, and this head
 abbrev pub made_of : List Row → Head → Holding

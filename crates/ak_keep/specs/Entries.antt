@@ -1,5 +1,5 @@
 -- A keeper's entries, as the finite map of them.
-use Rattle.std.specs.Prelude.{◌≡◌, Option, Some, None, List, cond}
+use Rattle.std.specs.Prelude.{◌≡◌, Option, Some, List, cond}
 use Rattle.std.specs.BTreeMap.{is_at}
 use Rattle.std.specs.Map.{lookup}
 use Rattle.std.specs.Option.{option_or}
@@ -14,10 +14,6 @@ row_at es name = lookup (is_at (name_cmp name)) es
 -- entries that have this row under this name, and are else the same
 abbrev pub IsPut : List (Name × Row) → Name → Row → List (Name × Row) → Type 0
 IsPut es name row fs = (q : Name) → row_at fs q ≡ cond (is_at (name_cmp name) q) (Some row) (row_at es q)
-
--- entries that have nothing under this name, and are else the same
-abbrev pub IsTakenOut : List (Name × Row) → Name → List (Name × Row) → Type 0
-IsTakenOut es name fs = (q : Name) → row_at fs q ≡ cond (is_at (name_cmp name) q) None (row_at es q)
 
 -- what the first entries have, and what the second have under any other name
 abbrev pub IsFilled : List (Name × Row) → List (Name × Row) → List (Name × Row) → Type 0

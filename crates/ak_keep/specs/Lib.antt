@@ -1,12 +1,9 @@
 pub mod Collections
-pub mod Counts
 pub mod Entries
 pub mod Keepers
 pub mod Lookups
 pub mod Marks
 pub mod MemoryKeepers
-pub mod NoteCards
-pub mod NoteKeys
 pub mod Pages
 pub mod Readings
 pub mod Walks

@@ -1,18 +1,10 @@
 // The keeper of a collection: a map from names to rows with a head, and at most one mark to go back to.
 #![tactic(auto)]
 
-mod calls;
 mod commits;
-mod entries;
-mod indexed;
 mod keepers;
 mod lookups;
-mod memory_collections;
-mod memory_keepers;
-mod note_cards;
-mod pages;
 mod readables;
-mod row_maps;
 mod walks;
 
 pub use commits::keep_or_back;
@@ -21,7 +13,5 @@ pub use lookups::{
     card_at, deck_at, deck_of_card, note_at, note_type_at, options_at, options_of_card,
     options_of_deck, type_of_note,
 };
-pub use memory_keepers::MemoryKeeper;
 pub use readables::{Lookup, Readable};
-pub use row_maps::RowMap;
 pub use walks::Walk;

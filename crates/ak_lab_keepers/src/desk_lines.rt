@@ -17,9 +17,9 @@ use ak_desk::Desk;
 use ak_desk_lines::{Turn, obey};
 use ak_edit::DeskFault;
 use ak_filters::FieldFilter;
-use ak_keep::MemoryKeeper;
 use ak_lab_sides::{ReviewPlan, add_reviews};
 use ak_lines::DeskLine;
+use ak_memory::MemoryKeeper;
 use ak_texts::DeskAnswer;
 use ak_undo::UndoList;
 

@@ -6,7 +6,8 @@ ghost use Rattle.ak_merge.specs.Conflicts.{first_conflict};
 ghost use Rattle.ak_session.specs.Answers.{counts_of};
 
 use ak_base::{Head, Memory, Name};
-use ak_keep::{KeepFault, Lookup, MemoryKeeper};
+use ak_keep::{KeepFault, Lookup};
+use ak_memory::MemoryKeeper;
 use ak_merge::apart;
 use ak_messages::SanityCounts;
 use ak_parts::counts_of;

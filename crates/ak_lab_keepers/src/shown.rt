@@ -6,9 +6,9 @@ ghost use Rattle.ak_lab_sides.specs.Shows.{head_line};
 
 use crate::resting_keepers::{head_at_rest, unfailed};
 use ak_base::{Head, List, Memory, Text};
-use ak_keep::MemoryKeeper;
 use ak_lab_lines::Shown;
 use ak_lab_sides::{grave_texts, head_text, row_texts};
+use ak_memory::MemoryKeeper;
 use std::alloc::Global;
 
 /// The lines of what is shown of the collection.

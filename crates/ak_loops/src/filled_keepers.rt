@@ -10,7 +10,8 @@ ghost use Rattle.ak_keep.specs.MemoryKeepers.{health_of};
 ghost use Rattle.ak_loops.specs.LoggedServers.{HoldsOpening};
 
 use ak_base::{Head, List, Memory, Row};
-use ak_keep::{KeepFault, Keeper, MemoryKeeper};
+use ak_keep::{KeepFault, Keeper};
+use ak_memory::MemoryKeeper;
 use ak_openings::Opening;
 use std::alloc::Global;
 

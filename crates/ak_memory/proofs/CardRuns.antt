@@ -1,6 +1,6 @@
 -- The cards of a note, read from their keys.
 use Rattle.std.specs.Prelude.{◌≡◌, ℤ, Bool, true, false, T, cond, if◌then◌else◌, ◌&&◌, ◌||◌, Option, Some, None, List, [], ◌∷◌, ◌++◌, map, filter}
-use Rattle.std.proofs.Common.{refl, sym, ap, subst, ◌∙◌, append_assoc, append-nil}
+use Rattle.std.proofs.Common.{refl, sym, ap, subst, ◌∙◌, append_assoc}
 use Rattle.std.specs.BTreeMap.{is_at}
 use Rattle.std.specs.Cmp.{int_cmp_total, signed_Decides, tied_itself}
 use Rattle.std.specs.FinMap.{find, entries, entries_sorted, get-entries, is_sorted, int_cmp-IsAntisymmetric}
@@ -19,8 +19,8 @@ use Rattle.ak_base.specs.declared.rows.Row.TheVariants as rows
 use Rattle.ak_keep.specs.Collections.{is_card_of, cards_of}
 use Rattle.ak_keep.specs.Entries.{row_at}
 use Rattle.ak_keep.proofs.RowsByName.{same_of_tied, both_first, both_second, is_less}
-use Rattle.ak_keep.specs.NoteKeys.{NoteKey, key_cmp, has_key, note_of_card, note_of_card_at, is_note}
-use Rattle.ak_keep.specs.NoteCards.{name_in, names_run, keys_from}
+use Rattle.ak_memory.specs.NoteKeys.{NoteKey, key_cmp, has_key, note_of_card, note_of_card_at, is_note}
+use Rattle.ak_memory.specs.NoteCards.{name_in, names_run, keys_from}
 use Rattle.ak_memory.specs.Indexes.{HaveAllKeys}
 use Rattle.ak_memory.specs.Places.{note_under, row_under, rows_at}
 use Rattle.ak_memory.specs.declared.places.Place.{Place}
@@ -50,11 +50,6 @@ run_goes_on t note ids all key keys is same =
     append_assoc ids (map (λ (name : Name). name.id) (filter t (name_in key.1))) (map (λ (name : Name). name.id) (filter t rest))
     ∙ ap (λ ys. ids ++ ys) (kept_parts t key.1 rest)
     ∙ sym (ap (λ b. ids ++ map (λ (name : Name). name.id) (filter t (cond b (name_in key.1 ++ rest) []))) same) ∙ is
-
--- and none after the run
-pub run_ends : (t : Name → Bool) (note : ℤ) (ids all : List ℤ) (key : NoteKey) (keys : List NoteKey) → ids ++ map (λ (name : Name). name.id) (filter t (names_run note (key ∷ keys))) ≡ all → int_eq key.0 note ≡ false → ids ≡ all
-run_ends t note ids all key keys is other =
-    sym (append-nil ids) ∙ sym (ap (λ b. ids ++ map (λ (name : Name). name.id) (filter t (cond b (name_in key.1 ++ names_run note keys) []))) other) ∙ is
 
 -- ---- the run of a note's keys has all of them
 turned : (a b : ℤ) → int_eq b a ≡ is_eq (ordering_reverse (int_cmp a b))

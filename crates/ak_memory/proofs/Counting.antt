@@ -19,7 +19,7 @@ use Rattle.ak_base.specs.declared.names.Table.{Table}
 use Rattle.ak_base.specs.declared.names.Table.TheVariants as tables
 use Rattle.ak_base.specs.declared.rows.Row.{Row}
 use Rattle.ak_keep.specs.Collections.{Rows, StandsUnderNames, row_count}
-use Rattle.ak_keep.proofs.Counting.{below_nine}
+use Rattle.ak_keep.proofs.TablePlaces.{below_nine}
 use Rattle.ak_keep.proofs.RowsByName.{both_first, both_second, same_of_tied, none_below, below_more, named-empty, named-insert, all-remove, IsNamed}
 use Rattle.ak_memory.specs.HeldRows.{row_in}
 use Rattle.ak_memory.specs.Indexes.{AreCounts, IsCounted}

@@ -2,15 +2,15 @@
 use Rattle.std.specs.Prelude.{◌≡◌, ℤ, Bool, true, false, T, cond, ◌&&◌, Option, Some, None, List}
 use Rattle.std.proofs.Common.{refl, sym, ap, subst, ◌∙◌}
 use Rattle.std.specs.BTreeMap.{is_at}
-use Rattle.std.specs.Cmp.{signed_Decides, eq_by_cmp_equiv}
+use Rattle.std.specs.Cmp.{signed_Decides}
 use Rattle.std.specs.Option.{option_and_then, option_eq}
 use Rattle.std.specs.Ordering.{int_cmp, int_eq, is_eq, ordering_then}
 use Rattle.std.specs.declared.cmp.Ordering.{Ordering}
 use Rattle.std.specs.declared.cmp.Ordering.TheVariants.{Less, Equal, Greater}
-use Rattle.ak_base.specs.Names.{name_cmp, names_total}
+use Rattle.ak_base.specs.Names.{name_cmp}
 use Rattle.ak_base.specs.declared.names.Name.{Name}
 use Rattle.ak_base.specs.declared.rows.Row.{Row}
-use Rattle.ak_keep.specs.NoteKeys.{NoteKey, AreSetWhere, has_key, is_key_of, is_note, note_of_card}
+use Rattle.ak_memory.specs.NoteKeys.{NoteKey, AreSetWhere, has_key, is_key_of, is_note, note_of_card}
 use Rattle.ak_keep.proofs.RowsByName.{same_of_tied}
 use Rattle.ak_memory.specs.Indexes.{HaveAllKeys}
 use Rattle.ak_memory.specs.Places.{note_under, row_under}
@@ -42,12 +42,6 @@ there true true t g h = refl
 there true false t g h = absurd (true_false (sym h))
 there false b t g h = absurd (true_false (sym g))
 
-pub key-there : (keys after : List NoteKey) (note : Option ℤ) (name : Name) → AreSetWhere keys (is_key_of note name) true after → (n : ℤ) → is_note n note ≡ true → has_key after (n, Some name) ≡ true
-key-there keys after None name added n is = absurd (true_false (sym is))
-key-there keys after (Some m) name added n is =
-    added (n, Some name) ∙ ap (λ b. cond b true (has_key keys (n, Some name))) (key_of_note m name name n)
-    ∙ there (int_eq m n) (is_at (name_cmp name) name) (has_key keys (n, Some name)) is ((eq_by_cmp_equiv names_total).refl name)
-
 -- ---- a key less
 same_note : (o : Option ℤ) (n note : ℤ) → is_note n o ≡ true → note ≡ n → option_eq int_eq o (Some note) ≡ true
 same_note None n note is one = absurd (true_false (sym is))
@@ -71,14 +65,6 @@ keys-forgotten keys after es (Some note) name have none gone version n q is =
 
 pub keys-same : (keys : List NoteKey) (es fs : List (Name × Place)) → ((version : Version) (q : Name) → row_under version fs q ≡ row_under version es q) → HaveAllKeys keys es → HaveAllKeys keys fs
 keys-same keys es fs same have version n q is = have version n q (ap (λ o. is_note n (option_and_then note_of_card o)) (sym (same version q)) ∙ is)
-
-pub keys-settled : (keys : List NoteKey) (es fs : List (Name × Place)) (name : Name) (version : Version)
-    → ((each : Version) (q : Name) → row_under each fs q ≡ cond (is_at (name_cmp name) q) (row_under version es q) (row_under each es q)) → HaveAllKeys keys es → HaveAllKeys keys fs
-keys-settled keys es fs name version settled have each n q is =
-    elim (is_at (name_cmp name) q) as (λ b. is_note n (option_and_then note_of_card (cond b (row_under version es q) (row_under each es q))) ≡ true → has_key keys (n, Some q) ≡ true) [
-      | true ↦ λ h. have version n q h
-      | false ↦ λ h. have each n q h
-    ] (ap (λ o. is_note n (option_and_then note_of_card o)) (sym (settled each q)) ∙ is)
 
 pub keys-held : (keys : List NoteKey) (es fs : List (Name × Place)) (name : Name) (row : Option Row)
     → ((q : Name) → row_under Now fs q ≡ cond (is_at (name_cmp name) q) row (row_under Now es q)) → ((q : Name) → row_under Mark fs q ≡ row_under Mark es q)

@@ -7,7 +7,7 @@ use Rattle.ak_base.specs.declared.names.Name.{Name}
 use Rattle.ak_base.specs.declared.names.Table.{Table}
 use Rattle.ak_base.specs.declared.rows.Row.{Row}
 use Rattle.ak_keep.specs.Collections.{Rows, StandsUnderNames, row_count}
-use Rattle.ak_keep.specs.NoteKeys.{NoteKey, has_key, is_note, note_of_card}
+use Rattle.ak_memory.specs.NoteKeys.{NoteKey, has_key, is_note, note_of_card}
 use Rattle.ak_memory.specs.Places.{AreFull, is_among, is_changed_under, row_under, rows_at, unchanged_count}
 use Rattle.ak_memory.specs.declared.indexed.IndexedPlaces.{IndexedPlaces}
 use Rattle.ak_memory.specs.declared.places.Place.{Place}

@@ -2,5 +2,7 @@ pub mod Collections
 pub mod Heads
 pub mod HeldRows
 pub mod Indexes
+pub mod NoteCards
+pub mod NoteKeys
 pub mod Places
 pub mod Versions

@@ -11,7 +11,7 @@ use Rattle.ak_base.specs.declared.names.Name.{Name}
 use Rattle.ak_base.specs.declared.names.Table.{Table}
 use Rattle.ak_base.specs.declared.rows.Row.{Row}
 use Rattle.ak_keep.specs.Collections.{Rows}
-use Rattle.ak_keep.specs.NoteKeys.{note_of_card}
+use Rattle.ak_memory.specs.NoteKeys.{note_of_card}
 use Rattle.ak_memory.specs.HeldRows.{held_in, held_row}
 use Rattle.ak_memory.specs.declared.places.Place.{Place}
 use Rattle.ak_memory.specs.declared.places.Place.TheVariants.{Empty, Opened, Same, Added, Removed, Replaced}
@@ -42,7 +42,7 @@ abbrev pub row_at : Version → Place → Option Row
 row_at Now place = row_now place
 row_at Mark place = row_before place
 
--- whether a row was put in or taken out since the mark
+-- whether it counts as changed since the mark: a row was put in or taken out, or it was made for one
 abbrev pub is_changed : Place → Bool
 is_changed Empty = false
 is_changed Opened = true
@@ -77,7 +77,7 @@ is_changed_place (Some place) = is_changed place
 abbrev pub is_changed_under : List (Name × Place) → Name → Bool
 is_changed_under places name = is_changed_place (place_under places name)
 
--- whether there is a place, which holds nothing and held nothing at the mark
+-- whether there is a place that holds nothing, held nothing at the mark, and does not count as changed
 abbrev pub is_empty_place : Option Place → Bool
 is_empty_place None = false
 is_empty_place (Some place) = not (is_changed place) && not (is_some (row_at Now place))

@@ -5,7 +5,7 @@ ghost use Rattle.std.specs.Option.{option_copied, option_eq};
 ghost use Rattle.std.specs.Ordering.{int_eq};
 ghost use Rattle.ak_base.specs.Names.{name_cmp};
 ghost use Rattle.ak_base.specs.declared.names.Name.{Name as RowName};
-ghost use Rattle.ak_keep.specs.NoteKeys.{is_note};
+ghost use Rattle.ak_memory.specs.NoteKeys.{is_note};
 ghost use Rattle.ak_memory.specs.HeldRows.{held_in, row_in};
 ghost use Rattle.ak_memory.specs.Places.{AreFull, AreFullBut, is_changed_under, is_empty_under, is_needed, note_under, one_if, place_under, row_under, unchanged_count};
 ghost use Rattle.ak_memory.specs.declared.versions.Version.{Version as WhichVersion};
@@ -52,7 +52,7 @@ pub(crate) fn needs_key(places: &Places, name: &Name, note: &Option<i64>) -> boo
     }
 }
 
-/// Adds an empty place under the name, which counts as changed. There is none yet.
+/// Adds a place without a row under the name, which counts as changed. There is none yet.
 pub(crate) fn add_place(places: &mut Places, name: Name) -> Result<(), Memory>
     requires { place_under places.old.entries name ≡ None }
     ensures there { OnOk result (is_some (place_under places.new.entries name) ≡ true) }
@@ -62,7 +62,7 @@ pub(crate) fn add_place(places: &mut Places, name: Name) -> Result<(), Memory>
     ensures count { unchanged_count places.new.entries ≡ unchanged_count places.old.entries }
     ensures err { OnErr result (places.new.entries ≡ places.old.entries) }
 {
-    places.insert(name, Place::empty())?;
+    places.insert(name, Place::opened())?;
     Ok(())
 }
 

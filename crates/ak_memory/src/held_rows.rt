@@ -1,7 +1,7 @@
 // Rows in boxes. A `Row` has the size of the largest kind, over three times that of a review.
 ghost use Rattle.std.specs.Prelude.{◌≡◌, None, IfOk};
 ghost use Rattle.ak_base.specs.Rows.{usn_of};
-ghost use Rattle.ak_keep.specs.NoteKeys.{note_of_card};
+ghost use Rattle.ak_memory.specs.NoteKeys.{note_of_card};
 ghost use Rattle.ak_memory.specs.HeldRows.{held_row};
 
 use ak_base::{Card, Deck, Grave, Memory, Note, NoteType, Options, Review, Row};

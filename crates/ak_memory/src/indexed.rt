@@ -11,7 +11,7 @@ ghost use Rattle.ak_base.specs.Names.{name_cmp, table_place};
 ghost use Rattle.ak_base.specs.Rows.{name_of};
 ghost use Rattle.ak_base.specs.declared.names.Name.{Name as RowName};
 ghost use Rattle.ak_keep.specs.Collections.{cards_of, row_count};
-ghost use Rattle.ak_keep.specs.NoteKeys.{has_key, is_note, note_of_card};
+ghost use Rattle.ak_memory.specs.NoteKeys.{has_key, is_note, note_of_card};
 ghost use Rattle.ak_memory.specs.HeldRows.{held_in, row_in};
 ghost use Rattle.ak_memory.specs.Indexes.{HaveAllKeys, IsIndexed, rows_of};
 ghost use Rattle.ak_memory.specs.Places.{AreFull, is_among, is_changed_under, place_under, one_if, row_under, rows_at, unchanged_count, with_under};

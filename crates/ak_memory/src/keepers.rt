@@ -22,7 +22,8 @@ use std::marker::Model;
 
 /// A keeper in memory, which tells what it keeps. The calls that `fail_at` lists fail, and no others: with none listed
 /// it is known not to fail.
-/// A row, and the cards of a note, are found in logarithmic time and a step for each.
+/// A row is found in logarithmic time, and so are the cards of a note, with a step for each key: until the commit there may
+/// be keys of cards that are gone.
 #[derive(Debug, Drop)]
 pub struct MemoryKeeper {
     memory: MarkedCollection,

@@ -3,8 +3,8 @@ ghost use Rattle.std.specs.Prelude.{◌≡◌, true, false, ◌++◌, map, filte
 ghost use Rattle.std.specs.List.Sorted.{IsStrictlySortedBy};
 ghost use Rattle.std.specs.Ordering.{int_eq};
 ghost use Rattle.ak_base.specs.declared.names.Name.{Name as RowName};
-ghost use Rattle.ak_keep.specs.NoteCards.{keys_from, name_in, names_run};
-ghost use Rattle.ak_keep.specs.NoteKeys.{AreSetWhere, NoteKey, has_key, is_key_of, is_note, key_cmp};
+ghost use Rattle.ak_memory.specs.NoteCards.{keys_from, name_in, names_run};
+ghost use Rattle.ak_memory.specs.NoteKeys.{AreSetWhere, NoteKey, has_key, is_key_of, is_note, key_cmp};
 ghost use Rattle.ak_memory.specs.Indexes.{HaveAllKeys};
 ghost use Rattle.ak_memory.specs.Places.{is_needed, note_under};
 ghost use Rattle.ak_memory.specs.declared.versions.Version.TheVariants.{Now};

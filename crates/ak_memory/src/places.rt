@@ -1,7 +1,7 @@
 // The places of rows, each with its row as it is now and as it was at the mark.
 ghost use Rattle.std.specs.Prelude.{◌≡◌, true, false, not, ◌&&◌, None, is_some};
 ghost use Rattle.std.specs.Option.{option_and_then, option_copied};
-ghost use Rattle.ak_keep.specs.NoteKeys.{note_of_card};
+ghost use Rattle.ak_memory.specs.NoteKeys.{note_of_card};
 ghost use Rattle.ak_memory.specs.HeldRows.{held_in, row_in};
 ghost use Rattle.ak_memory.specs.Places.{is_changed, row_at, row_before, row_now};
 ghost use Rattle.ak_memory.specs.declared.versions.Version.{Version as WhichVersion};
@@ -42,7 +42,7 @@ pub(crate) struct Change {
 
 impl Place {
     /// A place that holds nothing, and held nothing at the mark. It counts as changed.
-    pub(crate) fn empty() -> Place
+    pub(crate) fn opened() -> Place
         ensures now { row_at Now result ≡ None }
         ensures mark { row_at Mark result ≡ None }
         ensures changed { is_changed result ≡ true }
@@ -114,7 +114,7 @@ impl Place {
         }
     }
 
-    /// Whether it holds nothing, and held nothing at the mark.
+    /// Whether it holds nothing, held nothing at the mark, and does not count as changed.
     pub(crate) fn is_empty(&self) -> bool
         ensures { result ≡ (not (is_changed self.now) && not (is_some (row_at Now self.now))) }
     {

@@ -4,8 +4,9 @@ ghost use Rattle.ak_server.specs.Accounts.{IsPlaceOf, account_at};
 use crate::accounts::Account;
 use crate::serving::{end_session, serve_account};
 use ak_base::{Head, HostKey, List, Row, Table, Text};
-use ak_keep::{KeepFault, Keeper, MemoryKeeper};
+use ak_keep::{KeepFault, Keeper};
 use ak_machine::unknown_key;
+use ak_memory::MemoryKeeper;
 use ak_messages::{Reply, Request};
 use std::alloc::Global;
 use std::marker::Model;
@@ -13,8 +14,8 @@ use std::marker::Model;
 /// A server of accounts, each found by its host key alone.
 ///
 /// Graves, chunks that come, a finish, refusals and repeats cost what their own rows cost, whatever the size of the
-/// collection. A start and an upload mark the keeper, which copies the collection as long as its marks are copies; what
-/// is given of rows with at least a number walks their tables, each row once; a sanity check reads all cards and notes.
+/// collection. A start and an upload mark the keeper, and cost what that costs it; what is given of rows with at least a
+/// number walks their tables, each row once; a sanity check reads all cards and notes.
 #[derive(Drop)]
 pub struct Server<K: Keeper> {
     alloc: Global,

@@ -1,6 +1,7 @@
 use crate::faults::check_fault;
 use ak_base::{Row, cut};
-use ak_keep::{Keeper, MemoryKeeper};
+use ak_keep::Keeper;
+use ak_memory::MemoryKeeper;
 use ak_merge::{apart, check, newer, take_row};
 use cases_keepers::{failed, name_text, row_of, value_of};
 use cases_lines::{Unread, row_at, table_of, text_at, truth};

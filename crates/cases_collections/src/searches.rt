@@ -1,6 +1,6 @@
 use crate::faults::search_fault;
 use ak_base::Day;
-use ak_keep::MemoryKeeper;
+use ak_memory::MemoryKeeper;
 use ak_search::{Expr, find, parse};
 use cases_keepers::{failed, value_of};
 use cases_lines::{Unread, listed, number_at, text_at};

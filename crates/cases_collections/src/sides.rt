@@ -1,7 +1,7 @@
 use crate::merges::{answer_of_both, checked, newer_of, take};
 use crate::searches::{faults_of, found};
 use ak_base::cut;
-use ak_keep::MemoryKeeper;
+use ak_memory::MemoryKeeper;
 use cases_keepers::answer_of;
 use cases_lines::{Answers, Unread};
 use std::alloc::Global;

@@ -1,6 +1,6 @@
 use crate::calls::call;
 use ak_base::cut;
-use ak_keep::MemoryKeeper;
+use ak_memory::MemoryKeeper;
 use ak_undo::UndoList;
 use cases_keepers::answer_of;
 use cases_lines::{Answers, Unread};

@@ -1,9 +1,10 @@
 use crate::faults::failed;
 use ak_base::{Card, Options};
 use ak_keep::{
-    KeepFault, Lookup, MemoryKeeper, card_at, deck_at, deck_of_card, note_at, options_of_card,
-    options_of_deck, type_of_note,
+    KeepFault, Lookup, card_at, deck_at, deck_of_card, note_at, options_of_card, options_of_deck,
+    type_of_note,
 };
+use ak_memory::MemoryKeeper;
 use cases_lines::Unread;
 use std::alloc::Global;
 

@@ -1,7 +1,8 @@
 use crate::requests::{forge, host_of, serve};
 use crate::views::{all, view, view_head};
 use ak_base::{HostKey, List, Text, cut};
-use ak_keep::{Keeper, Lookup, MemoryKeeper};
+use ak_keep::{Keeper, Lookup};
+use ak_memory::MemoryKeeper;
 use ak_server::{AddFault, Server};
 use cases_keepers::{answer_of, value_of};
 use cases_lines::{Answers, Unread};

@@ -3,7 +3,7 @@ ghost use Rattle.std.specs.Prelude.{◌≤ℤ◌, pos, IfOk};
 use crate::forged::with_part;
 use crate::replies::reply_text;
 use ak_base::{HostKey, SessionKey, cut};
-use ak_keep::MemoryKeeper;
+use ak_memory::MemoryKeeper;
 use ak_server::Server;
 use ak_wire::{Envelope, Request, method_of, read_request};
 use cases_keepers::value_of;

@@ -1,7 +1,7 @@
 use crate::servers::{Host, upload};
 use crate::shown::{all, sum};
 use crate::syncs::{sync, sync_by_lie};
-use ak_keep::MemoryKeeper;
+use ak_memory::MemoryKeeper;
 use cases_keepers::answer_of;
 use cases_lines::Unread;
 use std::alloc::Global;

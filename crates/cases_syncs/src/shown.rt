@@ -1,5 +1,6 @@
 use ak_base::{List, Row, Table};
-use ak_keep::{KeepFault, Lookup, MemoryKeeper, Readable};
+use ak_keep::{KeepFault, Lookup, Readable};
+use ak_memory::MemoryKeeper;
 use cases_keepers::{answer_of, failed};
 use cases_lines::{Unread, row_text};
 use serde_json::Value;

@@ -5,7 +5,8 @@ ghost use Rattle.ak_base.specs.declared.rows.Row.TheVariants as rows;
 ghost use Rattle.ak_keep.specs.Keepers.{IsMarkedAt, is_marked, put, marked_here, back, committed};
 
 use ak_base::{List, Memory, Review, Row, Table};
-use ak_keep::{KeepFault, Keeper, MemoryKeeper, Readable, keep_or_back};
+use ak_keep::{KeepFault, Keeper, Readable, keep_or_back};
+use ak_memory::MemoryKeeper;
 use std::alloc::Global;
 
 // Puts both reviews, or leaves all as it was.

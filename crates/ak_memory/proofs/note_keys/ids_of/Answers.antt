@@ -1,8 +1,8 @@
 use Rattle.std.proofs.Common.{◌≡◌, ℤ, Bool, true, List, ◌∷◌, ◌++◌, filter, map, sym, subst, ◌∙◌}
 use Rattle.std.specs.Ordering.{int_eq}
 use Rattle.ak_base.specs.declared.names.Name.{Name}
-use Rattle.ak_keep.specs.NoteCards.{keys_from, names_run}
-use Rattle.ak_keep.specs.NoteKeys.{NoteKey, is_note}
+use Rattle.ak_memory.specs.NoteCards.{keys_from, names_run}
+use Rattle.ak_memory.specs.NoteKeys.{NoteKey, is_note}
 use Rattle.ak_memory.specs.Places.{note_under}
 use Rattle.ak_memory.specs.declared.versions.Version.TheVariants.{Now}
 use Rattle.ak_memory.proofs.CardRuns.{run_goes_on}

@@ -1,7 +1,7 @@
 use Rattle.std.proofs.Common.{◌≡◌, ◌++◌, filter, map}
 use Rattle.ak_base.specs.declared.names.Name.{Name}
-use Rattle.ak_keep.specs.NoteCards.{keys_from, names_run}
-use Rattle.ak_keep.specs.NoteKeys.{is_note}
+use Rattle.ak_memory.specs.NoteCards.{keys_from, names_run}
+use Rattle.ak_memory.specs.NoteKeys.{is_note}
 use Rattle.ak_memory.specs.Places.{note_under}
 use Rattle.ak_memory.specs.declared.versions.Version.TheVariants.{Now}
 use Rattle.ak_memory.proofs.note_keys.ids_of.Given as goal

@@ -1,5 +1,5 @@
 use Rattle.std.proofs.Common.{List, sym, subst}
-use Rattle.ak_keep.specs.NoteKeys.{NoteKey}
+use Rattle.ak_memory.specs.NoteKeys.{NoteKey}
 use Rattle.ak_memory.specs.Indexes.{HaveAllKeys}
 use Rattle.ak_memory.proofs.Keys.{keys-added}
 use Rattle.ak_memory.proofs.indexed.IndexedPlaces.put.Goals as goal
