@@ -85,7 +85,8 @@ def main(log):
     tasks = {}
     for crate in todo:
         waits = [(it.name, "proof") for it in crate.below() if it.name in names]
-        tasks[crate.name, "proof"] = (waits, crate.count(rb"\n"), rt.need(crate), lambda given, jobs, it=crate: build.prove(it, given, jobs))
+        # Half the memory that the toolchain reserves for a check, which is still more than each was measured to take.
+        tasks[crate.name, "proof"] = (waits, crate.count(rb"\n"), rt.need(crate) // 2, lambda given, jobs, it=crate: build.prove(it, given, jobs))
     return 0 if all(rt.in_lanes(tasks).values()) else 1
 
 
