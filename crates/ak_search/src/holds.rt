@@ -25,8 +25,6 @@ pub(crate) struct SearchContext {
     pub(crate) alloc: Global,
     pub(crate) day: Day,
     pub(crate) answers: Answers,
-    /// Whether some term needs what a card belongs to.
-    pub(crate) needs_related: bool,
 }
 
 impl SearchContext {
