@@ -8,23 +8,25 @@ use Rattle.std.proofs.lemmas.Bool.{and_parts, or_parts}
 use Rattle.std.proofs.Math.Bool.{or_assoc, or-false}
 use Rattle.ak_base.specs.declared.cards.Card.{Card}
 use Rattle.ak_base.specs.declared.days.Day.{Day}
-use Rattle.ak_base.specs.declared.rows.Row.{Row}
-use Rattle.ak_keep.specs.Collections.{Rows}
-use Rattle.ak_search.specs.declared.answers.Answers.{Answers}
-use Rattle.ak_search.specs.declared.holds.SearchContext.{SearchContext}
-use Rattle.ak_search.specs.declared.related.Related.{Related}
-use Rattle.ak_search.specs.declared.terms.Term.{Term}
-use Rattle.ak_search.specs.declared.terms.Term.TheVariants as terms
-use Rattle.ak_search.specs.declared.tokens.Piece.{Piece}
-use Rattle.ak_search.specs.declared.tokens.Piece.TheVariants.{Test, BadValue, Open, Close, Or, And, OpenQuote}
-use Rattle.ak_search.specs.declared.evaluator.Group.{Group as Outer}
 use Rattle.ak_base.specs.declared.decks.Deck.{Deck}
 use Rattle.ak_base.specs.declared.note_types.NoteType.{NoteType}
 use Rattle.ak_base.specs.declared.notes.Note.{Note}
-use Rattle.ak_search.specs.Holds.{held_and, holds, path_matches}
+use Rattle.ak_base.specs.declared.rows.Row.{Row}
+use Rattle.ak_keep.specs.Collections.{Rows}
 use Rattle.ak_search.specs.CardFacts.{Seen, seen, is_since, is_answer, is_answered, is_answer_in}
+use Rattle.ak_search.specs.Holds.{held_and, holds, path_matches}
 use Rattle.ak_search.specs.Meanings.{walk, negated_by}
-use Rattle.ak_search.specs.Passes.{AreAnswersOf, Serves, Suits, related_in, asked, needs_answers, is_shown, pair_cmp, seen_by, some_term, tested}
+use Rattle.ak_search.specs.Passes.{AreAnswersOf, Serves, Suits, holds_by, related_in, asked, needs_answers, is_shown, pair_cmp, seen_by, some_term, tested}
+use Rattle.ak_search.specs.declared.answers.Answers.{Answers}
+use Rattle.ak_search.specs.declared.evaluator.Group.{Group as Outer}
+use Rattle.ak_search.specs.declared.holds.SearchContext.{SearchContext}
+use Rattle.ak_search.specs.declared.related.Latest.{Latest}
+use Rattle.ak_search.specs.declared.related.Related.{Related}
+use Rattle.ak_search.specs.declared.terms.Term.TheVariants as terms
+use Rattle.ak_search.specs.declared.terms.Term.{Term}
+use Rattle.ak_search.specs.declared.tokens.Piece.TheVariants.{Test, BadValue, Open, Close, Or, And, OpenQuote}
+use Rattle.ak_search.specs.declared.tokens.Piece.{Piece}
+use Rattle.ak_search.proofs.Stripping.{by_texts}
 
 -- ---- the later of two ids
 pub later_since : (one other least : ℤ) → int_lt one other ≡ true → is_since other least ≡ (is_since one least || is_since other least)
@@ -66,29 +68,29 @@ by_note day answers c one other term h =
     ap (λ (n : Option Note). holds day (seen_by answers c (record { note = n; note_type = one.note_type; deck = one.deck })) term) h.0
     ∙ ap (λ (t : Option NoteType). holds day (seen_by answers c (record { note = other.note; note_type = t; deck = one.deck })) term) h.1
 
-suited : (day : Day) (answers : Answers) (held : Rows) (c : Card) (one : Related) (term : Term) → Suits one held c term → holds day (seen_by answers c one) term ≡ holds day (seen_by answers c (related_in held c)) term
-suited day answers held c one (terms.Contains pattern) h = by_note day answers c one (related_in held c) (terms.Contains pattern) (h.note refl)
-suited day answers held c one (terms.Word pattern) h = by_note day answers c one (related_in held c) (terms.Word pattern) (h.note refl)
-suited day answers held c one (terms.Field name pattern) h = by_note day answers c one (related_in held c) (terms.Field name pattern) (h.note refl)
+suited : (day : Day) (answers : Answers) (held : Rows) (c : Card) (one : Latest) (term : Term) → Suits one held c term → holds day (seen_by answers c one.related) term ≡ holds day (seen_by answers c (related_in held c)) term
+suited day answers held c one (terms.Contains pattern) h = by_note day answers c one.related (related_in held c) (terms.Contains pattern) (h.note refl)
+suited day answers held c one (terms.Word pattern) h = by_note day answers c one.related (related_in held c) (terms.Word pattern) (h.note refl)
+suited day answers held c one (terms.Field name pattern) h = by_note day answers c one.related (related_in held c) (terms.Field name pattern) (h.note refl)
 suited day answers held c one (terms.Deck pattern) h = ap (held_and (λ (d : Deck). path_matches pattern d.name)) (h.deck refl)
-suited day answers held c one (terms.Tag pattern) h = by_note day answers c one (related_in held c) (terms.Tag pattern) (h.note refl)
-suited day answers held c one terms.Untagged h = by_note day answers c one (related_in held c) terms.Untagged (h.note refl)
-suited day answers held c one (terms.NoteType pattern) h = by_note day answers c one (related_in held c) (terms.NoteType pattern) (h.note refl)
-suited day answers held c one (terms.Template pattern) h = by_note day answers c one (related_in held c) (terms.Template pattern) (h.note refl)
+suited day answers held c one (terms.Tag pattern) h = by_note day answers c one.related (related_in held c) (terms.Tag pattern) (h.note refl)
+suited day answers held c one terms.Untagged h = by_note day answers c one.related (related_in held c) terms.Untagged (h.note refl)
+suited day answers held c one (terms.NoteType pattern) h = by_note day answers c one.related (related_in held c) (terms.NoteType pattern) (h.note refl)
+suited day answers held c one (terms.Template pattern) h = by_note day answers c one.related (related_in held c) (terms.Template pattern) (h.note refl)
 suited day answers held c one (terms.InState state) h = refl
 suited day answers held c one (terms.Prop what comparison bound) h = refl
 suited day answers held c one (terms.Flag number) h = refl
 suited day answers held c one (terms.Rated days) h = refl
 suited day answers held c one (terms.RatedWith days ease) h = refl
 suited day answers held c one (terms.Added days) h = refl
-suited day answers held c one (terms.Edited days) h = by_note day answers c one (related_in held c) (terms.Edited days) (h.note refl)
+suited day answers held c one (terms.Edited days) h = by_note day answers c one.related (related_in held c) (terms.Edited days) (h.note refl)
 suited day answers held c one (terms.NoteIds ids) h = refl
 suited day answers held c one (terms.CardIds ids) h = refl
 
 -- what a term does of a card, by what was looked up for it
-pub tests_as : (context : SearchContext) (held : Rows) (c : Card) (one : Related) (term : Term) (does : Bool) → does ≡ holds context.day (seen_by context.answers c one) term → Suits one held c term
+pub tests_as : (context : SearchContext) (held : Rows) (c : Card) (one : Latest) (term : Term) (does : Bool) → does ≡ holds_by context.day context.answers c one term → Suits one held c term
     → does ≡ tested context held c term
-tests_as context held c one term does is suits = is ∙ suited context.day context.answers held c one term suits
+tests_as context held c one term does is suits = is ∙ by_texts context.day context.answers c one term suits.texts ∙ suited context.day context.answers held c one term suits
 
 -- two tests that agree on all terms but some lead to the same where none of those is asked
 same_walk : (apart f g : Term → Bool) → ((term : Term) → apart term ≡ false → f term ≡ g term) → (outer : List Outer) (either all : Bool) (ps : List Piece) → some_term apart ps ≡ false → walk f outer either all ps ≡ walk g outer either all ps

@@ -1,38 +1,38 @@
 -- What is known where a keeper tells its collection: one more row, one more page.
 use Rattle.std.proofs.Common.{◌≡◌, true, false, cond, ◌||◌, ◌∙◌, ap, refl, subst, sym, arith, Bool, ℤ, pos, List, [], ◌∷◌, ◌++◌, map, Option, Some, None, IfSome, append-nil, length}
 use Rattle.std.proofs.lemmas.List.{nil_from_length}
+use Rattle.std.specs.Option.{option_map, option_or}
 use Rattle.ak_base.specs.Rows.{name_of}
 use Rattle.ak_base.specs.declared.cards.Card.{Card}
 use Rattle.ak_base.specs.declared.days.Day.{Day}
+use Rattle.ak_base.specs.declared.decks.Deck.{Deck}
 use Rattle.ak_base.specs.declared.names.Table.TheVariants as tables
-use Rattle.ak_base.specs.declared.rows.Row.{Row}
+use Rattle.ak_base.specs.declared.note_types.NoteType.{NoteType}
+use Rattle.ak_base.specs.declared.notes.Note.{Note}
 use Rattle.ak_base.specs.declared.rows.Row.TheVariants as rows
+use Rattle.ak_base.specs.declared.rows.Row.{Row}
 use Rattle.ak_keep.specs.Collections.{Holding, Rows, rows_past}
+use Rattle.ak_keep.specs.Lookups.{note_at, note_type_at, deck_at, deck_of_card}
 use Rattle.ak_keep.specs.Marks.{WithMark}
 use Rattle.ak_keep.specs.Walks.{ahead}
 use Rattle.ak_keep.specs.declared.walks.Walk.{Walk}
+use Rattle.ak_search.specs.CardFacts.{Seen, is_answer_in, is_answered, seen, type_of}
+use Rattle.ak_search.specs.Grammar.{pieces_in}
+use Rattle.ak_search.specs.Holds.{asked_by, holds, is_hit, ids_of_hits, hits}
+use Rattle.ak_search.specs.Meanings.{meets, walk}
+use Rattle.ak_search.specs.Passes.{AreLatest, HasNoteOf, HasTexts, KeepsTexts, Serves, Stays, Suits, Tells, asked, holds_by, needs_texts, evaluated_from, is_shown, needs_deck, needs_note, tested}
+use Rattle.ak_search.specs.Searching.{SearchStays, SearchesBy}
+use Rattle.ak_search.specs.Trees.{Tree, pieces_of}
 use Rattle.ak_search.specs.declared.answers.Answers.{Answers}
-use Rattle.ak_search.specs.declared.holds.SearchContext.{SearchContext}
 use Rattle.ak_search.specs.declared.evaluator.Evaluator.{Evaluator}
 use Rattle.ak_search.specs.declared.evaluator.Group.{Group}
+use Rattle.ak_search.specs.declared.holds.SearchContext.{SearchContext}
 use Rattle.ak_search.specs.declared.related.Latest.{Latest}
-use Rattle.ak_search.specs.declared.terms.Term.TheVariants as terms
-use Rattle.ak_search.specs.declared.tokens.Piece.{Piece}
-use Rattle.ak_search.specs.declared.tokens.Piece.TheVariants.{Test}
-use Rattle.ak_search.specs.Meanings.{meets, walk}
-use Rattle.ak_base.specs.declared.decks.Deck.{Deck}
-use Rattle.ak_base.specs.declared.note_types.NoteType.{NoteType}
-use Rattle.ak_base.specs.declared.notes.Note.{Note}
-use Rattle.ak_keep.specs.Lookups.{note_at, note_type_at, deck_at, deck_of_card}
-use Rattle.std.specs.Option.{option_map, option_or}
-use Rattle.ak_search.specs.Holds.{asked_by, holds, is_hit, ids_of_hits, hits}
-use Rattle.ak_search.specs.CardFacts.{Seen, is_answer_in, is_answered, seen, type_of}
-use Rattle.ak_search.specs.Passes.{AreLatest, Serves, Stays, Suits, Tells, asked, evaluated_from, is_shown, needs_deck, needs_note, seen_by, tested}
-use Rattle.ak_search.specs.Grammar.{pieces_in}
-use Rattle.ak_search.specs.Searching.{SearchStays, SearchesBy}
 use Rattle.ak_search.specs.declared.searches.Search.{Search}
-use Rattle.ak_search.specs.Trees.{Tree, pieces_of}
+use Rattle.ak_search.specs.declared.terms.Term.TheVariants as terms
 use Rattle.ak_search.specs.declared.terms.Term.{Term}
+use Rattle.ak_search.specs.declared.tokens.Piece.TheVariants.{Test}
+use Rattle.ak_search.specs.declared.tokens.Piece.{Piece}
 use Rattle.ak_search.proofs.Answering.{page_added, serves, tests_as}
 use Rattle.ak_search.proofs.Passing.{page_taken, row_taken}
 use Rattle.ak_search.proofs.Walking.{walked}
@@ -66,7 +66,7 @@ not_both (terms.NoteIds ids) h g = true_false h refl
 not_both (terms.CardIds ids) h g = true_false h refl
 
 -- ---- one card, piece by piece
--- a piece that is a term, and one that is none
+-- a piece that is a term
 pub term_tells : (told : Option (WithMark Holding)) (context : SearchContext) (c : Card) (old new : Latest) (piece : Piece) (negated : Bool) (term : Term) (does : Bool) → piece ≡ Test negated term
     → IfSome told (λ held. Stays old new held.current.rows (does ≡ tested context held.current.rows c term))
     → IfSome told (λ held. Stays old new held.current.rows (Tells piece (tested context held.current.rows c) does))
@@ -75,7 +75,7 @@ term_tells (Some held) context c old new piece negated term does is tests = λ l
     let one = tests latest in
     (one.0, subst (λ (p : Piece). Tells p (tested context held.current.rows c) does) (sym is) one.1)
 
--- before the first piece, and behind the last one
+-- before the first piece
 pub no_piece_told : (told : Option (WithMark Holding)) (context : SearchContext) (c : Card) (latest : Latest) (e : Evaluator) (ps : List Piece) → e.outer.items ≡ [] → e.either ≡ false → e.all ≡ true
     → IfSome told (λ held. Stays latest latest held.current.rows (evaluated_from e (tested context held.current.rows c) ps ≡ asked ps (tested context held.current.rows c)))
 no_piece_told None context c latest e ps outer either all = tt
@@ -86,13 +86,13 @@ no_piece_told (Some held) context c latest e ps outer either all = λ is. (
 )
 
 -- a term was tested with what was looked up for it
-pub tests_told : (told : Option (WithMark Holding)) (context : SearchContext) (c : Card) (old new : Latest) (term : Term) (does : Bool) → does ≡ holds context.day (seen_by context.answers c new.related) term
-    → IfSome told (λ held. Stays old new held.current.rows (Suits new.related held.current.rows c term))
+pub tests_told : (told : Option (WithMark Holding)) (context : SearchContext) (c : Card) (old new : Latest) (term : Term) (does : Bool) → does ≡ holds_by context.day context.answers c new term
+    → IfSome told (λ held. Stays old new held.current.rows (Suits new held.current.rows c term))
     → IfSome told (λ held. Stays old new held.current.rows (does ≡ tested context held.current.rows c term))
 tests_told None context c old new term does is suits = tt
 tests_told (Some held) context c old new term does is suits = λ latest.
     let one = suits latest in
-    (one.0, tests_as context held.current.rows c new.related term does is one.1)
+    (one.0, tests_as context held.current.rows c new term does is one.1)
 
 -- ---- what was looked up last
 abbrev pub NoteStays : Latest → Latest → ℤ → Rows → Type 0
@@ -102,21 +102,21 @@ pub note_known : (told : Option (WithMark Holding)) (latest : Latest) (id : ℤ)
 note_known None latest id by = tt
 note_known (Some held) latest id by = λ is. (is, is.note id by)
 
-pub note_read : (told : Option (WithMark Holding)) (old new : Latest) (id : ℤ) (note : Option Note) → new ≡ record { nid = Some id; mid = old.mid; did = old.did; related = record { note = note; note_type = old.related.note_type; deck = old.related.deck } }
+pub note_read : (told : Option (WithMark Holding)) (old new : Latest) (id : ℤ) (note : Option Note) → new ≡ record { nid = Some id; mid = old.mid; did = old.did; related = record { note = note; note_type = old.related.note_type; deck = old.related.deck }; texts = None }
     → IfSome told (λ held. note ≡ note_at held.current.rows id) → IfSome told (λ held. NoteStays old new id held.current.rows)
 note_read None old new id found is read = tt
 note_read (Some held) old new id found is read = λ latest. subst (λ (l : Latest). AreLatest l held.current.rows × (l.related.note ≡ note_at held.current.rows id)) (sym is)
-    (record { note = λ own e. read ∙ ap (note_at held.current.rows) (some_same id own e); note_type = latest.note_type; deck = latest.deck }, read)
+    (record { note = λ own e. read ∙ ap (note_at held.current.rows) (some_same id own e); note_type = latest.note_type; deck = latest.deck; texts = λ e. absurd (true_false e refl) }, read)
 
 pub deck_known : (told : Option (WithMark Holding)) (latest : Latest) (c : Card) → latest.did ≡ Some c.did → IfSome told (λ held. Stays latest latest held.current.rows (latest.related.deck ≡ deck_of_card held.current.rows c))
 deck_known None latest c by = tt
 deck_known (Some held) latest c by = λ is. (is, is.deck c.did by)
 
-pub deck_read : (told : Option (WithMark Holding)) (old new : Latest) (c : Card) (deck : Option Deck) → new ≡ record { nid = old.nid; mid = old.mid; did = Some c.did; related = record { note = old.related.note; note_type = old.related.note_type; deck = deck } }
+pub deck_read : (told : Option (WithMark Holding)) (old new : Latest) (c : Card) (deck : Option Deck) → new ≡ record { nid = old.nid; mid = old.mid; did = Some c.did; related = record { note = old.related.note; note_type = old.related.note_type; deck = deck }; texts = old.texts }
     → IfSome told (λ held. deck ≡ deck_of_card held.current.rows c) → IfSome told (λ held. Stays old new held.current.rows (new.related.deck ≡ deck_of_card held.current.rows c))
 deck_read None old new c deck is read = tt
 deck_read (Some held) old new c deck is read = λ latest. subst (λ (l : Latest). AreLatest l held.current.rows × (l.related.deck ≡ deck_of_card held.current.rows c)) (sym is)
-    (record { note = latest.note; note_type = latest.note_type; deck = λ own e. read ∙ ap (λ id. option_or (deck_at held.current.rows id) (deck_at held.current.rows (pos 1))) (some_same c.did own e) }, read)
+    (record { note = latest.note; note_type = latest.note_type; deck = λ own e. read ∙ ap (λ id. option_or (deck_at held.current.rows id) (deck_at held.current.rows (pos 1))) (some_same c.did own e); texts = latest.texts }, read)
 
 -- the type of the note that was looked up last
 abbrev pub TypeStays : Latest → Latest → Rows → Type 0
@@ -134,48 +134,99 @@ pub type_known : (told : Option (WithMark Holding)) (latest : Latest) (id : ℤ)
 type_known None latest id by of = tt
 type_known (Some held) latest id by of = λ is. (is, (refl, is.note_type id by ∙ type_by_id held.current.rows latest.related.note id of))
 
-pub type_read : (told : Option (WithMark Holding)) (old new : Latest) (id : ℤ) (note_type : Option NoteType) → new ≡ record { nid = old.nid; mid = Some id; did = old.did; related = record { note = old.related.note; note_type = note_type; deck = old.related.deck } }
+pub type_read : (told : Option (WithMark Holding)) (old new : Latest) (id : ℤ) (note_type : Option NoteType) → new ≡ record { nid = old.nid; mid = Some id; did = old.did; related = record { note = old.related.note; note_type = note_type; deck = old.related.deck }; texts = None }
     → option_map (λ (n : Note). n.mid) old.related.note ≡ Some id → IfSome told (λ held. note_type ≡ note_type_at held.current.rows id) → IfSome told (λ held. TypeStays old new held.current.rows)
 type_read None old new id note_type is of read = tt
 type_read (Some held) old new id note_type is of read = λ latest. subst (λ (l : Latest). AreLatest l held.current.rows × ((l.related.note ≡ old.related.note) × (l.related.note_type ≡ type_of held.current.rows old.related.note))) (sym is)
-    (record { note = latest.note; note_type = λ own e. read ∙ ap (note_type_at held.current.rows) (some_same id own e); deck = latest.deck }, (refl, read ∙ type_by_id held.current.rows old.related.note id of))
+    (record { note = latest.note; note_type = λ own e. read ∙ ap (note_type_at held.current.rows) (some_same id own e); deck = latest.deck; texts = λ e. absurd (true_false e refl) }, (refl, read ∙ type_by_id held.current.rows old.related.note id of))
 
-pub type_none : (told : Option (WithMark Holding)) (old new : Latest) → new ≡ record { nid = old.nid; mid = None; did = old.did; related = record { note = old.related.note; note_type = None; deck = old.related.deck } }
+pub type_none : (told : Option (WithMark Holding)) (old new : Latest) → new ≡ record { nid = old.nid; mid = None; did = old.did; related = record { note = old.related.note; note_type = None; deck = old.related.deck }; texts = None }
     → option_map (λ (n : Note). n.mid) old.related.note ≡ None → IfSome told (λ held. TypeStays old new held.current.rows)
 type_none None old new is of = tt
 type_none (Some held) old new is of = λ latest. subst (λ (l : Latest). AreLatest l held.current.rows × ((l.related.note ≡ old.related.note) × (l.related.note_type ≡ type_of held.current.rows old.related.note))) (sym is)
-    (record { note = latest.note; note_type = λ own e. absurd (no_some own e); deck = latest.deck }, (refl, no_type held.current.rows old.related.note of))
+    (record { note = latest.note; note_type = λ own e. absurd (no_some own e); deck = latest.deck; texts = λ e. absurd (true_false e refl) }, (refl, no_type held.current.rows old.related.note of))
 
 -- the note, and then its type
-pub both_told : (told : Option (WithMark Holding)) (old now new : Latest) (id : ℤ) → IfSome told (λ held. NoteStays old now id held.current.rows) → IfSome told (λ held. TypeStays now new held.current.rows)
-    → IfSome told (λ held. Stays old new held.current.rows ((new.related.note ≡ note_at held.current.rows id) × (new.related.note_type ≡ type_of held.current.rows (note_at held.current.rows id))))
-both_told None old now new id one two = tt
-both_told (Some held) old now new id one two = λ latest.
+pub both_told : (told : Option (WithMark Holding)) (old now new : Latest) (c : Card) → IfSome told (λ held. NoteStays old now c.nid held.current.rows) → IfSome told (λ held. TypeStays now new held.current.rows)
+    → IfSome told (λ held. Stays old new held.current.rows (HasNoteOf new held.current.rows c))
+both_told None old now new c one two = tt
+both_told (Some held) old now new c one two = λ latest.
     let first = one latest in
     let then = two first.0 in
     (then.0, (then.1.0 ∙ first.1, then.1.1 ∙ ap (type_of held.current.rows) first.1))
 
+-- and then its texts
+pub texts_told : (told : Option (WithMark Holding)) (old now new : Latest) (c : Card) → new ≡ record now { texts = new.texts }
+    → (KeepsTexts now → HasTexts new) → IfSome told (λ held. Stays old now held.current.rows (HasNoteOf now held.current.rows c))
+    → IfSome told (λ held. Stays old new held.current.rows (HasNoteOf new held.current.rows c × HasTexts new))
+texts_told None old now new c is strips turned = tt
+texts_told (Some held) old now new c is strips turned = λ latest.
+    let one = turned latest in
+    subst (λ (l : Latest). HasTexts l → AreLatest l held.current.rows × (HasNoteOf l held.current.rows c × HasTexts l)) (sym is)
+    (λ texts. (record { note = one.0.note; note_type = one.0.note_type; deck = one.0.deck; texts = λ _. texts }, (one.1, texts))) (strips one.0.texts)
+
 -- what a term asks for
-pub note_suits : (told : Option (WithMark Holding)) (old new : Latest) (c : Card) (term : Term) → needs_note term ≡ true
-    → IfSome told (λ held. Stays old new held.current.rows ((new.related.note ≡ note_at held.current.rows c.nid) × (new.related.note_type ≡ type_of held.current.rows (note_at held.current.rows c.nid))))
-    → IfSome told (λ held. Stays old new held.current.rows (Suits new.related held.current.rows c term))
-note_suits None old new c term asks is = tt
-note_suits (Some held) old new c term asks is = λ latest.
-    let one = is latest in
-    (one.0, record { note = λ _. one.1; deck = λ too. absurd (not_both term asks too) })
+texts_of_note : (term : Term) → needs_texts term ≡ true → needs_note term ≡ true
+texts_of_note (terms.Contains pattern) h = refl
+texts_of_note (terms.Word pattern) h = refl
+texts_of_note (terms.Field name pattern) h = refl
+texts_of_note (terms.Deck pattern) h = absurd (true_false h refl)
+texts_of_note (terms.Tag pattern) h = absurd (true_false h refl)
+texts_of_note terms.Untagged h = absurd (true_false h refl)
+texts_of_note (terms.NoteType pattern) h = absurd (true_false h refl)
+texts_of_note (terms.Template pattern) h = absurd (true_false h refl)
+texts_of_note (terms.InState state) h = absurd (true_false h refl)
+texts_of_note (terms.Prop what comparison bound) h = absurd (true_false h refl)
+texts_of_note (terms.Flag number) h = absurd (true_false h refl)
+texts_of_note (terms.Rated days) h = absurd (true_false h refl)
+texts_of_note (terms.RatedWith days ease) h = absurd (true_false h refl)
+texts_of_note (terms.Added days) h = absurd (true_false h refl)
+texts_of_note (terms.Edited days) h = absurd (true_false h refl)
+texts_of_note (terms.NoteIds ids) h = absurd (true_false h refl)
+texts_of_note (terms.CardIds ids) h = absurd (true_false h refl)
 
-pub deck_suits : (told : Option (WithMark Holding)) (old new : Latest) (c : Card) (term : Term) → needs_note term ≡ false
+pub texts_suit : (told : Option (WithMark Holding)) (old new : Latest) (c : Card) (term : Term) → needs_texts term ≡ true
+    → IfSome told (λ held. Stays old new held.current.rows (HasNoteOf new held.current.rows c × HasTexts new))
+    → IfSome told (λ held. Stays old new held.current.rows (Suits new held.current.rows c term))
+texts_suit None old new c term asks is = tt
+texts_suit (Some held) old new c term asks is = λ latest.
+    let one = is latest in
+    (one.0, record { note = λ _. one.1.0; deck = λ too. absurd (not_both term (texts_of_note term asks) too); texts = λ _. one.1.1 })
+
+pub note_suits : (told : Option (WithMark Holding)) (old new : Latest) (c : Card) (term : Term) → needs_texts term ≡ false → needs_note term ≡ true
+    → IfSome told (λ held. Stays old new held.current.rows (HasNoteOf new held.current.rows c))
+    → IfSome told (λ held. Stays old new held.current.rows (Suits new held.current.rows c term))
+note_suits None old new c term no_texts asks is = tt
+note_suits (Some held) old new c term no_texts asks is = λ latest.
+    let one = is latest in
+    (one.0, record { note = λ _. one.1; deck = λ too. absurd (not_both term asks too); texts = λ too. absurd (true_false too no_texts) })
+
+pub deck_suits : (told : Option (WithMark Holding)) (old new : Latest) (c : Card) (term : Term) → needs_texts term ≡ false → needs_note term ≡ false
     → IfSome told (λ held. Stays old new held.current.rows (new.related.deck ≡ deck_of_card held.current.rows c))
-    → IfSome told (λ held. Stays old new held.current.rows (Suits new.related held.current.rows c term))
-deck_suits None old new c term asks is = tt
-deck_suits (Some held) old new c term asks is = λ latest.
+    → IfSome told (λ held. Stays old new held.current.rows (Suits new held.current.rows c term))
+deck_suits None old new c term no_texts no_note is = tt
+deck_suits (Some held) old new c term no_texts no_note is = λ latest.
     let one = is latest in
-    (one.0, record { note = λ too. absurd (true_false too asks); deck = λ _. one.1 })
+    (one.0, record { note = λ too. absurd (true_false too no_note); deck = λ _. one.1; texts = λ too. absurd (true_false too no_texts) })
 
-pub none_suits : (told : Option (WithMark Holding)) (latest : Latest) (c : Card) (term : Term) → needs_note term ≡ false → needs_deck term ≡ false
-    → IfSome told (λ held. Stays latest latest held.current.rows (Suits latest.related held.current.rows c term))
-none_suits None latest c term note deck = tt
-none_suits (Some held) latest c term note deck = λ is. (is, record { note = λ too. absurd (true_false too note); deck = λ too. absurd (true_false too deck) })
+pub none_suits : (told : Option (WithMark Holding)) (latest : Latest) (c : Card) (term : Term) → needs_texts term ≡ false → needs_note term ≡ false → needs_deck term ≡ false
+    → IfSome told (λ held. Stays latest latest held.current.rows (Suits latest held.current.rows c term))
+none_suits None latest c term no_texts no_note no_deck = tt
+none_suits (Some held) latest c term no_texts no_note no_deck = λ is.
+    (is, record { note = λ too. absurd (true_false too no_note); deck = λ too. absurd (true_false too no_deck); texts = λ too. absurd (true_false too no_texts) })
+
+-- ---- a search under way
+-- the answers that it was made with serve it, and nothing was looked up yet
+pub search_made : (told : Option (WithMark Holding)) (search : Search) (ps : List Piece) → pieces_in search.tokens.now ≡ ps → ((held : Rows) → AreLatest search.latest held)
+    → IfSome told (λ held. Serves search.context ps held.current.rows)
+    → IfSome told (λ held. (tree : Tree) → ps ≡ pieces_of tree → SearchesBy search held.current.rows search.context.day tree)
+search_made None search ps are latest answered = tt
+search_made (Some held) search ps are latest answered = λ tree is. record {
+  pieces = are ∙ is;
+  on = refl;
+  serves = subst (λ (qs : List Piece). Serves search.context qs held.current.rows) (sym are) answered;
+  latest = latest held.current.rows;
+}
 
 -- one more card was asked
 pub card_told : (told : Option (WithMark Holding)) (search : Search) (c : Card) (latest : Latest) (does : Bool)

@@ -1,16 +1,18 @@
-// What a card belongs to: its note, its type and its deck.
-ghost use Rattle.std.specs.Prelude.{◌≡◌, true, Some};
+// What a card belongs to: its note, its type and its deck, and the texts of the note. What was looked up last is kept.
+ghost use Rattle.std.specs.Prelude.{◌≡◌, true, IfOk, OnOk, Some};
 ghost use Rattle.std.specs.Option.{option_map};
 ghost use Rattle.ak_base.specs.declared.notes.Note.{Note as Noted};
 ghost use Rattle.ak_keep.specs.Collections.{Rows};
 ghost use Rattle.ak_keep.specs.Lookups.{note_at, deck_of_card};
 ghost use Rattle.ak_keep.specs.Readings.{ReadsBy};
 ghost use Rattle.ak_search.specs.CardFacts.{type_of};
-ghost use Rattle.ak_search.specs.Passes.{AreLatest, Stays, Suits, needs_note, needs_deck};
+ghost use Rattle.ak_search.specs.Passes.{AreLatest, HasNoteOf, HasTexts, KeepsTexts, Stays, Suits, needs_note, needs_deck, needs_texts, texts_seen};
 
 use crate::Term;
-use ak_base::{Card, Deck, Note, NoteType};
+use crate::texts::stripped_fields;
+use ak_base::{Card, Deck, List, Memory, Note, NoteType, Text};
 use ak_keep::{KeepFault, Lookup, deck_of_card, note_at, note_type_at};
+use std::alloc::Global;
 
 /// What a card belongs to, each if it is held.
 #[derive(Debug, Drop)]
@@ -28,6 +30,8 @@ pub(crate) struct Latest {
     pub(crate) mid: Option<i64>,
     pub(crate) did: Option<i64>,
     pub(crate) related: Related,
+    /// The stripped texts of the note's fields, if a term asked for them since the note was looked up. None without a note.
+    pub(crate) texts: Option<List<Text>>,
 }
 
 impl Latest {
@@ -44,18 +48,23 @@ impl Latest {
                 note_type: None,
                 deck: None,
             },
+            texts: None,
         }
     }
 
     /// Looks up what the term asks for of the card, but for what was looked up last.
     pub(crate) fn turn_to<R: Lookup>(
         &mut self,
+        alloc: Global,
         from: &mut R,
         card: &Card,
         term: &Term,
     ) -> Result<(), KeepFault>
-        ensures reads { ReadsBy R.Lookup from.old from.new result (λ h _. Stays self.old self.new h.rows (Suits self.new.related h.rows card.now term.now)) }
+        ensures reads { ReadsBy R.Lookup from.old from.new result (λ h _. Stays self.old self.new h.rows (Suits self.new h.rows card.now term.now)) }
     {
+        if needs_texts(term) {
+            return self.turn_to_texts(alloc, from, card);
+        }
         if needs_note(term) {
             return self.turn_to_note(from, card);
         }
@@ -65,9 +74,36 @@ impl Latest {
         Ok(())
     }
 
+    /// Looks up the note of the card and its type, and strips its fields.
+    fn turn_to_texts<R: Lookup>(
+        &mut self,
+        alloc: Global,
+        from: &mut R,
+        card: &Card,
+    ) -> Result<(), KeepFault>
+        ensures reads { ReadsBy R.Lookup from.old from.new result (λ h _. Stays self.old self.new h.rows (HasNoteOf self.new h.rows card.now × HasTexts self.new)) }
+    {
+        self.turn_to_note(from, card)?;
+        self.strip_fields(alloc)?;
+        Ok(())
+    }
+
+    /// Strips the fields of the note that was looked up last, unless that was done.
+    fn strip_fields(&mut self, alloc: Global) -> Result<(), Memory>
+        ensures same { self.new ≡ record self.old { texts = self.new.texts } }
+        ensures texts { OnOk result (KeepsTexts self.old → HasTexts self.new) }
+    {
+        if self.texts.is_some() {
+            return Ok(());
+        }
+        let texts = texts_of(alloc, &self.related)?;
+        self.texts = texts;
+        Ok(())
+    }
+
     /// Looks up the note of the card and its type.
     fn turn_to_note<R: Lookup>(&mut self, from: &mut R, card: &Card) -> Result<(), KeepFault>
-        ensures reads { ReadsBy R.Lookup from.old from.new result (λ h _. Stays self.old self.new h.rows ((self.new.related.note ≡ note_at h.rows card.now.nid) × (self.new.related.note_type ≡ type_of h.rows (note_at h.rows card.now.nid)))) }
+        ensures reads { ReadsBy R.Lookup from.old from.new result (λ h _. Stays self.old self.new h.rows (HasNoteOf self.new h.rows card.now)) }
     {
         self.look_up_note(from, card.nid)?;
         self.look_up_type(from)
@@ -82,6 +118,7 @@ impl Latest {
         }
         let note = note_at(from, id)?;
         self.related.note = note;
+        self.texts = None;
         self.nid = Some(id);
         Ok(())
     }
@@ -94,6 +131,7 @@ impl Latest {
             Some(id) => self.look_up_type_at(from, id),
             None => {
                 self.related.note_type = None;
+                self.texts = None;
                 self.mid = None;
                 Ok(())
             }
@@ -110,6 +148,7 @@ impl Latest {
         }
         let note_type = note_type_at(from, id)?;
         self.related.note_type = note_type;
+        self.texts = None;
         self.mid = Some(id);
         Ok(())
     }
@@ -145,6 +184,31 @@ fn type_id(note: &Option<Note>) -> Option<i64>
     match note {
         Some(note) => Some(note.mid),
         None => None,
+    }
+}
+
+/// The stripped texts of the note's fields, if there is a note.
+fn texts_of(alloc: Global, related: &Related) -> Result<Option<List<Text>>, Memory>
+    ensures { IfOk result (λ texts. texts ≡ option_map (texts_seen related.now.note_type) related.now.note) }
+{
+    match &related.note {
+        Some(note) => {
+            let texts = stripped_fields(alloc, note, &related.note_type)?;
+            Ok(Some(texts))
+        }
+        None => Ok(None),
+    }
+}
+
+/// Whether a term asks for the texts of a note's fields.
+fn needs_texts(term: &Term) -> bool
+    ensures { result ≡ needs_texts term.now }
+{
+    match term {
+        Term::Contains(_) => true,
+        Term::Word(_) => true,
+        Term::Field(_, _) => true,
+        _ => false,
     }
 }
 

@@ -232,7 +232,7 @@ fn holds_of<R: Lookup>(
 ) -> Result<bool, KeepFault>
     ensures reads { ReadsBy R.Lookup from.old from.new result (λ h does. Stays latest.old latest.new h.rows (does ≡ tested context.now h.rows card.now term.now)) }
 {
-    latest.turn_to(from, card, term)?;
-    let does = context.holds(card, &latest.related, term)?;
+    latest.turn_to(context.alloc, from, card, term)?;
+    let does = context.holds(card, latest, term)?;
     Ok(does)
 }

@@ -15,7 +15,7 @@ returns g c =
         same = note_type.same ∙ note.same;
         cause = cause_after note.cause.goes note_type.cause;
         told = IfOk-weaker c.look_up_type.result _ _
-            (λ _. both_told (g.R.Lookup.keeping c.args.from.now).told c.args.self.now c.look_up_note.new.self c.look_up_type.new.self c.args.card.now.nid (rw id at note.told))
+            (λ _. both_told (g.R.Lookup.keeping c.args.from.now).told c.args.self.now c.look_up_note.new.self c.look_up_type.new.self c.args.card.now (rw id at note.told))
             (rw note.same at note_type.told);
       };
     }
