@@ -8,20 +8,25 @@ use Rattle.std.proofs.lemmas.Bool.{and_parts, or_parts}
 use Rattle.std.proofs.Math.Bool.{or_assoc, or-false}
 use Rattle.ak_base.specs.declared.cards.Card.{Card}
 use Rattle.ak_base.specs.declared.days.Day.{Day}
+use Rattle.ak_base.specs.declared.decks.Deck.{Deck}
+use Rattle.ak_base.specs.declared.note_types.NoteType.{NoteType}
+use Rattle.ak_base.specs.declared.notes.Note.{Note}
 use Rattle.ak_base.specs.declared.rows.Row.{Row}
 use Rattle.ak_keep.specs.Collections.{Rows}
-use Rattle.ak_search.specs.declared.answers.Answers.{Answers}
-use Rattle.ak_search.specs.declared.holds.SearchContext.{SearchContext}
-use Rattle.ak_search.specs.declared.related.Related.{Related}
-use Rattle.ak_search.specs.declared.terms.Term.{Term}
-use Rattle.ak_search.specs.declared.terms.Term.TheVariants as terms
-use Rattle.ak_search.specs.declared.tokens.Piece.{Piece}
-use Rattle.ak_search.specs.declared.tokens.Piece.TheVariants.{Test, BadValue, Open, Close, Or, And, OpenQuote}
-use Rattle.ak_search.specs.declared.evaluator.Group.{Group as Outer}
-use Rattle.ak_search.specs.Holds.{held_and, holds}
 use Rattle.ak_search.specs.CardFacts.{Seen, seen, is_since, is_answer, is_answered, is_answer_in}
+use Rattle.ak_search.specs.Holds.{held_and, holds, path_matches}
 use Rattle.ak_search.specs.Meanings.{walk, negated_by}
-use Rattle.ak_search.specs.Passes.{AreAnswersOf, Serves, related_in, asked, needs_answers, needs_related, is_shown, pair_cmp, seen_by, some_term}
+use Rattle.ak_search.specs.Passes.{AreAnswersOf, Serves, Suits, holds_by, related_in, asked, needs_answers, is_shown, pair_cmp, seen_by, some_term, tested}
+use Rattle.ak_search.specs.declared.answers.Answers.{Answers}
+use Rattle.ak_search.specs.declared.evaluator.Group.{Group as Outer}
+use Rattle.ak_search.specs.declared.holds.SearchContext.{SearchContext}
+use Rattle.ak_search.specs.declared.related.Latest.{Latest}
+use Rattle.ak_search.specs.declared.related.Related.{Related}
+use Rattle.ak_search.specs.declared.terms.Term.TheVariants as terms
+use Rattle.ak_search.specs.declared.terms.Term.{Term}
+use Rattle.ak_search.specs.declared.tokens.Piece.TheVariants.{Test, BadValue, Open, Close, Or, And, OpenQuote}
+use Rattle.ak_search.specs.declared.tokens.Piece.{Piece}
+use Rattle.ak_search.proofs.Stripping.{by_texts}
 
 -- ---- the later of two ids
 pub later_since : (one other least : ℤ) → int_lt one other ≡ true → is_since other least ≡ (is_since one least || is_since other least)
@@ -56,25 +61,36 @@ same_unless day s f (terms.Edited days) h = refl
 same_unless day s f (terms.NoteIds ids) h = refl
 same_unless day s f (terms.CardIds ids) h = refl
 
--- a term that asks for the card alone holds whatever is around it
-same_related : (day : Day) (answers : Answers) (c : Card) (one other : Related) (term : Term) → needs_related term ≡ false → holds day (seen_by answers c one) term ≡ holds day (seen_by answers c other) term
-same_related day answers c one other (terms.Contains pattern) h = grind (arith, h)
-same_related day answers c one other (terms.Word pattern) h = grind (arith, h)
-same_related day answers c one other (terms.Field name pattern) h = grind (arith, h)
-same_related day answers c one other (terms.Deck pattern) h = grind (arith, h)
-same_related day answers c one other (terms.Tag pattern) h = grind (arith, h)
-same_related day answers c one other terms.Untagged h = grind (arith, h)
-same_related day answers c one other (terms.NoteType pattern) h = grind (arith, h)
-same_related day answers c one other (terms.Template pattern) h = grind (arith, h)
-same_related day answers c one other (terms.InState state) h = refl
-same_related day answers c one other (terms.Prop what comparison bound) h = refl
-same_related day answers c one other (terms.Flag number) h = refl
-same_related day answers c one other (terms.Rated days) h = refl
-same_related day answers c one other (terms.RatedWith days ease) h = refl
-same_related day answers c one other (terms.Added days) h = refl
-same_related day answers c one other (terms.Edited days) h = grind (arith, h)
-same_related day answers c one other (terms.NoteIds ids) h = refl
-same_related day answers c one other (terms.CardIds ids) h = refl
+-- a term holds the same of a card with what it asks for
+by_note : (day : Day) (answers : Answers) (c : Card) (one other : Related) (term : Term) → (one.note ≡ other.note) × (one.note_type ≡ other.note_type)
+    → holds day (seen_by answers c one) term ≡ holds day (seen_by answers c (record { note = other.note; note_type = other.note_type; deck = one.deck })) term
+by_note day answers c one other term h =
+    ap (λ (n : Option Note). holds day (seen_by answers c (record { note = n; note_type = one.note_type; deck = one.deck })) term) h.0
+    ∙ ap (λ (t : Option NoteType). holds day (seen_by answers c (record { note = other.note; note_type = t; deck = one.deck })) term) h.1
+
+suited : (day : Day) (answers : Answers) (held : Rows) (c : Card) (one : Latest) (term : Term) → Suits one held c term → holds day (seen_by answers c one.related) term ≡ holds day (seen_by answers c (related_in held c)) term
+suited day answers held c one (terms.Contains pattern) h = by_note day answers c one.related (related_in held c) (terms.Contains pattern) (h.note refl)
+suited day answers held c one (terms.Word pattern) h = by_note day answers c one.related (related_in held c) (terms.Word pattern) (h.note refl)
+suited day answers held c one (terms.Field name pattern) h = by_note day answers c one.related (related_in held c) (terms.Field name pattern) (h.note refl)
+suited day answers held c one (terms.Deck pattern) h = ap (held_and (λ (d : Deck). path_matches pattern d.name)) (h.deck refl)
+suited day answers held c one (terms.Tag pattern) h = by_note day answers c one.related (related_in held c) (terms.Tag pattern) (h.note refl)
+suited day answers held c one terms.Untagged h = by_note day answers c one.related (related_in held c) terms.Untagged (h.note refl)
+suited day answers held c one (terms.NoteType pattern) h = by_note day answers c one.related (related_in held c) (terms.NoteType pattern) (h.note refl)
+suited day answers held c one (terms.Template pattern) h = by_note day answers c one.related (related_in held c) (terms.Template pattern) (h.note refl)
+suited day answers held c one (terms.InState state) h = refl
+suited day answers held c one (terms.Prop what comparison bound) h = refl
+suited day answers held c one (terms.Flag number) h = refl
+suited day answers held c one (terms.Rated days) h = refl
+suited day answers held c one (terms.RatedWith days ease) h = refl
+suited day answers held c one (terms.Added days) h = refl
+suited day answers held c one (terms.Edited days) h = by_note day answers c one.related (related_in held c) (terms.Edited days) (h.note refl)
+suited day answers held c one (terms.NoteIds ids) h = refl
+suited day answers held c one (terms.CardIds ids) h = refl
+
+-- what a term does of a card, by what was looked up for it
+pub tests_as : (context : SearchContext) (held : Rows) (c : Card) (one : Latest) (term : Term) (does : Bool) → does ≡ holds_by context.day context.answers c one term → Suits one held c term
+    → does ≡ tested context held c term
+tests_as context held c one term does is suits = is ∙ by_texts context.day context.answers c one term suits.texts ∙ suited context.day context.answers held c one term suits
 
 -- two tests that agree on all terms but some lead to the same where none of those is asked
 same_walk : (apart f g : Term → Bool) → ((term : Term) → apart term ≡ false → f term ≡ g term) → (outer : List Outer) (either all : Bool) (ps : List Piece) → some_term apart ps ≡ false → walk f outer either all ps ≡ walk g outer either all ps
@@ -90,15 +106,7 @@ same_walk apart f g same outer either all (Or ∷ ps) h = same_walk apart f g sa
 same_walk apart f g same outer either all (And ∷ ps) h = same_walk apart f g same outer either all ps h
 same_walk apart f g same outer either all (OpenQuote ∷ ps) h = same_walk apart f g same outer either all ps h
 
--- what is seen of a card decides as what is held does, first by what it belongs to and then by the answers
-by_related : (day : Day) (held : Rows) (context : SearchContext) (c : Card) (related : Related) (ps : List Piece) → (some_term needs_related ps ≡ true → context.needs_related ≡ true) → (context.needs_related ≡ true → related ≡ related_in held c)
-    → asked ps (holds day (seen_by context.answers c related)) ≡ asked ps (holds day (seen_by context.answers c (related_in held c)))
-by_related day held context c related ps looks is =
-    elim (some_term needs_related ps) as (λ b. some_term needs_related ps ≡ b → asked ps (holds day (seen_by context.answers c related)) ≡ asked ps (holds day (seen_by context.answers c (related_in held c)))) [
-      | true ↦ λ asks. ap (λ (a : Related). asked ps (holds day (seen_by context.answers c a))) (is (looks asks))
-      | false ↦ λ asks. same_walk needs_related (holds day (seen_by context.answers c related)) (holds day (seen_by context.answers c (related_in held c))) (same_related day context.answers c related (related_in held c)) [] false true ps asks
-    ] refl
-
+-- what is seen of a card decides as what is held does
 by_answers : (day : Day) (held : Rows) (answers : Answers) (c : Card) (ps : List Piece) → (some_term needs_answers ps ≡ true → AreAnswersOf answers held)
     → asked ps (holds day (seen_by answers c (related_in held c))) ≡ asked ps (holds day (seen held c))
 by_answers day held answers c ps serve =
@@ -109,9 +117,8 @@ by_answers day held answers c ps serve =
       | false ↦ λ asks. same_walk needs_answers (holds day (seen_by answers c (related_in held c))) (holds day (seen held c)) (λ term h. same_unless day (seen_by answers c (related_in held c)) (is_answered held c.id) term h) [] false true ps asks
     ] refl
 
-pub serves : (day : Day) (held : Rows) (context : SearchContext) (c : Card) (related : Related) (ps : List Piece) → Serves context ps held → (context.needs_related ≡ true → related ≡ related_in held c)
-    → asked ps (holds day (seen_by context.answers c related)) ≡ asked ps (holds day (seen held c))
-serves day held context c related ps serve is = by_related day held context c related ps serve.related is ∙ by_answers day held context.answers c ps serve.answers
+pub serves : (context : SearchContext) (held : Rows) (c : Card) (ps : List Piece) → Serves context ps held → asked ps (tested context held c) ≡ asked ps (holds context.day (seen held c))
+serves context held c ps serve = by_answers context.day held context.answers c ps serve
 
 -- ---- one more review
 pub added : (old new : Answers) (cid own last id cid' own' last' : ℤ) → cid' ≡ cid → own' ≡ own → last' ≡ last
@@ -137,7 +144,7 @@ added old new cid own last id cid' own' last' cid_is own_is last_is puts since c
       | false ↦ λ e. sym (or-false (is_shown old card ease least))
     ] refl
 
--- what a read_related-up by such numbers found
+-- what a look-up by such numbers found
 pub looked_up : (answers : Answers) (card ease least card' ease' : ℤ) (found : Option ℤ) → card' ≡ card → ease' ≡ ease → found ≡ get pair_cmp answers.last (card', ease')
     → held_and (λ (last : ℤ). is_since last least) found ≡ is_shown answers card ease least
 looked_up answers card ease least card' ease' found card_is ease_is is =

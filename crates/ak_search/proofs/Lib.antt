@@ -11,5 +11,6 @@ pub mod Passing
 pub mod Places
 pub mod Sets
 pub mod Skipping
+pub mod Stripping
 pub mod Telling
 pub mod Walking

@@ -6,6 +6,7 @@ pub mod Matching
 pub mod Meanings
 pub mod Passes
 pub mod Patterns
+pub mod Searching
 pub mod SourceChars
 pub mod Terms
 pub mod Tokens

@@ -2,7 +2,7 @@
 ghost use Rattle.std.specs.Prelude.{◌≡◌, ◌≤◌, ◌∷◌, ◌&&◌, ◌||◌, not, Bool, true, false, [], List, length, Some, OnOk, IfSome};
 ghost use Rattle.ak_search.specs.Grammar.{pieces_in};
 ghost use Rattle.ak_search.specs.Meanings.{negated_by, walk};
-ghost use Rattle.ak_search.specs.Passes.{behind_group, evaluated_from};
+ghost use Rattle.ak_search.specs.Passes.{Tells, behind_group, evaluated_from};
 ghost use Rattle.ak_search.specs.declared.terms.Term.{Term as Asked};
 ghost use Rattle.ak_search.specs.declared.tokens.Piece.{Piece as Part};
 ghost use Rattle.ak_search.specs.declared.tokens.Piece.TheVariants as pieces;
@@ -72,15 +72,31 @@ impl Evaluator {
         }
     }
 
+    /// Goes past the piece. If it is a term, `does` says whether it holds of the card.
+    pub(crate) fn take(&mut self, piece: &Piece, does: bool) -> Result<(), Memory>
+        ensures { OnOk result ((holds : Asked → Bool) (ps : List Part) → Tells piece.now holds does → evaluated_from self.old holds (piece.now ∷ ps) ≡ evaluated_from self.new holds ps) }
+    {
+        match piece {
+            Piece::Test(negated, _) => self.test(*negated, does),
+            Piece::Open(negated) => self.open(*negated)?,
+            Piece::Close => self.close(),
+            Piece::Or => self.or(),
+            Piece::And => {}
+            Piece::BadValue => {}
+            Piece::OpenQuote => {}
+        }
+        Ok(())
+    }
+
     /// A term, and whether the card meets it.
-    pub(crate) fn test(&mut self, negated: bool, holds: bool)
+    fn test(&mut self, negated: bool, holds: bool)
         ensures { self.new ≡ record self.old { all = self.old.all && negated_by negated holds } }
     {
         self.all = self.all && negated_by(negated, holds);
     }
 
     /// A group begins.
-    pub(crate) fn open(&mut self, negated: bool) -> Result<(), Memory>
+    fn open(&mut self, negated: bool) -> Result<(), Memory>
         ensures outer { OnOk result (self.new.outer.items ≡ record { negated = negated; either = self.old.either; all = self.old.all } ∷ self.old.outer.items) }
         ensures either { OnOk result (self.new.either ≡ false) }
         ensures all { OnOk result (self.new.all ≡ true) }
@@ -96,7 +112,7 @@ impl Evaluator {
     }
 
     /// The innermost open group ends. Without one, nothing happens.
-    pub(crate) fn close(&mut self)
+    fn close(&mut self)
         ensures { (holds : Asked → Bool) (ps : List Part) → walk holds self.old.outer.items self.old.either self.old.all (pieces.Close ∷ ps) ≡ walk holds self.new.outer.items self.new.either self.new.all ps }
     {
         if let Some(group) = self.outer.pop_front() {
@@ -107,7 +123,7 @@ impl Evaluator {
     }
 
     /// An `or`: what was met before it is enough.
-    pub(crate) fn or(&mut self)
+    fn or(&mut self)
         ensures { self.new ≡ record self.old { either = self.old.either || self.old.all; all = true } }
     {
         self.either = self.either || self.all;

@@ -1,22 +1,23 @@
 // Whether a term holds of a card and what it belongs to.
 ghost use Rattle.std.specs.Prelude.{◌≡◌, ◌||◌, [], ◌∷◌, ℤ, pos, slice_get, Some, None, IfOk, IfSome, IfNone};
+ghost use Rattle.std.specs.List.{list_any};
 ghost use Rattle.ak_base.specs.declared.decks.Deck.{Deck as Kept};
-ghost use Rattle.ak_search.specs.Holds.{held_and, passes, path_matches, field_matches, has_tag, is_untagged, is_type, is_edited, is_place, is_template, answered_since, id_back, holds};
-ghost use Rattle.ak_search.specs.CardFacts.{some_field, template_at};
-ghost use Rattle.ak_search.specs.Passes.{is_shown, seen_by};
+ghost use Rattle.ak_search.specs.Holds.{held_and, passes, path_matches, has_tag, is_untagged, is_type, is_edited, is_place, is_template, answered_since, id_back};
+ghost use Rattle.ak_search.specs.CardFacts.{template_at};
+ghost use Rattle.ak_search.specs.Passes.{field_passes, holds_by, is_shown};
 ghost use Rattle.ak_search.specs.Patterns.{matches};
 
 use crate::answers::Answers;
 use crate::patterns::are_letters;
-use crate::related::Related;
+use crate::related::Latest;
 use crate::states::{
     has_flag, id_back, is_in_state, is_listed, is_since, meets_bound, second_back,
 };
 use crate::texts::{
-    MatchMode, is_untagged, named_field_matches, path_matches, some_field_passes, some_tag_matches,
+    MatchMode, is_untagged, named_text_matches, path_matches, some_tag_matches, some_text_passes,
 };
 use crate::{PatternItem, Term, matches};
-use ak_base::{Card, CardTemplate, Day, Deck, Memory, Note, NoteType};
+use ak_base::{Card, CardTemplate, Day, Deck, List, Memory, Note, NoteType, Text};
 use std::alloc::Global;
 
 /// What is asked with: the day, and the answers that cards got.
@@ -25,8 +26,6 @@ pub(crate) struct SearchContext {
     pub(crate) alloc: Global,
     pub(crate) day: Day,
     pub(crate) answers: Answers,
-    /// Whether some term needs what a card belongs to.
-    pub(crate) needs_related: bool,
 }
 
 impl SearchContext {
@@ -48,32 +47,31 @@ impl SearchContext {
             || self.is_answered(card, days, &4)
     }
 
-    /// Whether the term holds of the card.
-    pub(crate) fn holds(&self, card: &Card, related: &Related, term: &Term) -> Result<bool, Memory>
-        ensures { IfOk result (λ does. does ≡ holds self.now.day (seen_by self.now.answers card.now related.now) term.now) }
+    /// Whether the term holds of the card, by what was looked up for it.
+    pub(crate) fn holds(&self, card: &Card, latest: &Latest, term: &Term) -> Result<bool, Memory>
+        ensures { IfOk result (λ does. does ≡ holds_by self.now.day self.now.answers card.now latest.now term.now) }
     {
         let alloc = self.alloc;
+        let related = &latest.related;
         match term {
-            Term::Contains(pattern) => note_passes(
+            Term::Contains(pattern) => some_passes(
                 alloc,
                 MatchMode::Whole,
                 pattern.as_slice(),
-                &related.note,
-                &related.note_type,
+                &latest.texts,
             ),
-            Term::Word(pattern) => note_passes(
+            Term::Word(pattern) => some_passes(
                 alloc,
                 MatchMode::Spaced,
                 pattern.as_slice(),
-                &related.note,
-                &related.note_type,
+                &latest.texts,
             ),
             Term::Field(name, pattern) => field_matches(
                 alloc,
                 name.as_str(),
                 pattern.as_slice(),
-                &related.note,
                 &related.note_type,
+                &latest.texts,
             ),
             Term::Deck(pattern) => deck_matches(alloc, pattern.as_slice(), &related.deck),
             Term::Tag(pattern) => tag_matches(alloc, pattern.as_slice(), &related.note),
@@ -104,35 +102,40 @@ impl SearchContext {
     }
 }
 
-/// Whether some field passes. It does not without a note.
-fn note_passes(
+/// Whether some text passes. None does without a note.
+fn some_passes(
     alloc: Global,
     mode: MatchMode,
     pattern: &[PatternItem],
-    note: &Option<Note>,
-    note_type: &Option<NoteType>,
+    texts: &Option<List<Text>>,
 ) -> Result<bool, Memory>
-    ensures { IfOk result (λ does. does ≡ held_and (some_field (passes mode pattern.now) note_type.now) note.now) }
+    ensures { IfOk result (λ does. does ≡ held_and (list_any (passes mode pattern.now)) texts.now) }
 {
-    match note {
-        Some(note) => some_field_passes(alloc, mode, pattern, note, note_type),
+    match texts {
+        Some(texts) => some_text_passes(alloc, mode, pattern, texts.as_slice()),
         None => Ok(false),
     }
 }
 
-/// Whether the field of that name matches. It does not without a note or its type.
+/// Whether the text of the field of that name matches. It does not without a note or its type.
 fn field_matches(
     alloc: Global,
     name: &str,
     pattern: &[PatternItem],
-    note: &Option<Note>,
     note_type: &Option<NoteType>,
+    texts: &Option<List<Text>>,
 ) -> Result<bool, Memory>
-    ensures { IfOk result (λ does. does ≡ field_matches name.now pattern.now note.now note_type.now) }
+    ensures { IfOk result (λ does. does ≡ field_passes name.now pattern.now note_type.now texts.now) }
 {
-    match (note, note_type) {
-        (Some(note), Some(note_type)) => {
-            named_field_matches(alloc, name, pattern, note_type.fields.as_slice(), note)
+    match (note_type, texts) {
+        (Some(note_type), Some(texts)) => {
+            named_text_matches(
+                alloc,
+                name,
+                pattern,
+                note_type.fields.as_slice(),
+                texts.as_slice(),
+            )
         }
         _ => Ok(false),
     }

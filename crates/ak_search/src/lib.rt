@@ -31,6 +31,6 @@ pub use laws::{
 pub use matching::{matches, matches_spaced};
 pub use parses::{Expr, parse};
 pub use patterns::PatternItem;
-pub use searches::find;
+pub use searches::{Search, find};
 pub use terms::{Comparison, Property, State, Term};
 pub use tokens::Piece;

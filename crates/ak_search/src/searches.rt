@@ -1,24 +1,28 @@
-// Which cards meet an expression, in one pass over the cards of a keeper.
-ghost use Rattle.std.specs.Prelude.{◌≡◌, ◌∷◌, ◌++◌, [], true, ℤ, pos, List as Sequence, IfOk, OnOk, IsTrue};
+// Which cards meet an expression: a search that is asked card by card, and one pass over the cards of a keeper.
+ghost use Rattle.std.specs.Prelude.{◌≡◌, ◌++◌, [], ◌∷◌, true, ℤ, IfOk, OnErr, OnOk, IsTrue};
 ghost use Rattle.std.specs.List.Sorted.{IsStrictlySortedBy};
 ghost use Rattle.std.specs.Ordering.{int_cmp};
 ghost use Rattle.ak_base.specs.Rows.{name_of};
+ghost use Rattle.ak_base.specs.declared.days.Day.{Day as Dated};
 ghost use Rattle.ak_base.specs.declared.names.Table.TheVariants as tables;
-ghost use Rattle.ak_keep.specs.Collections.{AscendsPast, is_past, last_id, rows_past};
+ghost use Rattle.ak_keep.specs.Collections.{AscendsPast, is_past, last_id};
+ghost use Rattle.ak_keep.specs.Keepers.{WhereTold};
 ghost use Rattle.ak_keep.specs.Readings.{ReadsBy};
+ghost use Rattle.ak_search.specs.CardFacts.{seen};
 ghost use Rattle.ak_search.specs.Grammar.{pieces_in};
-ghost use Rattle.ak_search.specs.Holds.{holds, hits, is_hit, ids_of_hits};
-ghost use Rattle.ak_search.specs.Passes.{AreAnswersOf, Serves, TakesFrom, related_in, asked, needs_answers, needs_related, seen_by, some_term, evaluated_from};
+ghost use Rattle.ak_search.specs.Holds.{asked_by, holds, hits, is_hit, ids_of_hits};
+ghost use Rattle.ak_search.specs.Meanings.{meets};
+ghost use Rattle.ak_search.specs.Passes.{AreAnswersOf, Stays, Tells, TakesFrom, asked, needs_answers, some_term, tested};
+ghost use Rattle.ak_search.specs.Searching.{SearchStays, SearchesBy};
 ghost use Rattle.ak_search.specs.Trees.{Tree, pieces_of};
-ghost use Rattle.ak_search.specs.declared.tokens.Piece.{Piece as Part};
 
 use crate::answers::{Answers, read_answers};
 use crate::evaluator::Evaluator;
 use crate::holds::SearchContext;
-use crate::related::{Related, read_related};
+use crate::related::Latest;
 use crate::tokens::{Piece, Token};
 use crate::{Expr, Term};
-use ak_base::{Card, Day, List, Memory, Row, Table};
+use ak_base::{Card, Day, List, Row, Table};
 use ak_keep::{KeepFault, Lookup, Readable, Walk};
 use std::alloc::Global;
 
@@ -34,14 +38,63 @@ pub fn find<R: Readable>(
     ensures reads { ReadsBy R.Lookup from.old from.new result (λ h ids. (tree : Tree) → pieces_in expr.now.tokens.items ≡ pieces_of tree → ids ≡ hits h.rows day tree) }
     ensures ascend { IfOk result (λ ids. IsStrictlySortedBy int_cmp ids) }
 {
-    let answers = answers_for(alloc, &expr.tokens, from)?;
-    let context = SearchContext {
-        alloc,
-        day,
-        answers,
-        needs_related: some_needs_related(&expr.tokens),
-    };
-    search(&context, &expr.tokens, from)
+    let mut search = Search::over(alloc, expr, from, day)?;
+    let mut found = List::new(alloc);
+    let mut walk = Walk::over(Table::Card);
+    'pages: while !walk.is_done() {
+        let page = walk.next(from)?;
+        take_rows(&mut search, from, page.as_slice(), &mut found)?;
+    }
+    Ok(found)
+}
+
+/// A search that is asked card by card: an expression, and the answers that it asks for. It keeps what it looked up
+/// last, so cards of one note, type or deck are best asked one after the other. The collection must stay as it was.
+#[derive(Debug, Drop)]
+pub struct Search<'a> {
+    pub(crate) tokens: &'a [Token],
+    pub(crate) context: SearchContext,
+    pub(crate) latest: Latest,
+}
+
+impl<'a> Search<'a> {
+    /// A search over the expression on that day. Reviews are read here, and only for an expression that asks for answers.
+    pub fn over<R: Readable>(
+        alloc: Global,
+        expr: &'a Expr,
+        from: &mut R,
+        day: Day,
+    ) -> Result<Search<'a>, KeepFault>
+        // It searches by the tree that was read.
+        ensures reads { ReadsBy R.Lookup from.old from.new result (λ h search. (tree : Tree) → pieces_in expr.now.tokens.items ≡ pieces_of tree → SearchesBy search h.rows day tree) }
+    {
+        let answers = answers_for(alloc, &expr.tokens, from)?;
+        Ok(Search {
+            tokens: &expr.tokens,
+            context: SearchContext {
+                alloc,
+                day,
+                answers,
+            },
+            latest: Latest::nothing(),
+        })
+    }
+
+    /// Whether the card meets the expression. It need not be held itself.
+    pub fn meets<R: Lookup>(&mut self, from: &mut R, card: &Card) -> Result<bool, KeepFault>
+        ensures reads { ReadsBy R.Lookup from.old from.new result (λ h does. SearchStays self.old self.new h.rows (λ day tree. does ≡ meets (holds day (seen h.rows card.now)) tree)) }
+
+        // After a refusal it can be asked again.
+        ensures err { OnErr result (WhereTold (R.keeping from.old) (λ h. (day : Dated) (tree : Tree) → SearchesBy self.old h.rows day tree → SearchesBy self.new h.rows day tree)) }
+    {
+        match meets(&self.context, self.tokens, from, &mut self.latest, card) {
+            Ok(does) => Ok(does),
+            Err(fault) => {
+                self.latest = Latest::nothing();
+                Err(fault)
+            }
+        }
+    }
 }
 
 /// The answers in the reviews, if some term asks for them, and none if not.
@@ -84,69 +137,19 @@ fn needs_answers(term: &Term) -> bool
     }
 }
 
-/// Whether some term asks for more than the card and its answers.
-fn some_needs_related(tokens: &[Token]) -> bool
-    ensures { result ≡ some_term needs_related (pieces_in tokens.now) }
-{
-    for token in tokens {
-        if let Piece::Test(_, term) = &token.piece {
-            if needs_related(term) {
-                return true;
-            }
-        }
-    }
-    false
-}
-
-/// Whether a term asks for more than the card and its answers.
-fn needs_related(term: &Term) -> bool
-    ensures { result ≡ needs_related term.now }
-{
-    match term {
-        Term::InState(_) => false,
-        Term::Prop(_, _, _) => false,
-        Term::Flag(_) => false,
-        Term::Rated(_) => false,
-        Term::RatedWith(_, _) => false,
-        Term::Added(_) => false,
-        Term::NoteIds(_) => false,
-        Term::CardIds(_) => false,
-        _ => true,
-    }
-}
-
-/// The ids of the cards that meet the tokens, a page of cards at a time.
-fn search<R: Readable>(
-    context: &SearchContext,
-    tokens: &[Token],
-    from: &mut R,
-) -> Result<List<i64>, KeepFault>
-    ensures reads { ReadsBy R.Lookup from.old from.new result (λ h ids. Serves context.now (pieces_in tokens.now) h.rows → ids ≡ ids_of_hits (asked (pieces_in tokens.now)) h.rows context.now.day (rows_past tables.Card (pos 0) h.rows)) }
-    ensures ascend { IfOk result (λ ids. IsStrictlySortedBy int_cmp ids) }
-{
-    let mut found = List::new(context.alloc);
-    let mut walk = Walk::over(Table::Card);
-    'pages: while !walk.is_done() {
-        let page = walk.next(from)?;
-        take_rows(context, tokens, from, page.as_slice(), &mut found)?;
-    }
-    Ok(found)
-}
-
 /// Adds the ids of the hits among the rows.
 fn take_rows<R: Lookup>(
-    context: &SearchContext,
-    tokens: &[Token],
+    search: &mut Search<'_>,
     from: &mut R,
     rows: &[Row],
     found: &mut List<i64>,
 ) -> Result<(), KeepFault>
-    ensures reads { ReadsBy R.Lookup from.old from.new result (λ h _. Serves context.now (pieces_in tokens.now) h.rows → found.new ≡ found.old ++ ids_of_hits (asked (pieces_in tokens.now)) h.rows context.now.day rows.now) }
+    ensures reads { ReadsBy R.Lookup from.old from.new result (λ h _. SearchStays search.old search.new h.rows (λ day tree. found.new ≡ found.old ++ ids_of_hits (asked_by tree) h.rows day rows.now)) }
     ensures ascend { OnOk result ((past : ℤ) → AscendsPast tables.Card past rows.now → TakesFrom found.old past → TakesFrom found.new (last_id past rows.now)) }
 {
     let mut rest = rows;
     while let Some((row, others)) = rest.split_first() {
-        take_row(context, tokens, from, row, found)?;
+        take_row(search, from, row, found)?;
         rest = others;
     }
     Ok(())
@@ -154,63 +157,39 @@ fn take_rows<R: Lookup>(
 
 /// Adds the id of the row, if it is a hit.
 fn take_row<R: Lookup>(
-    context: &SearchContext,
-    tokens: &[Token],
+    search: &mut Search<'_>,
     from: &mut R,
     row: &Row,
     found: &mut List<i64>,
 ) -> Result<(), KeepFault>
-    ensures reads { ReadsBy R.Lookup from.old from.new result (λ h _. Serves context.now (pieces_in tokens.now) h.rows → found.new ≡ found.old ++ ids_of_hits (asked (pieces_in tokens.now)) h.rows context.now.day (row.now ∷ [])) }
+    ensures reads { ReadsBy R.Lookup from.old from.new result (λ h _. SearchStays search.old search.new h.rows (λ day tree. found.new ≡ found.old ++ ids_of_hits (asked_by tree) h.rows day (row.now ∷ []))) }
     ensures ascend { OnOk result ((past : ℤ) → IsTrue (is_past tables.Card past (name_of row.now)) → TakesFrom found.old past → TakesFrom found.new (name_of row.now).id) }
 {
-    if is_hit(context, tokens, from, row)? {
+    if is_hit(search, from, row)? {
         found.push(row.name().id)?;
     }
     Ok(())
 }
 
-/// Whether the row is a card that meets the tokens.
-fn is_hit<R: Lookup>(
-    context: &SearchContext,
-    tokens: &[Token],
-    from: &mut R,
-    row: &Row,
-) -> Result<bool, KeepFault>
-    ensures reads { ReadsBy R.Lookup from.old from.new result (λ h is. Serves context.now (pieces_in tokens.now) h.rows → is ≡ is_hit (asked (pieces_in tokens.now)) h.rows context.now.day row.now) }
+/// Whether the row is a card that meets the search.
+fn is_hit<R: Lookup>(search: &mut Search<'_>, from: &mut R, row: &Row) -> Result<bool, KeepFault>
+    ensures reads { ReadsBy R.Lookup from.old from.new result (λ h is. SearchStays search.old search.new h.rows (λ day tree. is ≡ is_hit (asked_by tree) h.rows day row.now)) }
 {
     match row {
-        Row::Card(card) => {
-            let related = related_if_needed(context, from, card)?;
-            let is = meets(context, card, &related, tokens)?;
-            Ok(is)
-        }
+        Row::Card(card) => search.meets(from, card),
         _ => Ok(false),
     }
 }
 
-/// What the card belongs to, and nothing if no term asks for it.
-fn related_if_needed<R: Lookup>(
+/// Whether the card meets the tokens. What no longer matters is not asked, and not looked up.
+fn meets<R: Lookup>(
     context: &SearchContext,
-    from: &mut R,
-    card: &Card,
-) -> Result<Related, KeepFault>
-    ensures reads { ReadsBy R.Lookup from.old from.new result (λ h related. context.now.needs_related ≡ true → related ≡ related_in h.rows card.now) }
-{
-    if context.needs_related {
-        read_related(from, card)
-    } else {
-        Ok(Related::nothing())
-    }
-}
-
-/// Whether the card meets the tokens. What no longer matters is not asked.
-fn meets(
-    context: &SearchContext,
-    card: &Card,
-    related: &Related,
     tokens: &[Token],
-) -> Result<bool, Memory>
-    ensures { IfOk result (λ does. does ≡ asked (pieces_in tokens.now) (holds context.now.day (seen_by context.now.answers card.now related.now))) }
+    from: &mut R,
+    latest: &mut Latest,
+    card: &Card,
+) -> Result<bool, KeepFault>
+    ensures reads { ReadsBy R.Lookup from.old from.new result (λ h does. Stays latest.old latest.new h.rows (does ≡ asked (pieces_in tokens.now) (tested context.now h.rows card.now))) }
 {
     let mut evaluator = Evaluator::new(context.alloc);
     let mut rest = tokens;
@@ -218,7 +197,8 @@ fn meets(
         match evaluator.skip(&token.piece, others) {
             Some(behind) => rest = behind,
             None => {
-                take_piece(context, card, related, &mut evaluator, &token.piece)?;
+                let does = tells(context, from, latest, card, &token.piece)?;
+                evaluator.take(&token.piece, does)?;
                 rest = others;
             }
         }
@@ -226,27 +206,33 @@ fn meets(
     Ok(evaluator.holds())
 }
 
-/// Goes past one piece.
-fn take_piece(
+/// What the piece does of the card, if it is a term.
+fn tells<R: Lookup>(
     context: &SearchContext,
+    from: &mut R,
+    latest: &mut Latest,
     card: &Card,
-    related: &Related,
-    evaluator: &mut Evaluator,
     piece: &Piece,
-) -> Result<(), Memory>
-    ensures { OnOk result ((ps : Sequence Part) → let test = holds context.now.day (seen_by context.now.answers card.now related.now) in evaluated_from evaluator.old test (piece.now ∷ ps) ≡ evaluated_from evaluator.new test ps) }
+) -> Result<bool, KeepFault>
+    ensures reads { ReadsBy R.Lookup from.old from.new result (λ h does. Stays latest.old latest.new h.rows (Tells piece.now (tested context.now h.rows card.now) does)) }
 {
     match piece {
-        Piece::Test(negated, term) => {
-            let does = context.holds(card, related, term)?;
-            evaluator.test(*negated, does);
-        }
-        Piece::Open(negated) => evaluator.open(*negated)?,
-        Piece::Close => evaluator.close(),
-        Piece::Or => evaluator.or(),
-        Piece::And => {}
-        Piece::BadValue => {}
-        Piece::OpenQuote => {}
+        Piece::Test(_, term) => holds_of(context, from, latest, card, term),
+        _ => Ok(false),
     }
-    Ok(())
+}
+
+/// Whether the term holds of the card.
+fn holds_of<R: Lookup>(
+    context: &SearchContext,
+    from: &mut R,
+    latest: &mut Latest,
+    card: &Card,
+    term: &Term,
+) -> Result<bool, KeepFault>
+    ensures reads { ReadsBy R.Lookup from.old from.new result (λ h does. Stays latest.old latest.new h.rows (does ≡ tested context.now h.rows card.now term.now)) }
+{
+    latest.turn_to(context.alloc, from, card, term)?;
+    let does = context.holds(card, latest, term)?;
+    Ok(does)
 }

@@ -1,17 +1,18 @@
 // The fields and tags of a note, and the names that patterns are tried on.
-ghost use Rattle.std.specs.Prelude.{◌≡◌, ◌<◌, ◌∷◌, ◌++◌, ◌==◌, ◌&&◌, if◌then◌else◌, [], true, false, ℕ, List, codes, length, map, filter, IfOk, IfSome, IfNone};
+ghost use Rattle.std.specs.Prelude.{◌≡◌, ◌<◌, ◌∷◌, ◌++◌, ◌==◌, ◌&&◌, if◌then◌else◌, [], true, false, codes, length, map, filter, IfOk, IfSome, IfNone};
 ghost use Rattle.std.specs.List.{list_any, slice_split};
 ghost use Rattle.std.specs.Str.{str_eq_ignore_ascii_case};
 ghost use Rattle.ak_base.specs.NoteTexts.{fields_in, tags_in};
 ghost use Rattle.ak_filters.specs.Strips.{stripped};
 ghost use Rattle.ak_search.specs.Holds.{passes, path_matches};
-ghost use Rattle.ak_search.specs.CardFacts.{field_count, filled, some_field, named_field};
+ghost use Rattle.ak_search.specs.CardFacts.{field_count, filled};
 ghost use Rattle.ak_search.specs.Matching.{falses};
+ghost use Rattle.ak_search.specs.Passes.{named_text, texts_seen};
 ghost use Rattle.ak_search.specs.Patterns.{matches};
 
 use crate::matching::{first_row, may_end, read_on};
 use crate::{PatternItem, matches, matches_spaced};
-use ak_base::{FieldDef, Memory, Note, NoteType, next_part};
+use ak_base::{FieldDef, List, Memory, Note, NoteType, Text, next_part};
 use ak_template::strip;
 use std::alloc::Global;
 
@@ -99,18 +100,28 @@ fn are_none(names: &[&str]) -> bool
     names.is_empty()
 }
 
-/// Whether the stripped text of some field passes. Fields that the type has and the note lacks are empty.
-pub(crate) fn some_field_passes(
+/// The stripped texts of a note's fields, in their order. Those of fields that its type has and it lacks are empty.
+pub(crate) fn stripped_fields(
     alloc: Global,
-    mode: MatchMode,
-    pattern: &[PatternItem],
     note: &Note,
     note_type: &Option<NoteType>,
-) -> Result<bool, Memory>
-    ensures { IfOk result (λ does. does ≡ some_field (passes mode pattern.now) note_type.now note.now) }
+) -> Result<List<Text>, Memory>
+    ensures { IfOk result (λ texts. texts ≡ texts_seen note_type.now note.now) }
 {
     let fields = fields_of(alloc, note, field_count(note_type))?;
-    some_passes(alloc, mode, pattern, &fields)
+    strip_all(alloc, &fields)
+}
+
+/// Each text without its HTML and media.
+fn strip_all(alloc: Global, fields: &[&str]) -> Result<List<Text>, Memory>
+    ensures { IfOk result (λ texts. texts ≡ map stripped (map (λ text. text.now) fields.now)) }
+{
+    let mut texts = List::new(alloc);
+    for field in fields {
+        let text = strip(alloc, field)?;
+        texts.push(text)?;
+    }
+    Ok(texts)
 }
 
 /// The fields of a note whose type has so many, in their order. Those that it lacks are empty.
@@ -134,88 +145,73 @@ fn field_count(note_type: &Option<NoteType>) -> usize
     }
 }
 
-/// Whether the stripped text of some field passes.
-fn some_passes(
+/// Whether some text passes.
+pub(crate) fn some_text_passes(
     alloc: Global,
     mode: MatchMode,
     pattern: &[PatternItem],
-    fields: &[&str],
+    texts: &[Text],
 ) -> Result<bool, Memory>
-    ensures { IfOk result (λ does. does ≡ list_any (λ text. passes mode pattern.now (stripped text)) (map (λ text. text.now) fields.now)) }
+    ensures { IfOk result (λ does. does ≡ list_any (passes mode pattern.now) texts.now) }
 {
-    for field in fields {
-        if passes(alloc, mode, pattern, field)? {
+    for text in texts {
+        if passes(alloc, mode, pattern, text)? {
             return Ok(true);
         }
     }
     Ok(false)
 }
 
-/// Whether the stripped text of a field passes.
+/// Whether the text passes.
 fn passes(
     alloc: Global,
     mode: MatchMode,
     pattern: &[PatternItem],
-    field: &str,
+    text: &Text,
 ) -> Result<bool, Memory>
-    ensures { IfOk result (λ does. does ≡ passes mode pattern.now (stripped field.now)) }
+    ensures { IfOk result (λ does. does ≡ passes mode pattern.now text.now) }
 {
-    let text = strip(alloc, field)?;
     match mode {
         MatchMode::Whole => matches(alloc, pattern, text.as_str()),
         MatchMode::Spaced => matches_spaced(alloc, pattern, text.as_str()),
     }
 }
 
-/// Whether the stripped text of a field of that name matches whole. Fields that the note lacks are empty.
-pub(crate) fn named_field_matches(
+/// Whether the text of a field of that name matches whole. The texts are those of the fields, in their order.
+pub(crate) fn named_text_matches(
     alloc: Global,
     name: &str,
     pattern: &[PatternItem],
     fields: &[FieldDef],
-    note: &Note,
+    texts: &[Text],
 ) -> Result<bool, Memory>
-    ensures { IfOk result (λ does. does ≡ named_field name.now (matches pattern.now) fields.now (filled (length fields.now) (fields_in note.now.flds))) }
-{
-    let texts = fields_of(alloc, note, fields.len())?;
-    named_passes(alloc, name, pattern, fields, &texts)
-}
-
-/// Of the fields, in their order, and the texts that a note has for them.
-fn named_passes(
-    alloc: Global,
-    name: &str,
-    pattern: &[PatternItem],
-    fields: &[FieldDef],
-    texts: &[&str],
-) -> Result<bool, Memory>
-    ensures { IfOk result (λ does. does ≡ named_field name.now (matches pattern.now) fields.now (map (λ text. text.now) texts.now)) }
+    ensures { IfOk result (λ does. does ≡ named_text name.now (matches pattern.now) fields.now texts.now) }
 {
     match (fields.split_first(), texts.split_first()) {
         (Some((field, other_fields)), Some((text, other_texts))) => {
-            if is_named_and_passes(alloc, name, pattern, field.name.as_str(), text)? {
+            if is_named_and_matches(alloc, name, pattern, field.name.as_str(), text)? {
                 return Ok(true);
             }
-            named_passes(alloc, name, pattern, other_fields, other_texts)
+            named_text_matches(alloc, name, pattern, other_fields, other_texts)
         }
         _ => Ok(false),
     }
 }
 
-/// Whether the field has that name and its stripped text matches whole.
-fn is_named_and_passes(
+/// Whether the field has that name and its text matches whole.
+fn is_named_and_matches(
     alloc: Global,
     name: &str,
     pattern: &[PatternItem],
     own: &str,
-    text: &str,
+    text: &Text,
 ) -> Result<bool, Memory>
-    ensures { IfOk result (λ does. does ≡ (str_eq_ignore_ascii_case own.now name.now && matches pattern.now (stripped text.now))) }
+    ensures { IfOk result (λ does. does ≡ (str_eq_ignore_ascii_case own.now name.now && matches pattern.now text.now)) }
 {
     if !same_word(own, name) {
         return Ok(false);
     }
-    passes(alloc, MatchMode::Whole, pattern, text)
+    matches(alloc, pattern, text.as_str())
 }
 
 /// Whether two names are equal, the ASCII case aside.

@@ -1,0 +1,19 @@
+-- What a search that is asked card by card keeps true.
+use Rattle.std.specs.Prelude.{◌≡◌}
+use Rattle.ak_base.specs.declared.days.Day.{Day}
+use Rattle.ak_keep.specs.Collections.{Rows}
+use Rattle.ak_search.specs.Grammar.{pieces_in}
+use Rattle.ak_search.specs.Passes.{AreLatest, Serves}
+use Rattle.ak_search.specs.Trees.{Tree, pieces_of}
+use Rattle.ak_search.specs.declared.searches.Search.{Search}
+
+-- it asks what the tree asks on that day, its answers serve this collection, and what it looked up last is of it
+pub record SearchesBy (search : Search) (held : Rows) (day : Day) (tree : Tree) : Type 0 where
+  pub pieces : pieces_in search.tokens.now ≡ pieces_of tree
+  pub on : search.context.day ≡ day
+  pub serves : Serves search.context (pieces_in search.tokens.now) held
+  pub latest : AreLatest search.latest held
+
+-- by whatever it searched, it still does, and this is true of it
+abbrev pub SearchStays : Search → Search → Rows → (Day → Tree → Type 0) → Type 0
+SearchStays old new held P = (day : Day) (tree : Tree) → SearchesBy old held day tree → SearchesBy new held day tree × P day tree
