@@ -39,7 +39,7 @@ closes depth (Or ∷ ps) = closes depth ps
 closes depth (And ∷ ps) = closes depth ps
 closes depth (OpenQuote ∷ ps) = closes depth ps
 
--- whether a term or group begins, or a group ends, at the first piece
+-- whether a term or a group begins at the first piece
 abbrev pub begins_part : List Piece → Bool
 begins_part [] = false
 begins_part (Test negated term ∷ ps) = true

@@ -48,7 +48,7 @@ is_either one other number = int_eq number one || int_eq number other
 abbrev pub is_at_most : ℤ → ℤ → Bool
 is_at_most most number = not (int_lt most number)
 
--- due by the day, or learned today and due before the next day begins
+-- due by the day, or learned today and due by the first second of the next day
 abbrev pub is_due : Day → Card → Bool
 is_due day c = (is_either (pos 2) (pos 3) c.queue && is_at_most day.number c.due) || (int_eq c.queue (pos 1) && is_at_most day.cutoff c.due)
 

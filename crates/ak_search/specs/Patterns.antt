@@ -29,7 +29,7 @@ is_any One = false
 is_any Apart = false
 is_any (Is own) = false
 
--- whether the item stands for that one character
+-- whether the item, if it stands for one character, stands for that one; `Any` stands for any number of them
 abbrev pub takes : PatternItem → ℕ → Bool
 takes Any letter = false
 takes One letter = true

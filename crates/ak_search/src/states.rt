@@ -31,7 +31,7 @@ fn is_either(number: &i64, one: i64, other: i64) -> bool
     *number == one || *number == other
 }
 
-/// Whether the card is due: by the day, or learned today and due before the next day begins.
+/// Whether the card is due: by the day, or learned today and due by the first second of the next day.
 fn is_due(day: Day, card: &Card) -> bool
     ensures { result ≡ is_due day card.now }
 {

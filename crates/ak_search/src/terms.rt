@@ -29,6 +29,7 @@ pub enum Property {
     Position,
 }
 
+/// How a number of a card compares with the one that is asked for.
 #[derive(Clone, Copy, Debug, PartialEq, Eq)]
 pub enum Comparison {
     Equal,
@@ -42,9 +43,9 @@ pub enum Comparison {
 /// What is asked of a card.
 #[derive(Debug, Drop)]
 pub enum Term {
-    /// Marks that the stripped text of some field matches, `Any` at both ends.
+    /// A pattern that the stripped text of some field matches, with `Any` at both ends.
     Contains(List<PatternItem>),
-    /// Marks that the stripped text of some field matches between two spaces.
+    /// A pattern that the stripped text of some field matches between two spaces.
     Word(List<PatternItem>),
     /// A field's name, and a pattern that its stripped text matches.
     Field(Text, List<PatternItem>),
