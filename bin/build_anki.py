@@ -62,7 +62,9 @@ class Build:
                 status = crate.ci(["--jobs", "1"], False)
             crate.out.seek(0)
             self.write(crate, crate.out.read())
-        if not status and not crate.is_program:
+        if status:
+            print(f"anki: {crate.name} was not proved", file=sys.stderr, flush=True)
+        elif not crate.is_program:
             with open(file_of_sum(crate), "w", encoding="utf-8") as file:
                 file.write(sum_before)
         return not status
