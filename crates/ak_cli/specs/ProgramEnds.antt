@@ -64,6 +64,14 @@ reads_input (Some Desk) = true
 reads_input (Some (Sync digits)) = false
 reads_input None = false
 
+-- whether a command works on the keeper's collection
+abbrev pub uses_keeper : Option Named → Bool
+uses_keeper (Some Lab) = false
+uses_keeper (Some Init) = true
+uses_keeper (Some Desk) = true
+uses_keeper (Some (Sync digits)) = true
+uses_keeper None = false
+
 -- how `lab` ends over these lines: a lab ran them, and its server's log is handed out. Or memory was out before the first of them, and
 -- nothing is done
 abbrev pub EndsLab : ScriptEnd → Option (List Line) → ProgramOutside → ProgramOutside → Type 0

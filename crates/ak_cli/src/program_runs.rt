@@ -1,6 +1,6 @@
 ghost use Rattle.std.specs.Prelude.{◌≡◌, ◌⊎◌, ◌<◌, ◌≤◌, ℕ, map, false, true, [], None, Some};
 ghost use Rattle.std.specs.Io.KnownBytes.{Appends, IsAtEnd};
-ghost use Rattle.ak_cli.specs.ProgramEnds.{EndsBy, LeavesBy, program_outside, reads_input};
+ghost use Rattle.ak_cli.specs.ProgramEnds.{EndsBy, LeavesBy, program_outside, reads_input, uses_keeper};
 ghost use Rattle.ak_cli.specs.Programs.{command_of, named_by, usage_line, Tells};
 ghost use Rattle.ak_faults.specs.Causes.{GoesOn, Rose};
 ghost use Rattle.ak_io.specs.Scripts.{AppendsPart};
@@ -46,12 +46,14 @@ pub fn run<I: Source, O: Sink, K: Keeper, W: Wire, C: Clock, R: Chance>(
         × Tells status (O.health out.old) (O.health out.new) result }
     ensures faulted { (O.health out.old).faults < (O.health out.new).faults → result ≡ 5 }
 
-    // What it leaves alone.
+    // What it leaves alone: also, an input or a keeper that is not used counts no fault.
     ensures leaves { LeavesBy (command_of words.now)
         (program_outside (I.left input.old) (O.written out.old) (K.keeping keeper.old) (W.health wire.old) (W.state wire.old)
         (C.to_come clock.old) (R.to_come chance.old) log.old.entries (map (λ b. meaning b) filters.old.items))
         (program_outside (I.left input.new) (O.written out.new) (K.keeping keeper.new) (W.health wire.new) (W.state wire.new)
         (C.to_come clock.new) (R.to_come chance.new) log.new.entries (map (λ b. meaning b) filters.new.items)) }
+    ensures unread { reads_input (command_of words.now) ≡ false → I.health input.new ≡ I.health input.old }
+    ensures unused { uses_keeper (command_of words.now) ≡ false → K.health keeper.new ≡ K.health keeper.old }
     ensures unmarked { is_marked (K.keeping keeper.new) ≡ false }
 
     // Words that name no command, and they alone, end with status 2, unless the output failed.
@@ -85,7 +87,7 @@ fn told(before: u64, now: u64, status: u8) -> u8
     status
 }
 
-/// Does the command that the words name, or prints `usage` if they name none. A fault in a flush is not told.
+/// Does the command that the words name, or prints `usage` if they name none. A fault in a flush of a command is not told.
 fn run_words<I: Source, O: Sink, K: Keeper, W: Wire, C: Clock, R: Chance>(
     alloc: Global,
     words: &[String],
@@ -109,6 +111,8 @@ fn run_words<I: Source, O: Sink, K: Keeper, W: Wire, C: Clock, R: Chance>(
         (C.to_come clock.old) (R.to_come chance.old) log.old.entries (map (λ b. meaning b) filters.old.items))
         (program_outside (I.left input.new) (O.written out.new) (K.keeping keeper.new) (W.health wire.new) (W.state wire.new)
         (C.to_come clock.new) (R.to_come chance.new) log.new.entries (map (λ b. meaning b) filters.new.items)) }
+    ensures unread { reads_input (command_of words.now) ≡ false → I.health input.new ≡ I.health input.old }
+    ensures unused { uses_keeper (command_of words.now) ≡ false → K.health keeper.new ≡ K.health keeper.old }
     ensures unmarked { is_marked (K.keeping keeper.new) ≡ false }
     ensures usage { result ≡ 2 → command_of words.now ≡ None }
     ensures only_usage { command_of words.now ≡ None → (result ≡ 2) ⊎ (result ≡ 5) }
@@ -152,6 +156,8 @@ fn run_command<I: Source, O: Sink, K: Keeper, W: Wire, C: Clock, R: Chance>(
         (C.to_come clock.old) (R.to_come chance.old) log.old.entries (map (λ b. meaning b) filters.old.items))
         (program_outside (I.left input.new) (O.written out.new) (K.keeping keeper.new) (W.health wire.new) (W.state wire.new)
         (C.to_come clock.new) (R.to_come chance.new) log.new.entries (map (λ b. meaning b) filters.new.items)) }
+    ensures unread { reads_input (Some (named_by command)) ≡ false → I.health input.new ≡ I.health input.old }
+    ensures unused { uses_keeper (Some (named_by command)) ≡ false → K.health keeper.new ≡ K.health keeper.old }
     ensures unmarked { is_marked (K.keeping keeper.new) ≡ false }
     ensures usage { (result ≡ 2) → ⊥ }
     ensures ended { result ≡ 0 → reads_input (Some (named_by command)) ≡ true → IsAtEnd (I.left input.new) }
@@ -173,14 +179,17 @@ fn run_command<I: Source, O: Sink, K: Keeper, W: Wire, C: Clock, R: Chance>(
     }
 }
 
-/// Prints `usage`, and answers 2, or 5 if the output failed.
+/// Prints `usage`, and answers 2, or 5 if the output counted a fault meanwhile, also one that only a flush met.
 pub fn print_usage<O: Sink>(out: &mut O) -> u8
     ensures either { (result ≡ 2) × Appends (O.written out.old) (O.written out.new) usage_line ⊎ (result ≡ 5) × AppendsPart (O.written out.old) (O.written out.new) usage_line }
+    ensures faulted { (O.health out.old).faults < (O.health out.new).faults → result ≡ 5 }
     ensures cause { result ≡ 5 → Rose (O.health out.old) (O.health out.new) }
     ensures goes { GoesOn (O.health out.old) (O.health out.new) }
 {
-    match write_all(out, b"usage\n") {
+    let before = out.faults();
+    let printed = match write_all(out, b"usage\n") {
         Ok(()) => USAGE,
         Err(Failed) => WRITE_FAILED,
-    }
+    };
+    told(before, out.faults(), printed)
 }

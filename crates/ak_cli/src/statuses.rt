@@ -4,13 +4,14 @@ ghost use Rattle.ak_cli.specs.Programs.{command_status, status_of};
 use ak_desk_runs::CommandEnd;
 use ak_io::ScriptEnd;
 
-/// The work is done: the input was read to its end.
+/// The work is done; with `lab` and `desk` the input was read to its end.
 pub const DONE: u8 = 0;
 
 /// The words name no command.
 pub const USAGE: u8 = 2;
 
-/// A line of the input breaks a named rule; the last line that was printed names it.
+/// A line of the input breaks a named rule, or `init` found a collection, or `desk` or `sync` none; the last line that was printed
+/// tells which.
 pub const REFUSED: u8 = 3;
 
 /// The input failed.
@@ -22,7 +23,7 @@ pub const WRITE_FAILED: u8 = 5;
 /// The keeper of the collection failed.
 pub const KEEPER_FAILED: u8 = 6;
 
-/// Memory was wanting.
+/// Memory ran out.
 pub const NO_MEMORY: u8 = 8;
 
 pub(crate) fn status_of(end: ScriptEnd) -> u8

@@ -1,5 +1,5 @@
 -- How the outcome of a sync is told: a text, and the status of a program that ends with it.
-use Rattle.std.specs.Prelude.{ℕ, List, ◌++◌, Option, Some, None, codes, decimal}
+use Rattle.std.specs.Prelude.{ℕ, Bool, true, false, List, ◌++◌, Option, Some, None, codes, decimal}
 use Rattle.std.specs.Fmt.{signed_decimal}
 use Rattle.ak_client.specs.declared.outcomes.Outcome.{Outcome}
 use Rattle.ak_client.specs.declared.outcomes.Outcome.TheVariants as outcomes
@@ -35,6 +35,24 @@ outcome_text outcomes.BadReply = Some (codes "bad reply")
 outcome_text outcomes.TooManyChunks = Some (codes "too many chunks")
 outcome_text outcomes.Keep = Some (codes "keeper failed")
 outcome_text outcomes.Memory = None
+
+-- whether the text of an outcome is always the same: it has no number, word or fault of this one sync in it
+abbrev pub has_fixed_text : Outcome → Bool
+has_fixed_text outcomes.Finished = true
+has_fixed_text outcomes.NoChanges = true
+has_fixed_text (outcomes.FullSchema device server) = false
+has_fixed_text (outcomes.FullSequence usn) = false
+has_fixed_text (outcomes.BadRow fault) = false
+has_fixed_text (outcomes.BadCounts client server) = false
+has_fixed_text (outcomes.ClockOff device server) = false
+has_fixed_text (outcomes.OwnCheck fault) = false
+has_fixed_text outcomes.Stopped = true
+has_fixed_text (outcomes.Refused status word seen) = false
+has_fixed_text outcomes.Lost = true
+has_fixed_text outcomes.BadReply = true
+has_fixed_text outcomes.TooManyChunks = true
+has_fixed_text outcomes.Keep = true
+has_fixed_text outcomes.Memory = false
 
 -- the status of a program that ends with this outcome
 abbrev pub outcome_status : Outcome → ℕ

@@ -1,6 +1,6 @@
-ghost use Rattle.std.specs.Prelude.{◌≡◌, ◌++◌, Some, IfOk, codes, decimal};
+ghost use Rattle.std.specs.Prelude.{◌≡◌, ◌++◌, Some, IfOk, IfSome, codes, decimal, is_some};
 ghost use Rattle.std.specs.Fmt.{signed_decimal};
-ghost use Rattle.ak_outcomes.specs.OutcomeTexts.{counts_text, outcome_text};
+ghost use Rattle.ak_outcomes.specs.OutcomeTexts.{counts_text, has_fixed_text, outcome_text};
 ghost use Rattle.ak_texts.specs.AnswerTexts.{check_fault_text};
 ghost use Rattle.ak_wire.specs.Words.{word_text};
 
@@ -16,9 +16,10 @@ use std::alloc::Global;
 pub fn outcome_text(alloc: Global, outcome: &Outcome) -> Result<Text, Memory>
     ensures { IfOk result (λ text. outcome_text outcome.now ≡ Some text) }
 {
+    if let Some(text) = fixed_text(outcome) {
+        return Text::of(alloc, text);
+    }
     match outcome {
-        Outcome::Finished => Text::of(alloc, "finished"),
-        Outcome::NoChanges => Text::of(alloc, "no changes"),
         Outcome::FullSchema { device, server } => {
             two_numbers(alloc, "full needed: schema ", *device, *server)
         },
@@ -27,13 +28,32 @@ pub fn outcome_text(alloc: Global, outcome: &Outcome) -> Result<Text, Memory>
         Outcome::BadCounts { client, server } => bad_counts_text(alloc, client, server),
         Outcome::ClockOff { device, server } => two_numbers(alloc, "clock off: ", *device, *server),
         Outcome::OwnCheck(fault) => check_text(alloc, "own check failed: ", *fault),
-        Outcome::Stopped => Text::of(alloc, "stopped"),
         Outcome::Refused { status, word, .. } => refused_text(alloc, *status, *word),
-        Outcome::Lost => Text::of(alloc, "lost"),
-        Outcome::BadReply => Text::of(alloc, "bad reply"),
-        Outcome::TooManyChunks => Text::of(alloc, "too many chunks"),
-        Outcome::Keep => Text::of(alloc, "keeper failed"),
-        Outcome::Memory => Err(Memory),
+        // The others have a fixed text, but for out of memory, which has none.
+        _ => Err(Memory),
+    }
+}
+
+/// The text of an outcome that always has the same one, which takes no memory. It is None if the text has to be made, or if
+/// there is none.
+pub fn fixed_text(outcome: &Outcome) -> Option<&'static str>
+    // It is the outcome's text.
+    ensures some { IfSome result (λ text. outcome_text outcome.now ≡ Some text.now) }
+
+    // Every fixed text is given.
+    ensures fixed { is_some result ≡ has_fixed_text outcome.now }
+{
+    match outcome {
+        Outcome::Finished => Some("finished"),
+        Outcome::NoChanges => Some("no changes"),
+        Outcome::Stopped => Some("stopped"),
+        Outcome::Lost => Some("lost"),
+        Outcome::BadReply => Some("bad reply"),
+        Outcome::TooManyChunks => Some("too many chunks"),
+        Outcome::Keep => Some("keeper failed"),
+        Outcome::FullSchema { .. } | Outcome::FullSequence { .. } | Outcome::Memory => None,
+        Outcome::BadRow(_) | Outcome::BadCounts { .. } | Outcome::ClockOff { .. } => None,
+        Outcome::OwnCheck(_) | Outcome::Refused { .. } => None,
     }
 }
 

@@ -4,12 +4,12 @@ use Rattle.std.proofs.Common.{refl, sym, ap, ◌∙◌, subst, inl, inr, rules}
 use Rattle.std.proofs.lemmas.List.{append_cancel_left, append_cancel_right}
 use Rattle.ak_base.specs.declared.keys.HostKey.{HostKey}
 use Rattle.ak_client.specs.Outcomes.{HasOutcomeCause}
-use Rattle.ak_client.specs.Syncs.{KeepsDevice, ends_before_finish}
+use Rattle.ak_client.specs.Syncs.{HasRaised, KeepsDevice, ends_before_finish}
 use Rattle.ak_client.specs.declared.outcomes.Outcome.{Outcome}
 use Rattle.ak_client.specs.declared.outcomes.Outcome.TheVariants as outcomes
 use Rattle.ak_faults.specs.Causes.{Health}
 use Rattle.ak_keep.specs.Keepers.{Keeping}
-use Rattle.ak_outcomes.specs.OutcomeTexts.{outcome_text, outcome_status}
+use Rattle.ak_outcomes.specs.OutcomeTexts.{has_fixed_text, outcome_text, outcome_status}
 use Rattle.ak_sync_runs.specs.SyncRuns.{CommitsNextOnce, EndsPrinting, EndsSync, EndsSyncOn, FinishesNext, HasStatusCause, IsSyncRun, SyncOutside, TellsOutcome, is_early_status, is_sync_status}
 
 -- the line of a sync that is finished
@@ -77,7 +77,7 @@ finished_by : (outcome : Outcome) (old : List ℕ) → TellsOutcome outcome 0 (S
 finished_by outcome old (inl (text, is, inl (status, written))) =
     told_finished outcome text is (text_of_line old text (codes "finished") written) (done_by outcome status)
 finished_by outcome old (inl (text, is, inr (status, part))) = absurd (search (status, rules))
-finished_by outcome old (inr (status, nothing)) = absurd (search (status, rules))
+finished_by outcome old (inr (made, status, nothing)) = absurd (search (status, rules))
 
 -- one that was told as no changes
 unchanged_by : (outcome : Outcome) (old : List ℕ) → TellsOutcome outcome 0 (Some old) (Some (old ++ unchanged_line))
@@ -85,7 +85,7 @@ unchanged_by : (outcome : Outcome) (old : List ℕ) → TellsOutcome outcome 0 (
 unchanged_by outcome old (inl (text, is, inl (status, written))) =
     told_unchanged outcome text is (text_of_line old text (codes "no changes") written) (done_by outcome status)
 unchanged_by outcome old (inl (text, is, inr (status, part))) = absurd (search (status, rules))
-unchanged_by outcome old (inr (status, nothing)) = absurd (search (status, rules))
+unchanged_by outcome old (inr (made, status, nothing)) = absurd (search (status, rules))
 
 -- a run that finished
 run_finished : (host : HostKey) (before after : SyncOutside) (old : List ℕ)
@@ -144,7 +144,7 @@ status_of_told : (outcome : Outcome) (status : ℕ) (old new : Option (List ℕ)
     → status ≢ 5 → status ≢ 8 → status ≡ outcome_status outcome
 status_of_told outcome status old new (inl (text, is, inl (same, written))) no_write no_memory = same
 status_of_told outcome status old new (inl (text, is, inr (same, part))) no_write no_memory = absurd (no_write same)
-status_of_told outcome status old new (inr (same, nothing)) no_write no_memory = absurd (no_memory same)
+status_of_told outcome status old new (inr (made, same, nothing)) no_write no_memory = absurd (no_memory same)
 
 -- by whether a collection was held
 kept_on : (held : Bool) (host : HostKey) (status : ℕ) (before after : SyncOutside) (old new : Option (List ℕ))
@@ -164,6 +164,50 @@ pub other_status : (host : HostKey) (status : ℕ) (before after : SyncOutside) 
     → after.keeping ≡ before.keeping
 other_status host status before after old new ends =
     kept_on before.keeping.headed.current host status before after old new ends
+
+-- ---- status 8
+-- an outcome whose text is not fixed leaves the device as it was, or with its moments risen
+kept_untold : (outcome : Outcome) (before left : Keeping) (moments to_come : Option (List ℤ)) → has_fixed_text outcome ≡ false
+    → KeepsDevice 1 before left moments to_come outcome → (left ≡ before) ⊎ HasRaised 1 before left moments to_come
+kept_untold outcomes.Finished before left moments to_come made kept = absurd (search (made, rules))
+kept_untold outcomes.NoChanges before left moments to_come made kept = inl kept
+kept_untold (outcomes.FullSchema device server) before left moments to_come made kept = inl kept
+kept_untold (outcomes.FullSequence usn) before left moments to_come made kept = inl kept
+kept_untold (outcomes.BadRow fault) before left moments to_come made kept = inr kept
+kept_untold (outcomes.BadCounts client server) before left moments to_come made kept = inr kept
+kept_untold (outcomes.ClockOff device server) before left moments to_come made kept = inl kept
+kept_untold (outcomes.OwnCheck fault) before left moments to_come made kept = inl kept
+kept_untold outcomes.Stopped before left moments to_come made kept = inl kept
+kept_untold (outcomes.Refused code word seen) before left moments to_come made kept = inl kept
+kept_untold outcomes.Lost before left moments to_come made kept = inl kept
+kept_untold outcomes.BadReply before left moments to_come made kept = inl kept
+kept_untold outcomes.TooManyChunks before left moments to_come made kept = inl kept
+kept_untold outcomes.Keep before left moments to_come made kept = inl kept
+kept_untold outcomes.Memory before left moments to_come made kept = inl kept
+
+-- so does one that was told with status 8
+kept_at_eight : (outcome : Outcome) (before left : Keeping) (moments to_come : Option (List ℤ)) (old new : Option (List ℕ))
+    → TellsOutcome outcome 8 old new → KeepsDevice 1 before left moments to_come outcome
+    → (left ≡ before) ⊎ HasRaised 1 before left moments to_come
+kept_at_eight outcome before left moments to_come old new (inl (text, is, inl (status, written))) kept =
+    inl (kept_by outcome 8 before left moments to_come status (λ is. search (is, rules)) (λ is. search (is, rules)) kept)
+kept_at_eight outcome before left moments to_come old new (inl (text, is, inr (status, part))) kept = absurd (search (status, rules))
+kept_at_eight outcome before left moments to_come old new (inr (made, untold)) kept =
+    kept_untold outcome before left moments to_come made kept
+
+-- by whether a collection was held
+untold_on : (held : Bool) (host : HostKey) (before after : SyncOutside) (old new : Option (List ℕ))
+    → EndsSyncOn held host 8 before after old new
+    → (after.keeping ≡ before.keeping) ⊎ HasRaised 1 before.keeping after.keeping before.moments after.moments
+untold_on true host before after old new (inl run) =
+    kept_at_eight run.outcome before.keeping after.keeping before.moments after.moments old new run.told run.device
+untold_on true host before after old new (inr (same, ends)) = inl (ap (λ (s : SyncOutside). s.keeping) same)
+untold_on false host before after old new (same, ends) = inl (ap (λ (s : SyncOutside). s.keeping) same)
+
+-- what status 8 tells
+pub untold_end : (host : HostKey) (before after : SyncOutside) (old new : Option (List ℕ)) → EndsSync host 8 before after old new
+    → (after.keeping ≡ before.keeping) ⊎ HasRaised 1 before.keeping after.keeping before.moments after.moments
+untold_end host before after old new ends = untold_on before.keeping.headed.current host before after old new ends
 
 -- a device without changes is left as it was
 kept_unchanged : (outcome : Outcome) (before left : Keeping) (moments to_come : Option (List ℤ)) → outcome ≡ outcomes.NoChanges
@@ -281,7 +325,7 @@ pub listed_told : (outcome : Outcome) (status : ℕ) (old new : Option (List ℕ
     → is_sync_status status ≡ true
 listed_told outcome status old new (inl (text, is, printed)) =
     listed_printed text (outcome_status outcome) status old new (listed_outcome outcome) printed
-listed_told outcome status old new (inr (is, nothing)) = ap is_sync_status is
+listed_told outcome status old new (inr (made, is, nothing)) = ap is_sync_status is
 
 -- ---- why it ends with a status that tells one outcome
 -- 6 tells that the keeper failed

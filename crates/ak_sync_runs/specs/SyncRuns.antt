@@ -14,7 +14,7 @@ use Rattle.ak_io.specs.Scripts.{AppendsPart}
 use Rattle.ak_keep.specs.Collections.{Collection}
 use Rattle.ak_keep.specs.Keepers.{Keeping}
 use Rattle.ak_messages.specs.declared.requests.Ask.{Ask}
-use Rattle.ak_outcomes.specs.OutcomeTexts.{outcome_text, outcome_status}
+use Rattle.ak_outcomes.specs.OutcomeTexts.{has_fixed_text, outcome_text, outcome_status}
 use Rattle.ak_protocol.specs.Accounts.{AccountState}
 use Rattle.ak_protocol.specs.Commits.{EachNewer, HasFreshSchema}
 use Rattle.ak_protocol.specs.Logs.{Event, Log, commits_of, with_growth}
@@ -31,12 +31,12 @@ EndsPrinting text wanted status old new =
 abbrev pub EndsUntold : ℕ → Option (List ℕ) → Option (List ℕ) → Type 0
 EndsUntold status old new = (status ≡ 8) × Keeps old new
 
--- an outcome is told by its text and its status. Memory may run out in the sync, or for the text
+-- an outcome is told by its text and its status. Memory may run out in the sync, or for its text, but never for a fixed one
 abbrev pub TellsOutcome : Outcome → ℕ → Option (List ℕ) → Option (List ℕ) → Type 0
 TellsOutcome outcome status old new =
     ((text : List ℕ) × (outcome_text outcome ≡ Some text)
     × EndsPrinting text (outcome_status outcome) status old new)
-    ⊎ EndsUntold status old new
+    ⊎ (has_fixed_text outcome ≡ false) × EndsUntold status old new
 
 -- the statuses with which `sync` ends
 abbrev pub is_sync_status : ℕ → Bool

@@ -1,6 +1,7 @@
 // What the end of a sync tells whoever reads it.
-ghost use Rattle.std.specs.Prelude.{◌≡◌, ◌≢◌, ℕ, List, [], ◌∷◌, ◌++◌, Option, Some, codes};
+ghost use Rattle.std.specs.Prelude.{◌≡◌, ◌≢◌, ◌⊎◌, ℕ, List, [], ◌∷◌, ◌++◌, Option, Some, codes};
 ghost use Rattle.ak_base.specs.declared.keys.HostKey.{HostKey};
+ghost use Rattle.ak_client.specs.Syncs.{HasRaised};
 ghost use Rattle.ak_sync_runs.specs.SyncRuns.{CommitsNextOnce, EndsSync, FinishesNext, SyncOutside};
 
 /// If `finished` is what was printed, and the status is 0, then the device holds the join of what it and the server held, and so
@@ -11,8 +12,9 @@ pub fn a_printed_finish_joins()
         → FinishesNext host before after }
 {}
 
-/// The device is as it was if `no changes` is what was printed and the status is 0, or if the status is none of 0, 5, 8 and 11. With 5
-/// and 8 it may be as any outcome leaves it, and with 11 its moments have risen.
+/// The device is as it was if `no changes` is what was printed and the status is 0, or if the status is none of 0, 5, 8 and 11. With 8 it
+/// is as it was too, or only its two moments have risen, after a bad sanity check; with 11 they have risen. Besides 0, only 5 may follow
+/// a finished sync: the output failed in its line.
 pub fn other_ends_keep_the_device()
     ensures unchanged { (host : HostKey) (before after : SyncOutside) (old : List ℕ)
         → EndsSync host 0 before after (Some old) (Some (old ++ (codes "no changes" ++ 10 ∷ [])))
@@ -20,6 +22,9 @@ pub fn other_ends_keep_the_device()
     ensures unfinished { (host : HostKey) (status : ℕ) (before after : SyncOutside) (old new : Option (List ℕ))
         → EndsSync host status before after old new → status ≢ 0 → status ≢ 5 → status ≢ 8 → status ≢ 11
         → after.keeping ≡ before.keeping }
+    ensures untold { (host : HostKey) (before after : SyncOutside) (old new : Option (List ℕ))
+        → EndsSync host 8 before after old new
+        → (after.keeping ≡ before.keeping) ⊎ HasRaised 1 before.keeping after.keeping before.moments after.moments }
 {}
 
 /// Whatever was printed, and whatever the status: the server committed at most once for this sync, the join of what both held, and so it

@@ -7,7 +7,7 @@ use ak_base::{HostKey, Memory, SessionKey};
 use ak_client::{Ids, Outcome, sync_over};
 use ak_io::{Chance, Clock, Failed, Sink, print_line};
 use ak_keep::Keeper;
-use ak_outcomes::{NO_MEMORY, outcome_status, outcome_text};
+use ak_outcomes::{NO_MEMORY, fixed_text, outcome_status, outcome_text};
 use ak_undo::UndoList;
 use ak_wires::Wire;
 use std::alloc::Global;
@@ -30,7 +30,8 @@ pub fn run_sync<K: Keeper, W: Wire, C: Clock, R: Chance, O: Sink>(
 ) -> u8
     requires unmarked { is_marked (K.keeping keeper.old) ≡ false }
 
-    // What it leaves on the device and on the server, whatever the keeper and the wire, and what is written of it.
+    // What it leaves on the device and on the server, whatever the keeper and the wire, and what is written of it. A finished
+    // sync is told by 0, or by 5 if the output failed in its line.
     ensures ends { EndsSync host result
         (sync_outside (K.keeping keeper.old) (W.health wire.old) (W.state wire.old)
         (C.to_come clock.old) (R.to_come chance.old))
@@ -58,13 +59,18 @@ pub fn run_sync<K: Keeper, W: Wire, C: Clock, R: Chance, O: Sink>(
     tell_outcome(alloc, &outcome, out)
 }
 
-/// Prints the line of an outcome, and answers its status.
+/// Prints the line of an outcome, and answers its status. It takes no memory for a fixed text, so that memory never runs out
+/// after a finished sync.
 fn tell_outcome<O: Sink>(alloc: Global, outcome: &Outcome, out: &mut O) -> u8
     ensures told { TellsOutcome outcome.now result (O.written out.old) (O.written out.new) }
     ensures cause { HasStatusCause 5 (O.health out.old) (O.health out.new) result }
 {
+    let status = outcome_status(outcome);
+    if let Some(text) = fixed_text(outcome) {
+        return print_ending(out, text, status);
+    }
     match outcome_text(alloc, outcome) {
-        Ok(text) => print_ending(out, text.as_str(), outcome_status(outcome)),
+        Ok(text) => print_ending(out, text.as_str(), status),
         Err(Memory) => NO_MEMORY,
     }
 }
