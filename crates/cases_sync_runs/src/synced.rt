@@ -1,11 +1,12 @@
 ghost use Rattle.ak_io.specs.Arrivals.{IsClockMoment};
 
 use crate::servers::{row_counts, server_moment};
-use ak_base::List;
+use ak_base::{List, cut};
 use ak_keep::Lookup;
 use ak_loops::{LoggedServer, LoopWire, NothingBetween};
 use ak_memory::MemoryKeeper;
 use cases_accounts::{empty_account, moment_at};
+use cases_keepers::answer_of;
 use cases_lines::{Answers, Unread};
 use cases_programs::{RunsCases, numbers_at, run_text, run_texts};
 use serde_json::Value;
@@ -59,6 +60,14 @@ impl Sides {
         Ok(texts)
     }
 
+    /// What a command of the device's keeper prints.
+    fn keeper_text(&mut self, alloc: Global, command: &str) -> Result<String, Unread> {
+        match cut(command, " ") {
+            Some((word, rest)) => answer_of(alloc, &mut self.keeper, word, rest),
+            None => answer_of(alloc, &mut self.keeper, command, ""),
+        }
+    }
+
     fn counts(&mut self, alloc: Global) -> Result<String, Unread> {
         match &mut self.server {
             Some(server) => row_counts(alloc, server),
@@ -85,8 +94,12 @@ impl Sides {
 }
 
 impl RunsCases for Sides {
-    /// What a run is told as. The server's clock stands at the moment behind the run's words of chance, or at 1700000000000.
+    /// What a run is told as. The server's clock stands at the moment behind the run's words of chance, or at 1700000000000. A
+    /// text is a command of the device's keeper.
     fn next_text(&mut self, alloc: Global, run: &Value) -> Result<String, Unread> {
+        if let Some(command) = run.as_str() {
+            return self.keeper_text(alloc, command);
+        }
         let moment = server_moment(run)?;
         match self.server.take() {
             Some(server) => self.text_over(alloc, server, moment, run),
