@@ -1,7 +1,9 @@
 // Tests of the crates over rows, texts and ends, of what no case can show: readers and writers that are interrupted or fail,
-// an input at its limit, and filters behind boxes.
+// a clock that can't be read, an input at its limit, and filters behind boxes.
 #![tactic(auto)]
 
+#[cfg(test)]
+mod clocks;
 #[cfg(test)]
 mod ends;
 #[cfg(test)]
