@@ -1,7 +1,8 @@
 -- The law of a lab's sync: finished, both sides hold the join; otherwise they hold what they held.
-use Rattle.std.specs.Prelude.{◌≡◌, ◌≢◌, ◌⊎◌, ℕ, ◌+◌, ◌<◌, ◌≤◌, ◌+ℤ◌, List, [], ◌∷◌, length, Some}
+use Rattle.std.specs.Prelude.{◌≡◌, ◌≢◌, ◌⊎◌, ℕ, ℤ, pos, ◌+◌, ◌<◌, ◌≤◌, ◌+ℤ◌, true, List, [], ◌∷◌, length, Some}
 use Rattle.std.proofs.Common.{refl, sym, ap, subst, ◌∙◌, inl, inr, arith, rules}
 use Rattle.std.proofs.lemmas.Option.{same_Some}
+use Rattle.ak_client.specs.Syncs.{ends_before_finish}
 use Rattle.ak_client.specs.declared.outcomes.Outcome.{Outcome}
 use Rattle.ak_client.specs.declared.outcomes.Outcome.TheVariants as outcomes
 use Rattle.ak_faults.specs.Causes.{one_more}
@@ -15,7 +16,7 @@ use Rattle.ak_lab_joins.proofs.Syncs.{CommitsNoneOrJoin}
 use Rattle.ak_lab_joins.proofs.Synced as synced
 use Rattle.ak_lab_joins.proofs.Synced.{holds_is}
 use Rattle.ak_lab_joins.proofs.Worlds.{commit_as, StaysQuiet}
-use Rattle.ak_lab_joins.specs.LabJoins.{CommitsOnceIn, Finishes, HasSession, IsLinkedDevice, IsLinkedLab, KeepsCommitted, KeepsOthers, KeepsSides, RunsToSync, StillHolds, world_in}
+use Rattle.ak_lab_joins.specs.LabJoins.{CommitsOnceIn, Finishes, HasSession, IsLinkedDevice, IsLinkedLab, KeepsCommitted, KeepsOthers, KeepsSides, MayHoldJoin, RunsToSync, StillCommits, StillHolds, world_in}
 use Rattle.ak_lab.specs.LabRuns.{AllGo, IsLabOpening}
 use Rattle.ak_lab.specs.LabStates.{LabState, at_line, lab_host, opened_lab}
 use Rattle.ak_lab.specs.LabSyncs.{EndsSync}
@@ -69,6 +70,10 @@ module _ (account : AccountState) (name : List ℕ) (s t : LabState) (outcome : 
   own_name : ends.made.name ≡ name
   own_name = ap (λ (x : Device). x.name) ends.syncs.rest ∙ found_has_name name s.devices ends.d ends.found
 
+  -- whose clock stays
+  own_shift : ends.made.shift ≡ ends.d.shift
+  own_shift = ap (λ (x : Device). x.shift) ends.syncs.rest
+
   now_found : device_of name t.devices ≡ Some ends.made
   now_found =
       ap (λ (x : LabState). device_of name x.devices) ends.left
@@ -97,9 +102,7 @@ module _ (account : AccountState) (name : List ℕ) (s t : LabState) (outcome : 
   abbrev Committed : List ℕ → Type 0
   Committed h = CommitsNoneOrJoin ends.syncs.ids.session.0 own.c (world_in h account ends.met) (world_in h account t.server)
 
-  pub committed_so : KeepsCommitted (world_in lab_host account s.server) (world_in lab_host account t.server)
-      ⊎ CommitsOnceIn (one_more s.sessions) (world_in lab_host account s.server) (world_in lab_host account t.server)
-      × HoldsJoin own.c (base_of account s) (base_of account t)
+  pub committed_so : MayHoldJoin (one_more s.sessions) own.c (world_in lab_host account s.server) (world_in lab_host account t.server)
   committed_so =
       over_viewed ends.syncs.ids.session.0 (one_more s.sessions) own.c (world_in lab_host account s.server) (world_in lab_host account ends.met) (world_in lab_host account t.server)
       ends.syncs.of.session quiet
@@ -109,20 +112,44 @@ module _ (account : AccountState) (name : List ℕ) (s t : LabState) (outcome : 
       (law_lines.apart_met account name s t outcome linked room ends enough)))
 
   -- ---- not finished
+  kept : ends_before_finish outcome ≡ true → KeepsCommitted (world_in lab_host account s.server) (world_in lab_host account t.server)
+  kept early =
+      let stays = subst (λ (h : List ℕ). StaysQuiet (world_in h account ends.met) (world_in h account t.server)) same_host
+      (synced.early_quiet account s.sessions s.clock (s.clock +ℤ ends.d.shift) ends.d ends.made ends.met t.server outcome room ends.syncs enough
+      (law_lines.met_server account name s t outcome linked room ends enough) (law_lines.device_met account name s t outcome linked room ends enough)
+      (law_lines.apart_met account name s t outcome linked room ends enough) early) in
+      (stays.committed ∙ quiet.committed, stays.commits ∙ quiet.commits)
+
+  -- the server after any end but a finished one
+  still_commits : outcome ≢ outcomes.Finished → (o : Outcome) → outcome ≡ o
+      → StillCommits (one_more s.sessions) own.c (world_in lab_host account s.server) (world_in lab_host account t.server) o
+  still_commits other outcomes.Finished is = absurd (other is)
+  still_commits other outcomes.NoChanges is = kept (ap ends_before_finish is)
+  still_commits other (outcomes.FullSchema device server) is = kept (ap ends_before_finish is)
+  still_commits other (outcomes.FullSequence usn) is = kept (ap ends_before_finish is)
+  still_commits other (outcomes.BadRow fault) is = kept (ap ends_before_finish is)
+  still_commits other (outcomes.BadCounts client server) is = kept (ap ends_before_finish is)
+  still_commits other (outcomes.ClockOff device server) is = kept (ap ends_before_finish is)
+  still_commits other (outcomes.OwnCheck fault) is = kept (ap ends_before_finish is)
+  still_commits other outcomes.Stopped is = kept (ap ends_before_finish is)
+  still_commits other (outcomes.Refused status word seen) is = committed_so
+  still_commits other outcomes.Lost is = absurd (ends.syncs.unlost is)
+  still_commits other outcomes.BadReply is = committed_so
+  still_commits other outcomes.TooManyChunks is = kept (ap ends_before_finish is)
+  still_commits other outcomes.Keep is = absurd (ends.syncs.unfailed is)
+  still_commits other outcomes.Memory is = absurd (enough is)
+
   pub keeps_sides : outcome ≢ outcomes.Finished → KeepsSides account name s t outcome
   keeps_sides other = record {
     c = own.c;
     held = was_held;
-    device = λ d found. subst (λ (x : Device). StillHolds own.c outcome x) (same_Some ends.made d (sym now_found ∙ found))
+    device = λ d found. subst (λ (x : Device). StillHolds (s.clock +ℤ x.shift) own.c outcome x) (same_Some ends.made d (sym now_found ∙ found))
+        (subst (λ (m : ℤ). StillHolds (s.clock +ℤ m) own.c outcome ends.made) (sym own_shift)
         (synced.still_holds account s.sessions s.clock (s.clock +ℤ ends.d.shift) ends.d ends.made ends.met t.server outcome room ends.syncs enough
         (law_lines.met_server account name s t outcome linked room ends enough) (law_lines.device_met account name s t outcome linked room ends enough)
-        (law_lines.apart_met account name s t outcome linked room ends enough) other);
-    server = λ early. let stays = subst (λ (h : List ℕ). StaysQuiet (world_in h account ends.met) (world_in h account t.server)) same_host
-        (synced.early_quiet account s.sessions s.clock (s.clock +ℤ ends.d.shift) ends.d ends.made ends.met t.server outcome room ends.syncs enough
-        (law_lines.met_server account name s t outcome linked room ends enough) (law_lines.device_met account name s t outcome linked room ends enough)
-        (law_lines.apart_met account name s t outcome linked room ends enough) early) in
-        (stays.committed ∙ quiet.committed, stays.commits ∙ quiet.commits);
-    once = committed_so;
+        (law_lines.apart_met account name s t outcome linked room ends enough) other));
+    server = still_commits other outcome refl;
+    linked = lab_now;
     keeps = keeps_others;
   }
 
@@ -138,6 +165,9 @@ module _ (account : AccountState) (name : List ℕ) (s t : LabState) (outcome : 
       (law_lines.met_base account name s t outcome linked room ends enough) it.exchanged) in
       let moment : it.device.head.moment ≡ (base_of account t).head.moment =
       subst (λ (h : List ℕ). it.device.head.moment ≡ (world_in h account t.server).state.committed.head.moment) same_host it.moment in
+      let server_number : (base_of account t).head.usn ≡ (base_of account s).head.usn +ℤ pos 1 =
+      subst (λ (h : List ℕ). (world_in h account t.server).state.committed.head.usn ≡ (base_of account s).head.usn +ℤ pos 1) same_host
+      (it.server_number ∙ ap (λ (base : Collection). base.head.usn +ℤ pos 1) (law_lines.met_base account name s t outcome linked room ends enough)) in
       let once : CommitsOnceIn (one_more s.sessions) (world_in lab_host account s.server) (world_in lab_host account t.server) =
       once_over_viewed ends.syncs.ids.session.0 (one_more s.sessions) (world_in lab_host account s.server) (world_in lab_host account ends.met) (world_in lab_host account t.server)
       ends.syncs.of.session quiet
@@ -159,8 +189,12 @@ module _ (account : AccountState) (name : List ℕ) (s t : LabState) (outcome : 
           past_server = exchanged.past_server;
           moment = moment;
           last_sync = exchanged.last_sync;
+          device_number = it.device_number ∙ ap (λ (base : Collection). base.head.usn +ℤ pos 1) (law_lines.met_base account name s t outcome linked room ends enough);
+          server_number = server_number;
+          linked = exchanged.linked;
         };
         once = once;
+        linked = lab_now;
         keeps = keeps_others;
       }
 
@@ -191,8 +225,12 @@ lines_aside_finishes account number name s t it = record {
     past_server = it.joins.past_server;
     moment = it.joins.moment;
     last_sync = it.joins.last_sync;
+    device_number = it.joins.device_number;
+    server_number = it.joins.server_number;
+    linked = it.joins.linked;
   };
   once = it.once;
+  linked = it.linked;
   keeps = lines_aside_others number name s t it.keeps;
 }
   where
@@ -215,7 +253,7 @@ lines_aside_keeps account number name s t outcome it = record {
   held = it.held;
   device = it.device;
   server = it.server;
-  once = it.once;
+  linked = it.linked;
   keeps = record {
     clock = it.keeps.clock;
     sessions = it.keeps.sessions;

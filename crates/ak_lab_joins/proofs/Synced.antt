@@ -1,14 +1,14 @@
 -- What a sync of a lab leaves on both sides, and that all devices are linked with the server then.
 use Rattle.std.specs.List.{All}
-use Rattle.std.specs.Prelude.{◌≡◌, ◌≢◌, ℕ, ℤ, ◌<◌, ◌≤ℤ◌, ◌<ℤ◌, true, List, [], ◌∷◌, Option, Some}
-use Rattle.std.proofs.Common.{refl, sym, ap, subst, ◌∙◌, inl, arith}
+use Rattle.std.specs.Prelude.{◌≡◌, ◌≢◌, ℕ, suc, ℤ, pos, ◌+ℤ◌, ◌<◌, ◌≤ℤ◌, ◌<ℤ◌, true, List, [], ◌∷◌, length, Option, Some}
+use Rattle.std.proofs.Common.{refl, sym, ap, subst, ◌∙◌, inl, inr, arith}
 use Rattle.std.proofs.lemmas.Int.{ints}
 use Rattle.std.proofs.lemmas.List.Elements.{All-nil, All-weaker}
 use Rattle.std.proofs.lemmas.Option.{same_Some}
 use Rattle.ak_base.specs.Limits.{last_moment}
 use Rattle.ak_base.specs.declared.heads.Head.{Head}
 use Rattle.ak_base.specs.declared.heads.Tag.{Tag}
-use Rattle.ak_client.specs.Syncs.{EndsBecause, HasRaised, KeepsDevice, MayBegin, ends_before_finish}
+use Rattle.ak_client.specs.Syncs.{EndsBecause, GivesAfter, HasRaised, KeepsDevice, MayBegin, ends_before_finish}
 use Rattle.ak_client.specs.declared.outcomes.Outcome.{Outcome}
 use Rattle.ak_client.specs.declared.outcomes.Outcome.TheVariants as outcomes
 use Rattle.ak_device.specs.Devices.{advanced_moment, moments_raised}
@@ -17,6 +17,7 @@ use Rattle.ak_edit.specs.Undos.{SuitsNow}
 use Rattle.ak_exchange.specs.Asked.{asker}
 use Rattle.ak_exchange.specs.Phases.{holding}
 use Rattle.ak_faults.specs.Causes.{one_more}
+use Rattle.ak_io.specs.Arrivals.{GivesNext}
 use Rattle.ak_keep.specs.Collections.{Collection, Holding, collection_of}
 use Rattle.ak_keep.specs.Keepers.{Keeping, all_known, changed}
 use Rattle.ak_keep.specs.Marks.{WithMark}
@@ -24,7 +25,7 @@ use Rattle.ak_lab_joins.proofs.Edits.{HoldsLinked}
 use Rattle.ak_lab_joins.proofs.Syncs as syncs
 use Rattle.ak_lab_joins.proofs.Syncs.{CommitsNoneOrJoin}
 use Rattle.ak_lab_joins.proofs.Worlds.{commit_as, StaysQuiet, others_of_session}
-use Rattle.ak_lab_joins.specs.LabJoins.{HasOtherMoments, IsLinkedDevice, IsLinkedServer, StillHolds, world_in}
+use Rattle.ak_lab_joins.specs.LabJoins.{HasRisen, IsLinkedDevice, IsLinkedServer, StillHolds, world_in}
 use Rattle.ak_lab.specs.LabSyncs.{IsLabSync}
 use Rattle.ak_lab_devices.specs.Devices.{keeping_of}
 use Rattle.ak_lab_devices.specs.declared.devices.Device.{Device}
@@ -40,7 +41,7 @@ use Rattle.ak_merge.specs.Undoing.{StepFits, StepsSuit}
 use Rattle.ak_protocol.proofs.ContentLaws.{some_of_all}
 use Rattle.ak_protocol.proofs.Syncs.{events_leave_unused}
 use Rattle.ak_protocol.specs.Accounts.{AccountState}
-use Rattle.ak_protocol.specs.Logs.{Log, World}
+use Rattle.ak_protocol.specs.Logs.{Commit, Log, World}
 use Rattle.ak_protocol.specs.Sessions.{IsMetaOrOther}
 use Rattle.ak_protocol.specs.Syncs.{IsUnused}
 use Rattle.ak_undo.specs.declared.steps.Step.{Step}
@@ -94,9 +95,22 @@ nothing_to_undo s c d holds none named single linked schema = record {
   schema = schema;
 }
 
+-- a list is not one longer than itself
+not_one_more : (one : Commit) (commits : List Commit) → commits ≡ one ∷ commits → ⊥
+not_one_more one commits is = over (length commits) (ap length is)
+  where
+    over : (n : ℕ) → n ≡ suc n → ⊥
+    over n is = omega (arith, is)
+
 -- ---- a moment that rises
 raised_past : (at c s : ℤ) → s ≤ℤ c → s <ℤ last_moment → s <ℤ advanced_moment at c
 raised_past at c s low early = grind (arith, ints, low, early)
+
+-- a clock that stands still gives one moment
+stands_still : (device_at at : ℤ) (to_come : Option (List ℤ)) → GivesAfter 1 (Some (device_at ∷ [])) to_come at → at ≡ device_at
+stands_still device_at at to_come (mid, earlier, first, next) =
+    let given : GivesNext (Some (device_at ∷ [])) to_come at = subst (λ (m : Option (List ℤ)). GivesNext m to_come at) first.1 next in
+    given.0
 
 not_itself : (a b : ℤ) → a <ℤ b → b ≡ a → ⊥
 not_itself a b low is = omega (arith, ints, low, is)
@@ -228,10 +242,10 @@ module _ (account : AccountState) (sessions : ℕ) (at device_at : ℤ) (d made 
         holds_is made c kept,
       )
 
-  -- a device whose moments have risen
-  raised_now : (earlier : ℕ) (before after : Option (List ℤ)) → HasRaised earlier (keeping_of d) (keeping_of made) before after
-      → IsLinkedDevice is_now.state.committed made × HasOtherMoments c made
-  raised_now earlier before after raised =
+  -- a device whose moments have risen, to the one at which its clock stands
+  raised_now : (after : Option (List ℤ)) → HasRaised 1 (keeping_of d) (keeping_of made) (Some (device_at ∷ [])) after
+      → IsLinkedDevice is_now.state.committed made × HasRisen device_at c made
+  raised_now after raised =
       let head : Head = record c.head { moment = advanced_moment raised.at c.head.moment; schema = advanced_moment raised.at c.head.schema } in
       let left : Collection = record c { head = head } in
       let kept : made.collection ≡ kept_of left =
@@ -240,7 +254,7 @@ module _ (account : AccountState) (sessions : ℕ) (at device_at : ℤ) (d made 
       raised_past raised.at c.head.schema is_now.state.committed.head.schema schema_low server_now.schema in (
         nothing_to_undo is_now.state.committed left made kept undone linked.named single
             (inl (not_itself is_now.state.committed.head.schema head.schema past)) (no_more is_now.state.committed.head.schema head.schema past),
-        record { moment = head.moment; schema = head.schema; holds = holds_is made left kept },
+        subst (λ (m : ℤ). HasRisen m c made) (stands_still device_at raised.at after raised.given) (holds_is made left kept),
       )
 
   -- what a sync that finished leaves
@@ -250,7 +264,16 @@ module _ (account : AccountState) (sessions : ℕ) (at device_at : ℤ) (d made 
     pub exchanged : AreExchanged c was.state.committed device is_now.state.committed
     pub moment : device.head.moment ≡ is_now.state.committed.head.moment
     pub once : is_now.commits ≡ commit_as sync.ids.session.0 was.state.committed is_now.state.committed ∷ was.commits
+    pub device_number : device.head.usn ≡ was.state.committed.head.usn +ℤ pos 1
+    pub server_number : is_now.state.committed.head.usn ≡ was.state.committed.head.usn +ℤ pos 1
     pub linked_made : IsLinkedDevice is_now.state.committed made
+
+  -- the number after a commit
+  next_number : is_now.commits ≡ commit_as sync.ids.session.0 was.state.committed is_now.state.committed ∷ was.commits → CommitsNoneOrJoin sync.ids.session.0 c was is_now
+      → is_now.state.committed.head.usn ≡ was.state.committed.head.usn +ℤ pos 1
+  next_number one (inl quiet) =
+      absurd (not_one_more (commit_as sync.ids.session.0 was.state.committed is_now.state.committed) was.commits (sym quiet.commits ∙ one))
+  next_number one (inr joined) = joined.1.usn
 
   pub finished_now : outcome ≡ outcomes.Finished → FinishedSo
   finished_now is =
@@ -264,16 +287,18 @@ module _ (account : AccountState) (sessions : ℕ) (at device_at : ℤ) (d made 
         exchanged = it.1;
         moment = it.2;
         once = it.3;
+        device_number = it.5;
+        server_number = next_number it.3 committed;
         linked_made = nothing_to_undo is_now.state.committed device made kept undone it.1.named it.1.linked.own_single it.4
             (subst (λ (schema : ℤ). is_now.state.committed.head.schema ≤ℤ schema) (sym it.0.schema) schema_low);
       }
 
   -- the device after any end
   device_by : (o : Outcome) → outcome ≡ o → KeepsDevice 1 (keeping_of d) (keeping_of made) (Some (device_at ∷ [])) sync.to_come o
-      → IsLinkedDevice is_now.state.committed made × (o ≢ outcomes.Finished → StillHolds c o made)
+      → IsLinkedDevice is_now.state.committed made × (o ≢ outcomes.Finished → StillHolds device_at c o made)
   device_by outcomes.Finished is keeps = ((finished_now is).linked_made, λ other. absurd (other refl))
-  device_by (outcomes.BadRow fault) is keeps = let it = raised_now 1 (Some (device_at ∷ [])) sync.to_come keeps in (it.0, λ _. it.1)
-  device_by (outcomes.BadCounts client server) is keeps = let it = raised_now 1 (Some (device_at ∷ [])) sync.to_come keeps in (it.0, λ _. it.1)
+  device_by (outcomes.BadRow fault) is keeps = let it = raised_now sync.to_come keeps in (it.0, λ _. it.1)
+  device_by (outcomes.BadCounts client server) is keeps = let it = raised_now sync.to_come keeps in (it.0, λ _. it.1)
   device_by outcomes.NoChanges is keeps = let it = same_now keeps in (it.0, λ _. it.1)
   device_by (outcomes.FullSchema device server) is keeps = let it = same_now keeps in (it.0, λ _. it.1)
   device_by (outcomes.FullSequence usn) is keeps = let it = same_now keeps in (it.0, λ _. it.1)
@@ -290,7 +315,7 @@ module _ (account : AccountState) (sessions : ℕ) (at device_at : ℤ) (d made 
   pub device_now : IsLinkedDevice is_now.state.committed made
   device_now = (device_by outcome refl sync.device).0
 
-  pub still_holds : outcome ≢ outcomes.Finished → StillHolds c outcome made
+  pub still_holds : outcome ≢ outcomes.Finished → StillHolds device_at c outcome made
   still_holds other = (device_by outcome refl sync.device).1 other
 
   -- an end before the finish leaves what is committed

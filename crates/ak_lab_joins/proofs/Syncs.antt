@@ -230,6 +230,7 @@ module _ (ids : Ids) (account : AccountState) (old now : Log) (before left : Kee
         × (it.device.head.moment ≡ is_now.state.committed.head.moment)
         × (is_now.commits ≡ commit_as ids.session.0 was.state.committed is_now.state.committed ∷ was.commits)
         × AreLinked it.device is_now.state.committed
+        × (it.device.head.usn ≡ was.state.committed.head.usn +ℤ pos 1)
     finished is =
         let it = synced.finished is in
         let one = commits.one (commit_as ids.session.0 synced.base it.after) it.only in
@@ -243,4 +244,5 @@ module _ (ids : Ids) (account : AccountState) (old now : Log) (before left : Kee
               ∙ ap (λ (s : Collection). commit_as ids.session.0 s it.after ∷ was.commits) one.0
               ∙ ap (λ (t : Collection). commit_as ids.session.0 was.state.committed t ∷ was.commits) one.1,
           it.linked apart_at,
+          it.usn ∙ ap (λ (s : Collection). s.head.usn +ℤ pos 1) one.0,
         )

@@ -1,10 +1,10 @@
 -- What a user may rely on in a lab: each device stays linked with the server, so that a finished sync leaves both with the join.
-use Rattle.std.specs.Prelude.{◌≡◌, ◌≢◌, ◌⊎◌, ℕ, ℤ, pos, ◌+◌, ◌<◌, ◌≤ℤ◌, ◌<ℤ◌, true, List, [], ◌∷◌, length, Some}
+use Rattle.std.specs.Prelude.{◌≡◌, ◌≢◌, ◌⊎◌, ℕ, ℤ, pos, ◌+◌, ◌+ℤ◌, ◌<◌, ◌≤ℤ◌, ◌<ℤ◌, List, [], ◌∷◌, length, Some}
 use Rattle.ak_base.specs.Limits.{last_moment}
-use Rattle.ak_client.specs.Syncs.{ends_before_finish}
 use Rattle.ak_client.specs.declared.outcomes.Outcome.{Outcome}
 use Rattle.ak_client.specs.declared.outcomes.Outcome.TheVariants as outcomes
 use Rattle.ak_desk_lines.specs.LineSteps.{LinksWith}
+use Rattle.ak_device.specs.Devices.{advanced_moment}
 use Rattle.ak_edit.specs.Undos.{SuitsNow}
 use Rattle.ak_faults.specs.Causes.{one_more}
 use Rattle.ak_io.specs.declared.lines.Line.{Line}
@@ -19,6 +19,7 @@ use Rattle.ak_loops.specs.Entries.{LoggedState, log_in}
 use Rattle.ak_merge.specs.Exchanges.{HoldsJoin}
 use Rattle.ak_merge.specs.Holdings.{AreNamed, SameContent, content_of, row_under}
 use Rattle.ak_merge.specs.Joins.{join}
+use Rattle.ak_merge.specs.Links.{AreLinkedParts}
 use Rattle.ak_openings.specs.declared.whole_collections.Opening.{Opening}
 use Rattle.ak_protocol.specs.Accounts.{AccountState}
 use Rattle.ak_protocol.specs.LawfulServers.{IsLawfulAccount}
@@ -45,8 +46,8 @@ world_in host account server = world_of host account (log_in server)
 abbrev pub lab_world : AccountState → LabState → World
 lab_world account s = world_in lab_host account s.server
 
--- the server has one account, of this host key, which was opened so. No request with the key of a session past the last one came to it. What it
--- committed is what a server may hold, gives a number over 0 in the next sync, and has a schema moment that is not the last one
+-- the server has one account, of this host key, which was opened so. Of the requests that came to it none but metas has the key of a session past
+-- the last one. What it committed is what a server may hold, gives a number over 0 in the next sync, and has a schema moment that is not the last one
 pub record IsLinkedServer (host : List ℕ) (account : AccountState) (sessions : ℕ) (server : LoggedState) : Type 0 where
   pub host_is : server.host ≡ host
   pub unused : (key : ℕ) → sessions < key → IsUnused host key account (log_in server)
@@ -82,7 +83,8 @@ abbrev pub CommitsOnceIn : ℕ → World → World → Type 0
 CommitsOnceIn key before after =
     after.commits ≡ record { key = key; before = before.state.committed; after = after.state.committed } ∷ before.commits
 
--- the device of this name and the server hold one content then: the join of what they held before. Both have a new moment
+-- the device of this name and the server hold one content then: the join of what they held before. Both have a new moment and a new number, and the
+-- device is linked with the server
 pub record JoinsSides (name : List ℕ) (s t : LabState) : Type 0 where
   -- what device and server held before, and what they hold now
   pub device : Collection
@@ -100,11 +102,18 @@ pub record JoinsSides (name : List ℕ) (s t : LabState) : Type 0 where
   pub past_server : server.head.moment <ℤ server_now.head.moment
   pub moment : device_now.head.moment ≡ server_now.head.moment
   pub last_sync : device_now.head.last_sync ≡ server_now.head.moment
+  -- the number of each is one more than the server's was
+  pub device_number : device_now.head.usn ≡ server.head.usn +ℤ pos 1
+  pub server_number : server_now.head.usn ≡ server.head.usn +ℤ pos 1
+  -- and the device is linked with the server, by all five parts
+  pub linked : AreLinkedParts device_now server_now
 
--- a sync of the device of this name finished: the two sides hold the join, the server committed once, and all else is as it was
+-- a sync of the device of this name finished: the two sides hold the join, the server committed once, every device is linked with it, and all else
+-- is as it was, but that nothing is to undo on the device. So it is also where memory ran out for the line of the sync
 pub record Finishes (account : AccountState) (name : List ℕ) (s t : LabState) : Type 0 where
   pub joins : JoinsSides name s t
   pub once : CommitsOnceIn (one_more s.sessions) (lab_world account s) (lab_world account t)
+  pub linked : IsLinkedLab account t
   pub keeps : KeepsOthers name s t
 
 -- what was committed is as it was
@@ -112,29 +121,40 @@ abbrev pub KeepsCommitted : World → World → Type 0
 KeepsCommitted before after =
     (after.state.committed ≡ before.state.committed) × (after.commits ≡ before.commits)
 
--- a device holds c, but for the moment of its last change and its schema moment
-pub record HasOtherMoments (c : Collection) (d : Device) : Type 0 where
-  pub moment : ℤ
-  pub schema : ℤ
-  pub holds : Holds d.collection (record c { head = record c.head { moment = moment; schema = schema } })
+-- a device holds c, but that the moment of its last change and its schema moment have both risen to this moment: each is the greater of this one and
+-- the moment after the old one, and the last moment stays
+abbrev pub HasRisen : ℤ → Collection → Device → Type 0
+HasRisen at c d = Holds d.collection (record c {
+  head = record c.head { moment = advanced_moment at c.head.moment; schema = advanced_moment at c.head.schema };
+})
 
--- a device that held c holds it still; after a bad sanity check it has other moments
-abbrev pub StillHolds : Collection → Outcome → Device → Type 0
-StillHolds c (outcomes.BadRow fault) d = HasOtherMoments c d
-StillHolds c (outcomes.BadCounts client server) d = HasOtherMoments c d
-StillHolds c outcome d = Holds d.collection c
+-- a device that held c holds it still; after a bad sanity check its moments have risen to this one, of its clock
+abbrev pub StillHolds : ℤ → Collection → Outcome → Device → Type 0
+StillHolds at c (outcomes.BadRow fault) d = HasRisen at c d
+StillHolds at c (outcomes.BadCounts client server) d = HasRisen at c d
+StillHolds at c outcome d = Holds d.collection c
 
--- a sync of the device of this name ended and did not finish. The device holds what it held, and the server has committed what it had. If the
--- last request was refused, or its reply was not the one that was asked for, that may have been the finish: then the server may have committed,
--- once, the join of the two
+-- the server has committed what it had, or committed once in this session, over that: the join of it and a device's c
+abbrev pub MayHoldJoin : ℕ → Collection → World → World → Type 0
+MayHoldJoin key c before after = KeepsCommitted before after
+    ⊎ CommitsOnceIn key before after × HoldsJoin c before.state.committed after.state.committed
+
+-- a server on which a sync did not finish has committed what it had. If the last request was refused, or its reply was not one that was asked for,
+-- that may have been the finish: then it may hold the join already
+abbrev pub StillCommits : ℕ → Collection → World → World → Outcome → Type 0
+StillCommits key c before after (outcomes.Refused status word seen) = MayHoldJoin key c before after
+StillCommits key c before after outcomes.BadReply = MayHoldJoin key c before after
+StillCommits key c before after outcome = KeepsCommitted before after
+
+-- a sync of the device of this name ended and did not finish. The device holds what it held and the server has committed what it had, but for
+-- moments that rise and a join that is committed already. Every device is linked with the server, and all else is as it was, but that nothing is
+-- to undo on the device
 pub record KeepsSides (account : AccountState) (name : List ℕ) (s t : LabState) (outcome : Outcome) : Type 0 where
   pub c : Collection
   pub held : (d : Device) → device_of name s.devices ≡ Some d → Holds d.collection c
-  pub device : (d : Device) → device_of name t.devices ≡ Some d → StillHolds c outcome d
-  pub server : ends_before_finish outcome ≡ true → KeepsCommitted (lab_world account s) (lab_world account t)
-  pub once : KeepsCommitted (lab_world account s) (lab_world account t)
-      ⊎ CommitsOnceIn (one_more s.sessions) (lab_world account s) (lab_world account t)
-      × HoldsJoin c (lab_world account s).state.committed (lab_world account t).state.committed
+  pub device : (d : Device) → device_of name t.devices ≡ Some d → StillHolds (s.clock +ℤ d.shift) c outcome d
+  pub server : StillCommits (one_more s.sessions) c (lab_world account s) (lab_world account t) outcome
+  pub linked : IsLinkedLab account t
   pub keeps : KeepsOthers name s t
 
 -- the line of this number syncs the device of this name, and comes to this outcome

@@ -41,15 +41,17 @@ pub fn runs_keep_labs_linked()
     lines_are_single_steps();
 }
 
-/// A sync of a device that finished leaves device and server with one content, the join of what they held, at a new moment. The server
-/// committed once, and all else is as it was.
+/// A sync of a device that finished leaves device and server with one content, the join of what they held, at a new moment and with a new
+/// number, and linked. The server committed once, and all else is as it was, but that nothing is to undo on the device. Whether memory
+/// sufficed for the line of the sync makes no difference.
 pub fn finished_syncs_join()
     ensures { (account : AccountState) (name : List ℕ) (s t : LabState) → IsLinkedLab account s → HasSession s
         → EndsSync name s t outcomes.Finished → Finishes account name s t }
 {}
 
-/// A sync that came to another outcome leaves what the device held, but for its moments after a bad sanity check, and what the server
-/// had committed. If the last request was refused or its reply was no good, the server may hold the join already.
+/// A sync that came to another outcome leaves what the device held, but that its moments rise after a bad sanity check, and what the
+/// server had committed. Only if the last request was refused or its reply was no good, the server may hold the join already. All
+/// devices are linked with the server, and nothing is to undo on the device.
 pub fn other_syncs_keep_sides()
     ensures { (account : AccountState) (name : List ℕ) (s t : LabState) (outcome : Outcome) → IsLinkedLab account s
         → HasSession s → outcome ≢ outcomes.Finished → outcome ≢ outcomes.Memory → EndsSync name s t outcome

@@ -1,9 +1,10 @@
 -- That a sync which nothing stops is finished, or memory ran out.
 use Rattle.std.specs.List.{AllByRecursion}
-use Rattle.std.specs.Prelude.{◌≡◌, ◌⊎◌, ◌≤◌, ◌<◌, ◌+◌, ◌/◌, ℕ, ℤ, true, false, List, [], ◌∷◌, ◌++◌, length, Some, None}
+use Rattle.std.specs.Prelude.{◌≡◌, ◌⊎◌, ◌≤◌, ◌<◌, ◌+◌, ◌/◌, ◌≤ℤ◌, ℕ, ℤ, true, false, List, [], ◌∷◌, ◌++◌, length, Some, None}
 use Rattle.std.proofs.Common.{refl, sym, ap, subst, ◌∙◌, inl, inr, arith}
+use Rattle.std.proofs.lemmas.Int.{ints}
 use Rattle.std.proofs.lemmas.Option.{same_Some}
-use Rattle.ak_client.proofs.Growing.{commits_grown}
+use Rattle.ak_client.proofs.Growing.{commits_grown, world_grown}
 use Rattle.ak_client.specs.Outcomes.{is_told_by_meta}
 use Rattle.ak_client.specs.Syncs.{EndsAt, IsCommittedIn, IsFairEnd, IsShown, IsSync, IsSyncEnded, Synced, Syncs, meta_tried, told_by, world_at}
 use Rattle.ak_client.specs.declared.outcomes.Outcome.{Outcome}
@@ -28,9 +29,10 @@ use Rattle.ak_messages.specs.declared.replies.Word.{Word}
 use Rattle.ak_messages.specs.declared.requests.Ask.{Ask}
 use Rattle.ak_messages.specs.declared.requests.Ask.TheVariants as asks
 use Rattle.ak_messages.specs.declared.requests.SanityCounts.{SanityCounts}
+use Rattle.ak_protocol.proofs.ContentLaws.{old_schemas_stay_old}
 use Rattle.ak_protocol.specs.Accounts.{AccountState}
-use Rattle.ak_protocol.specs.Commits.{CommitsGrow, Leads}
-use Rattle.ak_protocol.specs.Logs.{Log, commits_of, with_growth}
+use Rattle.ak_protocol.specs.Commits.{CommitsGrow, EachNewer, HasFreshSchema, Leads}
+use Rattle.ak_protocol.specs.Logs.{Log, commits_of, events_of, with_growth}
 use Rattle.ak_session.proofs.PlanLaws.{plans_are_short}
 use Rattle.ak_session.specs.Plans.{Asker, plan, planned, requests_from}
 use Rattle.ak_session.specs.Sessions.{MaySync}
@@ -43,7 +45,7 @@ use Rattle.ak_sync_completes.proofs.Reading.{unread_counted}
 use Rattle.ak_sync_completes.proofs.Serving.{IsQuiet}
 use Rattle.ak_sync_completes.proofs.Sides.{checked_of, named_of, sides_may_sync}
 use Rattle.ak_sync_completes.proofs.Undisturbed.{granted_last, quiet_or_out}
-use Rattle.ak_sync_completes.specs.Completing.{AreJoinable, EndsWell, IsSyncOver, IsUnhindered, RanOutOfMemory, SyncSides}
+use Rattle.ak_sync_completes.specs.Completing.{AreJoinable, EndsWell, IsSyncOver, IsUnhindered, RanOutOfMemory, SyncEnds}
 use Rattle.ak_wires.specs.Forms.{is_moment}
 use Rattle.ak_wires.specs.declared.wires.MetaSaid.{MetaSaid}
 
@@ -66,7 +68,7 @@ module _ (c s : Collection) (joinable : AreJoinable c s) (lawful : IsCommitted s
       counted all graves pulled pushed most one two three = omega (arith, most, one, two, three)
 
 -- ---- how it ends
-module _ (ids : Ids) (c : Collection) (account : AccountState) (before after : SyncSides) (outcome : Outcome)
+module _ (ids : Ids) (c : Collection) (account : AccountState) (before after : SyncEnds) (outcome : Outcome)
     (it : IsUnhindered ids c account before after)
     (ended : IsSyncEnded ids before.keeping after.keeping before.health after.health before.wire after.wire before.moments outcome) where
   abbrev asker_of : Asker
@@ -81,13 +83,23 @@ module _ (ids : Ids) (c : Collection) (account : AccountState) (before after : S
   abbrev asked : List Ask
   asked = asks_in own.tries
 
+  -- whatever came, no commit gives the device's schema moment, which is what the server has
+  fresh : EachNewer (HasFreshSchema c) (world_at asker_of account it.old) (world_at asker_of account it.now)
+  fresh =
+      subst (EachNewer (HasFreshSchema c) (world_at asker_of account it.old))
+      (sym (ap (world_at asker_of account) it.grown ∙ world_grown asker_of account it.old it.growth))
+      (old_schemas_stay_old (world_at asker_of account it.old) (events_of ids.host.digits it.growth) c (no_more c.head.schema held.head.schema it.joinable.schema))
+    where
+      no_more : (a b : ℤ) → a ≡ b → a ≤ℤ b
+      no_more a b is = omega (arith, ints, is)
+
   synced : Synced asker_of own.moment asked c account it.old it.now after.keeping outcome
   synced =
       let told = own.told it.old it.begins.told in
       let syncs : Syncs ids own.moment asked before.keeping after.keeping it.old it.now outcome =
       subst (λ (log : Log). Syncs ids own.moment asked before.keeping after.keeping it.old log outcome)
       (same_Some told.0 it.now (sym told.1 ∙ it.begins.told_now)) told.2 in
-      syncs c account it.begins.holds it.begins.may it.begins.fresh
+      syncs c account it.begins.holds it.begins.may fresh
 
   lawful : IsCommitted held
   lawful = it.begins.may.lawful.committed
@@ -235,7 +247,7 @@ module _ (ids : Ids) (c : Collection) (account : AccountState) (before after : S
   ends_by_fault = by_outcome outcome refl
 
 -- a keeper's fault and a lost request come only of a count that rose
-module _ (ids : Ids) (c : Collection) (account : AccountState) (before after : SyncSides) (outcome : Outcome)
+module _ (ids : Ids) (c : Collection) (account : AccountState) (before after : SyncEnds) (outcome : Outcome)
     (it : IsUnhindered ids c account before after) (sync : IsSyncOver ids before after outcome) where
   pub completes_lossy : EndsWell it.growth outcome ⊎ (outcome ≡ outcomes.Lost)
   completes_lossy = by (ends_by_fault ids c account before after outcome it sync.ended)

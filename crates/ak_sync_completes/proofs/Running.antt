@@ -16,7 +16,7 @@ use Rattle.ak_protocol.specs.Accounts.{AccountState}
 use Rattle.ak_protocol.specs.Logs.{Event}
 use Rattle.ak_sync_completes.proofs.Completing.{ends_by_fault}
 use Rattle.ak_sync_completes.specs.Completing.{EndsWell, IsUnhindered}
-use Rattle.ak_sync_completes.specs.Runs.{RunEndsWell, sides_of}
+use Rattle.ak_sync_completes.specs.Runs.{RunEndsWell, ends_of}
 use Rattle.ak_sync_runs.specs.SyncRuns.{EndsPrinting, EndsSync, EndsSyncOn, HasStatusCause, SyncOutside, TellsOutcome, ids_of}
 
 -- chance gives the word that it told
@@ -62,7 +62,7 @@ module _ (host : HostKey) (c : Collection) (account : AccountState) (status : �
     (keeper_before keeper_now out_before out_now : Health) (old new : Option (List ℕ)) (word : ℕ) (words : List ℕ)
     (ends : EndsSync host status before after old new) (out : HasStatusCause 5 out_before out_now status)
     (keeper : HasStatusCause 6 keeper_before keeper_now status) (chance : before.words ≡ Some (word ∷ words))
-    (it : IsUnhindered (ids_of host word) c account (sides_of keeper_before before) (sides_of keeper_now after))
+    (it : IsUnhindered (ids_of host word) c account (ends_of keeper_before before) (ends_of keeper_now after))
     (written : Rose out_before out_now → ⊥) where
   pub run_ends_lossy : RunEndsWell it.growth status old new ⊎ (status ≡ 7)
   run_ends_lossy = by (subst (λ (b : Bool). EndsSyncOn b host status before after old new) (ap (λ (k : Keeping). k.headed.current) it.begins.holds) ends)
@@ -73,7 +73,7 @@ module _ (host : HostKey) (c : Collection) (account : AccountState) (status : �
           let drawn : run.word ≡ word = word_told word run.word words after.words (subst (λ (o : Option (List ℕ)). GivesNext o after.words run.word) chance run.drawn) in
           told_by_fault it.growth status old new (λ is. written (out.failed is)) (λ is. it.keeper (keeper.failed is))
           run.outcome
-          (ends_by_fault (ids_of host word) c account (sides_of keeper_before before) (sides_of keeper_now after) run.outcome it
+          (ends_by_fault (ids_of host word) c account (ends_of keeper_before before) (ends_of keeper_now after) run.outcome it
           (subst (λ (w : ℕ). IsSyncEnded (ids_of host w) before.keeping after.keeping before.health after.health before.wire after.wire before.moments run.outcome)
           drawn run.ended))
           run.told

@@ -3,11 +3,11 @@ use Rattle.std.specs.List.{AllByRecursion}
 use Rattle.std.specs.Prelude.{◌≡◌, ◌≢◌, ◌⊎◌, ◌<◌, ℤ, true, false, List, [], ◌∷◌, length, Option, Some, ⊤}
 use Rattle.ak_client.specs.Greetings.{are_far_apart}
 use Rattle.ak_client.specs.Outcomes.{HasOutcomeCause}
-use Rattle.ak_client.specs.Syncs.{IsSyncEnded, world_at}
+use Rattle.ak_client.specs.Syncs.{IsSyncEnded, MayBegin, world_at}
 use Rattle.ak_client.specs.declared.outcomes.Outcome.{Outcome}
 use Rattle.ak_client.specs.declared.outcomes.Outcome.TheVariants as outcomes
 use Rattle.ak_exchange.specs.Asked.{asker}
-use Rattle.ak_exchange.specs.Phases.{held_by}
+use Rattle.ak_exchange.specs.Phases.{held_by, holding}
 use Rattle.ak_exchange.specs.declared.envelopes.Ids.{Ids}
 use Rattle.ak_faults.specs.Causes.{Health, Rose}
 use Rattle.ak_keep.specs.Collections.{Collection, IsWellFormed}
@@ -23,12 +23,11 @@ use Rattle.ak_protocol.specs.Serving.{KeeperFault, OutOfMemory}
 use Rattle.ak_session.specs.Requests.{is_meta}
 use Rattle.ak_session.specs.Sessions.{HaveRoom}
 use Rattle.ak_session.specs.Slices.{wanted_in_chunks}
-use Rattle.ak_sync_ends.specs.Alone.{BeginsAlone}
 use Rattle.ak_wires.specs.Wires.{WireState}
 
 -- ---- a sync and its ends to the outside
 -- what is known of a sync's keeper, its wire and its clock
-pub record SyncSides : Type 0 where
+pub record SyncEnds : Type 0 where
   -- what the keeper holds, and how many of its calls failed
   pub keeping : Keeping
   pub keeper : Health
@@ -40,7 +39,7 @@ pub record SyncSides : Type 0 where
 
 -- what is promised of a sync that went from the one to the other and ended so: what it did and why it ended; and that a keeper's fault, and a
 -- lost request, come only if the keeper, or the wire, counted faults
-pub record IsSyncOver (ids : Ids) (before after : SyncSides) (outcome : Outcome) : Type 0 where
+pub record IsSyncOver (ids : Ids) (before after : SyncEnds) (outcome : Outcome) : Type 0 where
   pub ended : IsSyncEnded ids before.keeping after.keeping before.health after.health before.wire after.wire before.moments outcome
   pub kept : HasOutcomeCause outcomes.Keep before.keeper after.keeper outcome
   pub lost : HasOutcomeCause outcomes.Lost before.health after.health outcome
@@ -64,6 +63,15 @@ pub record AreJoinable (c s : Collection) : Type 0 where
   pub pulled : length (wanted_in_chunks (From c.head.usn) s.rows) < 10_000_000
   pub pushed : length (wanted_in_chunks Unsent c.rows) < 10_000_000
 
+-- a sync with a device's c may begin over a wire that nothing else uses and that tells its log, which is this one after it. The keeper holds c
+pub record MayBeginAlone (ids : Ids) (c : Collection) (account : AccountState) (old now : Log) (keeping : Keeping)
+    (w0 w1 : WireState) : Type 0 where
+  pub alone : w0.alone ≡ true
+  pub holds : keeping ≡ holding c
+  pub told : w0.log ≡ Some old
+  pub told_now : w1.log ≡ Some now
+  pub may : MayBegin (asker ids) c account old
+
 -- a meta, if this is one, was served at most 300 seconds from this moment
 abbrev pub IsMetaNear : ℤ → Event → Type 0
 IsMetaNear at (View host) = ⊤
@@ -74,12 +82,12 @@ abbrev pub HasNoKeeperFault : Event → Type 0
 HasNoKeeperFault (View host) = ⊤
 HasNoKeeperFault (Asked request now setback) = setback ≢ KeeperFault
 
--- nothing stops a sync of the device's c: nothing else comes to the server, the two collections may be joined, the clocks agree, no keeper
--- fails, and each answer can be read
-pub record IsUnhindered (ids : Ids) (c : Collection) (account : AccountState) (before after : SyncSides) : Type 0 where
+-- nothing stops a sync of the device's c: it may begin and nothing else comes to the server, the two collections may be joined, the clocks agree, no
+-- keeper fails, and each answer can be read
+pub record IsUnhindered (ids : Ids) (c : Collection) (account : AccountState) (before after : SyncEnds) : Type 0 where
   pub old : Log
   pub now : Log
-  pub begins : BeginsAlone ids c account old now before.keeping before.wire after.wire
+  pub begins : MayBeginAlone ids c account old now before.keeping before.wire after.wire
   pub joinable : AreJoinable c (world_at (asker ids) account old).state.committed
   -- what came to the server meanwhile
   pub growth : List Event

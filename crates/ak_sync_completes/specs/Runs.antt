@@ -3,12 +3,12 @@ use Rattle.std.specs.Prelude.{◌≡◌, ◌⊎◌, ℕ, List, [], ◌∷◌, �
 use Rattle.std.specs.Io.KnownBytes.{Appends}
 use Rattle.ak_faults.specs.Causes.{Health}
 use Rattle.ak_protocol.specs.Logs.{Event}
-use Rattle.ak_sync_completes.specs.Completing.{RanOutOfMemory, SyncSides}
+use Rattle.ak_sync_completes.specs.Completing.{RanOutOfMemory, SyncEnds}
 use Rattle.ak_sync_runs.specs.SyncRuns.{SyncOutside}
 
 -- what is known of the ends of a run's sync, with how many calls of its keeper failed
-abbrev pub sides_of : Health → SyncOutside → SyncSides
-sides_of keeper it = record { keeping = it.keeping; keeper = keeper; health = it.health; wire = it.wire; moments = it.moments }
+abbrev pub ends_of : Health → SyncOutside → SyncEnds
+ends_of keeper it = record { keeping = it.keeping; keeper = keeper; health = it.health; wire = it.wire; moments = it.moments }
 
 -- `finished` is printed, and the status is 0; or memory ran out: it is 8, or 13 if that was at the server, to which these came
 abbrev pub RunEndsWell : List Event → ℕ → Option (List ℕ) → Option (List ℕ) → Type 0

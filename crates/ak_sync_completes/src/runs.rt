@@ -5,7 +5,7 @@ ghost use Rattle.ak_faults.specs.Causes.{Health, Rose};
 ghost use Rattle.ak_keep.specs.Collections.{Collection};
 ghost use Rattle.ak_protocol.specs.Accounts.{AccountState};
 ghost use Rattle.ak_sync_completes.specs.Completing.{IsUnhindered};
-ghost use Rattle.ak_sync_completes.specs.Runs.{RunEndsWell, sides_of};
+ghost use Rattle.ak_sync_completes.specs.Runs.{RunEndsWell, ends_of};
 ghost use Rattle.ak_sync_runs.specs.SyncRuns.{EndsSync, HasStatusCause, SyncOutside, ids_of};
 
 /// If nothing stops the sync, and the output does not fail, the command `sync` prints `finished` and ends with 0, or
@@ -15,7 +15,7 @@ pub fn runs_complete()
         → (keeper_before keeper_now out_before out_now : Health) (old new : Option (List ℕ)) (word : ℕ) (words : List ℕ)
         → EndsSync host status before after old new → HasStatusCause 5 out_before out_now status
         → HasStatusCause 6 keeper_before keeper_now status → before.words ≡ Some (word ∷ words)
-        → (it : IsUnhindered (ids_of host word) c account (sides_of keeper_before before) (sides_of keeper_now after))
+        → (it : IsUnhindered (ids_of host word) c account (ends_of keeper_before before) (ends_of keeper_now after))
         → (Rose out_before out_now → ⊥)
         → HasStatusCause 7 before.health after.health status → (Rose before.health after.health → ⊥)
         → RunEndsWell it.growth status old new }
@@ -23,6 +23,6 @@ pub fn runs_complete()
         → (keeper_before keeper_now out_before out_now : Health) (old new : Option (List ℕ)) (word : ℕ) (words : List ℕ)
         → EndsSync host status before after old new → HasStatusCause 5 out_before out_now status
         → HasStatusCause 6 keeper_before keeper_now status → before.words ≡ Some (word ∷ words)
-        → (it : IsUnhindered (ids_of host word) c account (sides_of keeper_before before) (sides_of keeper_now after))
+        → (it : IsUnhindered (ids_of host word) c account (ends_of keeper_before before) (ends_of keeper_now after))
         → (Rose out_before out_now → ⊥) → RunEndsWell it.growth status old new ⊎ (status ≡ 7) }
 {}
