@@ -77,7 +77,7 @@ finished_by : (outcome : Outcome) (old : List ℕ) → TellsOutcome outcome 0 (S
 finished_by outcome old (inl (text, is, inl (status, written))) =
     told_finished outcome text is (text_of_line old text (codes "finished") written) (done_by outcome status)
 finished_by outcome old (inl (text, is, inr (status, part))) = absurd (search (status, rules))
-finished_by outcome old (inr (made, status, nothing)) = absurd (search (status, rules))
+finished_by outcome old (inr (made, (status, nothing))) = absurd (search (status, rules))
 
 -- one that was told as no changes
 unchanged_by : (outcome : Outcome) (old : List ℕ) → TellsOutcome outcome 0 (Some old) (Some (old ++ unchanged_line))
@@ -85,7 +85,7 @@ unchanged_by : (outcome : Outcome) (old : List ℕ) → TellsOutcome outcome 0 (
 unchanged_by outcome old (inl (text, is, inl (status, written))) =
     told_unchanged outcome text is (text_of_line old text (codes "no changes") written) (done_by outcome status)
 unchanged_by outcome old (inl (text, is, inr (status, part))) = absurd (search (status, rules))
-unchanged_by outcome old (inr (made, status, nothing)) = absurd (search (status, rules))
+unchanged_by outcome old (inr (made, (status, nothing))) = absurd (search (status, rules))
 
 -- a run that finished
 run_finished : (host : HostKey) (before after : SyncOutside) (old : List ℕ)
@@ -144,7 +144,7 @@ status_of_told : (outcome : Outcome) (status : ℕ) (old new : Option (List ℕ)
     → status ≢ 5 → status ≢ 8 → status ≡ outcome_status outcome
 status_of_told outcome status old new (inl (text, is, inl (same, written))) no_write no_memory = same
 status_of_told outcome status old new (inl (text, is, inr (same, part))) no_write no_memory = absurd (no_write same)
-status_of_told outcome status old new (inr (made, same, nothing)) no_write no_memory = absurd (no_memory same)
+status_of_told outcome status old new (inr (made, (same, nothing))) no_write no_memory = absurd (no_memory same)
 
 -- by whether a collection was held
 kept_on : (held : Bool) (host : HostKey) (status : ℕ) (before after : SyncOutside) (old new : Option (List ℕ))
@@ -325,7 +325,7 @@ pub listed_told : (outcome : Outcome) (status : ℕ) (old new : Option (List ℕ
     → is_sync_status status ≡ true
 listed_told outcome status old new (inl (text, is, printed)) =
     listed_printed text (outcome_status outcome) status old new (listed_outcome outcome) printed
-listed_told outcome status old new (inr (made, is, nothing)) = ap is_sync_status is
+listed_told outcome status old new (inr (made, (is, nothing))) = ap is_sync_status is
 
 -- ---- why it ends with a status that tells one outcome
 -- 6 tells that the keeper failed
