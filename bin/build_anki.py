@@ -7,6 +7,7 @@ error has a line for each crate; what the toolchain says goes to the end of the 
 is built from the present sources, else 1. It needs Python 3.8 or later and the toolchain's `rt` on the PATH.
 """
 import copy
+import functools
 import os
 import signal
 import sys
@@ -74,6 +75,8 @@ def main(log):
     rt = gate_tool.toolchain()
     os.chdir(gate_tool.TOP)
     rt.rtlib.Crate = rt.Crate
+    # The toolchain makes a crate's sum from those of all below it, each of these anew for each way that leads down to it.
+    rt.Crate.stamp = functools.lru_cache(maxsize=None)(rt.Crate.stamp)
     rt.Crate.allowed = rt.handles_of(gate_tool.TOP)
     # As under rt ci, the crates above a library load its statements and not its proofs.
     rt.Crate.cuts_libraries = True
