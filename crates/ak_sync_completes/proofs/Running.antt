@@ -53,7 +53,7 @@ module _ (growth : List Event) (status : ℕ) (old new : Option (List ℕ)) (wri
   -- a fault of the device's keeper, and a lost request, have statuses of their own
   told_by_fault : (outcome : Outcome) → EndsWell growth outcome ⊎ ((outcome ≡ outcomes.Lost) ⊎ (outcome ≡ outcomes.Keep)) → TellsOutcome outcome status old new
       → RunEndsWell growth status old new ⊎ (status ≡ 7)
-  told_by_fault outcome how (inr (memory, nothing)) = inl (inr (inl memory))
+  told_by_fault outcome how (inr (made, (memory, nothing))) = inl (inr (inl memory))
   told_by_fault outcome (inl well) (inl (text, is, ends)) = inl (told_well outcome well text is ends)
   told_by_fault outcome (inr (inl lost)) (inl (text, is, ends)) = inr ((printed text (outcome_status outcome) ends).0 ∙ ap outcome_status lost)
   told_by_fault outcome (inr (inr kept)) (inl (text, is, ends)) = absurd (keeps ((printed text (outcome_status outcome) ends).0 ∙ ap outcome_status kept))
