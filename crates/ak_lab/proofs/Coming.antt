@@ -1,5 +1,5 @@
 -- What a line comes to if it stops.
-use Rattle.std.proofs.Common.{◌≡◌, ℕ, ℤ, [], ◌∷◌, ◌++◌, List, Some, Result, Ok, Err, IfOk, IfErr, refl, sym, ap, subst, inl, inr, append-nil}
+use Rattle.std.proofs.Common.{◌≡◌, ◌<◌, ℕ, ℤ, [], ◌∷◌, ◌++◌, List, length, Some, None, Result, Ok, Err, IfOk, IfErr, IsErrAnd, refl, sym, ap, subst, inl, inr, append-nil}
 use Rattle.ak_edit.specs.declared.desk_faults.DeskFault.{DeskFault}
 use Rattle.ak_lab.specs.LabDesks.{EndsDo, EndsReview}
 use Rattle.ak_lab.specs.LabStates.{LabState}
@@ -8,9 +8,11 @@ use Rattle.ak_lab.specs.LabStops.{IsDeskStop, IsStopBy}
 use Rattle.ak_lab.specs.LineStops.{CameOut}
 use Rattle.ak_lab.specs.declared.lab_stops.LabStop.{LabStop}
 use Rattle.ak_lab.specs.declared.lab_stops.LabStop.TheVariants as stops
+use Rattle.ak_lab_devices.specs.Devices.{device_of}
 use Rattle.ak_lab_devices.specs.declared.devices.Device.{Device}
 use Rattle.ak_lab_lines.specs.declared.lab_lines.LabLine.{LabLine}
 use Rattle.ak_lab_lines.specs.declared.lab_lines.LabLine.TheVariants as lines
+use Rattle.ak_lab_lines.specs.declared.lab_lines.Side.TheVariants as sides
 use Rattle.ak_loops.specs.Entries.{LoggedState}
 use Rattle.ak_loops.specs.declared.logs.Entry.{Entry}
 use Rattle.ak_server_copies.specs.Copies.{IsViewed}
@@ -22,26 +24,35 @@ not_viewed s = record { views = 0; adds = ap (λ (entries : List Entry). let t :
 pub as_it_was : (s : LabState) → OnlyViews s s
 as_it_was s = (not_viewed s.server, refl)
 
--- a line in which memory ran out before it did more than view the server
-pub short : (said : LabLine) (s t : LabState) → OnlyViews s t → RunsShort said s t
-short (lines.Clock at) s t only = only
-short (lines.Device name) s t only = only
-short (lines.Shift name by) s t only = only
-short (lines.Review name card ease count) s t only = inl only
-short (lines.Do name text) s t only = inl only
-short (lines.Sync name) s t only = inl only
-short (lines.Show side what) s t only = only
-short (lines.Count side) s t only = only
-short (lines.Requests name) s t only = only
+-- a line in which memory ran out before it did anything
+pub short : (said : LabLine) (s : LabState) → RunsShort said s s
+short (lines.Clock at) s = refl
+short (lines.Device name) s = inl refl
+short (lines.Shift name by) s = refl
+short (lines.Review name card ease count) s = inl refl
+short (lines.Do name text) s = inl refl
+short (lines.Sync name) s = inl refl
+short (lines.Show sides.Server what) s = as_it_was s
+short (lines.Show (sides.Device name) what) s = refl
+short (lines.Count sides.Server) s = as_it_was s
+short (lines.Count (sides.Device name)) s = refl
+short (lines.Requests name) s = refl
 
--- a line that is refused by a text
-pub stopped : (said : LabLine) (s t : LabState) (text : List ℕ) (stop : LabStop) → IsStopBy text stop → OnlyViews s t → RefusesWith said s t text → CameOut said s t (Err stop)
-stopped said s t text (stops.Refused why) is only refuses = subst (RefusesWith said s t) (sym is) refuses
-stopped said s t text stops.Memory is only refuses = short said s t only
+-- a line that is refused by a text, if memory suffices for it
+pub stopped : (said : LabLine) (s t : LabState) (text : List ℕ) (stop : LabStop) → IsStopBy text stop → RunsShort said s t → RefusesWith said s t text → CameOut said s t (Err stop)
+stopped said s t text (stops.Refused why) is out refuses = subst (RefusesWith said s t) (sym is) refuses
+stopped said s t text stops.Memory is out refuses = out
 
 -- one that leaves all as it was
 pub stopped_at_once : (said : LabLine) (s : LabState) (text : List ℕ) (stop : LabStop) → IsStopBy text stop → RefusesWith said s s text → CameOut said s s (Err stop)
-stopped_at_once said s text stop is refuses = stopped said s s text stop is (as_it_was s) refuses
+stopped_at_once said s text stop is refuses = stopped said s s text stop is (short said s) refuses
+
+-- a device for which memory ran out
+pub device_unmade : (name : List ℕ) (s t : LabState) (result : Result (List (List ℕ)) LabStop) → IsErrAnd result (λ stop. stop ≡ stops.Memory)
+    → device_of name s.devices ≡ None → length s.devices < 16 → OnlyViews s t → CameOut (lines.Device name) s t result
+device_unmade name s t (Ok printed) is new room only = absurd is
+device_unmade name s t (Err stop) is new room only =
+    subst (λ (stop : LabStop). CameOut (lines.Device name) s t (Err stop)) (sym is) (inr ((new, room), only))
 
 -- new reviews that are refused
 pub review_stopped : (name : List ℕ) (card ease : ℤ) (count : ℕ) (s t : LabState) (fault : DeskFault) (stop : LabStop) → IsDeskStop fault stop
@@ -57,9 +68,9 @@ do_stopped name text s t fault stops.Memory told ended = inr (Err fault, ended)
 
 -- a line that prints this text alone, if memory suffices for it
 pub one_printed : (said : LabLine) (s t : LabState) (text : List ℕ) (result : Result (List (List ℕ)) LabStop)
-    → IfOk result (λ printed. printed ≡ text ∷ []) → IfErr result (λ stop. stop ≡ stops.Memory) → Accepts said s t (text ∷ []) → OnlyViews s t → CameOut said s t result
-one_printed said s t text (Ok printed) is out accepts only = subst (Accepts said s t) (sym is) accepts
-one_printed said s t text (Err stop) is out accepts only = subst (λ (stop : LabStop). CameOut said s t (Err stop)) (sym out) (short said s t only)
+    → IfOk result (λ printed. printed ≡ text ∷ []) → IfErr result (λ stop. stop ≡ stops.Memory) → Accepts said s t (text ∷ []) → RunsShort said s t → CameOut said s t result
+one_printed said s t text (Ok printed) is out accepts short_so = subst (Accepts said s t) (sym is) accepts
+one_printed said s t text (Err stop) is out accepts short_so = subst (λ (stop : LabStop). CameOut said s t (Err stop)) (sym out) short_so
 
 -- a lab whose devices are the same
 pub same_devices : (s : LabState) (devices : List Device) → devices ≡ s.devices → (let t : LabState = record s { devices = devices } in t) ≡ s

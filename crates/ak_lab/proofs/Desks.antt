@@ -5,7 +5,7 @@ use Rattle.ak_desk_lines.specs.LineEnds.{AppliesFilters, EndsLine}
 use Rattle.ak_edit.specs.declared.desk_faults.DeskFault.{DeskFault}
 use Rattle.ak_filters.specs.Meanings.{Meaning}
 use Rattle.ak_io.specs.Arrivals.{IsClockMoment}
-use Rattle.ak_lab.proofs.Coming.{as_it_was, short}
+use Rattle.ak_lab.proofs.Coming.{short}
 use Rattle.ak_lab.proofs.InTime.{place_in_time, unshifted_in_time}
 use Rattle.ak_lab.proofs.Placing.{read_there}
 use Rattle.ak_lab.specs.LabDesks.{EndsDo, EndsReview, IsObeyed, desk_of, turn_of}
@@ -106,7 +106,7 @@ pub unsaid : (name text : List ℕ) (s : LabState) (d : Device) (fault : LineFau
     → RefusesLine text fault → CameOut (lines.Do name text) s s (Err stop)
 unsaid name text s d fault (stops.Refused why) told found refuses =
     inr (inl (record { d = d; found = found; none = (fault, refuses, told); left = refl }))
-unsaid name text s d fault stops.Memory told found refuses = short (lines.Do name text) s s (as_it_was s)
+unsaid name text s d fault stops.Memory told found refuses = short (lines.Do name text) s
 
 -- a line of the desk whose answer is printed, if memory suffices for it
 pub do_printed : (name text : List ℕ) (s t : LabState) (answer : DeskAnswer) (result : Result (List (List ℕ)) LabStop)

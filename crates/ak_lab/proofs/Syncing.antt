@@ -6,7 +6,7 @@ use Rattle.ak_client.specs.declared.outcomes.Outcome.{Outcome}
 use Rattle.ak_faults.specs.Causes.{one_more}
 use Rattle.ak_lab.proofs.Coming.{stopped}
 use Rattle.ak_lab.proofs.Desks.{put_at, put_there, read_twice, ready_there}
-use Rattle.ak_lab.proofs.Placing.{back_there, read_there}
+use Rattle.ak_lab.proofs.Placing.{back_there, placed, read_there}
 use Rattle.ak_lab.specs.LabStates.{IsReady, LabState}
 use Rattle.ak_lab.specs.LabSteps.{OnlyViews}
 use Rattle.ak_lab.specs.LabStops.{IsStopBy, PrintsOutcome}
@@ -64,7 +64,7 @@ pub tie_stopped : (name : List ℕ) (s t : LabState) (place : ℕ) (tie : Name) 
     → (d : Device) × (slice_get s.devices place ≡ Some d) × TestsTie d s.server (Some tie) → OnlyViews s t → IsStopBy (tie_text tie) stop
     → CameOut (lines.Sync name) s t (Err stop)
 tie_stopped name s t place tie stop is (d, at, tests) only told =
-    stopped (lines.Sync name) s t (tie_text tie) stop told only
+    stopped (lines.Sync name) s t (tie_text tie) stop told (inr (inl ((d, is.held d at), only)))
     (inr (tie, record { d = d; found = is.held d at; tied = tests; read = only.0; left = only.1 }, refl))
 
 -- the device at a place was tested, and then synced
@@ -90,8 +90,10 @@ pub sync_printed : (name : List ℕ) (s t : LabState) (outcome : Outcome) (resul
     → EndsSync name s t outcome → CameOut (lines.Sync name) s t result
 sync_printed name s t outcome (Ok printed) (text, is, said) ends = (outcome, text, ends, is, said)
 sync_printed name s t outcome (Err stop) out ends =
-    subst (λ (stop : LabStop). CameOut (lines.Sync name) s t (Err stop)) (sym out) (inr (outcome, ends))
+    subst (λ (stop : LabStop). CameOut (lines.Sync name) s t (Err stop)) (sym out) (inr (inr (outcome, ends)))
 
 -- memory ran out before the sync began
-pub sync_unbegun : (name : List ℕ) (s m t : LabState) → OnlyViews s m → t ≡ m → CameOut (lines.Sync name) s t (Err stops.Memory)
-sync_unbegun name s m t only same = inl (subst (OnlyViews s) (sym same) only)
+pub sync_unbegun : (name : List ℕ) (s m t : LabState) (place : ℕ) → IsPlaceOf name s.devices place → OnlyViews s m → t ≡ m → CameOut (lines.Sync name) s t (Err stops.Memory)
+sync_unbegun name s m t place is only same =
+    let there = placed name s.devices place is in
+    inr (inl ((there.d, there.found), subst (OnlyViews s) (sym same) only))

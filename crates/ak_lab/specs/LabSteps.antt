@@ -122,10 +122,29 @@ RefusesWith (lines.Requests name) s t why = NoDevice name s t why
 abbrev pub OnlyViews : LabState → LabState → Type 0
 OnlyViews s t = IsViewed s.server t.server × (t ≡ record s { server = t.server })
 
--- memory ran out in a line: before it did more than read the server, or at the desk or in the sync, or for the text of what these came to
+-- there is a device of this name
+abbrev pub HasDevice : List ℕ → LabState → Type 0
+HasDevice name s = (d : Device) × (device_of name s.devices ≡ Some d)
+
+-- a device of this name may be added
+abbrev pub HasRoomFor : List ℕ → LabState → Type 0
+HasRoomFor name s = (device_of name s.devices ≡ None) × (length s.devices < 16)
+
+-- a side was looked at: the server by views alone
+abbrev pub OnlyLooks : Side → LabState → LabState → Type 0
+OnlyLooks sides.Server s t = OnlyViews s t
+OnlyLooks (sides.Device name) s t = t ≡ s
+
+-- memory ran out in a line: before it did anything; or after views of the server, which only a new device, a sync of a device and what looks at the
+-- server make; or at the desk or in the sync, or for the text of what these came to
 abbrev pub RunsShort : LabLine → LabState → LabState → Type 0
-RunsShort (lines.Review name card ease count) s t = OnlyViews s t
+RunsShort (lines.Clock at) s t = t ≡ s
+RunsShort (lines.Device name) s t = (t ≡ s) ⊎ HasRoomFor name s × OnlyViews s t
+RunsShort (lines.Shift name by) s t = t ≡ s
+RunsShort (lines.Review name card ease count) s t = (t ≡ s)
     ⊎ (result : Result (Unit {0}) DeskFault) × EndsReview name (plan_of card ease count) s t result
-RunsShort (lines.Do name text) s t = OnlyViews s t ⊎ (result : Result DeskAnswer DeskFault) × EndsDo name text s t result
-RunsShort (lines.Sync name) s t = OnlyViews s t ⊎ (outcome : Outcome) × EndsSync name s t outcome
-RunsShort line s t = OnlyViews s t
+RunsShort (lines.Do name text) s t = (t ≡ s) ⊎ (result : Result DeskAnswer DeskFault) × EndsDo name text s t result
+RunsShort (lines.Sync name) s t = (t ≡ s) ⊎ HasDevice name s × OnlyViews s t ⊎ (outcome : Outcome) × EndsSync name s t outcome
+RunsShort (lines.Show side what) s t = OnlyLooks side s t
+RunsShort (lines.Count side) s t = OnlyLooks side s t
+RunsShort (lines.Requests name) s t = t ≡ s

@@ -88,6 +88,7 @@ pub record SyncsAt (place : ℕ) (s t : LabState) (outcome : Outcome) : Type 0 w
 pub record EndsSync (name : List ℕ) (s t : LabState) (outcome : Outcome) : Type 0 where
   pub d : Device
   pub made : Device
+  -- the server once it was read, as the sync met it: the log has the views besides
   pub met : LoggedState
   pub found : device_of name s.devices ≡ Some d
   pub apart : TestsTie d s.server None

@@ -1,6 +1,6 @@
 use Rattle.std.proofs.Common.{◌≡◌, List, None, ap, inl, refl, subst, sym}
 use Rattle.ak_lab.proofs.Coming.{stopped_at_once}
-use Rattle.ak_lab.proofs.Syncing.{ends_sync, sync_printed, tie_stopped}
+use Rattle.ak_lab.proofs.Syncing.{ends_sync, sync_printed, sync_unbegun, tie_stopped}
 use Rattle.ak_lab.specs.LabStates.{LabState, state_of}
 use Rattle.ak_lab_devices.specs.Devices.{IsPlaceOf, device_of}
 use Rattle.ak_lab_devices.specs.declared.devices.Device.{Device}
@@ -39,3 +39,14 @@ returns-in_default-clause-ends c =
     let none = subst (λ (devices : List Device). device_of c.args.name.now devices ≡ None) c.as_slice.ensures.value c.in_default.ensures in
     stopped_at_once (lines.Sync c.args.name.now) (state_of c.args.lab) (no_device_text c.args.name.now) c.no_device-stop.result c.no_device-stop.ensures
     (inl (refl, none, refl))
+
+pub returns-in-Err-clause-ends : goal.returns-in-Err-clause-ends
+returns-in-Err-clause-ends c =
+    let is = subst (λ (devices : List Device). IsPlaceOf c.args.name.now devices c.in-Some.place) c.as_slice.ensures.value c.in-Some.ensures in
+    sync_unbegun c.args.name.now (state_of c.args.lab) (state_of c.tie_at.new.self) (state_of c.tie_at.new.self) c.in-Some.place is c.tie_at.ensures.viewed refl
+
+pub returns-in-Err-outcome-clause-ends : goal.returns-in-Err-outcome-clause-ends
+returns-in-Err-outcome-clause-ends c =
+    let is = subst (λ (devices : List Device). IsPlaceOf c.args.name.now devices c.in-Some.place) c.as_slice.ensures.value c.in-Some.ensures in
+    sync_unbegun c.args.name.now (state_of c.args.lab) (state_of c.tie_at.new.self) (state_of c.sync_at-lab.result.0) c.in-Some.place is c.tie_at.ensures.viewed
+    (rw c.in-Err-outcome.is at c.sync_at-lab.ensures.err)

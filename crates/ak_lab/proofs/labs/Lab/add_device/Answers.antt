@@ -1,5 +1,5 @@
 use Rattle.std.proofs.Common.{◌≡◌, ◌<◌, [], ◌∷◌, ◌++◌, List, None, length, codes, refl, ap, subst, ◌∙◌, inl, arith}
-use Rattle.ak_lab.proofs.Coming.{stopped_at_once}
+use Rattle.ak_lab.proofs.Coming.{device_unmade, stopped_at_once}
 use Rattle.ak_lab.proofs.Placing.{placed}
 use Rattle.ak_lab.specs.LabStates.{LabState}
 use Rattle.ak_lab_devices.specs.Devices.{IsPlaceOf, device_of}
@@ -31,4 +31,25 @@ returns-clause-ends c =
             (c.in_ok-push.ensures.items ∙ ap (λ (d : Device). c.args.self.now.devices.items ++ d ∷ []) made.2);
       },
       c.new.ensures,
+    )
+
+pub returns-in_err-device-clause-ends : goal.returns-in_err-device-clause-ends
+returns-in_err-device-clause-ends c =
+    device_unmade c.args.name _ _ c.from_residual.result c.from_residual.ensures.1
+    (subst (λ (devices : List Device). device_of c.args.name devices ≡ None) c.as_slice.ensures.value c.in-None.ensures)
+    (subst (λ (devices : List Device). length devices < 16) c.as_slice-2.ensures.value (omega (arith, c.if-as_slice-ge-DEVICE_LIMIT.false)))
+    (c.new_device.ensures.viewed, refl)
+
+pub returns-in_err-push-clause-ends : goal.returns-in_err-push-clause-ends
+returns-in_err-push-clause-ends c =
+    device_unmade c.args.name _ _ c.from_residual-in_err-push.result c.from_residual-in_err-push.ensures.1
+    (subst (λ (devices : List Device). device_of c.args.name devices ≡ None) c.as_slice.ensures.value c.in-None.ensures)
+    (subst (λ (devices : List Device). length devices < 16) c.as_slice-2.ensures.value (omega (arith, c.if-as_slice-ge-DEVICE_LIMIT.false))) (
+      c.new_device.ensures.viewed,
+      ap (λ (devices : List Device). let t : LabState = record {
+        clock = c.args.self.now.clock;
+        server = c.new_device.new.server;
+        sessions = c.args.self.now.sessions;
+        devices = devices;
+      } in t) c.in_err-push.ensures.items,
     )

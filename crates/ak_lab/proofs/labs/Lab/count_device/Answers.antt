@@ -1,5 +1,5 @@
 use Rattle.std.proofs.Common.{[], ◌∷◌, List, ℕ, ap, subst}
-use Rattle.ak_lab.proofs.Coming.{not_viewed, one_printed, same_devices}
+use Rattle.ak_lab.proofs.Coming.{one_printed, same_devices}
 use Rattle.ak_lab.proofs.Placing.{back_there, read_there}
 use Rattle.ak_lab.specs.LabStates.{state_of}
 use Rattle.ak_lab_devices.specs.Devices.{IsPlaceOf}
@@ -17,4 +17,4 @@ returns-in-Ok-clause-ends c =
     let counted = c.in-Ok.ensures.counted in
     one_printed (lines.Count (sides.Device c.args.name.now)) _ _ c.in-Ok.text c.one_line.result c.one_line.ensures.ok c.one_line.ensures.err
     (counted.0, (same, c.index_mut.result.now, there.1, counted.1), ap (λ (text : List ℕ). text ∷ []) counted.2)
-    (not_viewed _, same)
+    same

@@ -1,5 +1,5 @@
 use Rattle.std.proofs.Common.{[], ◌∷◌, List, ℕ, refl, ap, subst, ◌∙◌}
-use Rattle.ak_lab.proofs.Coming.{as_it_was, one_printed}
+use Rattle.ak_lab.proofs.Coming.{one_printed}
 use Rattle.ak_lab.proofs.Placing.{read_there}
 use Rattle.ak_lab_devices.specs.Devices.{IsPlaceOf}
 use Rattle.ak_lab_devices.specs.declared.devices.Device.{Device}
@@ -13,4 +13,4 @@ returns-in-Ok-clause-ends c =
     (subst (λ (devices : List Device). IsPlaceOf c.args.name.now devices c.in-Some.place) c.as_slice.ensures.value c.in-Some.ensures) c.index.ensures in
     one_printed (lines.Requests c.args.name.now) _ _ c.in-Ok.text c.one_line.result c.one_line.ensures.ok c.one_line.ensures.err
     (refl, c.index.result.now, there.1, ap (λ (text : List ℕ). text ∷ []) (c.in-Ok.ensures ∙ ap (λ (name : List ℕ). requests_text name c.index.result.now.calls) c.as_str.ensures))
-    (as_it_was _)
+    refl

@@ -1,5 +1,5 @@
 use Rattle.std.proofs.Common.{List, subst}
-use Rattle.ak_lab.proofs.Coming.{not_viewed, same_devices}
+use Rattle.ak_lab.proofs.Coming.{same_devices}
 use Rattle.ak_lab.proofs.Placing.{back_there, read_there}
 use Rattle.ak_lab.specs.LabStates.{state_of}
 use Rattle.ak_lab_devices.specs.Devices.{IsPlaceOf}
@@ -18,4 +18,4 @@ pub returns-in-Err-clause-ends : goal.returns-in-Err-clause-ends
 returns-in-Err-clause-ends c =
     let is = subst (λ (devices : List Device). IsPlaceOf c.args.name.now devices c.in-Some.place) c.as_slice.ensures.value c.in-Some.ensures in
     let back = back_there c.args.self.now.devices.items c.in-Some.place c.index_mut.result.now c.shown_on.new.device is.within c.index_mut.ensures.value c.shown_on.ensures.same in
-    (not_viewed _, same_devices (state_of c.args.self.now) _ back)
+    same_devices (state_of c.args.self.now) _ back
