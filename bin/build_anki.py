@@ -4,10 +4,11 @@
 Each crate that the program is made of is proved from nothing by the commands of `rt ci`, side by side as far as processors and
 memory allow. A crate that was proved from the same sources stays, so a call that was stopped goes on where it ended. Standard
 error has a line for each crate; what the toolchain says goes to the end of the file LOG. The status is 0 if crates/anki/out/anki
-is built from the present sources, else 1. It needs Python 3.8 or later and the toolchain's `rt` on the PATH.
+is built from these sources, 2 if a source changed meanwhile, so that it is to be called again, else 1. It needs Python 3.8 or later and the toolchain's `rt` on the PATH.
 """
 import copy
 import functools
+import hashlib
 import os
 import signal
 import sys
@@ -25,6 +26,15 @@ def file_of_sum(crate):
     return f"{crate.folder}/out/rlib/proved-from"
 
 
+def sum_of_files(rt, crate):
+    """Returns a sum of what the crate's own files hold now."""
+    made = hashlib.sha256()
+    for path in rt.rtlib.files_of(crate.folder):
+        with open(path, "rb") as file:
+            made.update(repr((path, file.read())).encode())
+    return made.hexdigest()
+
+
 def without_kept(rt, crates):
     """Returns the crates that are to be proved: those that changed, and all that stand on one of them. The program is always built."""
     changed = set()
@@ -36,10 +46,16 @@ def without_kept(rt, crates):
 
 
 class Build:
-    """The crates that are still to be proved, and the log of those that were."""
+    """The crates that are still to be proved, what their files held at first, and the log of those that were proved."""
 
-    def __init__(self, log, count):
-        self.log, self.left, self.turn = log, count, threading.Lock()
+    def __init__(self, rt, log, crates):
+        self.rt, self.log, self.left, self.turn = rt, log, len(crates), threading.Lock()
+        self.sums, self.has_changed = {it.name: sum_of_files(rt, it) for it in crates}, False
+
+    def is_as_it_was(self, crate):
+        """Returns whether the crate's files still hold what its sum was made from; if not, nothing from here on is kept."""
+        self.has_changed = self.has_changed or sum_of_files(self.rt, crate) != self.sums[crate.name]
+        return not self.has_changed
 
     def begin(self, crate):
         with self.turn:
@@ -51,8 +67,8 @@ class Build:
             log.write(f"== {crate.name}\n{said}")
 
     def prove(self, crate, given, jobs):
-        """Returns whether the crate and all below it are proved; one that was stopped, most likely for memory, is tried again alone."""
-        if not all(given.get((it.name, "proof"), True) for it in crate.below()):
+        """Returns whether the crate and all below it are proved; one that was stopped, most likely for memory, is tried again with one job."""
+        if not all(given.get((it.name, "proof"), True) for it in crate.below()) or not self.is_as_it_was(crate):
             return False
         self.begin(crate)
         sum_before, crate = crate.stamp(), copy.copy(crate)
@@ -65,6 +81,8 @@ class Build:
             self.write(crate, crate.out.read())
         if status:
             print(f"anki: {crate.name} was not proved", file=sys.stderr, flush=True)
+        elif not self.is_as_it_was(crate):
+            return False
         elif not crate.is_program:
             with open(file_of_sum(crate), "w", encoding="utf-8") as file:
                 file.write(sum_before)
@@ -86,13 +104,14 @@ def main(log):
     # Held until this ends: no other call of the toolchain works in these folders meanwhile.
     held = rt.rtlib.lock(crates)
     todo = without_kept(rt, crates)
-    build, names = Build(log, len(todo)), {it.name for it in todo}
+    build, names = Build(rt, log, todo), {it.name for it in todo}
     tasks = {}
     for crate in todo:
         waits = [(it.name, "proof") for it in crate.below() if it.name in names]
         # Half the memory that the toolchain reserves for a check, which is still more than each was measured to take.
         tasks[crate.name, "proof"] = (waits, crate.count(rb"\n"), rt.need(crate) // 2, lambda given, jobs, it=crate: build.prove(it, given, jobs))
-    return 0 if all(rt.in_lanes(tasks).values()) else 1
+    is_well = all(rt.in_lanes(tasks).values())
+    return 2 if build.has_changed else 0 if is_well else 1
 
 
 if __name__ == "__main__":

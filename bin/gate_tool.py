@@ -1,4 +1,4 @@
-"""What bin/try-edits and bin/gate-seconds share: the toolchain's command `rt`, read as a Python module, and a copy of this repository.
+"""What bin/try-edits, bin/gate-seconds and bin/build_anki.py share: the toolchain's command `rt`, read as a Python module, and a copy of this repository.
 
 Needs Python 3.8 or later and the toolchain, whose command `rt` is a Python program on the PATH. From it are used the
 functions edits_alone, read_edit, must_fail, checked, linked, copy_crates, where_disk_lasts and share_work, and its crates.
