@@ -54,7 +54,8 @@ class Build:
 
     def is_as_it_was(self, crate):
         """Returns whether the crate's files still hold what its sum was made from; if not, nothing from here on is kept."""
-        self.has_changed = self.has_changed or sum_of_files(self.rt, crate) != self.sums[crate.name]
+        if sum_of_files(self.rt, crate) != self.sums[crate.name]:
+            self.has_changed = True
         return not self.has_changed
 
     def begin(self, crate):
