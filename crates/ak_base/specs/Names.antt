@@ -1,5 +1,5 @@
 -- The order of a collection's names: by table, then by id.
-use Rattle.std.specs.Prelude.{ℕ}
+use Rattle.std.specs.Prelude.{ℕ, pos, ◌+ℤ◌}
 use Rattle.std.specs.Cmp.{IsTotalOrder, on_total, then_total, nat_cmp_total, int_cmp_total}
 use Rattle.std.specs.Ordering.{nat_cmp, int_cmp, then_cmp, on}
 use Rattle.std.specs.declared.cmp.Ordering.{Ordering}
@@ -18,6 +18,10 @@ table_place tables.Options = 5
 table_place tables.NoteGrave = 6
 table_place tables.CardGrave = 7
 table_place tables.DeckGrave = 8
+
+-- the name of the next id in its table
+abbrev pub next_name : Name → Name
+next_name name = record { table = name.table; id = name.id +ℤ pos 1 }
 
 -- by table, then by id
 abbrev pub name_cmp : Name → Name → Ordering

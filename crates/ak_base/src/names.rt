@@ -1,6 +1,7 @@
-ghost use Rattle.std.specs.Prelude.{◌≡◌};
-ghost use Rattle.ak_base.specs.Names.{table_place, name_cmp};
-ghost use Rattle.ak_base.specs.Tables.{all_tables, buried_in, buried_name, grave_code, grave_name, graves_of, has_stamps, of_grave_code, stored_code};
+ghost use Rattle.std.specs.Prelude.{◌≡◌, ◌≤ℤ◌};
+ghost use Rattle.ak_base.specs.Limits.{last_id};
+ghost use Rattle.ak_base.specs.Names.{table_place, name_cmp, next_name};
+ghost use Rattle.ak_base.specs.Tables.{all_tables, buried_in, buried_name, grave_code, grave_name, graves_of, of_grave_code, stored_code};
 
 use std::cmp::Ordering;
 
@@ -34,16 +35,6 @@ impl Table {
             Table::CardGrave,
             Table::DeckGrave,
         ]
-    }
-
-    /// Whether its rows have stamps.
-    pub fn has_stamps(self) -> bool
-        ensures { result ≡ has_stamps self }
-    {
-        match self {
-            Table::Note | Table::Card | Table::NoteType | Table::Deck | Table::Options => true,
-            Table::Review | Table::NoteGrave | Table::CardGrave | Table::DeckGrave => false,
-        }
     }
 
     /// The table of the graves that its rows leave. Only notes, cards and decks leave graves.
@@ -134,6 +125,17 @@ pub struct Name {
 }
 
 impl Name {
+    /// The name of the next id in its table.
+    pub fn next(self) -> Name
+        requires { self.id ≤ℤ last_id }
+        ensures { result ≡ next_name self }
+    {
+        Name {
+            table: self.table,
+            id: self.id + 1,
+        }
+    }
+
     /// The name of the grave that a row of this name leaves.
     pub fn grave(self) -> Option<Name>
         ensures { result ≡ grave_name self }

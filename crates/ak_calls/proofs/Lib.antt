@@ -8,4 +8,6 @@ pub mod AdmittedEdits
 pub mod CheckedEdits
 pub mod RowRules
 pub mod Ids
+pub mod FreeIds
 pub mod NewNames
+pub mod MakingRows

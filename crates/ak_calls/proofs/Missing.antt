@@ -12,7 +12,8 @@ use Rattle.ak_edit.specs.Refusals.{AnswersBy}
 use Rattle.ak_edit.specs.declared.desk_faults.DeskFault.{DeskFault}
 use Rattle.ak_edit.specs.declared.desk_faults.DeskFault.TheVariants as faults
 use Rattle.ak_keep.specs.Keepers.{Keeping, WhereTold}
-use Rattle.ak_merge.specs.Holdings.{RowsByName, name_in}
+use Rattle.ak_keep.specs.Graves.{RowsByName}
+use Rattle.ak_merge.specs.Holdings.{name_in}
 
 -- a row for whose want nothing is refused is held
 held_of : (at : RowsByName) (name : Name) (x : Option Row) → at name ≡ x → ((fault : DeskFault) → RefusesAbsent at name fault → ⊥) → not (is_some x) ≡ false

@@ -13,7 +13,8 @@ use Rattle.ak_base.specs.declared.rows.Row.{Row}
 use Rattle.ak_edit.specs.Overlays.{Overlay, edit_of, put_over, removed_over, row_over, unchanged}
 use Rattle.ak_keep.specs.Collections.{Collection}
 use Rattle.ak_merge.specs.Edits.{Edit}
-use Rattle.ak_merge.specs.Holdings.{RowsByName, row_under}
+use Rattle.ak_keep.specs.Graves.{RowsByName}
+use Rattle.ak_merge.specs.Holdings.{row_under}
 
 -- what changes say besides rows
 abbrev pub rest_of : Overlay → Option Conf × (List (List ℕ) × Bool)

@@ -1,5 +1,5 @@
 -- What a row that is put asks for, and when its edit is refused.
-use Rattle.std.specs.Prelude.{◌≡◌, ℤ, pos, Bool, true, false, cond, List, Option, Some, None, Result}
+use Rattle.std.specs.Prelude.{◌≡◌, ℤ, pos, Bool, true, false, cond, List, Option, Some, Result}
 use Rattle.std.proofs.Common.{refl, sym, ap, subst, ◌∙◌}
 use Rattle.std.proofs.lemmas.Option.{same_Some}
 use Rattle.std.specs.FinMap.{get}

@@ -6,6 +6,14 @@ use Rattle.ak_keep.specs.Collections.{Collection, Holding, Rows, collection_of}
 use Rattle.ak_keep.specs.Keepers.{Keeping, WhereHeld, WhereTold}
 use Rattle.ak_keep.specs.Marks.{WithMark}
 
+told-always : (told : Option (WithMark Holding)) (P : Holding → Type 0) → ((h : Holding) → P h) → IfSome told (λ w. P w.current)
+told-always None P is = tt
+told-always (Some w) P is = is w.current
+
+-- what is always true
+pub where_always : (k : Keeping) (P : Holding → Type 0) → ((h : Holding) → P h) → WhereTold k P
+where_always k P is = told-always k.told P is
+
 some-map : (o : Option Collection) (P Q : Collection → Type 0) → ((c : Collection) → P c → Q c) → IfSome o P → IfSome o Q
 some-map None P Q step is = tt
 some-map (Some c) P Q step is = step c is

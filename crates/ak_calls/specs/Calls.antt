@@ -14,7 +14,8 @@ use Rattle.ak_keep.specs.Collections.{Collection, Rows}
 use Rattle.ak_keep.specs.Keepers.{Keeping, WhereHeld, WhereTold}
 use Rattle.ak_keep.specs.declared.readables.Lookup.{Ghosts}
 use Rattle.ak_merge.specs.Edits.{Edit}
-use Rattle.ak_merge.specs.Holdings.{RowsByName, name_in}
+use Rattle.ak_keep.specs.Graves.{RowsByName}
+use Rattle.ak_merge.specs.Holdings.{name_in}
 use Rattle.ak_undo.specs.declared.steps.Step.{Step}
 
 -- whether the id is one of these

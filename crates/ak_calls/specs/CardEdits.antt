@@ -14,7 +14,8 @@ use Rattle.ak_edit.specs.Refusals.{OrElse, Refusal}
 use Rattle.ak_keep.specs.Collections.{Collection}
 use Rattle.ak_merge.specs.EditBuilding.{unedited, with_rows_mapped}
 use Rattle.ak_merge.specs.Edits.{Edit}
-use Rattle.ak_merge.specs.Holdings.{RowsByName, name_in, row_under}
+use Rattle.ak_keep.specs.Graves.{RowsByName}
+use Rattle.ak_merge.specs.Holdings.{name_in, row_under}
 
 -- a change of cards keeps what a card is called
 abbrev pub KeepsIds : (Card → Card) → Type 0

@@ -11,6 +11,6 @@ mod row_edits;
 pub use call_laws::{card_edits_are_admitted, row_changes_are_admitted, row_edits_are_admitted};
 pub use card_edits::{CardChange, CardEdit, edit_cards};
 pub use held_rows::held_row;
-pub use new_names::new_name;
+pub use new_names::{first_name, new_name, next_free};
 pub use note_tags::stored_tags;
 pub use row_edits::edit_row;

@@ -19,7 +19,7 @@ use Rattle.ak_deck_paths.proofs.PuttingDecks.{addition_asked, addition_rows}
 use Rattle.ak_deck_paths.proofs.ShortPaths.{added_short, given_path, short_path}
 use Rattle.ak_deck_paths.specs.Additions.{AreAdded, AreAddedIn, DoesAdd, IsAdded, RefusesAddedStamp, RefusesAddition, RefusesToAdd, RefusesToMake, added_paths, addition, id_of_last}
 use Rattle.ak_deck_paths.specs.ChangedDecks.{decks_over}
-use Rattle.ak_deck_paths.specs.DeckPaths.{decks_in}
+use Rattle.ak_keep.specs.Lookups.{decks_in}
 use Rattle.ak_deck_paths.specs.GivenPaths.{RefusesPath}
 use Rattle.ak_undo.specs.declared.steps.Step.{Step}
 

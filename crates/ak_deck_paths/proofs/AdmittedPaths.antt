@@ -1,41 +1,32 @@
 -- Edits that make decks, or move a subtree, are admitted.
-use Rattle.std.specs.Prelude.{◌≡◌, ℕ, ℤ, Bool, true, false, ◌||◌, is_some, if◌then◌else◌, List, [], ◌∷◌}
-use Rattle.std.proofs.Common.{refl, sym, ap, subst, ◌∙◌}
+use Rattle.std.specs.Prelude.{◌≡◌, ℕ, ℤ, Bool, true, false, if◌then◌else◌, List, [], ◌∷◌}
+use Rattle.std.proofs.Common.{refl, sym, subst, ◌∙◌}
 use Rattle.ak_base.specs.Rows.{name_of}
 use Rattle.ak_base.specs.declared.decks.Deck.{Deck}
 use Rattle.ak_base.specs.declared.names.Name.{Name}
-use Rattle.ak_base.specs.declared.names.Table.{Table}
 use Rattle.ak_base.specs.declared.names.Table.TheVariants as tables
 use Rattle.ak_base.specs.declared.rows.Row.{Row}
 use Rattle.ak_base.specs.declared.rows.Row.TheVariants as rows
-use Rattle.ak_calls.specs.NewNames.{is_used}
-use Rattle.ak_edit.specs.FreeNames.{IsFree, first_name}
+use Rattle.ak_keep.specs.FreeNames.{IsFree, is_used}
+use Rattle.ak_calls.proofs.FreeIds.{not_dead}
+use Rattle.ak_calls.specs.NewNames.{AreMadeOf, first_name}
 use Rattle.ak_keep.specs.Collections.{Collection}
 use Rattle.ak_merge.proofs.EditBuildingLaws.{maps_are_admitted, puts_are_admitted, unedited_is_admitted}
-use Rattle.ak_merge.proofs.EditFacts.{true_false}
 use Rattle.ak_merge.specs.EditBuilding.{MayMap, MayPut, unedited, with_row, with_rows_mapped}
 use Rattle.ak_merge.specs.Edits.{Admits, Edit}
-use Rattle.ak_merge.specs.Holdings.{AreNamed, is_dead, name_in, row_under}
+use Rattle.ak_keep.specs.Graves.{is_dead}
+use Rattle.ak_merge.specs.Holdings.{AreNamed, name_in, row_under}
 use Rattle.ak_deck_paths.specs.Additions.{AreAdded, added_paths, addition}
 use Rattle.ak_deck_paths.specs.ChangedDecks.{with_decks}
-use Rattle.ak_deck_paths.specs.DeckPaths.{decks_in, is_under, missing_above, moved_deck, renamed}
-use Rattle.ak_deck_paths.specs.NewDecks.{AreMadeOf, IsNewDeck, next_name}
+use Rattle.ak_keep.specs.Lookups.{decks_in}
+use Rattle.ak_deck_paths.specs.DeckPaths.{is_under, missing_above, moved_deck, renamed}
+use Rattle.ak_base.specs.Names.{next_name}
+use Rattle.ak_deck_paths.specs.NewDecks.{IsNewDeck}
 use Rattle.ak_deck_paths.specs.Renames.{AreMadeAbove, renaming}
-
-second_false : (a b : Bool) → (a || b) ≡ false → b ≡ false
-second_false true b is = true_false is
-second_false false b is = is
-
--- a free name is not dead
-not_dead : (c : Collection) (first name : Name) → first.table ≡ tables.Deck → IsFree (is_used (row_under c)) first name → is_dead (row_under c) (name_in tables.Deck name.id) ≡ false
-not_dead c first name of free =
-    let there : Name = name_in tables.Deck name.id in
-    let same : name ≡ there = ap (λ (t : Table). name_in t name.id) (free.table ∙ of) in
-    second_false (is_some (row_under c there)) (is_dead (row_under c) there) (ap (is_used (row_under c)) (sym same) ∙ free.free)
 
 deck_may : (c : Collection) (path : List ℕ) (deck : Deck) (first name : Name) → first.table ≡ tables.Deck → IsFree (is_used (row_under c)) first name → IsNewDeck path name.id deck → MayPut c (rows.Deck deck)
 deck_may c path deck first name of free is = record {
-  free = λ none. subst (λ (id : ℤ). is_dead (row_under c) (name_in tables.Deck id) ≡ false) (sym is.id) (not_dead c first name of free);
+  free = λ none. subst (λ (id : ℤ). is_dead (row_under c) (name_in tables.Deck id) ≡ false) (sym is.id) (not_dead (row_under c) first name tables.Deck of free);
   review = λ is. absurd (cc);
 }
 

@@ -20,7 +20,8 @@ use Rattle.ak_keep.proofs.RowsByName.{all_from_gets, same_of_tied}
 use Rattle.ak_keep.specs.Collections.{Rows, is_past, rows_past}
 use Rattle.ak_merge.proofs.EditFacts.{false_true}
 use Rattle.ak_merge.proofs.Finding.{none_in_table, table_has_none}
-use Rattle.ak_merge.specs.Holdings.{AreChecked, AreNamed, RowsByName}
+use Rattle.ak_keep.specs.Graves.{RowsByName}
+use Rattle.ak_merge.specs.Holdings.{AreChecked, AreNamed}
 
 -- the row was put changed, if it meets the test
 abbrev pub put_one : (Row → Bool) → (Row → Row) → Row → Overlay → Overlay

@@ -1,6 +1,4 @@
-mod Collecting
 mod PathFacts
-mod FreeIds
 mod MakingDecks
 mod ShortPaths
 mod CheckedDecks

@@ -14,7 +14,7 @@ use Rattle.ak_base.specs.declared.rows.Row.TheVariants as rows
 use Rattle.ak_calls.proofs.Overlaying.{edit_by_names, rest_of}
 use Rattle.ak_edit.specs.Overlays.{Overlay, edit_of, put_over, row_over, unchanged}
 use Rattle.ak_keep.specs.Collections.{Collection, Rows, is_past, rows_past}
-use Rattle.ak_keep.specs.Lookups.{as_deck}
+use Rattle.ak_keep.specs.Lookups.{as_deck, decks_in}
 use Rattle.ak_merge.proofs.EditFacts.{false_true}
 use Rattle.ak_merge.proofs.Finding.{id_over_zero}
 use Rattle.ak_merge.specs.EditBuilding.{unedited, with_rows_mapped}
@@ -22,7 +22,7 @@ use Rattle.ak_merge.specs.Holdings.{AreChecked, AreNamed, row_under}
 use Rattle.ak_deck_paths.proofs.ChangedRows.{changed_asked, changed_by, put_all, rest_put}
 use Rattle.ak_deck_paths.proofs.PuttingDecks.{decks_asked}
 use Rattle.ak_deck_paths.specs.ChangedDecks.{decks_over, with_decks}
-use Rattle.ak_deck_paths.specs.DeckPaths.{decks_in, is_under, moved_deck, moved_decks, renamed}
+use Rattle.ak_deck_paths.specs.DeckPaths.{is_under, moved_deck, moved_decks, renamed}
 use Rattle.ak_deck_paths.specs.Renames.{renaming}
 
 -- whether a row is a deck of the subtree

@@ -12,7 +12,8 @@ use Rattle.ak_merge.specs.EditBuilding.{unedited}
 use Rattle.ak_merge.specs.Edits.{Edit}
 use Rattle.ak_merge.specs.Holdings.{name_in}
 use Rattle.ak_deck_paths.specs.ChangedDecks.{with_decks}
-use Rattle.ak_deck_paths.specs.DeckPaths.{decks_in, first_id, has_path, missing_above}
+use Rattle.ak_keep.specs.Lookups.{decks_in}
+use Rattle.ak_deck_paths.specs.DeckPaths.{first_id, has_path, missing_above}
 use Rattle.ak_deck_paths.specs.GivenPaths.{RefusesPath}
 use Rattle.ak_deck_paths.specs.NewDecks.{AreNewDecks, RefusesIds}
 use Rattle.ak_undo.specs.declared.steps.Step.{Step}

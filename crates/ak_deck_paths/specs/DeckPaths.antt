@@ -1,23 +1,19 @@
 -- Paths of decks: what is above one, which decks have one, and where the decks of a subtree go.
-use Rattle.std.specs.Prelude.{ℕ, ℤ, pos, Bool, not, ◌&&◌, ◌==◌, if◌then◌else◌, List, [], ◌∷◌, ◌++◌, length, drop, filter, map, find, Option}
+use Rattle.std.specs.Prelude.{ℕ, ℤ, Bool, not, ◌&&◌, ◌==◌, if◌then◌else◌, List, [], ◌∷◌, ◌++◌, length, drop, filter, map, find, Option}
 use Rattle.std.specs.Cmp.Lexicographic.{pointwise}
 use Rattle.std.specs.FinMap.{get}
-use Rattle.std.specs.List.{filter_map, list_any}
+use Rattle.std.specs.List.{list_any}
 use Rattle.std.specs.Option.{option_map, option_map_or}
 use Rattle.ak_base.specs.Paths.{ancestors, is_in_subtree}
 use Rattle.ak_base.specs.declared.decks.Deck.{Deck}
 use Rattle.ak_base.specs.declared.names.Table.TheVariants as tables
 use Rattle.ak_base.specs.declared.rows.Row.{Row}
 use Rattle.ak_base.specs.declared.rows.Row.TheVariants as rows
-use Rattle.ak_keep.specs.Collections.{Rows, rows_past}
+use Rattle.ak_keep.specs.Collections.{Rows}
 use Rattle.ak_keep.specs.Lookups.{as_deck}
 use Rattle.ak_merge.specs.Holdings.{name_in}
 
 -- ---- the decks that are held
--- the decks that are held, by ascending id: an id is at least 1
-abbrev pub decks_in : Rows → List Deck
-decks_in held = filter_map as_deck (rows_past tables.Deck (pos 0) held)
-
 -- the path of a deck: its name. Other rows have the empty one
 abbrev pub path_of : Row → List ℕ
 path_of row = option_map_or (λ (deck : Deck). deck.name) (as_deck row) []

@@ -1,52 +1,14 @@
--- The decks that a call makes, and the free ids that rows made one after another get.
-use Rattle.std.specs.Prelude.{◌≡◌, ◌⊎◌, ℕ, zero, suc, ℤ, pos, negsuc, ◌+ℤ◌, Bool, false, List, [], ◌∷◌, length, None, codes}
+-- The decks that a call makes.
+use Rattle.std.specs.Prelude.{◌≡◌, ℕ, ℤ, pos, negsuc, false, List, length, codes}
 use Rattle.std.specs.FinMap.{get}
 use Rattle.ak_base.specs.declared.decks.Count.{Count}
 use Rattle.ak_base.specs.declared.decks.Deck.{Deck}
-use Rattle.ak_base.specs.declared.names.Name.{Name}
 use Rattle.ak_base.specs.declared.names.Table.TheVariants as tables
-use Rattle.ak_calls.specs.NewNames.{is_used}
-use Rattle.ak_edit.specs.FreeNames.{IsFirstFree, IsFree, first_name}
-use Rattle.ak_edit.specs.Refusals.{IsFromOutside, Refusal}
-use Rattle.ak_edit.specs.declared.desk_faults.DeskFault.{DeskFault}
-use Rattle.ak_edit.specs.declared.desk_faults.DeskFault.TheVariants as faults
+use Rattle.ak_calls.specs.NewNames.{AreMadeOf, RefusesIdsFrom, first_name}
+use Rattle.ak_edit.specs.Refusals.{Refusal}
 use Rattle.ak_keep.specs.Collections.{Holding, Rows}
-use Rattle.ak_keep.specs.Keepers.{Keeping, WhereTold}
-use Rattle.ak_merge.specs.Holdings.{name_in}
+use Rattle.ak_keep.specs.FreeNames.{is_used}
 
--- ---- ids
--- the name of the next id
-abbrev pub next_name : Name → Name
-next_name name = name_in name.table (name.id +ℤ pos 1)
-
--- there is no such number of free ids from the first one on
-abbrev pub LacksIds : (Name → Bool) → Name → ℕ → Type 0
-LacksIds used first zero = ⊥
-LacksIds used first (suc others) =
-    IsFirstFree used first None ⊎ ((name : Name) × IsFree used first name × LacksIds used (next_name name) others)
-
--- a row is made of each of these things in their order, each with the first free id after the one before; the relation says
--- what is made of a thing and an id
-abbrev pub AreMadeOf : {A R : Type 0} → (Name → Bool) → (A → ℤ → R → Type 0) → Name → List A → List R → Type 0
-AreMadeOf used IsMade first [] made = made ≡ []
-AreMadeOf {A} {R} used IsMade first (x ∷ xs) made =
-    (name : Name) × IsFree used first name × (row : R) × IsMade x name.id row
-    × (others : List R) × (made ≡ row ∷ others) × AreMadeOf used IsMade (next_name name) xs others
-
--- the name is the first that is free from another on, in what is held
-abbrev pub IsFreeIn : Name → Name → Holding → Type 0
-IsFreeIn first name h = IsFree (is_used (get h.rows)) first name
-
--- no name is free from this one on where it is told what is held, or the fault comes from outside
-abbrev pub IsNoneFreeFrom : Keeping → Name → DeskFault → Type 0
-IsNoneFreeFrom k first fault =
-    IsFromOutside fault ⊎ (WhereTold k (λ h. IsFirstFree (is_used (get h.rows)) first None) × (fault ≡ faults.IdEnd))
-
--- a fault of ids, told or not
-abbrev pub IsIdFault : DeskFault → Type 0
-IsIdFault fault = IsFromOutside fault ⊎ (fault ≡ faults.IdEnd)
-
--- ---- decks
 -- no card of a deck was taken yet
 abbrev pub none_taken : Count
 none_taken = record { day = pos 0; count = pos 0 }
@@ -74,5 +36,4 @@ AreNewIn at paths decks h = AreNewDecks at paths h.rows decks
 
 -- there are too few free ids for decks of these paths
 abbrev pub RefusesIds : ℤ → List (List ℕ) → Rows → Refusal
-RefusesIds at paths held fault =
-    LacksIds (is_used (get held)) (first_name tables.Deck at) (length paths) × (fault ≡ faults.IdEnd)
+RefusesIds at paths held = RefusesIdsFrom (first_name tables.Deck at) (length paths) (get held)

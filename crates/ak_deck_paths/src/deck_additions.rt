@@ -10,11 +10,11 @@ ghost use Rattle.ak_deck_paths.specs.GivenPaths.{path_fault};
 use crate::changed_decks::{ChangedDecks, change_of};
 use crate::deck_paths::missing_above;
 use crate::given_paths::check_path;
-use crate::held_decks::{id_of_path, read_decks};
+use crate::held_decks::id_of_path;
 use crate::new_decks::new_decks;
 use ak_base::{Deck, List, Memory, Name, Table, Text};
 use ak_edit::DeskFault;
-use ak_keep::Keeper;
+use ak_keep::{Keeper, read_decks};
 use ak_undo::UndoList;
 use std::alloc::Global;
 

@@ -1,15 +1,14 @@
-ghost use Rattle.std.specs.Prelude.{◌≡◌, ◌<◌, ◌≤ℤ◌, pos, length, IfErr, IfOk};
-ghost use Rattle.ak_base.specs.Limits.{last_id};
-ghost use Rattle.ak_base.specs.declared.names.Table.TheVariants as tables;
-ghost use Rattle.ak_edit.specs.FreeNames.{IsFoundFrom, first_name};
+ghost use Rattle.std.specs.Prelude.{◌≡◌, ◌<◌, pos, length, IfErr, IfOk};
+ghost use Rattle.ak_calls.specs.NewNames.{IsIdFault};
 ghost use Rattle.ak_edit.specs.Refusals.{AnswersBy, DeskCause};
 ghost use Rattle.ak_keep.specs.Collections.{IsId};
 ghost use Rattle.ak_keep.specs.Keepers.{WhereTold};
 ghost use Rattle.ak_deck_paths.specs.Additions.{id_of_last};
-ghost use Rattle.ak_deck_paths.specs.NewDecks.{AreNewIn, IsFreeIn, IsIdFault, IsNewDeck, IsNoneFreeFrom, RefusesIds, next_name};
+ghost use Rattle.ak_deck_paths.specs.NewDecks.{AreNewIn, IsNewDeck, RefusesIds};
 
 use ak_base::{Count, Deck, List, Memory, Name, Rest, Table, Text};
-use ak_edit::{Change, DeskFault};
+use ak_calls::{first_name, next_free};
+use ak_edit::DeskFault;
 use ak_keep::Keeper;
 use std::alloc::Global;
 
@@ -28,56 +27,17 @@ pub(crate) fn new_decks<K: Keeper>(
 {
     let alloc = paths.allocator();
     let mut decks = List::new(alloc);
-    let mut first = first_deck(at);
+    let mut first = first_name(Table::Deck, at);
     for path in paths.as_slice() {
-        let name = match next_free(keeper, alloc, first) {
+        let name = match next_free(keeper, first) {
             Ok(name) => name,
             Err(fault) => return Err(fault),
         };
         let deck = new_deck(alloc, path, name)?;
         decks.push(deck)?;
-        first = next_name(name);
+        first = name.next();
     }
     Ok(decks)
-}
-
-/// The name from which on the decks look for theirs.
-fn first_deck(at: i64) -> Name
-    ensures name { result ≡ first_name tables.Deck at }
-    ensures id { pos 1 ≤ℤ result.id }
-{
-    Name {
-        table: Table::Deck,
-        id: at.max(1),
-    }
-}
-
-/// The first free name from this one on.
-fn next_free<K: Keeper>(keeper: &mut K, alloc: Global, first: Name) -> Result<Name, DeskFault>
-    requires { pos 1 ≤ℤ first.id }
-    ensures same { K.keeping keeper.new ≡ K.keeping keeper.old }
-    ensures range { IfOk result (IsFoundFrom first) }
-    ensures free { IfOk result (λ name. WhereTold (K.keeping keeper.old) (IsFreeIn first name)) }
-    ensures none { IfErr result (IsNoneFreeFrom (K.keeping keeper.old) first) }
-    ensures cause { DeskCause (K.health keeper.old) (K.health keeper.new) result }
-{
-    let unchanged = Change::new(alloc);
-    let found = unchanged.free_name(keeper, first)?;
-    match found {
-        Some(name) => Ok(name),
-        None => Err(DeskFault::IdEnd),
-    }
-}
-
-/// The next name of the table.
-fn next_name(name: Name) -> Name
-    requires { name.id ≤ℤ last_id }
-    ensures { result ≡ next_name name }
-{
-    Name {
-        table: name.table,
-        id: name.id + 1,
-    }
 }
 
 /// A new deck of this path under this name.

@@ -18,7 +18,8 @@ use Rattle.ak_keep.proofs.Paging.{picked}
 use Rattle.ak_keep.proofs.RowsByName.{all_from_gets, entries_found, same_of_tied}
 use Rattle.ak_keep.specs.Collections.{Rows, is_past, rows_past}
 use Rattle.ak_merge.proofs.EditFacts.{false_true}
-use Rattle.ak_merge.specs.Holdings.{AreNamed, RowsByName}
+use Rattle.ak_keep.specs.Graves.{RowsByName}
+use Rattle.ak_merge.specs.Holdings.{AreNamed}
 
 -- ---- what is removed says nothing besides rows
 rest_one : (gone : Row → Bool) (row : Row) (o : Overlay) → rest_of (swept_one gone row o) ≡ rest_of o

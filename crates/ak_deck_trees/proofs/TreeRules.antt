@@ -20,7 +20,8 @@ use Rattle.ak_edit.specs.Overlays.{Overlay, edit_of, row_over, unchanged}
 use Rattle.ak_edit.specs.declared.desk_faults.DeskFault.{DeskFault}
 use Rattle.ak_keep.specs.Collections.{Collection, Rows, is_past, rows_past}
 use Rattle.ak_merge.proofs.Finding.{id_over_zero}
-use Rattle.ak_merge.specs.Holdings.{AreChecked, AreNamed, RowsByName, row_under}
+use Rattle.ak_keep.specs.Graves.{RowsByName}
+use Rattle.ak_merge.specs.Holdings.{AreChecked, AreNamed, row_under}
 
 -- what is left of a row
 abbrev kept : (Row → Bool) → Row → Option Row

@@ -4,7 +4,8 @@ use Rattle.std.proofs.KnownBytes.{Appends-nil, Appends-kept}
 use Rattle.std.specs.Io.KnownBytes.{Appends, Keeps}
 use Rattle.std.specs.Prelude.{is_some}
 use Rattle.ak_desk.specs.Desks.{IsIdle}
-use Rattle.ak_desk_runs.specs.DeskRuns.{IsNext, refusal_bytes}
+use Rattle.ak_io.specs.Scripts.{refusal_bytes}
+use Rattle.ak_desk_runs.specs.DeskRuns.{IsNext}
 use Rattle.ak_desk_runs.specs.LineOutcomes.{Accepted, EndsAs, Failed, OutOfMemory, Refused}
 use Rattle.ak_desk_runs.specs.RunLines.{IsPrinted, IsRefusalPrinted, StopsThere}
 use Rattle.ak_desk_runs.specs.RunStates.{RunState}

@@ -8,7 +8,7 @@ use Rattle.ak_desk_runs.specs.RunStates.{Outside, RunState, begun, outside_in}
 use Rattle.ak_desk_runs.specs.declared.command_ends.CommandEnd.{CommandEnd}
 use Rattle.ak_desk_runs.specs.declared.command_ends.CommandEnd.TheVariants as ends
 use Rattle.ak_io.specs.Lines.{lines_within}
-use Rattle.ak_io.specs.Scripts.{refusal_line, written_lines}
+use Rattle.ak_io.specs.Scripts.{refusal_bytes, written_lines}
 use Rattle.ak_io.specs.declared.lines.Line.{Line}
 
 -- ---- lines that go
@@ -43,10 +43,6 @@ IsPart part whole = (rest : List ℕ) × (whole ≡ part ++ rest)
 -- the bytes of an answer
 abbrev pub answer_bytes : List ℕ → List ℕ
 answer_bytes text = written_lines (text ∷ [])
-
--- the bytes of the refusal of the line of this number
-abbrev pub refusal_bytes : ℕ → List ℕ → List ℕ
-refusal_bytes number text = written_lines (refusal_line (number, text) ∷ [])
 
 -- how a run stops, of which these lines are left and the next has this number: what it was before and is after it, and
 -- what it wrote of the line at which it stopped

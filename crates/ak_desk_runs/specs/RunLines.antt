@@ -1,13 +1,13 @@
 -- What a step of a run does: one line, with what is written for it.
 use Rattle.std.specs.Prelude.{◌≡◌, ℕ, Bool, true, false, List, length, Option, Some, Result, Ok, Err}
 use Rattle.std.specs.Io.KnownBytes.{Appends, Keeps}
-use Rattle.ak_desk_runs.specs.DeskRuns.{AllGo, AreLines, Goes, IsPart, Stops, answer_bytes, refusal_bytes}
+use Rattle.ak_io.specs.Scripts.{refusal_bytes, written_lines}
+use Rattle.ak_desk_runs.specs.DeskRuns.{AllGo, AreLines, Goes, IsPart, Stops, answer_bytes}
 use Rattle.ak_desk_runs.specs.RunStates.{Outside, RunState, begun}
 use Rattle.ak_desk_runs.specs.declared.command_ends.CommandEnd.{CommandEnd}
 use Rattle.ak_desk_runs.specs.declared.command_ends.CommandEnd.TheVariants as ends
 use Rattle.ak_faults.specs.Causes.{Health, HasCauseOf}
 use Rattle.ak_io.specs.Lines.{Takes}
-use Rattle.ak_io.specs.Scripts.{written_lines}
 use Rattle.ak_io.specs.declared.lines.Line.{Line}
 
 -- a text is written as a line, or a front of it is, or nothing

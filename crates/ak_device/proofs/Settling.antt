@@ -31,7 +31,8 @@ use Rattle.ak_merge.proofs.ExchangeCells.{is_only, only_is, only_wanted}
 use Rattle.ak_merge.proofs.TagLists.{settled_in_range, settled_order}
 use Rattle.ak_merge.proofs.TakingLaws.{is_name}
 use Rattle.ak_merge.specs.Exchanges.{settled, settled_tags, wanted_under, IsSent}
-use Rattle.ak_merge.specs.Holdings.{RowsByName, AreNamed, AreChecked}
+use Rattle.ak_keep.specs.Graves.{RowsByName}
+use Rattle.ak_merge.specs.Holdings.{AreNamed, AreChecked}
 use Rattle.ak_session.proofs.Wanted.{IsFront, Stands, all_of_three, gives_all, three_stand, three_weaker}
 use Rattle.ak_session.proofs.Ranges.{all_append, not_both}
 use Rattle.ak_session.specs.Slices.{wanted_changes, wanted_graves, wanted_in_chunks, wanted_of}

@@ -17,7 +17,7 @@ use Rattle.ak_base.specs.declared.names.Table.{Table}
 use Rattle.ak_base.specs.declared.rows.Row.{Row}
 use Rattle.ak_keep.proofs.RowsByName.{same_of_tied}
 use Rattle.ak_merge.specs.Edits.{changes_row, goes, grave_left}
-use Rattle.ak_merge.specs.Holdings.{RowsByName}
+use Rattle.ak_keep.specs.Graves.{RowsByName}
 use Rattle.ak_edit.proofs.Planning.{buried_on, kept_on}
 use Rattle.ak_edit.specs.Plans.{IsPlanOf, grave_writes, row_writes, writes_under}
 use Rattle.ak_edit.specs.declared.plans.Write.{Write}

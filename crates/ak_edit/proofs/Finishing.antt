@@ -24,7 +24,8 @@ use Rattle.ak_keep.specs.Marks as marks
 use Rattle.ak_keep.specs.Marks.{WithMark}
 use Rattle.ak_merge.proofs.EditFacts.{false_true}
 use Rattle.ak_merge.specs.Edits.{DoesChange, Edit, IsEdited, Reversal, advanced, changes_row, changes_under, edited, edited_row, edited_under, goes, grave_left, reversal_of, second_of}
-use Rattle.ak_merge.specs.Holdings.{AreChecked, AreNamed, RowsByName, has_tag, row_under}
+use Rattle.ak_keep.specs.Graves.{RowsByName}
+use Rattle.ak_merge.specs.Holdings.{AreChecked, AreNamed, has_tag, row_under}
 use Rattle.ak_merge.specs.Tags.{has_name, tag_taken, tags_taken, with_tag}
 use Rattle.ak_merge.specs.Undoing.{IsListAfter}
 use Rattle.ak_undo.specs.declared.steps.Step.{Step}

@@ -5,7 +5,6 @@ pub mod Ending
 pub mod Entries
 pub mod Finishing
 pub mod Heading
-pub mod Naming
 pub mod Noting
 pub mod Planning
 pub mod Reading

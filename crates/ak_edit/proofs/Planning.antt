@@ -11,7 +11,7 @@ use Rattle.ak_keep.specs.Collections.{Holding}
 use Rattle.ak_keep.specs.Keepers.{Keeping, WhereTold}
 use Rattle.ak_keep.specs.Marks.{WithMark}
 use Rattle.ak_merge.specs.Edits.{edited, changes_row, goes}
-use Rattle.ak_merge.specs.Holdings.{RowsByName}
+use Rattle.ak_keep.specs.Graves.{RowsByName}
 use Rattle.ak_edit.specs.Plans.{grave_writes, row_writes, stamp_made, writes_of, writes_under}
 use Rattle.ak_edit.specs.declared.plans.Write.{Write}
 

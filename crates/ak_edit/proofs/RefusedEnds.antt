@@ -19,7 +19,8 @@ use Rattle.ak_keep.proofs.RowsByName.{both_first, both_second, same_of_tied}
 use Rattle.ak_keep.specs.Collections.{Holding}
 use Rattle.ak_merge.proofs.EditFacts.{false_true, true_false}
 use Rattle.ak_merge.specs.Edits.{changes_row, edited, goes}
-use Rattle.ak_merge.specs.Holdings.{AreChecked, AreNamed, RowsByName}
+use Rattle.ak_keep.specs.Graves.{RowsByName}
+use Rattle.ak_merge.specs.Holdings.{AreChecked, AreNamed}
 use Rattle.ak_edit.proofs.Refusing.{all_pass, below_find, fails_first, graves_stamped, made_of_entry, stamps_append, untied_turned}
 use Rattle.ak_edit.proofs.Stepping.{stamp_outside, stamp_within}
 use Rattle.ak_edit.proofs.Writing.{made_over, unchanged_row}

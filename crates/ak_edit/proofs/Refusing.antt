@@ -28,7 +28,8 @@ use Rattle.ak_keep.proofs.RowsByName.{both_first, both_second, is_less, same_of_
 use Rattle.ak_merge.proofs.CheckedRows.{faultless_of}
 use Rattle.ak_merge.proofs.EditFacts.{false_true}
 use Rattle.ak_merge.specs.Edits.{changes_row, edited, goes}
-use Rattle.ak_merge.specs.Holdings.{AreChecked, AreNamed, RowsByName, name_in}
+use Rattle.ak_keep.specs.Graves.{RowsByName}
+use Rattle.ak_merge.specs.Holdings.{AreChecked, AreNamed, name_in}
 use Rattle.ak_edit.proofs.StampedRows.{of_faultless}
 use Rattle.ak_edit.specs.MadeRows.{check_of_rows, check_of_write, first_of, have_stamps_left, is_stamp_left}
 use Rattle.ak_edit.specs.Plans.{grave_writes, row_writes, stamp_made, writes_of, writes_under}

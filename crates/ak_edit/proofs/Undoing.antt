@@ -26,7 +26,7 @@ use Rattle.ak_keep.specs.Marks as marks
 use Rattle.ak_keep.specs.Marks.{WithMark}
 use Rattle.ak_merge.proofs.EditFacts.{edited_name, held_none, none_held, true_false}
 use Rattle.ak_merge.specs.Edits.{advanced, edited, second_of}
-use Rattle.ak_merge.specs.Holdings.{RowsByName}
+use Rattle.ak_keep.specs.Graves.{RowsByName}
 use Rattle.ak_merge.specs.Undoing.{IsUndone, undone_row, undone_stamp}
 use Rattle.ak_undo.specs.Steps.{IsBeforeInRange, IsStepInRange}
 use Rattle.ak_undo.specs.declared.steps.Before.{Before}

@@ -19,7 +19,8 @@ use Rattle.ak_base.specs.declared.rows.Row.TheVariants as rows
 use Rattle.ak_keep.proofs.RowsByName.{same_of_tied}
 use Rattle.ak_merge.proofs.EditFacts.{edited_name, false_true}
 use Rattle.ak_merge.specs.Edits.{advanced, changes_row, changes_under, edited, edited_row, edited_under, goes, grave_left}
-use Rattle.ak_merge.specs.Holdings.{AreNamed, RowsByName, name_in}
+use Rattle.ak_keep.specs.Graves.{RowsByName}
+use Rattle.ak_merge.specs.Holdings.{AreNamed, name_in}
 use Rattle.ak_edit.proofs.Entries.{entries_found}
 use Rattle.ak_edit.specs.Overlays.{BearNames}
 use Rattle.ak_edit.specs.Plans.{grave_writes, row_writes, stamp_made, writes_of, writes_under}

@@ -16,7 +16,7 @@ use Rattle.ak_keep.specs.Keepers.{Keeping, changed, committed, head_set, is_mark
 use Rattle.ak_keep.specs.Marks as marks
 use Rattle.ak_keep.specs.Marks.{WithMark}
 use Rattle.ak_merge.proofs.EditFacts.{false_true}
-use Rattle.ak_merge.specs.Holdings.{RowsByName}
+use Rattle.ak_keep.specs.Graves.{RowsByName}
 use Rattle.ak_edit.proofs.Writing.{is_written}
 use Rattle.ak_edit.specs.Ends.{holding_now}
 use Rattle.ak_edit.specs.Steps.{before_at}

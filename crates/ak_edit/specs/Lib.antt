@@ -1,7 +1,6 @@
 pub mod Carrying
 pub mod DeskFaults
 pub mod Ends
-pub mod FreeNames
 pub mod MadeRows
 pub mod Overlays
 pub mod Plans

@@ -9,7 +9,7 @@ use Rattle.ak_base.specs.Tables.{buried_in, grave_name}
 use Rattle.ak_base.specs.declared.names.Name.{Name}
 use Rattle.ak_base.specs.declared.rows.Row.{Row}
 use Rattle.ak_merge.specs.Edits.{edited, advanced, changes_row, goes, grave_left}
-use Rattle.ak_merge.specs.Holdings.{RowsByName}
+use Rattle.ak_keep.specs.Graves.{RowsByName}
 use Rattle.ak_edit.specs.declared.plans.Write.{Write}
 
 -- the stamp of a row that is made, of what stood there before: a new row has that of now

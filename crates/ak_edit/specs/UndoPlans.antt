@@ -6,7 +6,7 @@ use Rattle.ak_base.specs.declared.heads.Head.{Head}
 use Rattle.ak_base.specs.declared.rows.Row.{Row}
 use Rattle.ak_keep.specs.Collections.{Holding}
 use Rattle.ak_merge.specs.Edits.{advanced, edited}
-use Rattle.ak_merge.specs.Holdings.{RowsByName}
+use Rattle.ak_keep.specs.Graves.{RowsByName}
 use Rattle.ak_merge.specs.Undoing.{undone_stamp}
 use Rattle.ak_undo.specs.declared.steps.Before.{Before}
 use Rattle.ak_undo.specs.declared.steps.Step.{Step}

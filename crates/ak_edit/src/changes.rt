@@ -91,13 +91,6 @@ impl Change {
         let _seen = self.schema;
     }
 
-    /// Whether the edit has changed what stands under the name.
-    pub(crate) fn has_changed(&self, name: &Name) -> bool
-        ensures { result ≡ is_some (map.get self.now.rows name.now) }
-    {
-        has_in(&self.rows, name)
-    }
-
     /// Puts the row under its name. Rows under the names of graves are passed over at the end.
     pub fn put(&mut self, row: Row) -> Result<(), Memory>
         ensures ok { OnOk result (self.new ≡ put_over row self.old) }

@@ -5,7 +5,6 @@ mod changes;
 mod desk_faults;
 mod edit_laws;
 mod ends;
-mod free_names;
 mod made_rows;
 mod plans;
 mod stores;

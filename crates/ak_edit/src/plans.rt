@@ -2,7 +2,7 @@ ghost use Rattle.std.specs.Prelude.{◌≡◌, ◌++◌, pos, negsuc, true, ◌<
 ghost use Rattle.std.specs.FinMap.{get};
 ghost use Rattle.std.specs.List.{All, IsDistinct};
 ghost use Rattle.std.specs.Ordering.{eq_by_cmp};
-ghost use Rattle.ak_merge.specs.Holdings.{RowsByName};
+ghost use Rattle.ak_keep.specs.Graves.{RowsByName};
 ghost use Rattle.std.specs.List.Sorted.{IsStrictlySortedBy};
 ghost use Rattle.std.specs.Map.{keys_of};
 ghost use Rattle.ak_base.specs.Limits.{last_moment};

@@ -1,4 +1,3 @@
 pub mod FirstLines
 pub mod Readings
 pub mod Scripts
-pub mod Runs

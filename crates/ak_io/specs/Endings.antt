@@ -1,38 +1,18 @@
--- How the run of a script ends, and what is written of it by then.
-use Rattle.std.specs.Prelude.{◌≡◌, ◌≢◌, ℕ, Bool, true, false, List, [], Option, Some, None, Result, Err, IsSome, IfSome, ⊤}
-use Rattle.std.specs.Io.KnownBytes.{Appends}
+-- How the run of a script ends, and what is written of a line that is refused.
+use Rattle.std.specs.Prelude.{◌≢◌, ℕ, Bool, List, Option, Result, Err}
+use Rattle.std.specs.Io.KnownBytes.{Appends, Keeps}
 use Rattle.ak_faults.specs.Causes.{Health, HasCauseOf}
-use Rattle.ak_io.specs.Scripts.{Step, Goes, Refused, Run, output_of, written_lines, AppendsPart, Reached}
+use Rattle.ak_io.specs.Scripts.{AppendsPart, refusal_bytes}
 use Rattle.ak_io.specs.declared.endings.ScriptEnd.{ScriptEnd}
 use Rattle.ak_io.specs.declared.endings.ScriptEnd.TheVariants as ends
 
--- the bytes of what a step prints
-abbrev pub step_text : {S : Type 0} → Step S → List ℕ
-step_text (Goes printed next) = written_lines printed
-step_text (Refused text) = []
-
--- where the script ends or a line is refused, all that the run prints is written; else a part of it
-abbrev pub RunsTo : ScriptEnd → Run → Option (List ℕ) → Option (List ℕ) → Type 0
-RunsTo ends.Done run old new = (run.refusal ≡ None) × Appends old new (output_of run)
-RunsTo ends.Refused run old new = IsSome run.refusal × Appends old new (output_of run)
-RunsTo ends.ReadFailed run old new = AppendsPart old new (output_of run)
-RunsTo ends.WriteFailed run old new = AppendsPart old new (output_of run)
-RunsTo ends.Memory run old new = AppendsPart old new (output_of run)
-
--- the run that is refused at its first line
-abbrev pub refused_run : ℕ → List ℕ → Run
-refused_run number text = record { printed = []; refusal = Some (number, text) }
-
--- of the whole run, where it is told, a front is written, and the rest is still to come
-abbrev pub SoFar : Option Run → Option Run → Option (List ℕ) → Option (List ℕ) → Type 0
-SoFar None rest old now = ⊤
-SoFar (Some whole) None old now = ⊥
-SoFar (Some whole) (Some rest) old now = Reached old now (output_of whole) (output_of rest) × (whole.refusal ≡ rest.refusal)
-
--- behind a line the rest is still to come; where there was no line, the run is at its end
-abbrev pub AfterLine : Option Run → Option Run → Option (List ℕ) → Option (List ℕ) → Bool → Type 0
-AfterLine whole rest old new true = SoFar whole rest old new
-AfterLine whole rest old new false = IfSome whole (λ run. RunsTo ends.Done run old new)
+-- the refusal of the line of this number is written, or a front of it is, or nothing
+abbrev pub PrintsRefusal : ScriptEnd → ℕ → List ℕ → Option (List ℕ) → Option (List ℕ) → Type 0
+PrintsRefusal ends.Refused number why old new = Appends old new (refusal_bytes number why)
+PrintsRefusal ends.WriteFailed number why old new = AppendsPart old new (refusal_bytes number why)
+PrintsRefusal ends.Memory number why old new = Keeps old new
+PrintsRefusal ends.Done number why old new = ⊥
+PrintsRefusal ends.ReadFailed number why old new = ⊥
 
 -- the end that failed counted a fault, and a calm one did not fail
 pub record EndCause (end : ScriptEnd) (reads reads' writes writes' : Health) : Type 0 where

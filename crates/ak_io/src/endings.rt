@@ -1,8 +1,6 @@
-ghost use Rattle.std.specs.Prelude.{◌≡◌, ◌≢◌, IfOk, string_bytes};
-ghost use Rattle.std.specs.Io.KnownBytes.{Keeps};
-ghost use Rattle.ak_io.specs.Endings.{RunsTo, IsEndCaused, refused_run};
+ghost use Rattle.std.specs.Prelude.{◌≡◌, IfOk, string_bytes};
+ghost use Rattle.ak_io.specs.Endings.{IsEndCaused, PrintsRefusal};
 ghost use Rattle.ak_io.specs.Scripts.{refusal_line};
-ghost use Rattle.ak_io.specs.declared.endings.ScriptEnd.TheVariants as ends;
 
 use crate::traits::{Failed, Sink};
 use crate::writes::print_line;
@@ -26,11 +24,8 @@ pub enum ScriptEnd {
 
 /// Prints the text of a refused line, after the line's number: the last line of a run that is refused.
 pub fn print_refusal<O: Sink>(alloc: Global, number: u64, text: &Text, out: &mut O) -> ScriptEnd
-    ensures printed { RunsTo result (refused_run number text.now) (O.written out.old) (O.written out.new) }
-    ensures unprinted { result ≡ ends.Memory → Keeps (O.written out.old) (O.written out.new) }
+    ensures printed { PrintsRefusal result number text.now (O.written out.old) (O.written out.new) }
     ensures cause { IsEndCaused (O.health out.old) (O.health out.new) result }
-    ensures not_read { result ≢ ends.ReadFailed }
-    ensures not_done { result ≢ ends.Done }
 {
     let line = match refusal_line(alloc, number, text.as_str()) {
         Ok(line) => line,

@@ -1,5 +1,6 @@
 pub mod CardIds
 pub mod Causing
+pub mod Collecting
 pub mod Forming
 pub mod Paging
 pub mod RowsByName

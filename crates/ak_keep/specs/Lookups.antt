@@ -1,6 +1,7 @@
--- Rows of one kind by their ids, and the rows that a note or a card belongs to.
-use Rattle.std.specs.Prelude.{ℤ, pos, Option, Some, None}
+-- Rows of one kind by their ids, the decks, and the rows that a note or a card belongs to.
+use Rattle.std.specs.Prelude.{ℤ, pos, List, Option, Some, None}
 use Rattle.std.specs.FinMap.{get}
+use Rattle.std.specs.List.{filter_map}
 use Rattle.std.specs.Option.{option_and_then, option_or}
 use Rattle.ak_base.specs.declared.notes.Note.{Note}
 use Rattle.ak_base.specs.declared.cards.Card.{Card}
@@ -11,7 +12,7 @@ use Rattle.ak_base.specs.declared.names.Table.{Table}
 use Rattle.ak_base.specs.declared.names.Table.TheVariants as tables
 use Rattle.ak_base.specs.declared.rows.Row.{Row}
 use Rattle.ak_base.specs.declared.rows.Row.TheVariants as rows
-use Rattle.ak_keep.specs.Collections.{Rows}
+use Rattle.ak_keep.specs.Collections.{Rows, rows_past}
 
 -- the row, if it is a note
 abbrev pub as_note : Row → Option Note
@@ -37,6 +38,10 @@ as_deck row = None
 abbrev pub as_options : Row → Option Options
 as_options (rows.Options x) = Some x
 as_options row = None
+
+-- the decks that are held, by ascending id: an id is at least 1
+abbrev pub decks_in : Rows → List Deck
+decks_in held = filter_map as_deck (rows_past tables.Deck (pos 0) held)
 
 -- the row of a table under an id
 abbrev pub row_of_id : Rows → Table → ℤ → Option Row

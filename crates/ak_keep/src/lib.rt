@@ -2,12 +2,14 @@
 #![tactic(auto)]
 
 mod commits;
+mod decks;
 mod keepers;
 mod lookups;
 mod readables;
 mod walks;
 
 pub use commits::keep_or_back;
+pub use decks::read_decks;
 pub use keepers::{KeepFault, Keeper, Wanted};
 pub use lookups::{
     card_at, deck_at, deck_of_card, note_at, note_type_at, options_at, options_of_card,

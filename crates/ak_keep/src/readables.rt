@@ -1,4 +1,4 @@
-ghost use Rattle.std.specs.Prelude.{◌≡◌, ◌<◌, ◌≤◌, ◌^◌, Bool, true, is_some, length, IfOk, IfSome};
+ghost use Rattle.std.specs.Prelude.{◌≡◌, ◌<◌, ◌≤◌, ◌≤ℤ◌, ◌^◌, pos, Bool, true, is_some, length, IfOk, IfSome};
 ghost use Rattle.std.specs.FinMap as finite;
 ghost use Rattle.std.specs.List.{All};
 ghost use Rattle.std.specs.List.Sorted.{IsStrictlySortedBy};
@@ -7,6 +7,7 @@ ghost use Rattle.ak_base.specs.Heads.{IsHeadInRange};
 ghost use Rattle.ak_base.specs.Rows.{IsChecked, name_of};
 ghost use Rattle.ak_faults.specs.Causes.{Health};
 ghost use Rattle.ak_keep.specs.Collections.{AscendsPast, IsId, IsPageOf, rows_past, row_count, cards_of};
+ghost use Rattle.ak_keep.specs.FreeNames.{IsFirstFree, IsFoundFrom, is_used};
 ghost use Rattle.ak_keep.specs.Keepers.{Keeping, IsNamedRightly, IsRightlyKnown, Reads};
 
 use crate::keepers::KeepFault;
@@ -80,4 +81,11 @@ pub trait Readable: Lookup {
     fn count(&mut self, table: Table) -> Result<u64, KeepFault>
         ensures reads { ReadsBy Self.Lookup self.old self.new result (λ h count. count ≡ row_count table h.rows) }
         ensures small { IfOk result (λ count. count < 2 ^ 63) };
+
+    /// The first name of its table, from this one on, that a new row may have: neither a row nor a grave of it is held. None
+    /// if there is none up to the last id.
+    fn free_name(&mut self, first: Name) -> Result<Option<Name>, KeepFault>
+        requires { pos 1 ≤ℤ first.id }
+        ensures reads { ReadsBy Self.Lookup self.old self.new result (λ h found. IsFirstFree (is_used (finite.get h.rows)) first found) }
+        ensures range { IfOk result (λ found. IfSome found (IsFoundFrom first)) };
 }

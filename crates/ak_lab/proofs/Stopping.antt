@@ -2,7 +2,8 @@
 use Rattle.std.proofs.Common.{◌≡◌, ◌≢◌, ℕ, Bool, true, false, List, [], Option, Some, None, Result, Ok, Err, refl, sym, ap, ◌∙◌, subst, inl, inr}
 use Rattle.std.proofs.KnownBytes.{Appends-nil, Appends-kept}
 use Rattle.std.specs.Io.KnownBytes.{Appends, Keeps}
-use Rattle.ak_desk_runs.specs.DeskRuns.{IsNext, refusal_bytes}
+use Rattle.ak_io.specs.Scripts.{refusal_bytes}
+use Rattle.ak_desk_runs.specs.DeskRuns.{IsNext}
 use Rattle.ak_io.proofs.Readings.{takes_first}
 use Rattle.ak_io.specs.Lines.{Takes}
 use Rattle.ak_io.specs.declared.endings.ScriptEnd.{ScriptEnd}

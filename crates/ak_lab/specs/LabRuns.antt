@@ -1,8 +1,8 @@
 -- What a run of a lab's script does and prints.
 use Rattle.std.specs.Prelude.{◌≡◌, ◌⊎◌, ℕ, pos, ◌+◌, false, List, [], ◌∷◌, ◌++◌, length, Option, IfSome}
 use Rattle.std.specs.Io.KnownBytes.{Appends}
-use Rattle.ak_desk_runs.specs.DeskRuns.{AreLines, IsNext, IsPart, refusal_bytes}
-use Rattle.ak_io.specs.Scripts.{written_lines}
+use Rattle.ak_io.specs.Scripts.{refusal_bytes, written_lines}
+use Rattle.ak_desk_runs.specs.DeskRuns.{AreLines, IsNext, IsPart}
 use Rattle.ak_io.specs.declared.endings.ScriptEnd.{ScriptEnd}
 use Rattle.ak_io.specs.declared.endings.ScriptEnd.TheVariants as ends
 use Rattle.ak_io.specs.declared.lines.Line.{Line}

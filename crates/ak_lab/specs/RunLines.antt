@@ -1,9 +1,9 @@
 -- What a step of a lab's run does: one line, with what is written for it.
 use Rattle.std.specs.Prelude.{◌≡◌, ℕ, Bool, true, false, List, length, Option, Some, Result, Ok, Err}
 use Rattle.std.specs.Io.KnownBytes.{Appends, Keeps}
-use Rattle.ak_desk_runs.specs.DeskRuns.{AreLines, IsPart, refusal_bytes}
+use Rattle.ak_io.specs.Scripts.{refusal_bytes, written_lines}
+use Rattle.ak_desk_runs.specs.DeskRuns.{AreLines, IsPart}
 use Rattle.ak_io.specs.Lines.{Takes}
-use Rattle.ak_io.specs.Scripts.{written_lines}
 use Rattle.ak_io.specs.declared.endings.ScriptEnd.{ScriptEnd}
 use Rattle.ak_io.specs.declared.endings.ScriptEnd.TheVariants as ends
 use Rattle.ak_io.specs.declared.lines.Line.{Line}

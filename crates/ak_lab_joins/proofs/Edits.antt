@@ -10,12 +10,11 @@ use Rattle.ak_base.specs.declared.names.Table.TheVariants as tables
 use Rattle.ak_base.specs.declared.reviews.Review.{Review}
 use Rattle.ak_base.specs.declared.rows.Row.{Row}
 use Rattle.ak_base.specs.declared.rows.Row.TheVariants as rows
-use Rattle.ak_calls.specs.NewNames.{is_used}
+use Rattle.ak_keep.specs.FreeNames.{IsFree, is_used}
 use Rattle.ak_desk_lines.specs.DeskStates.{DeskState}
 use Rattle.ak_desk_lines.specs.LineSteps.{IsOneStep, LinksWith}
 use Rattle.ak_edit.proofs.UndoneLists.{undo_keeps_all}
 use Rattle.ak_edit.specs.Ends.{IsFinished}
-use Rattle.ak_edit.specs.FreeNames.{IsFree}
 use Rattle.ak_edit.specs.Steps.{reversal_in, reversals_in}
 use Rattle.ak_edit.specs.Undos.{IsLatestUndone, SuitsNow}
 use Rattle.ak_exchange.specs.Phases.{holding}
@@ -28,7 +27,8 @@ use Rattle.ak_merge.proofs.EditFacts.{advanced_past}
 use Rattle.ak_merge.proofs.Sweeps.{lists_after_suit}
 use Rattle.ak_merge.specs.EditBuilding.{MayPut, with_row}
 use Rattle.ak_merge.specs.Edits.{Admits, Edit, GivesFreshSchema, Reversal, advanced, reversal_of}
-use Rattle.ak_merge.specs.Holdings.{AreNamed, RowsByName, is_dead, name_in, row_under}
+use Rattle.ak_keep.specs.Graves.{RowsByName, is_dead}
+use Rattle.ak_merge.specs.Holdings.{AreNamed, name_in, row_under}
 use Rattle.ak_merge.specs.Links.{AreLinked}
 use Rattle.ak_merge.specs.Undoing.{IsEdit, IsListAfter, StepFits}
 use Rattle.ak_merge.specs.Undoing as undoing

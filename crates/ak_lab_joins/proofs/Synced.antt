@@ -34,7 +34,8 @@ use Rattle.ak_loops.specs.Entries.{LoggedState, log_in}
 use Rattle.ak_loops.specs.LoopWires.{health_over, no_calls, state_over}
 use Rattle.ak_merge.specs.Edits.{Reversal}
 use Rattle.ak_merge.specs.Exchanges.{AreExchanged}
-use Rattle.ak_merge.specs.Holdings.{AreNamed, IsSingle, RowsByName, row_under}
+use Rattle.ak_keep.specs.Graves.{RowsByName}
+use Rattle.ak_merge.specs.Holdings.{AreNamed, IsSingle, row_under}
 use Rattle.ak_merge.specs.Joins.{AreApart}
 use Rattle.ak_merge.specs.Links.{AreLinked}
 use Rattle.ak_merge.specs.Undoing.{StepFits, StepsSuit}

@@ -4,19 +4,18 @@ use Rattle.std.proofs.Common.{refl, sym, ap, subst, inl, inr, ◌∙◌, append_
 use Rattle.std.specs.FinMap.{get}
 use Rattle.ak_base.specs.declared.names.Name.{Name}
 use Rattle.ak_base.specs.declared.reviews.Review.{Review}
-use Rattle.ak_calls.proofs.Telling.{where_told-both}
-use Rattle.ak_calls.specs.NewNames.{is_used}
-use Rattle.ak_edit.specs.FreeNames.{IsFirstFree, IsFree}
+use Rattle.ak_calls.proofs.Telling.{where_always, where_told-both}
+use Rattle.ak_keep.specs.FreeNames.{IsFirstFree, IsFree, is_used}
 use Rattle.ak_edit.specs.Refusals.{AnswersBy}
 use Rattle.ak_edit.specs.declared.desk_faults.DeskFault.{DeskFault}
 use Rattle.ak_keep.proofs.Told.{where_told-map}
 use Rattle.ak_keep.specs.Collections.{Rows}
 use Rattle.ak_keep.specs.Keepers.{Keeping, WhereTold}
-use Rattle.ak_lab_sides.specs.NewReviews.{AreNewReviews, RefusesIdsFrom, new_review}
+use Rattle.ak_lab_sides.specs.NewReviews.{AreNewReviews, new_review}
 use Rattle.ak_lab_sides.specs.declared.new_reviews.ReviewPlan.{ReviewPlan}
-use Rattle.ak_notes.proofs.FreeIds.{free_once, none_free}
-use Rattle.ak_notes.proofs.NewCards.{where_always}
-use Rattle.ak_notes.specs.NewCards.{IsFreeIn, IsNoneFreeFrom, LacksIds, next_name}
+use Rattle.ak_calls.proofs.FreeIds.{free_once, none_free}
+use Rattle.ak_base.specs.Names.{next_name}
+use Rattle.ak_calls.specs.NewNames.{IsFreeIn, IsNoneFreeFrom, LacksIds, RefusesIdsFrom}
 
 -- the new reviews are the only ones
 pub reviews_once : (used : Name → Bool) (plan : ReviewPlan) (first : Name) (count : ℕ) (x y : List Review)

@@ -8,7 +8,7 @@ use Rattle.std.specs.List.{AllByRecursion}
 use Rattle.std.specs.Ordering.{eq_by_cmp}
 use Rattle.ak_base.specs.Columns.{code_fault, first_fault, id_fault}
 use Rattle.ak_base.specs.Heads.{IsWithin}
-use Rattle.ak_base.specs.Names.{name_cmp}
+use Rattle.ak_base.specs.Names.{name_cmp, next_name}
 use Rattle.ak_base.specs.Rows.{IsChecked, name_of}
 use Rattle.ak_base.specs.declared.names.Name.{Name}
 use Rattle.ak_base.specs.declared.names.Table.TheVariants as tables
@@ -19,23 +19,22 @@ use Rattle.ak_calls.proofs.Answering.{never_first, passed_first, refused_first}
 use Rattle.ak_calls.proofs.CheckedEdits.{edited_rows_pass}
 use Rattle.ak_calls.proofs.CheckedRows.{checked_edited}
 use Rattle.ak_calls.proofs.Telling.{where_held-both, where_held-map, where_rows_held}
-use Rattle.ak_calls.specs.NewNames.{is_used}
+use Rattle.ak_keep.specs.FreeNames.{is_used}
 use Rattle.ak_edit.proofs.Building.{nothing_asked, put_asked}
 use Rattle.ak_edit.specs.Ends.{AnswersEnd, FinishedBy, IsFinished, IsHeldRightly, RefusesEnd, RefusesRow, RefusesStamp}
-use Rattle.ak_edit.specs.FreeNames.{first_name}
+use Rattle.ak_calls.specs.NewNames.{RefusesIdsFrom, first_name}
 use Rattle.ak_edit.specs.Overlays.{Overlay, edit_of, put_over, unchanged}
 use Rattle.ak_edit.specs.Refusals.{AnswersBy}
 use Rattle.ak_edit.specs.declared.desk_faults.DeskFault.{DeskFault}
 use Rattle.ak_keep.specs.Collections.{Collection, IsId, Rows}
 use Rattle.ak_keep.specs.Keepers.{Keeping, WhereHeld, WhereTold}
 use Rattle.ak_lab_sides.proofs.NewReviews.{lacks_none, reviews_once}
-use Rattle.ak_lab_sides.specs.NewReviews.{AddsReviews, AreNewReviews, ArePlanned, RefusesIds, RefusesIdsFrom, RefusesMoment, RefusesReviews, new_review, with_reviews}
+use Rattle.ak_lab_sides.specs.NewReviews.{AddsReviews, AreNewReviews, ArePlanned, RefusesIds, RefusesMoment, RefusesReviews, new_review, with_reviews}
 use Rattle.ak_lab_sides.specs.ReviewChanges.{reviews_over}
 use Rattle.ak_lab_sides.specs.declared.new_reviews.ReviewPlan.{ReviewPlan}
 use Rattle.ak_merge.specs.EditBuilding.{unedited, with_row}
 use Rattle.ak_merge.specs.Edits.{Edit, edited}
 use Rattle.ak_merge.specs.Holdings.{row_under}
-use Rattle.ak_notes.specs.NewCards.{next_name}
 use Rattle.ak_undo.specs.declared.steps.Step.{Step}
 
 -- ---- what is asked for

@@ -4,13 +4,12 @@ use Rattle.std.specs.Prelude.{pos, false}
 use Rattle.std.proofs.lemmas.List.{map-append}
 use Rattle.ak_base.specs.declared.names.Table.{Table}
 use Rattle.ak_base.specs.declared.rows.Row.{Row}
-use Rattle.ak_calls.proofs.Telling.{where_told-both}
+use Rattle.ak_calls.proofs.Telling.{where_always, where_told-both}
 use Rattle.ak_keep.specs.Collections.{Holding}
 use Rattle.ak_keep.specs.Keepers.{Keeping, WhereTold}
 use Rattle.ak_keep.specs.Walks.{ahead}
 use Rattle.ak_keep.specs.declared.walks.Walk.{Walk}
 use Rattle.ak_lab_sides.specs.Shows.{row_text, table_lines}
-use Rattle.ak_notes.proofs.NewCards.{where_always}
 
 -- at first all rows are ahead
 pub all_ahead : (k : Keeping) (walk : Walk) (table : Table) (texts : List (List ℕ)) → walk ≡ record { past = record { table = table; id = pos 0 }; done = false }

@@ -4,19 +4,18 @@ use Rattle.ak_base.specs.declared.names.Name.{Name}
 use Rattle.ak_base.specs.declared.names.Table.TheVariants as tables
 use Rattle.ak_base.specs.declared.reviews.Review.{Review}
 use Rattle.ak_base.specs.declared.rows.Row.TheVariants as rows
-use Rattle.ak_calls.specs.NewNames.{is_used}
+use Rattle.ak_keep.specs.FreeNames.{IsFree, is_used}
 use Rattle.ak_edit.specs.Ends.{IsFinished, RefusesStamp}
-use Rattle.ak_edit.specs.FreeNames.{IsFree, first_name}
+use Rattle.ak_calls.specs.NewNames.{RefusesIdsFrom, first_name}
 use Rattle.ak_edit.specs.Refusals.{AnswersBy, OrElse, Refusal}
 use Rattle.ak_edit.specs.declared.desk_faults.DeskFault.{DeskFault}
-use Rattle.ak_edit.specs.declared.desk_faults.DeskFault.TheVariants as faults
 use Rattle.ak_keep.specs.Collections.{Collection}
 use Rattle.ak_keep.specs.Keepers.{Keeping, WhereHeld}
 use Rattle.ak_lab_sides.specs.declared.new_reviews.ReviewPlan.{ReviewPlan}
 use Rattle.ak_merge.specs.EditBuilding.{unedited, with_row}
 use Rattle.ak_merge.specs.Edits.{Edit}
-use Rattle.ak_merge.specs.Holdings.{RowsByName, row_under}
-use Rattle.ak_notes.specs.NewCards.{LacksIds, next_name}
+use Rattle.ak_merge.specs.Holdings.{row_under}
+use Rattle.ak_base.specs.Names.{next_name}
 use Rattle.ak_undo.specs.declared.steps.Step.{Step}
 
 -- a review of this id, not sent yet, with zeros where the plan says nothing
@@ -50,11 +49,7 @@ abbrev pub with_reviews : List Review → Edit → Edit
 with_reviews [] edit = edit
 with_reviews (review ∷ reviews) edit = with_reviews reviews (with_row (rows.Review review) edit)
 
--- there are too few free ids for so many rows from this name on
-abbrev pub RefusesIdsFrom : Name → ℕ → RowsByName → Refusal
-RefusesIdsFrom first count at fault = LacksIds (is_used at) first count × (fault ≡ faults.IdEnd)
-
--- there are too few for the plan
+-- there are too few free ids for the plan
 abbrev pub RefusesIds : ℤ → ReviewPlan → Collection → Refusal
 RefusesIds at plan c = RefusesIdsFrom (first_name tables.Review at) plan.count (row_under c)
 

@@ -1,16 +1,14 @@
 ghost use Rattle.std.specs.Prelude.{◌≡◌, pos, true, false, OnOk};
 ghost use Rattle.ak_base.specs.Heads.{IsWithin};
-ghost use Rattle.ak_base.specs.declared.names.Table.TheVariants as tables;
-ghost use Rattle.ak_edit.specs.FreeNames.{first_name};
 ghost use Rattle.ak_edit.specs.Refusals.{DeskCause};
 ghost use Rattle.ak_keep.specs.Collections.{IsId};
 ghost use Rattle.ak_keep.specs.Keepers.{is_marked};
 ghost use Rattle.ak_lab_sides.specs.NewReviews.{EndsReviews};
 ghost use Rattle.ak_lab_sides.specs.ReviewChanges.{reviews_over};
-ghost use Rattle.std.specs.Prelude.{◌≤ℤ◌};
 
 use crate::new_reviews::{ReviewPlan, new_reviews};
-use ak_base::{Memory, Name, Review, Row, Table};
+use ak_base::{Memory, Review, Row, Table};
+use ak_calls::first_name;
 use ak_edit::{Change, DeskFault};
 use ak_keep::Keeper;
 use ak_undo::UndoList;
@@ -31,24 +29,13 @@ pub fn add_reviews<K: Keeper>(
     ensures cause { DeskCause (K.health keeper.old) (K.health keeper.new) result }
 {
     let alloc = steps.allocator();
-    let reviews = match new_reviews(keeper, alloc, plan, first_review(at)) {
+    let reviews = match new_reviews(keeper, alloc, plan, first_name(Table::Review, at)) {
         Ok(reviews) => reviews,
         Err(fault) => return Err(fault),
     };
     let mut change = Change::new(alloc);
     put_reviews(&mut change, reviews)?;
     change.finish(keeper, steps, at)
-}
-
-/// The name from which on the reviews of a moment look for theirs.
-fn first_review(at: i64) -> Name
-    ensures name { result ≡ first_name tables.Review at }
-    ensures id { pos 1 ≤ℤ result.id }
-{
-    Name {
-        table: Table::Review,
-        id: at.max(1),
-    }
 }
 
 /// Puts each of the reviews under its name.

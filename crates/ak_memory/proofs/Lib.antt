@@ -6,3 +6,4 @@ pub mod Keys
 pub mod Paging
 pub mod RowsUnder
 pub mod Settling
+pub mod TakenRuns

@@ -11,6 +11,7 @@ use Rattle.ak_memory.specs.Indexes.{AreNoted}
 use Rattle.ak_memory.specs.Places.{is_among, is_changed_under, row_under, rows_at}
 use Rattle.ak_memory.specs.declared.places.Place.{Place}
 use Rattle.ak_memory.specs.declared.versions.Version.{Version}
+use Rattle.ak_memory.specs.declared.versions.Version.TheVariants.{Now}
 use Rattle.ak_memory.proofs.RowsUnder.{rows_at-same, unchanged_under}
 
 true_false : true ≡ false → ⊥
@@ -88,6 +89,16 @@ pub all-settled : (noted : List Name) (es fs : List (Name × Place)) (version : 
     → ((each : Version) (q : Name) → row_under each fs q ≡ cond (is_among noted q) (row_under version es q) (row_under each es q)) → (each : Version) → rows_at each fs ≡ rows_at version es
 all-settled noted es fs version are settled each = rows_at-same each version es fs (λ q.
     settled each q ∙ row_settled (is_among noted q) (row_under version es q) (row_under each es q) (λ none. unchanged_under each version es q (not_changed noted es q are none)))
+
+both_same : (a : Bool) (x : Option Row) → cond a x x ≡ x
+both_same true x = refl
+both_same false x = refl
+
+-- what is settled as it is now stays so
+pub settled-now : (noted : List Name) (es fs : List (Name × Place)) (version : Version) → version ≡ Now
+    → ((q : Name) → row_under Now fs q ≡ cond (is_among noted q) (row_under version es q) (row_under Now es q)) → (q : Name) → row_under Now fs q ≡ row_under Now es q
+settled-now noted es fs version now settled q =
+    settled q ∙ ap (λ v. cond (is_among noted q) (row_under v es q) (row_under Now es q)) now ∙ both_same (is_among noted q) (row_under Now es q)
 
 neither : (a c : Bool) → (c ≡ true → a ≡ true) → (not a && c) ≡ true → ⊥
 neither true c h is = true_false (sym is)

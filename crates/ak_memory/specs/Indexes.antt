@@ -9,6 +9,7 @@ use Rattle.ak_base.specs.declared.rows.Row.{Row}
 use Rattle.ak_keep.specs.Collections.{Rows, StandsUnderNames, row_count}
 use Rattle.ak_memory.specs.NoteKeys.{NoteKey, has_key, is_note, note_of_card}
 use Rattle.ak_memory.specs.Places.{AreFull, is_among, is_changed_under, row_under, rows_at, unchanged_count}
+use Rattle.ak_memory.specs.TakenRuns.{AreRuns, is_used_under}
 use Rattle.ak_memory.specs.declared.indexed.IndexedPlaces.{IndexedPlaces}
 use Rattle.ak_memory.specs.declared.places.Place.{Place}
 use Rattle.ak_memory.specs.declared.versions.Version.{Version}
@@ -47,3 +48,4 @@ pub record IsIndexed (indexed : IndexedPlaces) : Type 0 where
   pub noted : AreNoted indexed.noted.items indexed.places.entries
   pub full : AreFull indexed.places.entries
   pub room : vec_len indexed.noted + unchanged_count indexed.places.entries ≤ vec_capacity indexed.noted
+  pub taken : AreRuns (is_used_under indexed.places.entries) indexed.taken

@@ -5,4 +5,5 @@ pub mod Indexes
 pub mod NoteCards
 pub mod NoteKeys
 pub mod Places
+pub mod TakenRuns
 pub mod Versions

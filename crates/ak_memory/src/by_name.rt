@@ -8,6 +8,7 @@ ghost use Rattle.ak_base.specs.declared.names.Name.{Name as RowName};
 ghost use Rattle.ak_memory.specs.NoteKeys.{is_note};
 ghost use Rattle.ak_memory.specs.HeldRows.{held_in, row_in};
 ghost use Rattle.ak_memory.specs.Places.{AreFull, AreFullBut, is_changed_under, is_empty_under, is_needed, note_under, one_if, place_under, row_under, unchanged_count};
+ghost use Rattle.ak_memory.specs.TakenRuns.{is_used_under};
 ghost use Rattle.ak_memory.specs.declared.versions.Version.{Version as WhichVersion};
 ghost use Rattle.ak_memory.specs.declared.versions.Version.TheVariants.{Mark, Now};
 
@@ -28,6 +29,30 @@ pub(crate) fn row_of<'a>(places: &'a Places, name: &Name) -> Option<&'a HeldRow>
     match places.get(name) {
         Some(place) => place.row(),
         None => None,
+    }
+}
+
+/// Whether a new row may not have the name: a row or a grave of it is held.
+#[tactic(auto, using(crate::proofs::TakenRuns::dead_by_name))]
+pub(crate) fn is_used(places: &Places, name: Name) -> bool
+    ensures { result ≡ is_used_under places.now.entries name }
+{
+    if is_held(places, &name) {
+        return true;
+    }
+    match name.grave() {
+        Some(grave) => is_held(places, &grave),
+        None => false,
+    }
+}
+
+/// Whether a row is held under the name.
+fn is_held(places: &Places, name: &Name) -> bool
+    ensures { result ≡ is_some (row_under Now places.now.entries name.now) }
+{
+    match places.get(name) {
+        Some(place) => place.is_held(),
+        None => false,
     }
 }
 

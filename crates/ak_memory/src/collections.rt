@@ -6,6 +6,7 @@ ghost use Rattle.std.specs.Ordering.{int_cmp};
 ghost use Rattle.ak_base.specs.Heads.{AreMomentsInRange, IsHeadInRange};
 ghost use Rattle.ak_base.specs.Rows.{IsChecked, name_of};
 ghost use Rattle.ak_keep.specs.Collections.{AscendsPast, IsId, IsPageOf, IsWellFormed, Rows, with_row, without, with_head, with_moments, made_of, rows_past, wanted_past, is_wanted, cards_of, row_count};
+ghost use Rattle.ak_keep.specs.FreeNames.{IsFirstFree, IsFoundFrom, is_used};
 ghost use Rattle.ak_keep.specs.Marks as marks;
 ghost use Rattle.ak_memory.specs.Collections.{rows_before};
 
@@ -161,6 +162,15 @@ impl MarkedCollection {
         ensures small { result < 2 ^ 63 }
     {
         self.rows.count(table)
+    }
+
+    /// The first name of its table from this one on that is free for a new row. It takes no memory.
+    pub(crate) fn free_name(&mut self, first: Name) -> Option<Name>
+        ensures free { IsFirstFree (is_used (finite.get self.old.current.rows)) first result }
+        ensures range { IfSome result (IsFoundFrom first) }
+        ensures same { self.new ≡ self.old }
+    {
+        self.rows.free_name(first)
     }
 
     /// A copy of the head.

@@ -11,10 +11,12 @@ ghost use Rattle.ak_base.specs.Names.{name_cmp, table_place};
 ghost use Rattle.ak_base.specs.Rows.{name_of};
 ghost use Rattle.ak_base.specs.declared.names.Name.{Name as RowName};
 ghost use Rattle.ak_keep.specs.Collections.{cards_of, row_count};
+ghost use Rattle.ak_keep.specs.FreeNames.{IsFirstFree, IsFoundFrom, is_used};
 ghost use Rattle.ak_memory.specs.NoteKeys.{has_key, is_note, note_of_card};
 ghost use Rattle.ak_memory.specs.HeldRows.{held_in, row_in};
 ghost use Rattle.ak_memory.specs.Indexes.{HaveAllKeys, IsIndexed, rows_of};
 ghost use Rattle.ak_memory.specs.Places.{AreFull, is_among, is_changed_under, place_under, one_if, row_under, rows_at, unchanged_count, with_under};
+ghost use Rattle.ak_memory.specs.TakenRuns.{runs_before};
 ghost use Rattle.ak_memory.specs.declared.versions.Version.{Version as WhichVersion};
 ghost use Rattle.ak_memory.specs.declared.versions.Version.TheVariants.{Mark, Now};
 
@@ -22,13 +24,14 @@ use crate::by_name::{Places, add_place, drop_empty, hold_under, row_of, settle_u
 use crate::held_rows::{HeldRow, Replacement};
 use crate::note_keys::{NoteKey, add_key, forget_key, ids_of};
 use crate::places::Change;
+use crate::taken_runs::TakenRuns;
 use crate::versions::Version;
-use ak_base::{List, Memory, Name, Row, Table};
+use ak_base::{LAST_ID, List, Memory, Name, Row, Table};
 use std::alloc::Global;
 use std::collections::{BTreeMap, BTreeSet};
 
 /// The places of rows by name. Beside them are the numbers of rows of each table, now and at the mark, a key for each
-/// card, and the names of the places that were changed since the mark, some of them twice.
+/// card, the names of the places that were changed since the mark, some of them twice, and ids that are taken now.
 #[derive(Debug, Drop)]
 pub(crate) struct IndexedPlaces {
     places: Places,
@@ -36,6 +39,7 @@ pub(crate) struct IndexedPlaces {
     mark_counts: [u64; 9],
     cards: BTreeSet<NoteKey>,
     noted: Vec<Name>,
+    taken: TakenRuns,
 }
 
 impl IndexedPlaces {
@@ -50,6 +54,7 @@ impl IndexedPlaces {
             mark_counts: [0; 9],
             cards: BTreeSet::new(alloc),
             noted: Vec::new(alloc),
+            taken: TakenRuns::none(),
         }
     }
 
@@ -87,6 +92,27 @@ impl IndexedPlaces {
         let _ordered = self.places.len();
         let ids = ids_of(alloc, &self.cards, &self.places, note)?;
         Ok(ids)
+    }
+
+    /// The first name of its table from this one on that is free for a new row. It steps over the ids that were found to be
+    /// taken before, if the first id is among them. It takes no memory.
+    pub(crate) fn free_name(&mut self, first: Name) -> Option<Name>
+        requires { IsIndexed self.old }
+        ensures indexed { IsIndexed self.new }
+        ensures rows { (version : WhichVersion) → rows_of version self.new ≡ rows_of version self.old }
+        ensures free { IsFirstFree (is_used (finite.get (rows_of Now self.old))) first result }
+        ensures range { IfSome result (IsFoundFrom first) }
+    {
+        let run = self.taken.of(first.table).reaching(first);
+        let run = run.extended(&self.places, first.table);
+        self.taken.keep(first.table, run);
+        if run.end > LAST_ID {
+            return None;
+        }
+        Some(Name {
+            table: first.table,
+            id: run.end,
+        })
     }
 
     /// Holds the row under its name from now on, in place of the row that is held there.
@@ -152,6 +178,7 @@ impl IndexedPlaces {
         note_change(&mut self.noted, name, change.first);
         count_change(&mut self.counts, name.table, change.held, holds);
         forget_key(&mut self.cards, &self.places, change.note, name);
+        forget_taken(&mut self.taken, name, holds);
     }
 
     /// What this version holds is held from now on, and was held at the mark. It takes no memory, and a step for each
@@ -170,7 +197,10 @@ impl IndexedPlaces {
         self.noted.clear();
         match version {
             Version::Now => self.mark_counts = self.counts,
-            Version::Mark => self.counts = self.mark_counts,
+            Version::Mark => {
+                self.counts = self.mark_counts;
+                self.taken = TakenRuns::none();
+            }
         }
     }
 }
@@ -226,5 +256,14 @@ fn count_change(counts: &mut [u64; 9], table: Table, held: bool, holds: bool)
         (false, true) => counts[place] += 1,
         (true, false) => counts[place] -= 1,
         _ => {}
+    }
+}
+
+/// Ends the runs of taken ids before the name, unless a row is held under it.
+fn forget_taken(taken: &mut TakenRuns, name: Name, holds: bool)
+    ensures { taken.new ≡ (if holds then taken.old else runs_before name.id taken.old) }
+{
+    if !holds {
+        taken.end_before(name);
     }
 }

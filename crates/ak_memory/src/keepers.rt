@@ -1,15 +1,18 @@
-ghost use Rattle.std.specs.Prelude.{◌≡◌, ◌<◌, ◌≤◌, ◌^◌, [], true, false, None, is_some, length, map, IfOk, IfSome, OnOk, OnErr};
+ghost use Rattle.std.specs.Prelude.{◌≡◌, ◌<◌, ◌≤◌, ◌≤ℤ◌, ◌^◌, pos, [], true, false, None, is_some, length, map, IfOk, IfSome, OnOk, OnErr};
 ghost use Rattle.std.specs.FinMap as finite;
 ghost use Rattle.std.specs.List.{All, IsDistinct};
 ghost use Rattle.std.specs.List.Sorted.{IsStrictlySortedBy};
 ghost use Rattle.std.specs.Ordering.{eq_by_cmp, int_cmp};
+ghost use Rattle.std.specs.Result.{IsErrOf};
 ghost use Rattle.ak_base.specs.Heads.{AreMomentsInRange, IsHeadInRange};
 ghost use Rattle.ak_base.specs.Names.{name_cmp};
 ghost use Rattle.ak_base.specs.Rows.{IsChecked, name_of};
 ghost use Rattle.ak_keep.specs.Collections.{AscendsPast, IsId, IsPageOf, IsWellFormed, with_row, without, with_head, with_moments, made_of, rows_past, wanted_past, row_count, cards_of, is_wanted};
+ghost use Rattle.ak_keep.specs.FreeNames.{IsFirstFree, IsFoundFrom, is_used};
 ghost use Rattle.ak_keep.specs.Keepers.{KeepCause, all_known, is_marked, put};
 ghost use Rattle.ak_keep.specs.Marks as marks;
 ghost use Rattle.ak_keep.specs.MemoryKeepers.{FailsWhere, health_of, is_to_fail, called, called_with, answer_of};
+ghost use Rattle.ak_keep.specs.declared.keepers.KeepFault.TheVariants.{Memory};
 
 use crate::calls::next_call;
 use crate::collections::MarkedCollection;
@@ -23,7 +26,9 @@ use std::marker::Model;
 /// A keeper in memory, which tells what it keeps. The calls that `fail_at` lists fail, and no others: with none listed
 /// it is known not to fail.
 /// A row is found in logarithmic time, and so are the cards of a note, with a step for each key: until the commit there may
-/// be keys of cards that are gone.
+/// be keys of cards that are gone. A free name takes a step for each taken id from the first one on, but for those of the one
+/// run of taken ids that is known of its table: what the latest question that passed any went through. To take out a row
+/// ends the runs of all tables before its id, and to go back to the mark forgets them.
 #[derive(Debug, Drop)]
 pub struct MemoryKeeper {
     memory: MarkedCollection,
@@ -158,6 +163,19 @@ impl Readable for MemoryKeeper {
     {
         next_call(&mut self.calls)?;
         Ok(self.memory.count(table))
+    }
+
+    fn free_name(&mut self, first: Name) -> Result<Option<Name>, KeepFault>
+        requires { pos 1 ≤ℤ first.id }
+        ensures free { IfOk result (λ found. IsFirstFree (is_used (finite.get self.old.kept.current.rows)) first found) }
+        ensures range { IfOk result (λ found. IfSome found (IsFoundFrom first)) }
+        ensures state { self.new ≡ called self.old }
+        ensures fails { FailsWhere (is_to_fail self.old) result }
+        ensures spares { IsErrOf result Memory → ⊥ }
+        ensures cause { KeepCause (health_of self.old) (health_of self.new) result }
+    {
+        next_call(&mut self.calls)?;
+        Ok(self.memory.free_name(first))
     }
 }
 

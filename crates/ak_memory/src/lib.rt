@@ -13,6 +13,7 @@ mod marked_rows;
 mod note_keys;
 mod pages;
 mod places;
+mod taken_runs;
 mod versions;
 
 pub use keepers::MemoryKeeper;

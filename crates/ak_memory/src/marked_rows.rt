@@ -8,6 +8,7 @@ ghost use Rattle.ak_base.specs.Rows.{name_of};
 ghost use Rattle.ak_base.specs.declared.names.Name.{Name as RowName};
 ghost use Rattle.ak_keep.specs.Collections.{AscendsPast, IsPageOf, rows_of, rows_past, wanted_past, is_wanted, cards_of, row_count};
 ghost use Rattle.ak_keep.specs.Entries.{row_at};
+ghost use Rattle.ak_keep.specs.FreeNames.{IsFirstFree, IsFoundFrom, is_used};
 ghost use Rattle.ak_memory.specs.Versions.{at, both, with_current};
 ghost use Rattle.ak_memory.specs.declared.versions.Version.{Version as WhichVersion};
 
@@ -156,6 +157,15 @@ impl MarkedRows {
     {
         let ids = self.indexed.cards_of(self.alloc, &note)?;
         Ok(ids)
+    }
+
+    /// The first name of its table from this one on that is free for a new row. It takes no memory.
+    pub(crate) fn free_name(&mut self, first: Name) -> Option<Name>
+        ensures free { IsFirstFree (is_used (map.get self.old.current)) first result }
+        ensures range { IfSome result (IsFoundFrom first) }
+        ensures same { self.new ≡ self.old }
+    {
+        self.indexed.free_name(first)
     }
 
     /// Puts the row under its name, in place of the row that is held there.

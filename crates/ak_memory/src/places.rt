@@ -95,7 +95,7 @@ impl Place {
     }
 
     /// Whether a row is held now.
-    fn is_held(&self) -> bool
+    pub(crate) fn is_held(&self) -> bool
         ensures { result ≡ is_some (row_at Now self.now) }
     {
         match self {

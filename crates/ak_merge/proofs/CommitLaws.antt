@@ -26,7 +26,8 @@ use Rattle.ak_merge.specs.Tags.{has_name}
 use Rattle.ak_merge.specs.Edits.{Reversal}
 use Rattle.ak_merge.specs.Undoing.{StepFits, StepFitsParts}
 use Rattle.ak_merge.specs.Commits.{Settings, Received, IsCommitOf, IsInRange, IsCommitted, settings_of}
-use Rattle.ak_merge.specs.Holdings.{RowsByName, row_under, AreNamed, AreChecked, grave_under, IsSingle, tag_usn}
+use Rattle.ak_keep.specs.Graves.{RowsByName, grave_under}
+use Rattle.ak_merge.specs.Holdings.{row_under, AreNamed, AreChecked, IsSingle, tag_usn}
 use Rattle.ak_merge.proofs.CheckedRows.{checked_with_usn}
 use Rattle.ak_merge.proofs.JoinLaws.{no_graves}
 use Rattle.ak_merge.specs.Links.{IsGiven, AreNumbered, IsHeldLike, IsNewerFrom, IsThere, HasTaken, IsKnown, IsShared, IsTagShared, AreLinkedParts, AreLinked}

@@ -19,7 +19,8 @@ use Rattle.ak_base.specs.declared.names.Table.TheVariants as tables
 use Rattle.ak_base.specs.declared.rows.Row.{Row}
 use Rattle.ak_keep.specs.Collections.{Rows, is_past}
 use Rattle.ak_merge.proofs.Finding.{IsFirstIn, first_in_table, id_over_zero, none_in_table, not_both, not_none, table_has_none}
-use Rattle.ak_merge.specs.Holdings.{RowsByName, AreNamed, AreChecked}
+use Rattle.ak_keep.specs.Graves.{RowsByName}
+use Rattle.ak_merge.specs.Holdings.{AreNamed, AreChecked}
 use Rattle.ak_merge.specs.Joins.{AreApart}
 use Rattle.ak_merge.specs.Conflicts.{ConflictAt, IsLeastConflict, first_conflict, first_conflict_in, first_conflict_of, conflicts, has_conflict}
 

@@ -1,5 +1,6 @@
 -- What depends on content alone: soundness, and how many rows each table has.
-use Rattle.ak_merge.specs.Holdings.{name_in, RowsByName, Content, same_held, SameContent}
+use Rattle.ak_keep.specs.Graves.{RowsByName}
+use Rattle.ak_merge.specs.Holdings.{name_in, Content, same_held, SameContent}
 use Rattle.std.specs.Prelude.{◌≡◌, ℕ, ℤ, pos, true, false, cond, ◌&&◌, ◌==◌, ◌<ℤ◌, T, IsTrue, List, [], ◌∷◌, map, filter, length, Option, Some, None, is_some}
 use Rattle.std.proofs.Common.{refl, sym, ap, subst, ◌∙◌}
 use Rattle.std.proofs.lemmas.Option.{none-some, same_Some}

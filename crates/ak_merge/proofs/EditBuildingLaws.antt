@@ -1,5 +1,6 @@
 -- Each way to build an edit keeps it admitted.
-use Rattle.ak_merge.specs.Holdings.{name_in, row_under, AreNamed, is_dead}
+use Rattle.ak_keep.specs.Graves.{is_dead}
+use Rattle.ak_merge.specs.Holdings.{name_in, row_under, AreNamed}
 use Rattle.std.specs.Prelude.{◌≡◌, ℕ, ℤ, true, false, if◌then◌else◌, List, Option, Some, None}
 use Rattle.std.proofs.Common.{refl, sym, ap, ◌∙◌}
 use Rattle.std.proofs.lemmas.Option.{none-some, same_Some}

@@ -15,7 +15,8 @@ use Rattle.ak_base.specs.declared.names.Name.{Name}
 use Rattle.ak_base.specs.declared.names.Table.{Table}
 use Rattle.ak_base.specs.declared.rows.Row.{Row}
 use Rattle.ak_base.specs.declared.rows.Row.TheVariants as rows
-use Rattle.ak_merge.specs.Holdings.{RowsByName, row_under, grave_under, IsSingle, tag_usn}
+use Rattle.ak_keep.specs.Graves.{RowsByName, grave_under}
+use Rattle.ak_merge.specs.Holdings.{row_under, IsSingle, tag_usn}
 use Rattle.ak_merge.specs.Links.{IsGiven, IsOwn, AreNumbered, HasTaken, IsKnown, IsShared, IsTagShared, AreLinkedParts}
 use Rattle.ak_merge.specs.Edits.{edited, advanced}
 

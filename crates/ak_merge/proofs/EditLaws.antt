@@ -1,5 +1,6 @@
 -- An edit keeps a device's collection linked.
-use Rattle.ak_merge.specs.Holdings.{name_in, RowsByName, AreNamed, row_under, grave_under, is_dead, IsSingle, tag_usn}
+use Rattle.ak_keep.specs.Graves.{RowsByName, grave_under, is_dead}
+use Rattle.ak_merge.specs.Holdings.{name_in, AreNamed, row_under, IsSingle, tag_usn}
 use Rattle.ak_keep.specs.Collections.{Collection}
 use Rattle.ak_base.specs.Tables.{has_stamps}
 use Rattle.std.specs.Prelude.{◌≡◌, ℕ, ℤ, Bool, true, false, IsTrue, List, Option, Some, None, IfSome, is_some}

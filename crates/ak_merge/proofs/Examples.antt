@@ -1,5 +1,6 @@
 -- Worked examples: what the definitions say of small collections.
-use Rattle.ak_merge.specs.Holdings.{name_in, RowsByName, row_under, grave_under, AreNamed, IsSingle, same_held}
+use Rattle.ak_keep.specs.Graves.{RowsByName, grave_under}
+use Rattle.ak_merge.specs.Holdings.{name_in, row_under, AreNamed, IsSingle, same_held}
 use Rattle.std.proofs.lemmas.List.Elements.{All-from_recursion}
 use Rattle.ak_merge.specs.Commits.{Received}
 use Rattle.ak_merge.specs.Exchanges.{wanted_under, IsSent, IsServerHalf, HoldsJoin}

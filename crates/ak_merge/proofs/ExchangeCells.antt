@@ -13,7 +13,8 @@ use Rattle.ak_keep.specs.Collections.{is_pending, is_settled, is_wanted}
 use Rattle.ak_keep.specs.declared.keepers.Wanted.{Wanted}
 use Rattle.ak_keep.specs.declared.keepers.Wanted.TheVariants.{Unsent, From}
 use Rattle.ak_merge.specs.Exchanges.{wanted_under, AreOf, IsSent}
-use Rattle.ak_merge.specs.Holdings.{RowsByName, AreNamed, same_held}
+use Rattle.ak_keep.specs.Graves.{RowsByName}
+use Rattle.ak_merge.specs.Holdings.{AreNamed, same_held}
 use Rattle.ak_merge.specs.Joins.{newest}
 use Rattle.ak_merge.specs.Links.{HasTaken, IsKnown}
 use Rattle.ak_base.proofs.RowFacts.{same-with_usn, same-itself, same-turned}

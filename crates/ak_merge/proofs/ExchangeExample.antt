@@ -20,7 +20,8 @@ use Rattle.ak_merge.proofs.PartLaws.{pending_was_held}
 use Rattle.ak_merge.proofs.TakingLaws.{all_taken_at, is_name, newest_in, received_under}
 use Rattle.ak_merge.specs.Commits.{Received}
 use Rattle.ak_merge.specs.Exchanges.{is_tag_from, is_unsent_tag, wanted_under, IsSent, IsExchange, AreExchanged, settled, settled_tags}
-use Rattle.ak_merge.specs.Holdings.{name_in, RowsByName, row_under, grave_under, has_tag, is_dead, IsSingle}
+use Rattle.ak_keep.specs.Graves.{RowsByName, grave_under, is_dead}
+use Rattle.ak_merge.specs.Holdings.{name_in, row_under, has_tag, IsSingle}
 use Rattle.ak_merge.specs.Joins.{AreApart, joined_under}
 use Rattle.ak_merge.specs.Links.{AreLinkedParts, HasTaken, IsGiven, IsHeldLike, IsKnown, IsOwn}
 use Rattle.ak_merge.specs.Tags.{tags_taken}

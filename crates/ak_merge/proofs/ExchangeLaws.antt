@@ -25,7 +25,8 @@ use Rattle.ak_base.specs.declared.heads.Head.{Head}
 use Rattle.ak_base.specs.declared.heads.Tag.{Tag}
 use Rattle.std.specs.FinMap.{get}
 use Rattle.std.specs.Cmp.Lexicographic.{pointwise}
-use Rattle.ak_merge.specs.Holdings.{RowsByName, row_under, AreNamed, grave_under, IsSingle, tag_usn, content_of, same_held, SameContent}
+use Rattle.ak_keep.specs.Graves.{RowsByName, grave_under}
+use Rattle.ak_merge.specs.Holdings.{row_under, AreNamed, IsSingle, tag_usn, content_of, same_held, SameContent}
 use Rattle.ak_merge.specs.Joins.{AreApart, joined_under, newest_head, join}
 use Rattle.ak_merge.specs.Links.{IsGiven, IsOwn, AreNumbered, IsHeldLike, HasTaken, IsKnown, IsShared, IsTagShared, AreLinkedParts}
 use Rattle.ak_base.proofs.RowFacts.{name_of-with_usn, usn_of-with_usn, same-with_usn, same-itself, same-turned, same-through}

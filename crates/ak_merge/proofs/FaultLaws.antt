@@ -16,7 +16,8 @@ use Rattle.ak_merge.proofs.EditFacts.{false_true}
 use Rattle.ak_merge.proofs.Finding.{not_both, first_in_table, none_in_table}
 use Rattle.ak_merge.proofs.PartLaws.{past_zero, same_place}
 use Rattle.ak_merge.proofs.SoundLaws.{card_among, has_card, has_some}
-use Rattle.ak_merge.specs.Holdings.{name_in, RowsByName, AreNamed, AreChecked}
+use Rattle.ak_keep.specs.Graves.{RowsByName}
+use Rattle.ak_merge.specs.Holdings.{name_in, AreNamed, AreChecked}
 use Rattle.ak_merge.specs.Soundness.{IsFault, IsLeastFault, is_before, bad_card, bad_note, first_bad, first_fault, first_of, is_bad, is_empty, lacks_template, table_of, type_name, type_under}
 use Rattle.ak_merge.specs.declared.checks.CheckFault.{CheckFault}
 use Rattle.ak_merge.specs.declared.checks.CheckFault.TheVariants as faults

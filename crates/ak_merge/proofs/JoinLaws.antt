@@ -12,7 +12,8 @@ use Rattle.ak_base.specs.declared.names.Name.{Name}
 use Rattle.ak_base.specs.declared.names.Table.{Table}
 use Rattle.ak_base.specs.declared.names.Table.TheVariants as tables
 use Rattle.ak_base.specs.declared.rows.Row.{Row}
-use Rattle.ak_merge.specs.Holdings.{RowsByName, row_under, is_dead, has_tag, content_of, same_held, SameContent}
+use Rattle.ak_keep.specs.Graves.{RowsByName, is_dead}
+use Rattle.ak_merge.specs.Holdings.{row_under, has_tag, content_of, same_held, SameContent}
 use Rattle.ak_merge.specs.Joins.{AreApart, newest, joined_under, newest_head, join}
 use Rattle.ak_base.proofs.RowFacts.{same-itself, same-turned}
 use Rattle.ak_base.proofs.SameRows.{like_stamp}

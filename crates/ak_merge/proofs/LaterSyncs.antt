@@ -8,7 +8,8 @@ use Rattle.ak_base.specs.declared.rows.Row.{Row}
 use Rattle.ak_keep.specs.Collections.{Collection}
 use Rattle.ak_merge.proofs.Finding.{not_both}
 use Rattle.ak_merge.specs.Exchanges.{HoldsJoin}
-use Rattle.ak_merge.specs.Holdings.{row_under, is_dead, same_held}
+use Rattle.ak_keep.specs.Graves.{is_dead}
+use Rattle.ak_merge.specs.Holdings.{row_under, same_held}
 use Rattle.ak_merge.specs.Joins.{AreApart, newest, newest_head, join}
 use Rattle.std.specs.Prelude.{◌≡◌, ◌<ℤ◌, ◌≤ℤ◌, Bool, true, false, ◌||◌, int_lt, if◌then◌else◌, IsTrue, Option, Some, None}
 use Rattle.std.proofs.Common.{refl, ap, subst, arith}

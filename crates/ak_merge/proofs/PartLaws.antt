@@ -22,7 +22,8 @@ use Rattle.ak_merge.proofs.CommitLaws.{each_by, grave_received, of_some, when_so
 use Rattle.ak_merge.proofs.Finding.{id_over_zero}
 use Rattle.ak_merge.proofs.TagLaws.{weaker_all}
 use Rattle.ak_merge.proofs.TakingLaws.{received, received_by, received_under, newest_in, all_taken_at, grave_in}
-use Rattle.ak_merge.specs.Holdings.{RowsByName, AreNamed, AreChecked, grave_under, is_dead}
+use Rattle.ak_keep.specs.Graves.{RowsByName, grave_under, is_dead}
+use Rattle.ak_merge.specs.Holdings.{AreNamed, AreChecked}
 use Rattle.ak_base.specs.Tables.{graves_of}
 use Rattle.ak_merge.specs.Exchanges.{StandsWanted}
 use Rattle.ak_merge.specs.Takings.{is_newer, takes, buried, taken, all_taken}

@@ -1,5 +1,6 @@
 -- The step of an edit fits each collection with which the device was linked, and the list with it suits what the edit leaves.
-use Rattle.ak_merge.specs.Holdings.{name_in, RowsByName, AreNamed, row_under, grave_under, is_dead, IsSingle, tag_usn}
+use Rattle.ak_keep.specs.Graves.{RowsByName, grave_under, is_dead}
+use Rattle.ak_merge.specs.Holdings.{name_in, AreNamed, row_under, IsSingle, tag_usn}
 use Rattle.ak_keep.specs.Collections.{Collection}
 use Rattle.ak_base.specs.Tables.{has_stamps}
 use Rattle.std.specs.Prelude.{◌≡◌, ℕ, ℤ, ◌≤ℤ◌, ◌<ℤ◌, Bool, true, false, not, IsTrue, List, Option, Some, None, IfSome, is_some}

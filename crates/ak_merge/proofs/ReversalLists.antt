@@ -1,5 +1,6 @@
 -- Which lists of steps suit: after an edit, after an undo, and without the oldest step.
-use Rattle.ak_merge.specs.Holdings.{name_in, tag_usn, RowsByName, row_under, AreNamed, is_dead, IsSingle}
+use Rattle.ak_keep.specs.Graves.{RowsByName, is_dead}
+use Rattle.ak_merge.specs.Holdings.{name_in, tag_usn, row_under, AreNamed, IsSingle}
 use Rattle.ak_keep.specs.Collections.{Collection}
 use Rattle.std.specs.Prelude.{◌≡◌, ℤ, false, List, [], ◌∷◌, ◌++◌, Option, Some, None, is_some}
 use Rattle.std.proofs.Common.{refl, sym, ap, subst, ◌∙◌}

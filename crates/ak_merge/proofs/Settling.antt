@@ -12,7 +12,8 @@ use Rattle.ak_merge.proofs.CommitLaws.{checked_received, named_received, newest_
 use Rattle.ak_merge.proofs.PartLaws.{numbered_again, pending_was_held}
 use Rattle.ak_merge.proofs.TakingLaws.{received, received_by, grave_in, newest_in, all_taken_at}
 use Rattle.ak_merge.specs.Exchanges.{settled, IsPartSettled}
-use Rattle.ak_merge.specs.Holdings.{RowsByName, AreNamed, AreChecked, IsSingle, grave_under}
+use Rattle.ak_keep.specs.Graves.{RowsByName, grave_under}
+use Rattle.ak_merge.specs.Holdings.{AreNamed, AreChecked, IsSingle}
 use Rattle.ak_merge.specs.Takings.{all_taken}
 use Rattle.std.specs.Cmp.{signed_Decides}
 use Rattle.std.specs.FinMap.{get}

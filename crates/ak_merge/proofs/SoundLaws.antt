@@ -1,5 +1,6 @@
 -- The basic check finds no fault exactly where a collection is sound.
-use Rattle.ak_merge.specs.Holdings.{name_in, RowsByName, AreNamed, AreChecked}
+use Rattle.ak_keep.specs.Graves.{RowsByName}
+use Rattle.ak_merge.specs.Holdings.{name_in, AreNamed, AreChecked}
 use Rattle.ak_keep.proofs.RowsByName.{all_gets, entries_found}
 use Rattle.std.specs.Prelude.{◌≡◌, ◌↔◌, ℤ, pos, Bool, true, false, cond, not, ◌&&◌, ◌<ℤ◌, int_lt, List, [], ◌∷◌, map, filter, find, length, Option, Some, None}
 use Rattle.ak_base.proofs.Optional.{both_none, none_mapped}

@@ -8,7 +8,8 @@ use Rattle.ak_merge.proofs.EditLaws.{edits_keep_single}
 use Rattle.ak_merge.proofs.ReversalLists.{lists_suit}
 use Rattle.ak_merge.specs.EditBuilding.{without_rows, MaySweep}
 use Rattle.ak_merge.specs.Edits.{Edit, Admits, Reversal, reversal_of}
-use Rattle.ak_merge.specs.Holdings.{RowsByName, row_under, name_in, AreNamed, IsSingle}
+use Rattle.ak_keep.specs.Graves.{RowsByName}
+use Rattle.ak_merge.specs.Holdings.{row_under, name_in, AreNamed, IsSingle}
 use Rattle.ak_merge.specs.Undoing.{IsEdit, IsListAfter, StepsSuit}
 use Rattle.std.proofs.lemmas.Option.{none-some}
 use Rattle.std.specs.Option.{option_and_then}

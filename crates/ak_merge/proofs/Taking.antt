@@ -13,7 +13,7 @@ use Rattle.ak_base.specs.declared.rows.Row.{Row}
 use Rattle.ak_keep.specs.Collections.{Holding, with_row, without}
 use Rattle.ak_keep.specs.Keepers.{Keeping, WhereTold, changed}
 use Rattle.ak_base.proofs.RowFacts.{name_of-with_usn}
-use Rattle.ak_merge.specs.Holdings.{RowsByName, is_dead}
+use Rattle.ak_keep.specs.Graves.{RowsByName, is_dead}
 use Rattle.ak_merge.specs.Takings.{buried, without_buried, with_taken, takes}
 
 dead_in : (at : RowsByName) (graves : Option Table) (name : Name) → option_map_or (λ (n : Name). is_some (at n)) (option_map (λ (graves : Table). record { table = graves; id = name.id }) graves) false ≡ is_some (option_and_then (λ (graves : Table). at (record { table = graves; id = name.id })) graves)

@@ -22,7 +22,8 @@ use Rattle.ak_base.specs.declared.names.Table.TheVariants as tables
 use Rattle.ak_base.specs.declared.rows.Row.{Row}
 use Rattle.ak_base.specs.declared.rows.Row.TheVariants as rows
 use Rattle.ak_keep.specs.Collections.{Rows}
-use Rattle.ak_merge.specs.Holdings.{RowsByName, AreNamed, grave_under, is_dead, IsSingle, same_held}
+use Rattle.ak_keep.specs.Graves.{RowsByName, grave_under, is_dead}
+use Rattle.ak_merge.specs.Holdings.{AreNamed, IsSingle, same_held}
 use Rattle.ak_merge.proofs.JoinLaws.{no_graves}
 use Rattle.ak_merge.specs.Joins.{newest, joined_under}
 use Rattle.ak_base.proofs.RowFacts.{stamp_of-with_usn, same-with_usn, same-itself}

@@ -19,7 +19,8 @@ use Rattle.ak_merge.proofs.TagLaws.{tags_are_united, tags_stay_ordered, tags_sta
 use Rattle.ak_merge.proofs.TakingLaws.{buries, grave_in, its_grave}
 use Rattle.ak_merge.specs.Commits.{Settings, Whole, IsUploadOf, IsWholeInRange, IsCommitted, uploaded_rows}
 use Rattle.ak_merge.specs.Edits.{Reversal}
-use Rattle.ak_merge.specs.Holdings.{AreNamed, AreChecked, is_dead, tag_usn}
+use Rattle.ak_keep.specs.Graves.{is_dead}
+use Rattle.ak_merge.specs.Holdings.{AreNamed, AreChecked, tag_usn}
 use Rattle.ak_merge.specs.Links.{AreLinked}
 use Rattle.ak_merge.specs.Tags.{has_name, tags_taken}
 use Rattle.ak_merge.specs.Undoing.{StepFits}

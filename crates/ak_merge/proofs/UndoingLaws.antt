@@ -1,5 +1,6 @@
 -- An undo keeps a device's collection linked, and gives the collection before the edit.
-use Rattle.ak_merge.specs.Holdings.{name_in, RowsByName, row_under, AreNamed, grave_under, IsSingle, tag_usn}
+use Rattle.ak_keep.specs.Graves.{RowsByName, grave_under}
+use Rattle.ak_merge.specs.Holdings.{name_in, row_under, AreNamed, IsSingle, tag_usn}
 use Rattle.ak_keep.specs.Collections.{Collection}
 use Rattle.ak_base.specs.Tables.{has_stamps}
 use Rattle.ak_base.specs.Contents.{same_but_stamp_and_usn}

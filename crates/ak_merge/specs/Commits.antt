@@ -10,7 +10,8 @@ use Rattle.ak_base.specs.declared.heads.Conf.{Conf}
 use Rattle.ak_base.specs.declared.heads.Head.{Head}
 use Rattle.ak_base.specs.declared.names.Name.{Name}
 use Rattle.ak_base.specs.declared.rows.Row.{Row}
-use Rattle.ak_merge.specs.Holdings.{row_under, AreNamed, AreChecked, is_dead, IsSingle, tag_usn}
+use Rattle.ak_keep.specs.Graves.{is_dead}
+use Rattle.ak_merge.specs.Holdings.{row_under, AreNamed, AreChecked, IsSingle, tag_usn}
 use Rattle.ak_merge.specs.Links.{IsGiven, AreNumbered}
 use Rattle.ak_merge.specs.Tags.{IsTagName, tags_taken}
 use Rattle.ak_merge.specs.Takings.{all_taken}

@@ -16,7 +16,7 @@ use Rattle.ak_base.specs.declared.rows.Row.{Row}
 use Rattle.ak_keep.specs.Collections.{Rows, rows_past}
 use Rattle.ak_keep.specs.declared.keepers.KeepFault.{KeepFault}
 use Rattle.ak_keep.specs.declared.keepers.KeepFault.TheVariants.{Failed}
-use Rattle.ak_merge.specs.Holdings.{RowsByName}
+use Rattle.ak_keep.specs.Graves.{RowsByName}
 
 -- the other side holds a row of this name with an equal stamp that is not equal, update sequence numbers aside
 abbrev pub conflicts : Row → Option Row → Bool

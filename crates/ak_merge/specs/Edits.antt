@@ -14,7 +14,8 @@ use Rattle.ak_base.specs.declared.names.Table.TheVariants as tables
 use Rattle.ak_base.specs.declared.rows.Row.{Row}
 use Rattle.ak_base.specs.declared.rows.Row.TheVariants as rows
 use Rattle.ak_merge.specs.Tags.{has_name, tags_taken}
-use Rattle.ak_merge.specs.Holdings.{name_in, RowsByName, row_under, AreNamed, is_dead, has_tag}
+use Rattle.ak_keep.specs.Graves.{RowsByName, is_dead}
+use Rattle.ak_merge.specs.Holdings.{name_in, row_under, AreNamed, has_tag}
 
 -- what an edit asks for: what is to stand under each name but the graves', the settings, the names of the tags that are to be
 -- held, and whether it changes the schema

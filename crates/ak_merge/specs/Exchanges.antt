@@ -14,7 +14,8 @@ use Rattle.ak_base.specs.declared.rows.Row.{Row}
 use Rattle.ak_keep.specs.declared.keepers.Wanted.{Wanted}
 use Rattle.ak_keep.specs.declared.keepers.Wanted.TheVariants.{Unsent, From}
 use Rattle.ak_merge.specs.Commits.{Settings, Received, IsCommitOf, settings_of}
-use Rattle.ak_merge.specs.Holdings.{RowsByName, row_under, AreNamed, IsSingle, tag_usn, content_of, SameContent}
+use Rattle.ak_keep.specs.Graves.{RowsByName}
+use Rattle.ak_merge.specs.Holdings.{row_under, AreNamed, IsSingle, tag_usn, content_of, SameContent}
 use Rattle.ak_merge.specs.Joins.{join}
 use Rattle.ak_merge.specs.Links.{IsGiven, AreNumbered, AreLinkedParts}
 use Rattle.ak_merge.specs.Tags.{has_name, tags_taken}

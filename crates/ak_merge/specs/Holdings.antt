@@ -1,21 +1,17 @@
 -- What a collection holds, and its content: what a sync brings together.
-use Rattle.ak_base.specs.Tables.{graves_of}
 use Rattle.ak_keep.specs.Collections.{Collection}
+use Rattle.ak_keep.specs.Graves.{RowsByName, is_dead}
 use Rattle.ak_base.specs.Rows.{IsChecked, name_of}
 use Rattle.std.specs.Prelude.{◌≡◌, ℕ, ℤ, Bool, true, false, ◌==◌, IsTrue, List, find, Option, Some, None, is_some}
 use Rattle.std.specs.Cmp.Lexicographic.{pointwise}
 use Rattle.std.specs.FinMap.{get}
-use Rattle.std.specs.Option.{option_map, option_and_then}
+use Rattle.std.specs.Option.{option_map}
 use Rattle.ak_base.specs.Contents.{same_content}
 use Rattle.ak_base.specs.declared.heads.Conf.{Conf}
 use Rattle.ak_base.specs.declared.heads.Tag.{Tag}
 use Rattle.ak_base.specs.declared.names.Name.{Name}
 use Rattle.ak_base.specs.declared.names.Table.{Table}
 use Rattle.ak_base.specs.declared.rows.Row.{Row}
-
--- what stands under each name
-abbrev pub RowsByName : Type 0
-RowsByName = Name → Option Row
 
 -- what stands under each name of a collection
 abbrev pub row_under : Collection → RowsByName
@@ -32,15 +28,6 @@ AreChecked at = (name : Name) (row : Row) → at name ≡ Some row → IsChecked
 -- the name of a row of this table
 abbrev pub name_in : Table → ℤ → Name
 name_in table id = record { table = table; id = id }
-
--- ---- graves
--- the grave of a row of this name, if it is held
-abbrev pub grave_under : RowsByName → Name → Option Row
-grave_under at name = option_and_then (λ (graves : Table). at (record { table = graves; id = name.id })) (graves_of name.table)
-
--- a name is dead if its grave is held
-abbrev pub is_dead : RowsByName → Name → Bool
-is_dead at name = is_some (grave_under at name)
 
 -- no row stands beside its own grave
 abbrev pub IsSingle : RowsByName → Type 0

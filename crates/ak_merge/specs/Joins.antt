@@ -6,7 +6,8 @@ use Rattle.ak_base.specs.Rows.{stamp_of}
 use Rattle.ak_base.specs.declared.heads.Head.{Head}
 use Rattle.ak_base.specs.declared.names.Name.{Name}
 use Rattle.ak_base.specs.declared.rows.Row.{Row}
-use Rattle.ak_merge.specs.Holdings.{RowsByName, row_under, is_dead, has_tag, Content}
+use Rattle.ak_keep.specs.Graves.{RowsByName, is_dead}
+use Rattle.ak_merge.specs.Holdings.{row_under, has_tag, Content}
 
 -- two rows of one name with equal stamps are equal, update sequence numbers aside. Reviews and graves have one stamp
 abbrev pub AreApart : RowsByName → RowsByName → Type 0

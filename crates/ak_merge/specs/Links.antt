@@ -6,7 +6,8 @@ use Rattle.ak_base.specs.Contents.{same_content}
 use Rattle.ak_base.specs.Rows.{stamp_of, usn_of}
 use Rattle.ak_base.specs.declared.names.Name.{Name}
 use Rattle.ak_base.specs.declared.rows.Row.{Row}
-use Rattle.ak_merge.specs.Holdings.{row_under, grave_under, IsSingle, tag_usn}
+use Rattle.ak_keep.specs.Graves.{grave_under}
+use Rattle.ak_merge.specs.Holdings.{row_under, IsSingle, tag_usn}
 
 -- ---- the numbers
 -- from 0 to below a head's update sequence number

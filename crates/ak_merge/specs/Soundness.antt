@@ -1,5 +1,6 @@
 -- Whether a collection is sound: what Anki's basic check asks, and the first fault.
-use Rattle.ak_merge.specs.Holdings.{name_in, RowsByName}
+use Rattle.ak_keep.specs.Graves.{RowsByName}
+use Rattle.ak_merge.specs.Holdings.{name_in}
 use Rattle.std.specs.Prelude.{◌≡◌, ◌≢◌, ◌==◌, ℕ, ℤ, pos, Bool, true, false, not, ◌&&◌, ◌||◌, ◌<ℤ◌, ◌≤ℤ◌, int_lt, nat_lt, is_some, List, [], ◌∷◌, find, length, Option, Some, None}
 use Rattle.std.specs.FinMap.{get}
 use Rattle.std.specs.Option.{option_map, option_and_then, option_or}

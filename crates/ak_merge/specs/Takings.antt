@@ -9,7 +9,7 @@ use Rattle.std.specs.Ordering.{eq_by_cmp}
 use Rattle.ak_base.specs.Names.{name_cmp}
 use Rattle.ak_base.specs.declared.names.Name.{Name}
 use Rattle.ak_base.specs.declared.rows.Row.{Row}
-use Rattle.ak_merge.specs.Holdings.{RowsByName, is_dead}
+use Rattle.ak_keep.specs.Graves.{RowsByName, is_dead}
 
 -- these are the rows that stand there, in any order, each once or more often
 pub record IsListOf (rows : List Row) (at : RowsByName) : Type 0 where

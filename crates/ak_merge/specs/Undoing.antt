@@ -1,6 +1,7 @@
 -- What an undo leaves, and when it may be done: which steps fit a server's collection, and which lists of steps suit a device's.
 use Rattle.ak_merge.specs.Edits.{Edit, Admits, DoesChange, IsEdited, GivesFreshSchema, reversal_of, edited, advanced, second_of, Reversal}
-use Rattle.ak_merge.specs.Holdings.{AreNamed, RowsByName, row_under, IsSingle, tag_usn, has_tag}
+use Rattle.ak_keep.specs.Graves.{RowsByName}
+use Rattle.ak_merge.specs.Holdings.{AreNamed, row_under, IsSingle, tag_usn, has_tag}
 use Rattle.ak_merge.specs.Links.{AreLinked}
 use Rattle.ak_keep.specs.Collections.{Collection}
 use Rattle.ak_base.specs.Tables.{graves_of, has_stamps}

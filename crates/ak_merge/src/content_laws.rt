@@ -4,7 +4,8 @@ ghost use Rattle.std.specs.FinMap.{get};
 ghost use Rattle.ak_base.specs.declared.names.Name.{Name};
 ghost use Rattle.ak_base.specs.declared.names.Table.{Table};
 ghost use Rattle.ak_keep.specs.Collections.{Rows, row_count};
-ghost use Rattle.ak_merge.specs.Holdings.{RowsByName, Content, same_held, SameContent};
+ghost use Rattle.ak_keep.specs.Graves.{RowsByName};
+ghost use Rattle.ak_merge.specs.Holdings.{Content, same_held, SameContent};
 ghost use Rattle.ak_merge.specs.Soundness.{IsSound};
 
 /// To have one content is an equivalence.

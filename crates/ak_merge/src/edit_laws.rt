@@ -1,7 +1,8 @@
 ghost use Rattle.ak_keep.specs.Collections.{Collection};
 ghost use Rattle.std.specs.Prelude.{◌≡◌, ℤ, false, true, List, [], ◌∷◌, ◌++◌};
 ghost use Rattle.ak_base.specs.declared.heads.Tag.{Tag};
-ghost use Rattle.ak_merge.specs.Holdings.{RowsByName, row_under, AreNamed, IsSingle};
+ghost use Rattle.ak_keep.specs.Graves.{RowsByName};
+ghost use Rattle.ak_merge.specs.Holdings.{row_under, AreNamed, IsSingle};
 ghost use Rattle.ak_merge.specs.Links.{AreLinked};
 ghost use Rattle.ak_merge.specs.Edits.{Edit, Reversal, Admits, IsEdited, GivesFreshSchema, reversal_of};
 ghost use Rattle.ak_merge.specs.Undoing.{IsEdit, IsListAfter, IsUndone, IsBack, StepFits, StepsSuit};

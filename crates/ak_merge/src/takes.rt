@@ -4,7 +4,7 @@ ghost use Rattle.ak_base.specs.Heads.{IsWithin};
 ghost use Rattle.ak_base.specs.Rows.{IsChecked, with_usn};
 ghost use Rattle.ak_keep.specs.Keepers.{IsMarkedAt, KeepCause, WhereTold, back, is_marked, changed, put};
 ghost use Rattle.ak_keep.specs.Readings.{ReadsBy};
-ghost use Rattle.ak_merge.specs.Holdings.{is_dead};
+ghost use Rattle.ak_keep.specs.Graves.{is_dead};
 ghost use Rattle.ak_merge.specs.Takings.{without_buried, is_newer, is_newer_of, with_taken, takes};
 
 use ak_base::{Name, Row};

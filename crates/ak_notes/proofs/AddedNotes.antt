@@ -12,11 +12,11 @@ use Rattle.ak_base.specs.declared.names.Table.TheVariants as tables
 use Rattle.ak_base.specs.declared.note_types.NoteType.{NoteType}
 use Rattle.ak_base.specs.declared.notes.Note.{Note}
 use Rattle.ak_calls.proofs.Answering.{passed_first, refused_first}
-use Rattle.ak_calls.proofs.Telling.{where_held-both, where_held-map, where_rows_held, where_told-both}
-use Rattle.ak_calls.specs.NewNames.{IsNewName, RefusesId, is_used}
+use Rattle.ak_calls.proofs.Telling.{where_always, where_held-both, where_held-map, where_rows_held, where_told-both}
+use Rattle.ak_keep.specs.FreeNames.{is_used}
+use Rattle.ak_calls.specs.NewNames.{IsNewName, RefusesId, first_name}
 use Rattle.ak_cardgen.specs.Generation.{AreOrds}
 use Rattle.ak_edit.specs.Ends.{AnswersEnd, FinishedBy, IsFinished, RefusesEnd}
-use Rattle.ak_edit.specs.FreeNames.{first_name}
 use Rattle.ak_edit.specs.Overlays.{Overlay, edit_of, unchanged}
 use Rattle.ak_edit.specs.Refusals.{AnswersBy, DeskCause, IsEndFault, IsFromOutside, Refusal}
 use Rattle.ak_edit.specs.declared.desk_faults.DeskFault.{DeskFault}
@@ -28,10 +28,10 @@ use Rattle.ak_keep.specs.Collections.{Collection, Holding, Rows, collection_of}
 use Rattle.ak_keep.specs.Keepers.{Keeping, WhereHeld, WhereTold}
 use Rattle.ak_keep.specs.Lookups.{note_type_at}
 use Rattle.ak_merge.specs.Edits.{Edit}
-use Rattle.ak_notes.proofs.FreeIds.{card_ids_answer, cards_of_once, free_once}
+use Rattle.ak_calls.proofs.FreeIds.{free_once}
+use Rattle.ak_notes.proofs.NewCards.{card_ids_answer, cards_of_once}
 use Rattle.ak_notes.proofs.MadeNotes.{made_answer, made_asked}
 use Rattle.ak_notes.proofs.Needing.{other_answer, other_refusal}
-use Rattle.ak_notes.proofs.NewCards.{where_always}
 use Rattle.ak_notes.specs.Additions.{DoesAdd, IsAdded, IsAddedFor, IsAddedUnder, IsAddition, IsMadeFor, IsMadeOf, IsMadeUnder, IsMadeWith, RefusesAddition, RefusesMaking, RefusesShown, RefusesToAdd, added_place, added_row}
 use Rattle.ak_notes.specs.MadeNotes.{IsGivenFault, IsMakingFault, IsMissingIn, RefusesMade, made_over}
 use Rattle.ak_notes.specs.NewCards.{AreNewCards, AreNewIn, RefusesCardIds, RefusesFronts, RefusesIds, at_least_one, conf_after}

@@ -1,27 +1,28 @@
 -- Edits that make a note with its cards are admitted.
-use Rattle.std.specs.Prelude.{◌≡◌, ℤ, Bool, true, false, ◌||◌, Option, None, Some, is_some, option_and_then, List, [], ◌∷◌}
+use Rattle.std.specs.Prelude.{◌≡◌, ℤ, false, Option, None, Some, option_and_then, List, [], ◌∷◌}
 use Rattle.std.proofs.Common.{refl, sym, ap, subst, ◌∙◌}
 use Rattle.std.proofs.lemmas.Option.{none-some, same_Some}
 use Rattle.ak_base.specs.declared.cards.Card.{Card}
 use Rattle.ak_base.specs.declared.names.Name.{Name}
-use Rattle.ak_base.specs.declared.names.Table.{Table}
 use Rattle.ak_base.specs.declared.names.Table.TheVariants as tables
 use Rattle.ak_base.specs.declared.notes.Note.{Note}
 use Rattle.ak_base.specs.declared.rows.Row.{Row}
 use Rattle.ak_base.specs.declared.rows.Row.TheVariants as rows
-use Rattle.ak_calls.specs.NewNames.{is_used}
-use Rattle.ak_edit.specs.FreeNames.{IsFree, first_name}
+use Rattle.ak_keep.specs.FreeNames.{IsFree, is_used}
+use Rattle.ak_calls.proofs.FreeIds.{not_dead}
+use Rattle.ak_calls.specs.NewNames.{first_name}
 use Rattle.ak_keep.specs.Collections.{Collection}
 use Rattle.ak_keep.specs.Lookups.{as_note, note_at}
-use Rattle.ak_merge.proofs.EditFacts.{true_false}
 use Rattle.ak_merge.proofs.EditBuildingLaws.{puts_are_admitted, settings_are_admitted, tags_are_admitted, unedited_is_admitted}
 use Rattle.ak_merge.specs.EditBuilding.{MayPut, unedited, with_row}
 use Rattle.ak_merge.specs.Edits.{Admits, Edit}
-use Rattle.ak_merge.specs.Holdings.{AreNamed, is_dead, name_in, row_under}
+use Rattle.ak_keep.specs.Graves.{is_dead}
+use Rattle.ak_merge.specs.Holdings.{AreNamed, name_in, row_under}
 use Rattle.ak_notes.specs.Additions.{IsAddition, added_place}
 use Rattle.ak_notes.specs.LackingNotes.{lacked_ords, missing_place, next_at}
 use Rattle.ak_notes.specs.MadeNotes.{made_edit, with_cards}
-use Rattle.ak_notes.specs.NewCards.{AreNewCards, new_card, next_name}
+use Rattle.ak_base.specs.Names.{next_name}
+use Rattle.ak_notes.specs.NewCards.{AreNewCards, new_card}
 use Rattle.ak_notes.specs.NoteEdits.{IsNoteEdit, lacking_note}
 use Rattle.ak_notes.specs.declared.additions.NewNote.{NewNote}
 use Rattle.ak_notes.specs.declared.lacking_notes.LackingNote.{LackingNote}
@@ -30,19 +31,8 @@ use Rattle.ak_notes.specs.declared.made_notes.MadeNote.{MadeNote}
 use Rattle.ak_notes.specs.declared.new_cards.CardPlace.{CardPlace}
 use Rattle.ak_notes.specs.declared.note_edits.NoteEdit.{NoteEdit}
 
-second_false : (a b : Bool) → (a || b) ≡ false → b ≡ false
-second_false true b is = true_false is
-second_false false b is = is
-
--- a free name is not dead
-not_dead : (c : Collection) (first name : Name) (table : Table) → first.table ≡ table → IsFree (is_used (row_under c)) first name → is_dead (row_under c) (name_in table name.id) ≡ false
-not_dead c first name table of free =
-    let there : Name = name_in table name.id in
-    let same : name ≡ there = ap (λ (t : Table). name_in t name.id) (free.table ∙ of) in
-    second_false (is_some (row_under c there)) (is_dead (row_under c) there) (ap (is_used (row_under c)) (sym same) ∙ free.free)
-
 card_may : (c : Collection) (place : CardPlace) (ord : ℤ) (first name : Name) → first.table ≡ tables.Card → IsFree (is_used (row_under c)) first name → MayPut c (rows.Card (new_card place ord name.id))
-card_may c place ord first name of free = record { free = λ none. not_dead c first name tables.Card of free; review = λ is. absurd (cc) }
+card_may c place ord first name of free = record { free = λ none. not_dead (row_under c) first name tables.Card of free; review = λ is. absurd (cc) }
 
 -- new cards one by one
 pub cards_are_admitted : (c : Collection) (place : CardPlace) (first : Name) (ords : List ℤ) (cards : List Card) (edit : Edit) → first.table ≡ tables.Card → AreNewCards (is_used (row_under c)) place first ords cards
@@ -50,14 +40,15 @@ pub cards_are_admitted : (c : Collection) (place : CardPlace) (first : Name) (or
 cards_are_admitted c place first [] cards edit of are admits = subst (λ (l : List Card). Admits c (with_cards l edit)) (sym are) admits
 cards_are_admitted c place first (ord ∷ ords) cards edit of are admits =
     let name : Name = are.0 in
-    let card : Card = new_card place ord name.id in
-    let one : Admits c (with_row (rows.Card card) edit) = puts_are_admitted c edit (rows.Card card) admits (card_may c place ord first name of are.1) in
-    subst (λ (l : List Card). Admits c (with_cards l edit)) (sym are.3)
-    (cards_are_admitted c place (next_name name) ords are.2 (with_row (rows.Card card) edit) (are.1.table ∙ of) are.4 one)
+    let card : Card = are.2 in
+    let may : MayPut c (rows.Card card) = subst (λ (other : Card). MayPut c (rows.Card other)) (sym are.3) (card_may c place ord first name of are.1) in
+    let one : Admits c (with_row (rows.Card card) edit) = puts_are_admitted c edit (rows.Card card) admits may in
+    subst (λ (l : List Card). Admits c (with_cards l edit)) (sym are.5)
+    (cards_are_admitted c place (next_name name) ords are.4 (with_row (rows.Card card) edit) (are.1.table ∙ of) are.6 one)
 
 note_may : (c : Collection) (note : Note) (first name : Name) → first.table ≡ tables.Note → note.id ≡ name.id → IsFree (is_used (row_under c)) first name → MayPut c (rows.Note note)
 note_may c note first name of id free = record {
-  free = λ none. subst (λ (n : ℤ). is_dead (row_under c) (name_in tables.Note n) ≡ false) (sym id) (not_dead c first name tables.Note of free);
+  free = λ none. subst (λ (n : ℤ). is_dead (row_under c) (name_in tables.Note n) ≡ false) (sym id) (not_dead (row_under c) first name tables.Note of free);
   review = λ is. absurd (cc);
 }
 

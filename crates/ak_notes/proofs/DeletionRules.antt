@@ -29,7 +29,8 @@ use Rattle.ak_edit.specs.declared.desk_faults.DeskFault.{DeskFault}
 use Rattle.ak_keep.specs.Collections.{Collection, Rows, cards_of, is_card_of}
 use Rattle.ak_keep.specs.Keepers.{Keeping, WhereHeld, WhereTold}
 use Rattle.ak_merge.specs.Edits.{Edit, changes_row, edited}
-use Rattle.ak_merge.specs.Holdings.{AreNamed, RowsByName, name_in, row_under}
+use Rattle.ak_keep.specs.Graves.{RowsByName}
+use Rattle.ak_merge.specs.Holdings.{AreNamed, name_in, row_under}
 use Rattle.ak_notes.proofs.NoteCards.{names_card, names_card_is}
 use Rattle.ak_notes.specs.Deletions.{RefusesDeletion, deletion, is_of_note, without_cards, without_each, without_note}
 use Rattle.ak_undo.specs.declared.steps.Step.{Step}

@@ -1,5 +1,5 @@
 -- A note that is edited: its edit, and when it is refused.
-use Rattle.std.specs.Prelude.{◌≡◌, ℤ, List, Option, Some, None, IfErr, IfSome, Result, Ok, Err}
+use Rattle.std.specs.Prelude.{◌≡◌, ℤ, List, length, Option, Some, None, IfErr, IfSome, Result, Ok, Err}
 use Rattle.std.proofs.Common.{sym, ap, subst, inl, inr, ◌∙◌}
 use Rattle.std.proofs.lemmas.Option.{same_Some}
 use Rattle.std.specs.FinMap.{get}
@@ -11,10 +11,10 @@ use Rattle.ak_base.specs.declared.note_types.NoteType.{NoteType}
 use Rattle.ak_base.specs.declared.notes.Note.{Note}
 use Rattle.ak_calls.proofs.Answering.{passed_first, refused_first}
 use Rattle.ak_calls.proofs.Telling.{where_held-both, where_held-map, where_rows_held, where_told-both}
-use Rattle.ak_calls.specs.NewNames.{is_used}
+use Rattle.ak_keep.specs.FreeNames.{is_used}
 use Rattle.ak_cardgen.specs.Generation.{AreOrds}
 use Rattle.ak_edit.specs.Ends.{AnswersEnd, FinishedBy, IsFinished, RefusesEnd}
-use Rattle.ak_edit.specs.FreeNames.{first_name}
+use Rattle.ak_calls.specs.NewNames.{RefusesIdsFrom, first_name}
 use Rattle.ak_edit.specs.Overlays.{Overlay, edit_of, unchanged}
 use Rattle.ak_edit.specs.Refusals.{AnswersBy, IsEndFault}
 use Rattle.ak_edit.specs.declared.desk_faults.DeskFault.{DeskFault}
@@ -25,13 +25,13 @@ use Rattle.ak_keep.specs.Lookups.{note_at, type_of_note}
 use Rattle.ak_merge.specs.Edits.{Edit}
 use Rattle.ak_merge.specs.Holdings.{name_in}
 use Rattle.ak_notes.proofs.AddedNotes.{end_listed, outside_listed, same_made}
-use Rattle.ak_notes.proofs.FreeIds.{card_ids_answer, cards_once}
+use Rattle.ak_notes.proofs.NewCards.{card_ids_answer, cards_once}
 use Rattle.ak_notes.proofs.MadeNotes.{made_answer, made_asked}
 use Rattle.ak_notes.proofs.Needing.{other_answer, other_refusal, test_passes}
 use Rattle.ak_notes.proofs.ToldOrds.{ords_once}
 use Rattle.ak_notes.specs.LackingNotes.{AreMissing, AreMissingIn, RefusesMissingIds, lacked_ords, missing_place, next_at}
 use Rattle.ak_notes.specs.MadeNotes.{IsMissingIn, RefusesMade, made_over}
-use Rattle.ak_notes.specs.NewCards.{RefusesCardIds, RefusesFronts, RefusesIdsFrom, conf_after}
+use Rattle.ak_notes.specs.NewCards.{RefusesCardIds, RefusesFronts, conf_after}
 use Rattle.ak_notes.specs.NoteEdits.{DoesEditNote, IsChangedFor, IsChangedHeld, IsChangedNote, IsChangedOf, IsChangedTo, IsChangedWith, IsNoteEdit, IsNoteEditFault, IsNoteEdited, RefusesCards, RefusesLacked, RefusesNoteEdit, RefusesToEdit, lacking_note}
 use Rattle.ak_notes.specs.NoteRows.{with_texts}
 use Rattle.ak_notes.specs.declared.lacking_notes.LackingNote.{LackingNote}
@@ -190,8 +190,8 @@ shown_pass k at given note_type shown result passes told lacked =
 lacked_answer : {T : Type 0} (at : ℤ) (given : NoteEdit) (shown : List ℤ) (lacking : LackingNote) (next : NextCards) (held : Rows) (result : Result T DeskFault)
     → next.first ≡ first_name tables.Card at → lacking ≡ lacking_note given.note shown held → AnswersBy (RefusesMissingIds lacking next held) result → AnswersBy (RefusesLacked at given shown held) result
 lacked_answer at given shown lacking next held result first is answers =
-    subst (λ (l : LackingNote). AnswersBy (RefusesIdsFrom (first_name tables.Card at) (lacked_ords l) held) result) is
-    (subst (λ (n : Name). AnswersBy (RefusesIdsFrom n (lacked_ords lacking) held) result) first answers)
+    subst (λ (l : LackingNote). AnswersBy (RefusesIdsFrom (first_name tables.Card at) (length (lacked_ords l)) (get held)) result) is
+    (subst (λ (n : Name). AnswersBy (RefusesIdsFrom n (length (lacked_ords lacking)) (get held)) result) first answers)
 
 -- too few ids are free
 pub lacked_refuse : (k : Keeping) (at : ℤ) (given : NoteEdit) (shown : List ℤ) (lacking : LackingNote) (next : NextCards) (fault : DeskFault)

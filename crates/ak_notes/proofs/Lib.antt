@@ -2,7 +2,6 @@ pub mod NoteCards
 pub mod DeletionRules
 pub mod AdmittedDeletions
 pub mod ToldOrds
-pub mod FreeIds
 pub mod GivenTexts
 pub mod MadeNotes
 pub mod NewCards

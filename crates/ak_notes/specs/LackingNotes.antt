@@ -1,5 +1,5 @@
 -- The cards that a note lacks, as an edit makes them.
-use Rattle.std.specs.Prelude.{◌≡◌, ℤ, pos, ◌≤ℤ◌, Bool, true, false, not, List, [], ◌∷◌, filter, ◌++◌, Option, Some, None}
+use Rattle.std.specs.Prelude.{◌≡◌, ℤ, pos, ◌≤ℤ◌, Bool, true, false, not, List, [], ◌∷◌, filter, length, ◌++◌, Option, Some, None}
 use Rattle.std.specs.FinMap.{get}
 use Rattle.std.specs.Option.{option_map_or}
 use Rattle.ak_base.specs.Heads.{IsConfInRange}
@@ -7,12 +7,12 @@ use Rattle.ak_base.specs.declared.cards.Card.{Card}
 use Rattle.ak_base.specs.declared.heads.Conf.{Conf}
 use Rattle.ak_base.specs.declared.names.Table.TheVariants as tables
 use Rattle.ak_calls.specs.Calls.{has_id}
-use Rattle.ak_calls.specs.NewNames.{is_used}
-use Rattle.ak_edit.specs.FreeNames.{first_name}
+use Rattle.ak_keep.specs.FreeNames.{is_used}
+use Rattle.ak_calls.specs.NewNames.{RefusesIdsFrom, first_name}
 use Rattle.ak_edit.specs.Refusals.{Refusal}
 use Rattle.ak_keep.specs.Collections.{Holding, Rows, cards_of}
 use Rattle.ak_keep.specs.Lookups.{card_at}
-use Rattle.ak_notes.specs.NewCards.{AreNewCards, RefusesIdsFrom, at_least_one, conf_after, first_after}
+use Rattle.ak_notes.specs.NewCards.{AreNewCards, at_least_one, conf_after, first_after}
 use Rattle.ak_notes.specs.declared.lacking_notes.HeldCards.{HeldCards}
 use Rattle.ak_notes.specs.declared.lacking_notes.LackingNote.{LackingNote}
 use Rattle.ak_notes.specs.declared.lacking_notes.MissingCards.{MissingCards}
@@ -92,4 +92,4 @@ AreMissingIn lacking next made h = AreMissing lacking next h.rows made.cards
 
 -- there are too few free ids for them
 abbrev pub RefusesMissingIds : LackingNote → NextCards → Rows → Refusal
-RefusesMissingIds lacking next held = RefusesIdsFrom next.first (lacked_ords lacking) held
+RefusesMissingIds lacking next held = RefusesIdsFrom next.first (length (lacked_ords lacking)) (get held)

@@ -1,46 +1,20 @@
 -- The cards that a call makes for a note, and why it can't.
-use Rattle.std.specs.Prelude.{◌≡◌, ◌⊎◌, ℕ, zero, suc, ℤ, pos, negsuc, ◌+ℤ◌, Bool, int_lt, if◌then◌else◌, List, [], ◌∷◌, length, Some, None}
+use Rattle.std.specs.Prelude.{◌≡◌, ℕ, ℤ, pos, negsuc, ◌+ℤ◌, Bool, int_lt, if◌then◌else◌, List, [], ◌∷◌, length, Some}
 use Rattle.std.specs.FinMap.{get}
 use Rattle.ak_base.specs.declared.cards.Card.{Card}
 use Rattle.ak_base.specs.declared.heads.Conf.{Conf}
 use Rattle.ak_base.specs.declared.names.Name.{Name}
 use Rattle.ak_base.specs.declared.names.Table.TheVariants as tables
 use Rattle.ak_base.specs.declared.note_types.NoteType.{NoteType}
+use Rattle.ak_calls.specs.NewNames.{AreMadeOf, RefusesIdsFrom, first_name}
 use Rattle.ak_cardgen.specs.Generation.{AreOrds, generation_fault}
-use Rattle.ak_calls.specs.NewNames.{is_used}
-use Rattle.ak_edit.specs.FreeNames.{IsFirstFree, IsFree, first_name}
-use Rattle.ak_edit.specs.Refusals.{IsFromOutside, Refusal}
-use Rattle.ak_edit.specs.declared.desk_faults.DeskFault.{DeskFault}
+use Rattle.ak_edit.specs.Refusals.{Refusal}
 use Rattle.ak_edit.specs.declared.desk_faults.DeskFault.TheVariants as faults
 use Rattle.ak_keep.specs.Collections.{Holding, Rows}
-use Rattle.ak_keep.specs.Keepers.{Keeping, WhereTold}
+use Rattle.ak_keep.specs.FreeNames.{is_used}
 use Rattle.ak_merge.specs.Holdings.{name_in}
 use Rattle.ak_notes.specs.declared.new_cards.CardPlace.{CardPlace}
 use Rattle.ak_template.specs.declared.faults.TemplateFault.{TemplateFault}
-
--- ---- ids
--- the name of the next id
-abbrev pub next_name : Name → Name
-next_name name = name_in name.table (name.id +ℤ pos 1)
-
--- there is no such number of free ids from the first one on
-abbrev pub LacksIds : (Name → Bool) → Name → ℕ → Type 0
-LacksIds used first zero = ⊥
-LacksIds used first (suc others) =
-    IsFirstFree used first None ⊎ ((name : Name) × IsFree used first name × LacksIds used (next_name name) others)
-
--- the name is the first that is free from another on, in what is held
-abbrev pub IsFreeIn : Name → Name → Holding → Type 0
-IsFreeIn first name h = IsFree (is_used (get h.rows)) first name
-
--- no name is free from this one on where it is told what is held, or the fault comes from outside
-abbrev pub IsNoneFreeFrom : Keeping → Name → DeskFault → Type 0
-IsNoneFreeFrom k first fault =
-    IsFromOutside fault ⊎ (WhereTold k (λ h. IsFirstFree (is_used (get h.rows)) first None) × (fault ≡ faults.IdEnd))
-
--- a fault of ids, told or not
-abbrev pub IsIdFault : DeskFault → Type 0
-IsIdFault fault = IsFromOutside fault ⊎ (fault ≡ faults.IdEnd)
 
 -- ---- cards
 -- a new card of this ord and id, which gets its stamp at the end of its edit
@@ -71,12 +45,13 @@ abbrev pub at_least_one : List ℤ → List ℤ
 at_least_one [] = pos 0 ∷ []
 at_least_one (ord ∷ ords) = ord ∷ ords
 
+-- the card is the new one of this ord and id
+abbrev pub IsNewCard : CardPlace → ℤ → ℤ → Card → Type 0
+IsNewCard place ord id card = card ≡ new_card place ord id
+
 -- a new card for each of these ords, in their order: each has the first free id after the one before
 abbrev pub AreNewCards : (Name → Bool) → CardPlace → Name → List ℤ → List Card → Type 0
-AreNewCards used place first [] cards = cards ≡ []
-AreNewCards used place first (ord ∷ ords) cards =
-    (name : Name) × IsFree used first name × (others : List Card) × (cards ≡ new_card place ord name.id ∷ others)
-    × AreNewCards used place (next_name name) ords others
+AreNewCards used place first ords cards = AreMadeOf used (IsNewCard place) first ords cards
 
 -- the same in what is held
 abbrev pub AreNewIn : CardPlace → Name → List ℤ → List Card → Holding → Type 0
@@ -98,13 +73,9 @@ abbrev pub RefusesFronts : NoteType → Refusal
 RefusesFronts note_type fault =
     (front : TemplateFault) × (generation_fault note_type ≡ Some front) × (fault ≡ faults.Template front)
 
--- there are too few free ids for cards of these ords from this name on
-abbrev pub RefusesIdsFrom : Name → List ℤ → Rows → Refusal
-RefusesIdsFrom first ords held fault = LacksIds (is_used (get held)) first (length ords) × (fault ≡ faults.IdEnd)
-
--- the same from the first name of a moment on
+-- there are too few free ids for cards of these ords from the first name of a moment on
 abbrev pub RefusesIds : ℤ → List ℤ → Rows → Refusal
-RefusesIds at ords held = RefusesIdsFrom (first_name tables.Card at) ords held
+RefusesIds at ords held = RefusesIdsFrom (first_name tables.Card at) (length ords) (get held)
 
 -- the same of the ords that are picked of those of a note with these fields
 abbrev pub RefusesCardIds : ℤ → (List ℤ → List ℤ) → NoteType → List (List ℕ) → Rows → Refusal

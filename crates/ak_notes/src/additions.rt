@@ -14,12 +14,10 @@ ghost use Rattle.ak_notes.specs.NewCards.{RefusesIds, at_least_one};
 
 use crate::given_texts::check_given;
 use crate::made_notes::{MadeNote, put_made};
-use crate::new_cards::{
-    CardPlace, at_least_one, conf_after, first_card, held_conf, new_cards, told_ords,
-};
+use crate::new_cards::{CardPlace, at_least_one, conf_after, held_conf, new_cards, told_ords};
 use crate::note_rows::{blank_note, guid_of, with_texts};
 use ak_base::{Conf, Deck, List, Memory, Name, Note, NoteType, Table, Text};
-use ak_calls::new_name;
+use ak_calls::{first_name, new_name};
 use ak_edit::{Change, DeskFault};
 use ak_keep::{Keeper, deck_at, note_type_at};
 use ak_undo::UndoList;
@@ -210,7 +208,7 @@ fn make_addition<K: Keeper>(
     ensures listed { IfErr result IsMakingFault }
     ensures cause { DeskCause (K.health keeper.old) (K.health keeper.new) result }
 {
-    match new_name(new.fields.allocator(), keeper, Table::Note, at) {
+    match new_name(keeper, Table::Note, at) {
         Ok(name) => make_named(keeper, &Making { note_type, new, at }, name),
         Err(fault) => Err(fault),
     }
@@ -264,7 +262,7 @@ fn make_told<K: Keeper>(
     let before = held_conf(keeper, alloc)?;
     let place = place_for(making.new, name, &before);
     let note = note_of(alloc, making.note_type, making.new, name)?;
-    let start = first_card(making.at);
+    let start = first_name(Table::Card, making.at);
     match new_cards(keeper, &ords, place, start) {
         Ok(made) => {
             let cards = made.cards;

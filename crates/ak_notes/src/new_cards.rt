@@ -1,16 +1,16 @@
-ghost use Rattle.std.specs.Prelude.{◌≡◌, ◌≤ℤ◌, pos, true, IfErr, IfOk, IfSome};
+ghost use Rattle.std.specs.Prelude.{◌≡◌, ◌≤ℤ◌, pos, length, true, IfErr, IfOk, IfSome};
 ghost use Rattle.ak_base.specs.Heads.{IsConfInRange, IsWithin};
-ghost use Rattle.ak_base.specs.Limits.{last_id};
-ghost use Rattle.ak_base.specs.declared.names.Table.TheVariants as tables;
+ghost use Rattle.ak_calls.specs.Calls.{AnswersFrom};
+ghost use Rattle.ak_calls.specs.NewNames.{IsIdFault, RefusesIdsFrom};
 ghost use Rattle.ak_cardgen.specs.Generation.{AreOrds};
-ghost use Rattle.ak_edit.specs.FreeNames.{IsFoundFrom, first_name};
 ghost use Rattle.ak_edit.specs.Refusals.{AnswersBy, DeskCause};
 ghost use Rattle.ak_keep.specs.Keepers.{WhereTold};
 ghost use Rattle.ak_keep.specs.Readings.{ReadsBy};
-ghost use Rattle.ak_notes.specs.MadeNotes.{AnswersIn, IsGivenFault};
-ghost use Rattle.ak_notes.specs.NewCards.{AreNewIn, IsFreeIn, IsIdFault, IsNoneFreeFrom, RefusesFronts, RefusesIdsFrom, at_least_one, conf_after, first_after, new_card, next_name, place_after};
+ghost use Rattle.ak_notes.specs.MadeNotes.{IsGivenFault};
+ghost use Rattle.ak_notes.specs.NewCards.{AreNewIn, RefusesFronts, at_least_one, conf_after, first_after, new_card, place_after};
 
-use ak_base::{Card, Conf, LAST_COUNT, List, Memory, Name, NoteType, Table, Text};
+use ak_base::{Card, Conf, LAST_COUNT, List, Memory, Name, NoteType, Text};
+use ak_calls::next_free;
 use ak_cardgen::{GenFault, ords_of};
 use ak_edit::{Change, DeskFault};
 use ak_keep::{KeepFault, Keeper};
@@ -73,7 +73,7 @@ pub(crate) fn new_cards<K: Keeper>(
     ensures next { IfOk result (λ made. made.next ≡ first_after made.cards start) }
     ensures table { IfOk result (λ made. made.next.table ≡ start.table) }
     ensures id { IfOk result (λ made. pos 1 ≤ℤ made.next.id) }
-    ensures refused { AnswersIn K.Lookup keeper.old result (RefusesIdsFrom start ords.now) }
+    ensures refused { AnswersFrom K.Lookup keeper.old result (RefusesIdsFrom start (length ords.now)) }
     ensures listed { IfErr result IsIdFault }
     ensures cause { DeskCause (K.health keeper.old) (K.health keeper.new) result }
 {
@@ -81,54 +81,15 @@ pub(crate) fn new_cards<K: Keeper>(
     let mut cards = List::new(alloc);
     let mut first = start;
     for ord in ords.as_slice() {
-        let name = match next_free(keeper, alloc, first) {
+        let name = match next_free(keeper, first) {
             Ok(name) => name,
             Err(fault) => return Err(fault),
         };
         let card = new_card(alloc, place, *ord, name)?;
         cards.push(card)?;
-        first = next_name(name);
+        first = name.next();
     }
     Ok(MadeCards { cards, next: first })
-}
-
-/// The name from which on the cards that are made at a moment look for theirs.
-pub(crate) fn first_card(at: i64) -> Name
-    ensures name { result ≡ first_name tables.Card at }
-    ensures id { pos 1 ≤ℤ result.id }
-{
-    Name {
-        table: Table::Card,
-        id: at.max(1),
-    }
-}
-
-/// The first free name from this one on.
-fn next_free<K: Keeper>(keeper: &mut K, alloc: Global, first: Name) -> Result<Name, DeskFault>
-    requires { pos 1 ≤ℤ first.id }
-    ensures same { K.keeping keeper.new ≡ K.keeping keeper.old }
-    ensures range { IfOk result (IsFoundFrom first) }
-    ensures free { IfOk result (λ name. WhereTold (K.keeping keeper.old) (IsFreeIn first name)) }
-    ensures none { IfErr result (IsNoneFreeFrom (K.keeping keeper.old) first) }
-    ensures cause { DeskCause (K.health keeper.old) (K.health keeper.new) result }
-{
-    let unchanged = Change::new(alloc);
-    let found = unchanged.free_name(keeper, first)?;
-    match found {
-        Some(name) => Ok(name),
-        None => Err(DeskFault::IdEnd),
-    }
-}
-
-/// The next name of the table.
-fn next_name(name: Name) -> Name
-    requires { name.id ≤ℤ last_id }
-    ensures { result ≡ next_name name }
-{
-    Name {
-        table: name.table,
-        id: name.id + 1,
-    }
 }
 
 /// A new card of this ord under this name.

@@ -26,7 +26,7 @@ use Rattle.ak_merge.proofs.CheckedRows.{faultless_of}
 use Rattle.ak_merge.specs.Edits.{Edit}
 use Rattle.ak_merge.specs.Holdings.{name_in, row_under}
 use Rattle.ak_options.proofs.Changing.{given_answers}
-use Rattle.ak_options.proofs.NewIds.{one_new}
+use Rattle.ak_calls.proofs.FreeIds.{one_new}
 use Rattle.ak_options.proofs.Taking.{err_too, ok_too, where_held-all}
 use Rattle.ak_options.specs.OptionGroups.{EndsAddition, IsAdditionFault, IsNewGroup, RefusesAddition, RefusesGiven, RefusesNewGroup, RefusesNewStamp, as_given, group_addition, options_addition, with_id}
 use Rattle.ak_undo.specs.declared.steps.Step.{Step}

@@ -15,7 +15,7 @@ use Rattle.ak_edit.specs.Ends.{RefusesStamp}
 use Rattle.ak_edit.specs.Refusals.{AnswersBy, OrElse}
 use Rattle.ak_edit.specs.declared.desk_faults.DeskFault.{DeskFault}
 use Rattle.ak_keep.specs.Keepers.{Keeping, WhereHeld, WhereTold}
-use Rattle.ak_merge.specs.Holdings.{name_in, row_under}
+use Rattle.ak_merge.specs.Holdings.{name_in}
 use Rattle.ak_options.specs.OptionGroups.{RefusesChange, RefusesGiven, RefusesNoGroup, as_given, options_change}
 use Rattle.ak_undo.specs.declared.steps.Step.{Step}
 

@@ -21,7 +21,8 @@ use Rattle.ak_keep.proofs.RowsByName.{all_from_gets, same_of_tied}
 use Rattle.ak_keep.specs.Collections.{Rows, is_past, rows_past}
 use Rattle.ak_merge.proofs.EditFacts.{false_true}
 use Rattle.ak_merge.proofs.Finding.{id_over_zero, none_in_table, table_has_none}
-use Rattle.ak_merge.specs.Holdings.{AreChecked, AreNamed, RowsByName}
+use Rattle.ak_keep.specs.Graves.{RowsByName}
+use Rattle.ak_merge.specs.Holdings.{AreChecked, AreNamed}
 use Rattle.ak_options.specs.OptionDeletions.{has_options, put_default, put_defaults, with_default, without_options}
 
 -- ---- one row

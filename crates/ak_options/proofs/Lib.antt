@@ -3,6 +3,5 @@ pub mod AdmittedEdits
 pub mod Changing
 pub mod Defaults
 pub mod Deleting
-pub mod NewIds
 pub mod Spreading
 pub mod Taking

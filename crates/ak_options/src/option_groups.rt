@@ -86,7 +86,7 @@ fn add_group<K: Keeper>(
     ensures listed { IfErr result IsAdditionFault }
     ensures cause { DeskCause (K.health keeper.old) (K.health keeper.new) result }
 {
-    let name = match new_name(steps.allocator(), keeper, Table::Options, at) {
+    let name = match new_name(keeper, Table::Options, at) {
         Ok(name) => name,
         Err(fault) => return Err(fault),
     };

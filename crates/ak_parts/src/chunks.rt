@@ -67,7 +67,11 @@ fn read_more<K: Keeper>(
 fn is_chunked(table: Table) -> bool
     ensures { result ≡ is_chunked table }
 {
-    matches!(table, Table::Review | Table::Card | Table::Note)
+    match table {
+        Table::Review | Table::Card | Table::Note => true,
+        Table::NoteType | Table::Deck | Table::Options => false,
+        Table::NoteGrave | Table::CardGrave | Table::DeckGrave => false,
+    }
 }
 
 /// The place after a page of at most `limit` rows: in the next table if the page is not full.
@@ -104,6 +108,7 @@ fn table_after(table: Table) -> Table
     match table {
         Table::Review => Table::Card,
         Table::Card => Table::Note,
-        _ => Table::NoteGrave,
+        Table::Note | Table::NoteType | Table::Deck | Table::Options => Table::NoteGrave,
+        Table::NoteGrave | Table::CardGrave | Table::DeckGrave => Table::NoteGrave,
     }
 }

@@ -5,12 +5,12 @@ use Rattle.ak_base.specs.declared.days.Day.{Day}
 use Rattle.ak_base.specs.declared.decks.Deck.{Deck}
 use Rattle.ak_base.specs.declared.heads.Head.{Head}
 use Rattle.ak_keep.specs.Collections.{Holding}
-use Rattle.ak_keep.specs.Lookups.{deck_at}
+use Rattle.ak_keep.specs.Lookups.{deck_at, decks_in}
 use Rattle.ak_keep.specs.Marks.{WithMark}
 use Rattle.ak_keep.specs.declared.keepers.KeepFault.{KeepFault}
 use Rattle.ak_queue.specs.Choices.{first_choice}
 use Rattle.ak_queue.specs.Gathering.{HasAllOf}
-use Rattle.ak_queue.specs.Homes.{cards_in, decks_in}
+use Rattle.ak_queue.specs.Homes.{cards_in}
 use Rattle.ak_queue.specs.Limits.{all_limits, limits_of, most_reviews}
 use Rattle.ak_queue.specs.Lists.{QueueView}
 use Rattle.ak_queue.specs.Nexts.{mixing_in, next_of}

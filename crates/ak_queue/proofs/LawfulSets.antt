@@ -7,7 +7,7 @@ use Rattle.ak_base.specs.declared.days.Day.{Day}
 use Rattle.ak_base.specs.declared.decks.Deck.{Deck}
 use Rattle.ak_keep.specs.Collections.{Holding, Rows}
 use Rattle.ak_queue.specs.Choices.{count_under, is_lawful_choice}
-use Rattle.ak_queue.specs.Homes.{decks_in}
+use Rattle.ak_keep.specs.Lookups.{decks_in}
 use Rattle.ak_queue.specs.LawfulSets.{Binds, IsLawfulChoice, new_candidates, new_choice, new_limit}
 use Rattle.ak_queue.specs.Limits.{all_limits, is_related, limits_of}
 use Rattle.ak_queue.specs.Orders.{NewKey}

@@ -2,7 +2,6 @@ pub mod Adding
 pub mod Asking
 pub mod Assembled
 pub mod Burying
-pub mod Collecting
 pub mod Gatherings
 pub mod Greedy
 pub mod LawfulSets

@@ -8,15 +8,11 @@ use Rattle.ak_base.specs.declared.cards.Card.{Card}
 use Rattle.ak_base.specs.declared.decks.Deck.{Deck}
 use Rattle.ak_base.specs.declared.names.Table.TheVariants as tables
 use Rattle.ak_keep.specs.Collections.{Rows, rows_past}
-use Rattle.ak_keep.specs.Lookups.{as_card, as_deck}
+use Rattle.ak_keep.specs.Lookups.{as_card}
 
 -- the parts of a deck's path, from the top
 abbrev pub Parts : Type 0
 Parts = List (List ℕ)
-
--- the decks that are held, by ascending id: an id is at least 1
-abbrev pub decks_in : Rows → List Deck
-decks_in held = filter_map as_deck (rows_past tables.Deck (pos 0) held)
 
 -- the cards that are held, by ascending id: an id is at least 1
 abbrev pub cards_in : Rows → List Card

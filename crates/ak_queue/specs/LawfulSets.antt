@@ -5,9 +5,9 @@ use Rattle.ak_base.specs.Paths.{parts_of, is_in_subtree}
 use Rattle.ak_base.specs.declared.days.Day.{Day}
 use Rattle.ak_base.specs.declared.decks.Deck.{Deck}
 use Rattle.ak_keep.specs.Collections.{Holding, Rows}
-use Rattle.ak_keep.specs.Lookups.{options_of_deck}
+use Rattle.ak_keep.specs.Lookups.{decks_in, options_of_deck}
 use Rattle.ak_queue.specs.Choices.{count_under, first_choice}
-use Rattle.ak_queue.specs.Homes.{cards_in, decks_in}
+use Rattle.ak_queue.specs.Homes.{cards_in}
 use Rattle.ak_queue.specs.Limits.{all_limits, new_per_day, remaining}
 use Rattle.ak_queue.specs.Lists.{new_cards}
 use Rattle.ak_queue.specs.Orders.{NewKey}

@@ -9,12 +9,12 @@ use crate::choices::first_choice;
 use crate::day_queues::{Counts, DayQueue};
 use crate::faults::QueueFault;
 use crate::gathered::{Gathered, first_ids, gather, ids_of};
-use crate::homes::{homes_of, read_decks};
+use crate::homes::homes_of;
 use crate::limits::{DeckLimits, most_reviews, read_deck, read_limits};
 use crate::paths::Path;
 use crate::scopes::Scope;
 use ak_base::{Day, Deck, Head, List, Memory};
-use ak_keep::{KeepFault, Readable, deck_at};
+use ak_keep::{KeepFault, Readable, deck_at, read_decks};
 use std::alloc::Global;
 
 /// How many cards of the deck and its subtree the day asks for.

@@ -20,7 +20,7 @@ use Rattle.ak_search.specs.CardFacts.{Seen, is_answer_in, is_answered, seen, typ
 use Rattle.ak_search.specs.Grammar.{pieces_in}
 use Rattle.ak_search.specs.Holds.{asked_by, holds, is_hit, ids_of_hits, hits}
 use Rattle.ak_search.specs.Meanings.{meets, walk}
-use Rattle.ak_search.specs.Passes.{AreLatest, HasNoteOf, HasTexts, KeepsTexts, Serves, Stays, Suits, Tells, asked, holds_by, needs_texts, evaluated_from, is_shown, needs_deck, needs_note, tested}
+use Rattle.ak_search.specs.Passes.{AreLatest, HasNoteOf, HasTexts, HasTypeOf, KeepsTexts, Serves, Stays, Suits, Tells, asked, holds_by, needs_texts, evaluated_from, is_shown, needs_deck, needs_note, tested}
 use Rattle.ak_search.specs.Searching.{SearchStays, SearchesBy}
 use Rattle.ak_search.specs.Trees.{Tree, pieces_of}
 use Rattle.ak_search.specs.declared.answers.Answers.{Answers}
@@ -120,7 +120,7 @@ deck_read (Some held) old new c deck is read = λ latest. subst (λ (l : Latest)
 
 -- the type of the note that was looked up last
 abbrev pub TypeStays : Latest → Latest → Rows → Type 0
-TypeStays old new held = Stays old new held ((new.related.note ≡ old.related.note) × (new.related.note_type ≡ type_of held old.related.note))
+TypeStays old new held = Stays old new held (HasTypeOf old new held)
 
 type_by_id : (held : Rows) (note : Option Note) (id : ℤ) → option_map (λ (n : Note). n.mid) note ≡ Some id → note_type_at held id ≡ type_of held note
 type_by_id held None id e = absurd (grind (arith, e))

@@ -143,6 +143,10 @@ Stays old new held P = AreLatest old held → AreLatest new held × P
 abbrev pub HasNoteOf : Latest → Rows → Card → Type 0
 HasNoteOf latest held c = (latest.related.note ≡ note_at held c.nid) × (latest.related.note_type ≡ type_of held (note_at held c.nid))
 
+-- the note stayed, and its type was looked up last
+abbrev pub HasTypeOf : Latest → Latest → Rows → Type 0
+HasTypeOf old new held = (new.related.note ≡ old.related.note) × (new.related.note_type ≡ type_of held old.related.note)
+
 -- what was looked up last is the card's, as far as the term asks for it
 pub record Suits (latest : Latest) (held : Rows) (c : Card) (term : Term) : Type 0 where
   pub note : needs_note term ≡ true → HasNoteOf latest held c

@@ -14,6 +14,10 @@ pub record SearchesBy (search : Search) (held : Rows) (day : Day) (tree : Tree) 
   pub serves : Serves search.context (pieces_in search.tokens.now) held
   pub latest : AreLatest search.latest held
 
--- by whatever it searched, it still does, and this is true of it
+-- by whatever it searched, it still does
+abbrev pub StillSearches : Search → Search → Rows → Type 0
+StillSearches old new held = (day : Day) (tree : Tree) → SearchesBy old held day tree → SearchesBy new held day tree
+
+-- the same, and this is true
 abbrev pub SearchStays : Search → Search → Rows → (Day → Tree → Type 0) → Type 0
 SearchStays old new held P = (day : Day) (tree : Tree) → SearchesBy old held day tree → SearchesBy new held day tree × P day tree

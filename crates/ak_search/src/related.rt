@@ -5,8 +5,7 @@ ghost use Rattle.ak_base.specs.declared.notes.Note.{Note as Noted};
 ghost use Rattle.ak_keep.specs.Collections.{Rows};
 ghost use Rattle.ak_keep.specs.Lookups.{note_at, deck_of_card};
 ghost use Rattle.ak_keep.specs.Readings.{ReadsBy};
-ghost use Rattle.ak_search.specs.CardFacts.{type_of};
-ghost use Rattle.ak_search.specs.Passes.{AreLatest, HasNoteOf, HasTexts, KeepsTexts, Stays, Suits, needs_note, needs_deck, needs_texts, texts_seen};
+ghost use Rattle.ak_search.specs.Passes.{AreLatest, HasNoteOf, HasTexts, HasTypeOf, KeepsTexts, Stays, Suits, needs_note, needs_deck, needs_texts, texts_seen};
 
 use crate::Term;
 use crate::texts::stripped_fields;
@@ -125,7 +124,7 @@ impl Latest {
 
     /// Looks up the type of the note that was looked up last.
     fn look_up_type<R: Lookup>(&mut self, from: &mut R) -> Result<(), KeepFault>
-        ensures reads { ReadsBy R.Lookup from.old from.new result (λ h _. Stays self.old self.new h.rows ((self.new.related.note ≡ self.old.related.note) × (self.new.related.note_type ≡ type_of h.rows self.old.related.note))) }
+        ensures reads { ReadsBy R.Lookup from.old from.new result (λ h _. Stays self.old self.new h.rows (HasTypeOf self.old self.new h.rows)) }
     {
         match type_id(&self.related.note) {
             Some(id) => self.look_up_type_at(from, id),
@@ -141,7 +140,7 @@ impl Latest {
     /// The same by the id of the type.
     fn look_up_type_at<R: Lookup>(&mut self, from: &mut R, id: i64) -> Result<(), KeepFault>
         requires { option_map (λ (n : Noted). n.mid) self.old.related.note ≡ Some id }
-        ensures reads { ReadsBy R.Lookup from.old from.new result (λ h _. Stays self.old self.new h.rows ((self.new.related.note ≡ self.old.related.note) × (self.new.related.note_type ≡ type_of h.rows self.old.related.note))) }
+        ensures reads { ReadsBy R.Lookup from.old from.new result (λ h _. Stays self.old self.new h.rows (HasTypeOf self.old self.new h.rows)) }
     {
         if is_by(self.mid, id) {
             return Ok(());

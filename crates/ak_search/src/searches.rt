@@ -3,7 +3,6 @@ ghost use Rattle.std.specs.Prelude.{◌≡◌, ◌++◌, [], ◌∷◌, true, �
 ghost use Rattle.std.specs.List.Sorted.{IsStrictlySortedBy};
 ghost use Rattle.std.specs.Ordering.{int_cmp};
 ghost use Rattle.ak_base.specs.Rows.{name_of};
-ghost use Rattle.ak_base.specs.declared.days.Day.{Day as Dated};
 ghost use Rattle.ak_base.specs.declared.names.Table.TheVariants as tables;
 ghost use Rattle.ak_keep.specs.Collections.{AscendsPast, is_past, last_id};
 ghost use Rattle.ak_keep.specs.Keepers.{WhereTold};
@@ -13,7 +12,7 @@ ghost use Rattle.ak_search.specs.Grammar.{pieces_in};
 ghost use Rattle.ak_search.specs.Holds.{asked_by, holds, hits, is_hit, ids_of_hits};
 ghost use Rattle.ak_search.specs.Meanings.{meets};
 ghost use Rattle.ak_search.specs.Passes.{AreAnswersOf, Stays, Tells, TakesFrom, asked, needs_answers, some_term, tested};
-ghost use Rattle.ak_search.specs.Searching.{SearchStays, SearchesBy};
+ghost use Rattle.ak_search.specs.Searching.{SearchStays, SearchesBy, StillSearches};
 ghost use Rattle.ak_search.specs.Trees.{Tree, pieces_of};
 
 use crate::answers::{Answers, read_answers};
@@ -66,7 +65,8 @@ impl<'a> Search<'a> {
         day: Day,
     ) -> Result<Search<'a>, KeepFault>
         // It searches by the tree that was read.
-        ensures reads { ReadsBy R.Lookup from.old from.new result (λ h search. (tree : Tree) → pieces_in expr.now.tokens.items ≡ pieces_of tree → SearchesBy search h.rows day tree) }
+        ensures reads { ReadsBy R.Lookup from.old from.new result
+            (λ h search. (tree : Tree) → pieces_in expr.now.tokens.items ≡ pieces_of tree → SearchesBy search h.rows day tree) }
     {
         let answers = answers_for(alloc, &expr.tokens, from)?;
         Ok(Search {
@@ -82,10 +82,12 @@ impl<'a> Search<'a> {
 
     /// Whether the card meets the expression. It need not be held itself.
     pub fn meets<R: Lookup>(&mut self, from: &mut R, card: &Card) -> Result<bool, KeepFault>
-        ensures reads { ReadsBy R.Lookup from.old from.new result (λ h does. SearchStays self.old self.new h.rows (λ day tree. does ≡ meets (holds day (seen h.rows card.now)) tree)) }
+        ensures reads { ReadsBy R.Lookup from.old from.new result
+            (λ h does. SearchStays self.old self.new h.rows
+            (λ day tree. does ≡ meets (holds day (seen h.rows card.now)) tree)) }
 
         // After a refusal it can be asked again.
-        ensures err { OnErr result (WhereTold (R.keeping from.old) (λ h. (day : Dated) (tree : Tree) → SearchesBy self.old h.rows day tree → SearchesBy self.new h.rows day tree)) }
+        ensures err { OnErr result (WhereTold (R.keeping from.old) (λ h. StillSearches self.old self.new h.rows)) }
     {
         match meets(&self.context, self.tokens, from, &mut self.latest, card) {
             Ok(does) => Ok(does),

@@ -13,7 +13,7 @@ use Rattle.ak_base.specs.Rows.{buried_of, name_of, with_usn}
 use Rattle.ak_base.specs.declared.names.Name.{Name}
 use Rattle.ak_base.specs.declared.rows.Row.{Row}
 use Rattle.ak_keep.specs.Collections.{Rows, Collection}
-use Rattle.ak_merge.specs.Holdings.{RowsByName}
+use Rattle.ak_keep.specs.Graves.{RowsByName}
 use Rattle.ak_merge.specs.Takings.{takes, buried, taken, all_taken}
 use Rattle.ak_messages.specs.declared.requests.Ask.{Ask}
 use Rattle.ak_session.specs.Asks.{all_brought, fold_of}

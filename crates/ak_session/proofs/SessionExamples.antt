@@ -31,7 +31,8 @@ use Rattle.ak_keep.specs.declared.keepers.Wanted.TheVariants.{From}
 use Rattle.ak_merge.proofs.CommitLaws.{when_some}
 use Rattle.ak_merge.proofs.Examples.{note_with, card_of_it}
 use Rattle.ak_merge.specs.Commits.{IsCommitted}
-use Rattle.ak_merge.specs.Holdings.{name_in, row_under, AreNamed, AreChecked, is_dead, tag_usn}
+use Rattle.ak_keep.specs.Graves.{is_dead}
+use Rattle.ak_merge.specs.Holdings.{name_in, row_under, AreNamed, AreChecked, tag_usn}
 use Rattle.ak_merge.specs.Links.{IsGiven, AreLinked}
 use Rattle.ak_messages.specs.declared.methods.Method.TheVariants as methods
 use Rattle.ak_messages.specs.declared.replies.Give.TheVariants as gives

@@ -20,7 +20,8 @@ use Rattle.ak_merge.proofs.ExchangeCells.{only_wanted, only_is, is_only}
 use Rattle.ak_merge.proofs.PartLaws.{wanted_rows_are_listed, rows_stand_between, pending_was_held}
 use Rattle.ak_merge.proofs.TakingLaws.{all_taken_at, received_by, newest_in, each_newest}
 use Rattle.ak_merge.specs.Exchanges.{StandsWanted, wanted_under, IsSent}
-use Rattle.ak_merge.specs.Holdings.{AreNamed, AreChecked, grave_under}
+use Rattle.ak_keep.specs.Graves.{grave_under}
+use Rattle.ak_merge.specs.Holdings.{AreNamed, AreChecked}
 use Rattle.ak_merge.specs.Takings.{all_taken}
 use Rattle.ak_session.specs.Slices.{wanted_of, wanted_graves, wanted_changes, wanted_in_chunks}
 use Rattle.ak_session.proofs.InOrder.{InThree}

@@ -5,7 +5,7 @@ use Rattle.std.specs.Prelude.{pos, Bool, not, is_some, if◌then◌else◌, map,
 use Rattle.ak_base.specs.Rows.{buried_of, with_usn}
 use Rattle.ak_base.specs.declared.rows.Row.{Row}
 use Rattle.ak_keep.specs.Collections.{Collection}
-use Rattle.ak_merge.specs.Holdings.{RowsByName}
+use Rattle.ak_keep.specs.Graves.{RowsByName}
 use Rattle.ak_messages.specs.declared.requests.Whole.{Whole}
 
 -- a row that is no grave

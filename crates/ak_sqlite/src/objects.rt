@@ -15,6 +15,34 @@ use std::alloc::Global;
 /// How many rows are read at a time.
 const PAGE: usize = 1000;
 
+/// A column of `col` whose object has the rows of a table.
+#[derive(Clone, Copy, Debug)]
+pub(crate) struct ObjectColumn {
+    pub(crate) table: Table,
+    /// Where it is in a row of `col`, from 0.
+    pub(crate) at: usize,
+    /// The statement that writes it.
+    pub(crate) update: &'static str,
+}
+
+pub(crate) const MODELS: ObjectColumn = ObjectColumn {
+    table: Table::NoteType,
+    at: 9,
+    update: UPDATE_MODELS,
+};
+
+pub(crate) const DECKS: ObjectColumn = ObjectColumn {
+    table: Table::Deck,
+    at: 10,
+    update: UPDATE_DECKS,
+};
+
+pub(crate) const OPTIONS: ObjectColumn = ObjectColumn {
+    table: Table::Options,
+    at: 11,
+    update: UPDATE_OPTIONS,
+};
+
 /// The members of the object that a text is.
 pub(crate) fn read_object(alloc: Global, text: &Text) -> Result<Map<String, Value>, FileFault> {
     match read_text(alloc, text.as_str().as_bytes())? {
@@ -50,30 +78,21 @@ fn id_text(alloc: Global, id: i64) -> Result<String, Memory> {
     Ok(text)
 }
 
-/// Writes the object of all rows of this table into its column. It fails if `col` has no row.
+/// Writes the object of all rows of its table into the column. It fails if `col` has no row.
 pub(crate) fn write_object<S: Alter>(
     transaction: &mut Transaction<'_, S>,
     alloc: Global,
-    table: Table,
+    column: &ObjectColumn,
     rows: &MarkedRows,
 ) -> Result<(), FileFault>
     ensures same_reference { transaction.new.conn.ghost_name ≡ transaction.old.conn.ghost_name }
 {
-    let text = object_text(alloc, table, rows)?;
-    let written = run(transaction, update_of(table), &[text_cell(&text)])?;
+    let text = object_text(alloc, column.table, rows)?;
+    let written = run(transaction, column.update, &[text_cell(&text)])?;
     if written == 1 {
         return Ok(());
     }
     Err(FileFault::Failed)
-}
-
-/// The statement that writes the column of note types, of decks, or else of options.
-fn update_of(table: Table) -> &'static str {
-    match table {
-        Table::NoteType => UPDATE_MODELS,
-        Table::Deck => UPDATE_DECKS,
-        _ => UPDATE_OPTIONS,
-    }
 }
 
 /// The text of the object of all rows of a table.

@@ -5,7 +5,7 @@ use crate::columns::{card_of, grave_of, note_of, review_of, text_at};
 use crate::faults::FileFault;
 use crate::heads::head_of;
 use crate::layouts::all_rows;
-use crate::objects::add_rows;
+use crate::objects::{DECKS, MODELS, OPTIONS, ObjectColumn, add_rows};
 use crate::statements::{READ_CARDS, READ_COL, READ_GRAVES, READ_NOTES, READ_REVIEWS};
 use ak_base::{Head, List, Row, Table};
 use ak_tables::StoredCollection;
@@ -49,7 +49,9 @@ fn row_of(table: Table, row: &SqlRow) -> Result<Row, FileFault> {
         Table::Note => Ok(Row::Note(note_of(row)?)),
         Table::Card => Ok(Row::Card(card_of(row)?)),
         Table::Review => Ok(Row::Review(review_of(row)?)),
-        _ => Ok(Row::Grave(grave_of(row)?)),
+        Table::NoteGrave | Table::CardGrave | Table::DeckGrave => Ok(Row::Grave(grave_of(row)?)),
+        // They are in columns of `col`.
+        Table::NoteType | Table::Deck | Table::Options => Err(FileFault::Failed),
     }
 }
 
@@ -60,22 +62,17 @@ fn read_col(col: &[SqlRow], rows: &mut List<Row>) -> Result<Option<Head>, FileFa
         [] => Ok(None),
         [row] => {
             let head = head_of(rows.allocator(), row)?;
-            add_column(Table::NoteType, row, 9, rows)?;
-            add_column(Table::Deck, row, 10, rows)?;
-            add_column(Table::Options, row, 11, rows)?;
+            add_column(&MODELS, row, rows)?;
+            add_column(&DECKS, row, rows)?;
+            add_column(&OPTIONS, row, rows)?;
             Ok(Some(head))
         }
         _ => Err(FileFault::Failed),
     }
 }
 
-/// Adds the rows of a table that a column of `col` has.
-fn add_column(
-    table: Table,
-    row: &SqlRow,
-    at: usize,
-    rows: &mut List<Row>,
-) -> Result<(), FileFault> {
-    let text = text_at(row, at)?;
-    add_rows(table, &text, rows)
+/// Adds the rows that the object of a column of `col` has.
+fn add_column(column: &ObjectColumn, row: &SqlRow, rows: &mut List<Row>) -> Result<(), FileFault> {
+    let text = text_at(row, column.at)?;
+    add_rows(column.table, &text, rows)
 }

@@ -5,7 +5,7 @@ use crate::cells::{card_cells, grave_cells, note_cells, review_cells};
 use crate::faults::FileFault;
 use crate::heads::write_head;
 use crate::layouts::run_each;
-use crate::objects::write_object;
+use crate::objects::{DECKS, MODELS, OPTIONS, ObjectColumn, write_object};
 use crate::statements::{
     CLEAR, DELETE_CARD, DELETE_GRAVE, DELETE_NOTE, DELETE_REVIEW, INSERT_CARD, INSERT_GRAVE,
     INSERT_NOTE, INSERT_REVIEW,
@@ -73,8 +73,10 @@ fn delete_row<S: Alter>(transaction: &mut Transaction<'_, S>, name: Name) -> Res
         Table::Note => run_once(transaction, DELETE_NOTE, &[id]),
         Table::Card => run_once(transaction, DELETE_CARD, &[id]),
         Table::Review => run_once(transaction, DELETE_REVIEW, &[id]),
-        _ => match name.table.stored_code() {
+        Table::NoteType | Table::Deck | Table::Options => Ok(()),
+        Table::NoteGrave | Table::CardGrave | Table::DeckGrave => match name.table.stored_code() {
             Some(code) => run_once(transaction, DELETE_GRAVE, &[id, ValueRef::Int(code)]),
+            // Each table of graves has a code.
             None => Ok(()),
         },
     }
@@ -105,22 +107,22 @@ fn write_col<S: Alter>(
     if touched.head {
         write_head(transaction, head)?;
     }
-    write_touched_object(transaction, rows, Table::NoteType, touched)?;
-    write_touched_object(transaction, rows, Table::Deck, touched)?;
-    write_touched_object(transaction, rows, Table::Options, touched)
+    write_touched(transaction, rows, &MODELS, touched)?;
+    write_touched(transaction, rows, &DECKS, touched)?;
+    write_touched(transaction, rows, &OPTIONS, touched)
 }
 
-/// Writes the object of all rows of this table, if one of them was touched.
-fn write_touched_object<S: Alter>(
+/// Writes the object of this column, if one of its rows was touched.
+fn write_touched<S: Alter>(
     transaction: &mut Transaction<'_, S>,
     rows: &MarkedRows,
-    table: Table,
+    column: &ObjectColumn,
     touched: &Touched,
 ) -> Result<(), FileFault>
     ensures same_reference { transaction.new.conn.ghost_name ≡ transaction.old.conn.ghost_name }
 {
-    if touched.whole || is_touched(touched.names.as_slice(), table) {
-        return write_object(transaction, touched.names.allocator(), table, rows);
+    if touched.whole || is_touched(touched.names.as_slice(), column.table) {
+        return write_object(transaction, touched.names.allocator(), column, rows);
     }
     Ok(())
 }

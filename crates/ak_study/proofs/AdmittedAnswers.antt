@@ -1,5 +1,5 @@
 -- The edit of an answer is admitted.
-use Rattle.std.specs.Prelude.{◌≡◌, ℤ, negsuc, Bool, true, false, ◌&&◌, if◌then◌else◌, Option, Some, None, is_some}
+use Rattle.std.specs.Prelude.{◌≡◌, ℤ, negsuc, Bool, true, false, ◌&&◌, ◌||◌, if◌then◌else◌, Option, Some, None, is_some}
 use Rattle.std.proofs.Common.{refl, sym, ap, ◌∙◌}
 use Rattle.std.proofs.lemmas.Bool.Decides.{Decides-int_eq}
 use Rattle.std.specs.Ordering.{int_eq}
@@ -68,8 +68,8 @@ module _ (day : Day) (a : Answering) (held : Rows) (made : a.made.id ≡ a.was.i
   review_stays (rows.Options options) is = refl
   review_stays (rows.Grave grave) is = refl
 
--- ---- the review is new
-none_held : (x : Option Row) → is_some x ≡ false → x ≡ None
+-- ---- the review is new: reviews leave no graves
+none_held : (x : Option Row) → (is_some x || false) ≡ false → x ≡ None
 none_held None is = refl
 none_held (Some row) is = absurd (true_false is)
 

@@ -2,16 +2,15 @@
 use Rattle.std.specs.Prelude.{◌≡◌, ◌⊎◌, ℤ, Option, Some, None, IfSome, Result, Ok, Err}
 use Rattle.std.proofs.Common.{inl, inr, refl, sym, ap, arith, ◌∙◌}
 use Rattle.std.specs.Result.{IsErrOf}
-use Rattle.ak_calls.proofs.Telling.{where_held-map}
+use Rattle.ak_calls.proofs.Telling.{where_always, where_held-map}
 use Rattle.ak_edit.specs.DeskFaults.{of_keep_fault}
 use Rattle.ak_edit.specs.Refusals.{AnswersBy, DeskCause, IsFromOutside, Refusal}
 use Rattle.ak_edit.specs.declared.desk_faults.DeskFault.{DeskFault}
 use Rattle.ak_edit.specs.declared.desk_faults.DeskFault.TheVariants as faults
 use Rattle.ak_faults.proofs.Healths.{goes_further}
 use Rattle.ak_faults.specs.Causes.{GoesOn, Health}
-use Rattle.ak_keep.specs.Collections.{Collection, Holding, collection_of}
-use Rattle.ak_keep.specs.Keepers.{Keeping, WhereHeld, WhereTold}
-use Rattle.ak_keep.specs.Marks.{WithMark}
+use Rattle.ak_keep.specs.Collections.{Collection, collection_of}
+use Rattle.ak_keep.specs.Keepers.{Keeping, WhereHeld}
 use Rattle.ak_keep.specs.declared.keepers.KeepFault.{KeepFault}
 use Rattle.ak_keep.specs.declared.keepers.KeepFault.TheVariants as kept
 use Rattle.ak_study.specs.Answers.{IsAskedFault, IsCardFault}
@@ -19,13 +18,6 @@ use Rattle.ak_study.specs.Answers.{IsAskedFault, IsCardFault}
 pub from_keeper : (fault : KeepFault) → IsFromOutside (of_keep_fault fault)
 from_keeper kept.Failed = inl refl
 from_keeper kept.Memory = inr refl
-
-told_always : (told : Option (WithMark Holding)) (P : Holding → Type 0) → ((h : Holding) → P h) → IfSome told (λ w. P w.current)
-told_always None P is = tt
-told_always (Some w) P is = is w.current
-
-where_always : (k : Keeping) (P : Holding → Type 0) → ((h : Holding) → P h) → WhereTold k P
-where_always k P is = told_always k.told P is
 
 -- what comes from outside refuses by any tests
 pub outside_told : (T : Type 0) (k : Keeping) (tests : Collection → Refusal) (fault : DeskFault) → IsFromOutside fault → WhereHeld k (λ c. AnswersBy {T = T} (tests c) (Err fault))

@@ -10,6 +10,7 @@ use Rattle.ak_base.specs.OptionGroups.{AreOpeningOptions}
 use Rattle.ak_base.specs.declared.cards.Card.{Card}
 use Rattle.ak_base.specs.declared.days.Day.{Day}
 use Rattle.ak_base.specs.declared.heads.Head.{Head}
+use Rattle.ak_base.specs.declared.names.Name.{Name}
 use Rattle.ak_base.specs.declared.names.Table.TheVariants as tables
 use Rattle.ak_base.specs.declared.option_groups.Options.{Options}
 use Rattle.ak_base.specs.declared.rows.Row.{Row}
@@ -17,7 +18,8 @@ use Rattle.ak_base.specs.declared.rows.Row.TheVariants as rows
 use Rattle.ak_calls.proofs.Answering.{passed_first, refused_first}
 use Rattle.ak_calls.proofs.Telling.{where_held-both, where_held-map}
 use Rattle.ak_edit.specs.Ends.{AnswersEnd, FinishedBy, IsFinished, IsHeldRightly, RefusesEnd}
-use Rattle.ak_edit.specs.FreeNames.{first_name}
+use Rattle.ak_calls.proofs.FreeIds.{free_once}
+use Rattle.ak_calls.specs.NewNames.{first_name}
 use Rattle.ak_edit.specs.Overlays.{Overlay, edit_of, row_over, unchanged}
 use Rattle.ak_edit.specs.Refusals.{AnswersBy}
 use Rattle.ak_edit.specs.declared.desk_faults.DeskFault.{DeskFault}
@@ -26,15 +28,16 @@ use Rattle.ak_keep.specs.Collections.{Collection, Holding, collection_of}
 use Rattle.ak_keep.specs.Keepers.{Keeping, WhereHeld, WhereTold}
 use Rattle.ak_keep.specs.Lookups.{as_card, card_at, options_of_card}
 use Rattle.ak_merge.specs.Edits.{Edit}
+use Rattle.ak_keep.specs.FreeNames.{is_used}
 use Rattle.ak_merge.specs.Holdings.{name_in, row_under}
 use Rattle.ak_sched.specs.Answers.{IsAnswer}
 use Rattle.ak_sched.specs.declared.answers.Answered.{Answered}
 use Rattle.ak_study.proofs.AnsweredRows.{answer_asked}
-use Rattle.ak_study.proofs.AskedCards.{BeginsDay, free_one}
+use Rattle.ak_study.proofs.AskedCards.{BeginsDay}
 use Rattle.ak_study.proofs.BegunDays.{begun_under}
 use Rattle.ak_study.proofs.DayLaws.{card_on_begun}
 use Rattle.ak_study.proofs.DayStartRules.{day_is_one}
-use Rattle.ak_study.specs.Answers.{Answers, AreOptionsFor, AreThese, IsAnswered, IsAnswering, RefusesAnswer, RefusesAsked, RefusesMade, answer_edit, answer_put, is_held}
+use Rattle.ak_study.specs.Answers.{Answers, AreOptionsFor, AreThese, IsAnswered, IsAnswering, RefusesAnswer, RefusesAsked, RefusesMade, answer_edit, answer_put}
 use Rattle.ak_study.specs.Asking.{IsAsked, IsFilled, IsOnly, IsReviewName}
 use Rattle.ak_study.specs.CardPlaces.{lies_buried, restored, unburied}
 use Rattle.ak_study.specs.DayStarts.{OnDay, begun_over, card_begun, is_new_day, unburied_row}
@@ -84,7 +87,8 @@ module _ (at : ℤ) (given : CardAnswer) (c : Collection) (day : Day) (a : Answe
       let was : a.was ≡ b.was = same_Some a.was b.was (sym is_answering.card ∙ also.card) in
       let options : a.options ≡ b.options = these_one (options_of_card c.rows a.was) a.options b.options is_answering.options (subst (λ (w : Card). AreOptionsFor c.rows w b.options) (sym was) also.options) in
       let id : a.answered.review.id ≡ b.answered.review.id =
-      free_one (is_held c) (first_name tables.Review at) (name_in tables.Review a.answered.review.id) (name_in tables.Review b.answered.review.id) is_answering.review also.review in
+      ap (λ (n : Name). n.id)
+      (free_once (is_used (row_under c)) (first_name tables.Review at) (name_in tables.Review a.answered.review.id) (name_in tables.Review b.answered.review.id) is_answering.review also.review) in
       let scheduled : IsAnswer a.was a.options given.button day given.word given.taken a.answered.review.id b.made b.answered =
       subst (λ (w : Card). IsAnswer w a.options given.button day given.word given.taken a.answered.review.id b.made b.answered) (sym was)
       (subst (λ (o : Options). IsAnswer b.was o given.button day given.word given.taken a.answered.review.id b.made b.answered) (sym options)

@@ -33,7 +33,8 @@ use Rattle.ak_merge.specs.EditBuilding.{with_row, with_rows_mapped, with_tags}
 use Rattle.ak_merge.specs.Edits.{Edit}
 use Rattle.ak_edit.specs.Views.{rows_over}
 use Rattle.ak_queue.specs.Burials.{bury_list}
-use Rattle.ak_merge.specs.Holdings.{AreChecked, AreNamed, RowsByName, name_in, row_under}
+use Rattle.ak_keep.specs.Graves.{RowsByName}
+use Rattle.ak_merge.specs.Holdings.{AreChecked, AreNamed, name_in, row_under}
 use Rattle.ak_study.proofs.BegunDays.{begun_rest, begun_under}
 use Rattle.ak_study.proofs.BuriedSiblings.{row_aside, siblings_rest, siblings_under}
 use Rattle.ak_study.proofs.DayLaws.{start_if}

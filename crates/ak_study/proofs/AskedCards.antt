@@ -1,22 +1,17 @@
 -- What an answer reads before it makes anything, and why it is refused then.
-use Rattle.std.specs.Prelude.{◌≡◌, ℤ, ◌≤ℤ◌, ◌<ℤ◌, int_lt, Bool, true, false, Some, None, Ok, Err}
-use Rattle.std.proofs.Common.{inl, inr, refl, sym, ap, subst, ◌∙◌, arith}
-use Rattle.std.proofs.lemmas.Int.{ints}
+use Rattle.std.specs.Prelude.{◌≡◌, ℤ, false, Some, None, Ok, Err}
+use Rattle.std.proofs.Common.{inl, inr, sym, subst, ◌∙◌}
 use Rattle.std.specs.Option.{option_map}
 use Rattle.ak_base.specs.Days.{IsDayOf}
 use Rattle.ak_base.specs.declared.cards.Card.{Card}
 use Rattle.ak_base.specs.declared.days.Day.{Day}
-use Rattle.ak_base.specs.declared.names.Name.{Name}
-use Rattle.ak_base.specs.declared.names.Table.{Table}
 use Rattle.ak_base.specs.declared.names.Table.TheVariants as tables
 use Rattle.ak_calls.specs.Calls.{RefusesAbsent}
-use Rattle.ak_edit.specs.FreeNames.{IsFirstFree, IsFree}
 use Rattle.ak_edit.specs.Refusals.{AnswersBy}
 use Rattle.ak_edit.specs.declared.desk_faults.DeskFault.{DeskFault}
 use Rattle.ak_edit.specs.declared.desk_faults.DeskFault.TheVariants as faults
 use Rattle.ak_keep.specs.Collections.{Collection}
 use Rattle.ak_keep.specs.Lookups.{card_at}
-use Rattle.ak_merge.proofs.EditFacts.{true_false}
 use Rattle.ak_merge.specs.Holdings.{name_in, row_under}
 use Rattle.ak_sched.specs.Answers.{can_answer}
 use Rattle.ak_study.proofs.DayLaws.{card_on_begun}
@@ -69,23 +64,3 @@ module _ (at id : ℤ) (c : Collection) (begun : Begun) (begins : BeginsDay at c
     ];
     refused = tt;
   }
-
--- ---- the free id
-same_name : (one other : Name) → one.table ≡ other.table → record { table = other.table; id = one.id } ≡ one
-same_name one other is = ap (λ (t : Table). let name : Name = record { table = t; id = one.id } in name) (sym is)
-
--- a name that is free is not none
-pub free_some : (taken : Name → Bool) (first name : Name) → IsFirstFree taken first (Some name) → IsFirstFree taken first None → ⊥
-free_some taken first name free none =
-    absurd (true_false (sym (none name.id free.from free.within) ∙ ap taken (same_name name first free.table) ∙ free.free))
-
--- two first free names are one
-pub free_one : (taken : Name → Bool) (first one other : Name) → IsFree taken first one → IsFree taken first other → one.id ≡ other.id
-free_one taken first one other a b = one_id (not_less one.id other.id (λ less. true_false (sym (b.least one.id a.from less) ∙ ap taken (same_name one first a.table) ∙ a.free)))
-    (not_less other.id one.id (λ less. true_false (sym (a.least other.id b.from less) ∙ ap taken (same_name other first b.table) ∙ b.free)))
-  where
-    not_less : (x y : ℤ) → (x <ℤ y → ⊥) → y ≤ℤ x
-    not_less x y not = elim (int_lt x y) as (λ b. int_lt x y ≡ b → y ≤ℤ x) [ true ↦ λ is. absurd (not (grind (arith, ints, is))) | false ↦ λ is. grind (arith, ints, is) ] refl
-
-    one_id : {x y : ℤ} → y ≤ℤ x → x ≤ℤ y → x ≡ y
-    one_id low high = omega (arith, ints, low, high)

@@ -13,7 +13,9 @@ use Rattle.ak_base.specs.declared.names.Name.{Name}
 use Rattle.ak_base.specs.declared.names.Table.{Table}
 use Rattle.ak_base.specs.declared.names.Table.TheVariants as tables
 use Rattle.ak_calls.proofs.Telling.{where_held-both, where_told-both}
-use Rattle.ak_edit.specs.FreeNames.{IsFree, first_name}
+use Rattle.ak_keep.specs.FreeNames.{IsFree, is_used}
+use Rattle.ak_calls.proofs.FreeIds.{none_free}
+use Rattle.ak_calls.specs.NewNames.{first_name}
 use Rattle.ak_edit.specs.Overlays.{Overlay, unchanged}
 use Rattle.ak_edit.specs.Refusals.{AnswersBy, DeskCause, IsFromOutside}
 use Rattle.ak_edit.specs.declared.desk_faults.DeskFault.{DeskFault}
@@ -30,9 +32,9 @@ use Rattle.ak_keep.proofs.Told.{where_told-map}
 use Rattle.ak_sched.specs.Answers.{can_answer}
 use Rattle.ak_study.proofs.AnswerFaults.{cause_ok}
 use Rattle.ak_study.proofs.AnsweredEnds.{held_as, where_held_as}
-use Rattle.ak_study.proofs.AskedCards.{BeginsDay, asked_accepted, free_some, refused_card, refused_review}
+use Rattle.ak_study.proofs.AskedCards.{BeginsDay, asked_accepted, refused_card, refused_review}
 use Rattle.ak_study.specs.Answers.{AreOptionsFor, AreThese, IsCardFault, RefusesAsked, answer_put}
-use Rattle.ak_study.specs.Asking.{IsAsked, IsFilled, IsFilledOf, IsPrepared, IsReviewName, RefusesBegun, has_row}
+use Rattle.ak_study.specs.Asking.{IsAsked, IsFilled, IsFilledOf, IsPrepared, IsReviewName, RefusesBegun}
 use Rattle.ak_study.specs.DayStarts.{HasBegun, card_begun, is_new_day}
 use Rattle.ak_study.proofs.PlacedCards.{unbury_keeps}
 use Rattle.ak_study.specs.CardPlaces.{unburied}
@@ -49,11 +51,11 @@ review_named at held None id some is there = false_true some
 review_named at held (Some name) id some is there =
     let same : name ≡ name_in tables.Review id =
     ap (λ (t : Table). name_in t name.id) there.table ∙ ap (name_in tables.Review) (sym is) in
-    subst (λ (n : Name). IsFree (has_row held) (first_name tables.Review at) n) same there
+    subst (λ (n : Name). IsFree (is_used (get held)) (first_name tables.Review at) n) same there
 
 some_free : (at : ℤ) (held : Rows) (free : Option Name) → IsTrue (is_some free) → IsReviewName at held free → IsReviewName at held None → ⊥
 some_free at held None some there none = false_true some
-some_free at held (Some name) some there none = free_some (has_row held) (first_name tables.Review at) name there none
+some_free at held (Some name) some there none = none_free (is_used (get held)) (first_name tables.Review at) name there none
 
 -- ---- the card that was asked for
 pub asked_told : (k : Keeping) (at id : ℤ) (p : Prepared) (card : Card) (review : ℤ) → IsTrue (is_some p.free) → IfSome p.free (λ name. review ≡ name.id) → WhereTold k (IsPrepared at p)

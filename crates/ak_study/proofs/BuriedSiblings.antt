@@ -26,7 +26,8 @@ use Rattle.ak_keep.specs.Collections.{Rows, StandsUnderNames, cards_of}
 use Rattle.ak_calls.proofs.Telling.{where_told-both}
 use Rattle.ak_keep.specs.Keepers.{Keeping, WhereTold}
 use Rattle.ak_keep.specs.Lookups.{as_card}
-use Rattle.ak_merge.specs.Holdings.{AreNamed, RowsByName, name_in}
+use Rattle.ak_keep.specs.Graves.{RowsByName}
+use Rattle.ak_merge.specs.Holdings.{AreNamed, name_in}
 use Rattle.ak_queue.specs.Burials.{burial_of, bury_list, is_other_buried, is_sibling_buried}
 use Rattle.ak_study.proofs.ChangedRows.{some_rest, some_under, stands}
 use Rattle.ak_study.specs.CardPlaces.{queued}

@@ -18,7 +18,8 @@ use Rattle.ak_keep.specs.Collections.{Rows, StandsUnderNames, is_past, rows_past
 use Rattle.ak_merge.proofs.EditFacts.{false_true}
 use Rattle.ak_merge.proofs.Finding.{none_in_table}
 use Rattle.ak_merge.proofs.PartLaws.{past_zero}
-use Rattle.ak_merge.specs.Holdings.{AreChecked, AreNamed, RowsByName}
+use Rattle.ak_keep.specs.Graves.{RowsByName}
+use Rattle.ak_merge.specs.Holdings.{AreChecked, AreNamed}
 use Rattle.ak_study.specs.RowChanges.{put_changed, put_some}
 
 -- a change of rows of one table, which keep their names

@@ -26,7 +26,8 @@ use Rattle.ak_keep.specs.Collections.{Collection, Holding, collection_of}
 use Rattle.ak_keep.specs.Keepers.{Keeping, WhereHeld, WhereTold}
 use Rattle.ak_merge.specs.EditBuilding.{unedited, with_conf, with_rows_mapped}
 use Rattle.ak_merge.specs.Edits.{Edit}
-use Rattle.ak_merge.specs.Holdings.{AreChecked, AreNamed, RowsByName, row_under}
+use Rattle.ak_keep.specs.Graves.{RowsByName}
+use Rattle.ak_merge.specs.Holdings.{AreChecked, AreNamed, row_under}
 use Rattle.ak_study.proofs.BegunDays.{begun_rest, begun_under}
 use Rattle.ak_study.proofs.PlacedCards.{unbury_keeps}
 use Rattle.ak_study.specs.DayStarts.{HasBegun, HasStarted, OnDay, RefusesStart, StartsDay, begun_on, begun_over, day_start, is_new_day, unburied_row}

@@ -1,5 +1,5 @@
 -- An answer of a card: what it makes of the collection, and why it is refused.
-use Rattle.std.specs.Prelude.{◌≡◌, ◌⊎◌, ◌≤◌, ℕ, ℤ, pos, Bool, false, ◌&&◌, not, if◌then◌else◌, is_some, List, [], ◌∷◌, Option, Some, None, option_and_then}
+use Rattle.std.specs.Prelude.{◌≡◌, ◌⊎◌, ◌≤◌, ℕ, ℤ, pos, false, ◌&&◌, not, if◌then◌else◌, is_some, List, [], ◌∷◌, Option, Some, None, option_and_then}
 use Rattle.std.specs.Option.{option_map_or}
 use Rattle.std.specs.Ordering.{int_eq}
 use Rattle.ak_base.specs.Days.{IsDayOf}
@@ -7,7 +7,6 @@ use Rattle.ak_base.specs.OptionGroups.{AreOpeningOptions}
 use Rattle.ak_base.specs.declared.cards.Card.{Card}
 use Rattle.ak_base.specs.declared.days.Day.{Day}
 use Rattle.ak_base.specs.declared.decks.Deck.{Deck}
-use Rattle.ak_base.specs.declared.names.Name.{Name}
 use Rattle.ak_base.specs.declared.names.Table.TheVariants as tables
 use Rattle.ak_base.specs.declared.notes.Note.{Note}
 use Rattle.ak_base.specs.declared.option_groups.Options.{Options}
@@ -15,7 +14,8 @@ use Rattle.ak_base.specs.declared.rows.Row.{Row}
 use Rattle.ak_base.specs.declared.rows.Row.TheVariants as rows
 use Rattle.ak_calls.specs.Calls.{RefusesAbsent}
 use Rattle.ak_edit.specs.Ends.{IsFinished, RefusesEnd}
-use Rattle.ak_edit.specs.FreeNames.{IsFirstFree, first_name}
+use Rattle.ak_keep.specs.FreeNames.{IsFirstFree, is_used}
+use Rattle.ak_calls.specs.NewNames.{first_name}
 use Rattle.ak_edit.specs.Overlays.{Overlay, put_over, tag_over}
 use Rattle.ak_edit.specs.Views.{rows_over}
 use Rattle.ak_edit.specs.Refusals.{IsEndFault, OrElse, Refusal}
@@ -58,16 +58,12 @@ AreThese (Some own) options = options ≡ own
 abbrev pub AreOptionsFor : Rows → Card → Options → Type 0
 AreOptionsFor held card options = AreThese (options_of_card held card) options
 
--- whether a row of this name is held
-abbrev pub is_held : Collection → Name → Bool
-is_held c name = is_some (row_under c name)
-
 -- the answer of the card on this day: its options are those of the card, its review has the least free id from the moment on,
 -- and the card after it and the review are the scheduler's
 pub record IsAnswering (at : ℤ) (day : Day) (given : CardAnswer) (c : Collection) (a : Answering) : Type 0 where
   pub card : card_on day c given.card ≡ Some a.was
   pub options : AreOptionsFor c.rows a.was a.options
-  pub review : IsFirstFree (is_held c) (first_name tables.Review at) (Some (name_in tables.Review a.answered.review.id))
+  pub review : IsFirstFree (is_used (row_under c)) (first_name tables.Review at) (Some (name_in tables.Review a.answered.review.id))
   pub scheduled : IsAnswer a.was a.options given.button day given.word given.taken a.answered.review.id a.made a.answered
 
 -- ---- the rule
@@ -122,7 +118,7 @@ RefusesCard id c day fault =
 
 -- there is no free id for the review from the moment on
 abbrev pub RefusesReview : ℤ → Collection → Refusal
-RefusesReview at c fault = IsFirstFree (is_held c) (first_name tables.Review at) None × (fault ≡ faults.IdEnd)
+RefusesReview at c fault = IsFirstFree (is_used (row_under c)) (first_name tables.Review at) None × (fault ≡ faults.IdEnd)
 
 -- a row that the answer makes does not pass its check, or a stamp or the moment ends
 abbrev pub RefusesMade : ℤ → CardAnswer → Collection → Day → Refusal

@@ -1,5 +1,5 @@
 -- How an answer is made: the card is asked for, and then an edit is filled.
-use Rattle.std.specs.Prelude.{◌≡◌, ℤ, Bool, false, IsTrue, Option, Some, is_some}
+use Rattle.std.specs.Prelude.{◌≡◌, ℤ, false, IsTrue, Option, Some}
 use Rattle.std.specs.FinMap.{get}
 use Rattle.std.specs.Option.{option_map}
 use Rattle.ak_base.specs.Cards.{IsCheckedCard}
@@ -8,7 +8,8 @@ use Rattle.ak_base.specs.declared.cards.Card.{Card}
 use Rattle.ak_base.specs.declared.names.Name.{Name}
 use Rattle.ak_base.specs.declared.names.Table.TheVariants as tables
 use Rattle.ak_calls.specs.Calls.{RefusesAbsent}
-use Rattle.ak_edit.specs.FreeNames.{IsFirstFree, first_name}
+use Rattle.ak_keep.specs.FreeNames.{IsFirstFree, is_used}
+use Rattle.ak_calls.specs.NewNames.{first_name}
 use Rattle.ak_edit.specs.Overlays.{unchanged}
 use Rattle.ak_edit.specs.Refusals.{OrElse, Refusal}
 use Rattle.ak_edit.specs.declared.desk_faults.DeskFault.TheVariants as faults
@@ -25,13 +26,9 @@ use Rattle.ak_study.specs.declared.answers.Filled.{Filled}
 use Rattle.ak_study.specs.declared.answers.Prepared.{Prepared}
 use Rattle.ak_study.specs.declared.day_starts.Begun.{Begun}
 
--- whether a row of this name is among these
-abbrev pub has_row : Rows → Name → Bool
-has_row held name = is_some (get held name)
-
 -- the first free name of a review at a moment
 abbrev pub IsReviewName : ℤ → Rows → Option Name → Type 0
-IsReviewName at held = IsFirstFree (has_row held) (first_name tables.Review at)
+IsReviewName at held = IsFirstFree (is_used (get held)) (first_name tables.Review at)
 
 -- the day has begun in an edit that had changed nothing, and this is the free name
 pub record IsPrepared (at : ℤ) (p : Prepared) (h : Holding) : Type 0 where

@@ -9,7 +9,8 @@ use Rattle.ak_base.specs.declared.option_groups.Options.{Options}
 use Rattle.ak_base.specs.declared.rows.Row.{Row}
 use Rattle.ak_base.specs.declared.rows.Row.TheVariants as rows
 use Rattle.ak_edit.specs.Overlays.{Overlay, row_over}
-use Rattle.ak_merge.specs.Holdings.{RowsByName, name_in}
+use Rattle.ak_keep.specs.Graves.{RowsByName}
+use Rattle.ak_merge.specs.Holdings.{name_in}
 use Rattle.ak_queue.specs.Burials.{burial_of, is_other_buried}
 use Rattle.ak_study.specs.CardPlaces.{queued}
 use Rattle.ak_study.specs.RowChanges.{put_some}

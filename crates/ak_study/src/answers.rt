@@ -25,7 +25,7 @@ use crate::deck_counts::count_answer;
 use crate::leech_tags::{leech_tag, leech_tagged};
 use crate::siblings::{bury_siblings, siblings_of};
 use ak_base::{Card, Day, Memory, Name, Note, Row, Table};
-use ak_calls::held_row;
+use ak_calls::{first_name, held_row};
 use ak_edit::{Change, DeskFault};
 use ak_keep::{KeepFault, Keeper, note_at};
 use ak_sched::can_answer;
@@ -176,7 +176,7 @@ fn prepare<K: Keeper>(alloc: Global, keeper: &mut K, at: i64) -> Result<Prepared
     ensures day { IfOk result (λ prepared. IsDay prepared.begun.day) }
 {
     let mut change = Change::new(alloc);
-    let free = change.new_name(keeper, Table::Review, at)?;
+    let free = keeper.free_name(first_name(Table::Review, at))?;
     let begun = begin_day(keeper, &mut change, at)?;
     Ok(Prepared {
         change,

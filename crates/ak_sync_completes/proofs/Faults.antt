@@ -13,7 +13,8 @@ use Rattle.ak_base.specs.declared.notes.Note.{Note}
 use Rattle.ak_base.specs.declared.rows.Row.{Row}
 use Rattle.ak_base.specs.declared.rows.Row.TheVariants as rows
 use Rattle.ak_keep.specs.Lookups.{as_card, as_note, as_note_type}
-use Rattle.ak_merge.specs.Holdings.{RowsByName, name_in, same_held}
+use Rattle.ak_keep.specs.Graves.{RowsByName}
+use Rattle.ak_merge.specs.Holdings.{name_in, same_held}
 use Rattle.ak_merge.specs.Soundness.{IsFault, IsLeastFault}
 use Rattle.ak_merge.specs.declared.checks.CheckFault.{CheckFault}
 use Rattle.ak_merge.specs.declared.checks.CheckFault.TheVariants as faults

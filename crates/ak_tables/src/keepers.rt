@@ -1,4 +1,4 @@
-ghost use Rattle.std.specs.Prelude.{◌≡◌, ◌<◌, ◌≤◌, ◌^◌, true, false, [], is_some, option_map, length, map, Err, IfOk, IfSome, OnOk, OnErr};
+ghost use Rattle.std.specs.Prelude.{◌≡◌, ◌<◌, ◌≤◌, ◌≤ℤ◌, ◌^◌, pos, true, false, [], is_some, option_map, length, map, Err, IfOk, IfSome, OnOk, OnErr};
 ghost use Rattle.std.specs.FinMap as finite;
 ghost use Rattle.std.specs.List.{All, IsDistinct};
 ghost use Rattle.std.specs.List.Sorted.{IsStrictlySortedBy};
@@ -8,6 +8,7 @@ ghost use Rattle.ak_base.specs.Heads.{AreMomentsInRange, IsHeadInRange};
 ghost use Rattle.ak_base.specs.Names.{name_cmp};
 ghost use Rattle.ak_base.specs.Rows.{IsChecked, name_of};
 ghost use Rattle.ak_keep.specs.Collections.{AscendsPast, IsId, IsPageOf, with_row, without, with_head, with_moments, made_of, rows_past, wanted_past, row_count, cards_of, is_wanted};
+ghost use Rattle.ak_keep.specs.FreeNames.{IsFirstFree, IsFoundFrom, is_used};
 ghost use Rattle.ak_keep.specs.Keepers.{IsRightlyKnown, KeepCause, all_known, is_marked};
 ghost use Rattle.ak_keep.specs.Marks as marks;
 ghost use Rattle.ak_keep.specs.declared.keepers.KeepFault.TheVariants.{Failed, Memory as WantOfMemory};
@@ -160,6 +161,18 @@ impl<T: Tables> Readable for TableKeeper<T> {
         ensures cause { KeepCause self.old.health self.new.health result }
     {
         self.memory.count(table)
+    }
+
+    fn free_name(&mut self, first: Name) -> Result<Option<Name>, KeepFault>
+        requires { pos 1 ≤ℤ first.id }
+        ensures free { IfOk result (λ found. IsFirstFree (is_used (finite.get self.old.kept.current.rows)) first found) }
+        ensures range { IfOk result (λ found. IfSome found (IsFoundFrom first)) }
+        ensures state { self.new ≡ self.old }
+        ensures unfailing { IsErrOf result Failed → ⊥ }
+        ensures spares { IsErrOf result WantOfMemory → ⊥ }
+        ensures cause { KeepCause self.old.health self.new.health result }
+    {
+        self.memory.free_name(first)
     }
 }
 

@@ -28,7 +28,7 @@ use Rattle.ak_keep.specs.Keepers.{Keeping, WhereHeld, WhereTold}
 use Rattle.ak_merge.proofs.CheckedRows.{faultless_of}
 use Rattle.ak_merge.specs.Edits.{Edit}
 use Rattle.ak_merge.specs.Holdings.{name_in, row_under}
-use Rattle.ak_types.proofs.NewIds.{one_new}
+use Rattle.ak_calls.proofs.FreeIds.{one_new}
 use Rattle.ak_types.proofs.Taking.{err_too, no_cause_here, ok_too, where_held-all}
 use Rattle.ak_template.specs.declared.faults.TemplateFault.{TemplateFault}
 use Rattle.ak_types.specs.GivenTypes.{IsSideFault, RefusesGiven, RefusesSides, as_given, with_id}

@@ -1,5 +1,4 @@
 pub mod Taking
-pub mod NewIds
 pub mod Adding
 pub mod Deleting
 pub mod UsedTypes

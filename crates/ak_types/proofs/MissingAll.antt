@@ -6,19 +6,20 @@ use Rattle.std.specs.FinMap.{get}
 use Rattle.ak_base.specs.declared.cards.Card.{Card}
 use Rattle.ak_base.specs.declared.names.Name.{Name}
 use Rattle.ak_base.specs.declared.names.Table.{Table}
-use Rattle.ak_calls.proofs.Telling.{where_told-both}
-use Rattle.ak_calls.specs.NewNames.{is_used}
-use Rattle.ak_edit.specs.FreeNames.{IsFree}
+use Rattle.ak_calls.proofs.Telling.{where_always, where_told-both}
+use Rattle.ak_keep.specs.FreeNames.{IsFree, is_used}
 use Rattle.ak_edit.specs.Refusals.{AnswersBy}
 use Rattle.ak_edit.specs.declared.desk_faults.DeskFault.{DeskFault}
 use Rattle.ak_keep.proofs.Told.{where_told-map}
 use Rattle.ak_keep.specs.Collections.{Rows}
 use Rattle.ak_keep.specs.Keepers.{Keeping, WhereTold}
 use Rattle.ak_merge.specs.Holdings.{name_in}
-use Rattle.ak_notes.proofs.FreeIds.{cards_once, free_once, none_free}
-use Rattle.ak_notes.proofs.NewCards.{where_always}
+use Rattle.ak_calls.proofs.FreeIds.{free_once, none_free}
+use Rattle.ak_notes.proofs.NewCards.{cards_once}
 use Rattle.ak_notes.specs.LackingNotes.{RefusesMissingIds, lacked_ords, missing_place, next_after}
-use Rattle.ak_notes.specs.NewCards.{AreNewCards, LacksIds, first_after, next_name}
+use Rattle.ak_base.specs.Names.{next_name}
+use Rattle.ak_calls.specs.NewNames.{LacksIds}
+use Rattle.ak_notes.specs.NewCards.{AreNewCards, first_after}
 use Rattle.ak_notes.specs.declared.lacking_notes.LackingNote.{LackingNote}
 use Rattle.ak_notes.specs.declared.lacking_notes.MissingCards.{MissingCards}
 use Rattle.ak_notes.specs.declared.lacking_notes.NextCards.{NextCards}
@@ -43,11 +44,12 @@ lacks_more used note next first [] cards more made lacks =
     subst (λ (n : ℕ). LacksIds used first n) (sym (none_and more)) (subst (λ (l : List Card). LacksIds used (first_after l first) more) made lacks)
 lacks_more used note next first (ord ∷ ords) cards more made lacks =
     let name : Name = made.0 in
-    let rest : List Card = made.2 in
+    let rest : List Card = made.4 in
+    let id : made.2.id ≡ name.id = ap (λ (card : Card). card.id) made.3 in
     let after : first_after cards first ≡ first_after rest (next_name name) =
-    ap (λ (l : List Card). first_after l first) made.3 ∙ ap (first_after rest) (sym (same_next used first name name.id made.1 refl)) in
+    ap (λ (l : List Card). first_after l first) made.5 ∙ ap (first_after rest) (sym (same_next used first name made.2.id made.1 id)) in
     subst (λ (n : ℕ). LacksIds used first n) (sym (one_and (length ords) more))
-    (inr (name, made.1, lacks_more used note next (next_name name) ords rest more made.4 (subst (λ (n : Name). LacksIds used n more) after lacks)))
+    (inr (name, made.1, lacks_more used note next (next_name name) ords rest more made.6 (subst (λ (n : Name). LacksIds used n more) after lacks)))
 
 -- if they lack for these cards and more, they lack after these cards
 pub lacks_after : (used : Name → Bool) (note : LackingNote) (next : NextCards) (first : Name) (ords : List ℤ) (cards : List Card) (more : ℕ) → AreNewCards used (missing_place note next) first ords cards
@@ -56,15 +58,16 @@ lacks_after used note next first [] cards more made lacks =
     subst (λ (l : List Card). LacksIds used (first_after l first) more) (sym made) (subst (λ (n : ℕ). LacksIds used first n) (none_and more) lacks)
 lacks_after used note next first (ord ∷ ords) cards more made lacks =
     let name : Name = made.0 in
-    let rest : List Card = made.2 in
+    let rest : List Card = made.4 in
+    let id : made.2.id ≡ name.id = ap (λ (card : Card). card.id) made.3 in
     let after : first_after cards first ≡ first_after rest (next_name name) =
-    ap (λ (l : List Card). first_after l first) made.3 ∙ ap (first_after rest) (sym (same_next used first name name.id made.1 refl)) in
+    ap (λ (l : List Card). first_after l first) made.5 ∙ ap (first_after rest) (sym (same_next used first name made.2.id made.1 id)) in
     elim (subst (λ (n : ℕ). LacksIds used first n) (one_and (length ords) more) lacks) [
       | inl none ↦ absurd (none_free used first name made.1 none)
       | inr others ↦
           let same : others.0 ≡ name = free_once used first others.0 name others.1 made.1 in
           subst (λ (n : Name). LacksIds used n more) (sym after)
-          (lacks_after used note next (next_name name) ords rest more made.4 (subst (λ (n : Name). LacksIds used (next_name n) (length ords + more)) same others.2))
+          (lacks_after used note next (next_name name) ords rest more made.6 (subst (λ (n : Name). LacksIds used (next_name n) (length ords + more)) same others.2))
     ]
 
 -- if they lack for some, they lack for more

@@ -25,7 +25,8 @@ use Rattle.ak_keep.specs.Collections.{Rows, cards_of, is_card_of, is_past, rows_
 use Rattle.ak_keep.specs.Lookups.{as_card, as_note, card_at, note_at}
 use Rattle.ak_merge.proofs.EditFacts.{false_true}
 use Rattle.ak_merge.proofs.Finding.{id_over_zero, none_in_table}
-use Rattle.ak_merge.specs.Holdings.{AreChecked, AreNamed, RowsByName, name_in}
+use Rattle.ak_keep.specs.Graves.{RowsByName}
+use Rattle.ak_merge.specs.Holdings.{AreChecked, AreNamed, name_in}
 use Rattle.ak_notes.proofs.NoteCards.{names_card, names_card_is}
 use Rattle.ak_notes.specs.Deletions.{without_cards}
 use Rattle.ak_notes.specs.MadeNotes.{cards_over}

@@ -1,6 +1,7 @@
 -- Tests that follow one another, over rows that are told.
 use Rattle.std.specs.Prelude.{◌≡◌, ℤ, Bool, true, false, not, Result, Ok, Err}
 use Rattle.std.proofs.Common.{refl, sym, inl, inr, ◌∙◌}
+use Rattle.ak_calls.proofs.Telling.{where_always}
 use Rattle.ak_base.specs.declared.names.Table.TheVariants as tables
 use Rattle.ak_base.specs.declared.note_types.NoteType.{NoteType}
 use Rattle.ak_calls.proofs.Answering.{passed_first, refused_first}
@@ -12,7 +13,6 @@ use Rattle.ak_keep.specs.Collections.{Rows}
 use Rattle.ak_keep.specs.Keepers.{Keeping, WhereTold}
 use Rattle.ak_merge.proofs.EditFacts.{false_true, true_false}
 use Rattle.ak_merge.specs.Holdings.{name_in}
-use Rattle.ak_notes.proofs.NewCards.{where_always}
 use Rattle.ak_types.specs.GivenTypes.{RefusesSchema, RefusesUsed, has_notes}
 use Rattle.ak_types.specs.TypeDeletions.{RefusesKept}
 use Rattle.ak_types.specs.TypeEdits.{RefusesOtherKind}

@@ -9,7 +9,7 @@ use Rattle.ak_base.specs.declared.note_types.NoteType.{NoteType}
 use Rattle.ak_base.specs.declared.notes.Note.{Note}
 use Rattle.ak_base.specs.declared.rows.Row.{Row}
 use Rattle.ak_base.specs.declared.rows.Row.TheVariants as rows
-use Rattle.ak_calls.specs.NewNames.{is_used}
+use Rattle.ak_keep.specs.FreeNames.{is_used}
 use Rattle.ak_cardgen.specs.Generation.{AreOrds}
 use Rattle.ak_edit.specs.Overlays.{unchanged}
 use Rattle.ak_edit.specs.Refusals.{Refusal}
@@ -18,7 +18,7 @@ use Rattle.ak_keep.specs.Collections.{Rows, cards_of, rows_past}
 use Rattle.ak_keep.specs.Keepers.{WhereTold}
 use Rattle.ak_keep.specs.declared.readables.Lookup.{Ghosts}
 use Rattle.ak_notes.specs.LackingNotes.{AreMissing, lacked_ords, next_after}
-use Rattle.ak_notes.specs.NewCards.{LacksIds}
+use Rattle.ak_calls.specs.NewNames.{LacksIds}
 use Rattle.ak_notes.specs.declared.lacking_notes.HeldCards.{HeldCards}
 use Rattle.ak_notes.specs.declared.lacking_notes.LackingNote.{LackingNote}
 use Rattle.ak_notes.specs.declared.lacking_notes.MissingCards.{MissingCards}

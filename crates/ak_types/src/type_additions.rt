@@ -58,7 +58,7 @@ fn add_type<K: Keeper>(
     ensures listed { IfErr result IsAdditionFault }
     ensures cause { DeskCause (K.health keeper.old) (K.health keeper.new) result }
 {
-    let name = match new_name(steps.allocator(), keeper, Table::NoteType, at) {
+    let name = match new_name(keeper, Table::NoteType, at) {
         Ok(name) => name,
         Err(fault) => return Err(fault),
     };

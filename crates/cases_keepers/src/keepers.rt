@@ -1,7 +1,7 @@
 ghost use Rattle.std.specs.Prelude.{◌≡◌, ◌<◌, ◌≤◌, true, IfOk};
 ghost use Rattle.ak_keep.specs.Keepers.{is_marked};
 
-use crate::faults::{done, failed};
+use crate::faults::{done, failed, name_text};
 use crate::heads::{head_text, replace, set_head, set_moments};
 use crate::related::related;
 use ak_base::{List, Name, Row, Table, cut};
@@ -49,6 +49,7 @@ fn answer_of_rows(
         "from" => from(alloc, keeper, rest),
         "cards-of" => cards_of(alloc, keeper, rest),
         "count" => count(alloc, keeper, rest),
+        "free" => free(alloc, keeper, rest),
         "fail" => fail(alloc, keeper, rest),
         "type-of" | "deck-of" | "options-of" | "options-of-deck" => {
             related(alloc, keeper, word, rest)
@@ -274,6 +275,18 @@ fn count(alloc: Global, keeper: &mut MemoryKeeper, rest: &str) -> Result<String,
     let table = table_of(rest)?;
     match keeper.count(table) {
         Ok(count) => Ok(format!(in alloc; "{count}")?),
+        Err(fault) => failed(alloc, fault),
+    }
+}
+
+/// `free TABLE ID`.
+fn free(alloc: Global, keeper: &mut MemoryKeeper, rest: &str) -> Result<String, Unread> {
+    let first = name_of(rest)?;
+    if first.id < 1 {
+        return Err(Unread::Bad);
+    }
+    match keeper.free_name(first) {
+        Ok(name) => name_text(alloc, name),
         Err(fault) => failed(alloc, fault),
     }
 }

@@ -1,4 +1,4 @@
-use Rattle.std.proofs.Common.{rules, w64, SFits}
+use Rattle.std.proofs.Common.{w64, SFits}
 use Rattle.std.proofs.lemmas.Int.{to_z-of_z}
 use Rattle.ak_calls.proofs.Answering.{on_ok-map}
 use Rattle.ak_calls.proofs.CardRules.{card_edit_answered, card_edit_done}

@@ -1,16 +1,21 @@
-use Rattle.std.proofs.Common.{◌≤ℤ◌, ℕ, List, length, pos, refl, ap, ◌∙◌, arith, w64, SFits, to_z, of_z}
+use Rattle.std.proofs.Common.{◌≤ℤ◌, ℕ, List, [], length, pos, refl, ap, ◌∙◌, arith, w64, SFits, to_z, of_z}
 use Rattle.std.proofs.lemmas.Int.{ints, to_z-of_z}
+use Rattle.ak_base.specs.declared.names.Name.{Name}
+use Rattle.ak_base.specs.declared.names.Table.TheVariants as tables
+use Rattle.ak_calls.proofs.MakingRows.{made_all, made_answers, makes_all, makes_one, one_lacks}
+use Rattle.ak_calls.specs.NewNames.{first_name}
 use Rattle.ak_faults.proofs.Healths.{goes_further, goes_nowhere}
-use Rattle.ak_deck_paths.proofs.MakingDecks.{last_in_range, made_all, made_answers, makes_all, makes_one, one_lacks}
+use Rattle.ak_deck_paths.proofs.MakingDecks.{last_in_range}
+use Rattle.ak_deck_paths.specs.NewDecks.{IsNewDeck}
 use Rattle.ak_deck_paths.proofs.new_decks.new_decks.Goals as goal
 
 pub loop-path-init : goal.loop-path-init
 loop-path-init g c =
     let at : SFits w64 c.args.at = c.ranges.at in
     record {
-      id = c.first_deck-first.ensures.id;
-      made = rw (c.first_deck-first.ensures.name, to_z-of_z w64 c.args.at at, c.new-decks.ensures)
-          (makes_all (g.K.Lookup.keeping c.args.keeper.now) c.args.at c.args.paths.now);
+      id = c.first_name-first.ensures.id;
+      made = rw (c.first_name-first.ensures.name, to_z-of_z w64 c.args.at at, c.new-decks.ensures)
+          (makes_all (g.K.Lookup.keeping c.args.keeper.now) IsNewDeck (first_name tables.Deck c.args.at) c.args.paths.now);
       last = λ none. absurd (omega (arith, none));
       same = refl;
       goes = goes_nowhere (g.K.Lookup.health c.args.keeper.now);
@@ -19,15 +24,17 @@ loop-path-init g c =
 pub loop-path-preserved : goal.loop-path-preserved
 loop-path-preserved g c =
     let k = g.K.Lookup.keeping c.args.keeper.now in
+    let start : Name = first_name tables.Deck (to_z w64 (of_z w64 c.args.at)) in
     let i = c.loop-path.path-index in
     let items = c.as_slice-path-items.ensures in
-    let ahead : pos 1 ≤ℤ c.next_name-first.result.id = rw c.next_name-first.ensures (grind (arith, ints, c.loop-path.invariant.id, c.in-Ok.ensures.range.1.low)) in
+    let path = c.path-item.result in
+    let ahead : pos 1 ≤ℤ c.next-first.result.id = rw c.next-first.ensures (grind (arith, ints, c.loop-path.invariant.id, c.in-Ok.ensures.range.1.low)) in
     record {
       id = ahead;
-      made = rw (c.next_name-first.ensures, c.in_ok-push.ensures.ok)
-          (makes_one k (to_z w64 (of_z w64 c.args.at)) c.args.paths.now i c.path-item.result c.loop-path.first c.in-Ok.name c.loop-path.decks c.in_ok-deck.deck (rw items at c.loop-path-test.true)
+      made = rw (c.next-first.ensures, c.in_ok-push.ensures.ok)
+          (makes_one k IsNewDeck start c.args.paths.now i path path c.loop-path.first c.in-Ok.name c.loop-path.decks c.in_ok-deck.deck (rw items at c.loop-path-test.true)
           (rw items at c.path-item.is) c.in_ok-deck.ensures (rw c.loop-path.invariant.same at c.in-Ok.ensures.free) c.loop-path.invariant.made);
-      last = λ _. rw c.in_ok-push.ensures.ok (last_in_range c.loop-path.first c.in-Ok.name c.path-item.result c.loop-path.decks c.in_ok-deck.deck c.loop-path.invariant.id c.in-Ok.ensures.range c.in_ok-deck.ensures);
+      last = λ _. rw c.in_ok-push.ensures.ok (last_in_range c.loop-path.first c.in-Ok.name path c.loop-path.decks c.in_ok-deck.deck c.loop-path.invariant.id c.in-Ok.ensures.range c.in_ok-deck.ensures);
       same = c.in-Ok.ensures.same ∙ c.loop-path.invariant.same;
       goes = goes_further c.loop-path.invariant.goes c.in-Ok.ensures.cause.goes;
     }
@@ -35,13 +42,13 @@ loop-path-preserved g c =
 pub returns-in-Err-clause-refused : goal.returns-in-Err-clause-refused
 returns-in-Err-clause-refused g c =
     let at : SFits w64 c.args.at = c.ranges.at in
-    one_lacks (g.K.Lookup.keeping c.args.keeper.now) c.args.at c.args.paths.now c.loop-path.path-index c.loop-path.first c.loop-path.decks c.in-Err.fault
+    one_lacks _ (g.K.Lookup.keeping c.args.keeper.now) IsNewDeck (first_name tables.Deck c.args.at) c.args.paths.now c.loop-path.path-index [] c.loop-path.first c.loop-path.decks c.in-Err.fault
     (rw c.as_slice-path-items.ensures at c.loop-path-test.true) (rw c.loop-path.invariant.same at c.in-Err.ensures.none) (rw (to_z-of_z w64 c.args.at at) at c.loop-path.invariant.made)
 
 pub returns-clause-made : goal.returns-clause-made
 returns-clause-made g c =
     let at : SFits w64 c.args.at = c.ranges.at in
-    made_all (g.K.Lookup.keeping c.args.keeper.now) c.args.at c.args.paths.now c.loop-path.path-index c.loop-path.first c.loop-path.decks
+    made_all (g.K.Lookup.keeping c.args.keeper.now) IsNewDeck (first_name tables.Deck c.args.at) c.args.paths.now c.loop-path.path-index c.loop-path.first c.loop-path.decks
     (omega (arith, ap (λ (xs : List (List ℕ)). length xs) c.as_slice-path-items.ensures)) (rw (to_z-of_z w64 c.args.at at) at c.loop-path.invariant.made)
 
 pub returns-clause-range : goal.returns-clause-range
@@ -51,6 +58,7 @@ returns-clause-range g c some =
 pub returns-clause-refused : goal.returns-clause-refused
 returns-clause-refused g c =
     let at : SFits w64 c.args.at = c.ranges.at in
-    made_answers (g.K.Lookup.keeping c.args.keeper.now) c.args.at c.args.paths.now c.loop-path.decks
-    (made_all (g.K.Lookup.keeping c.args.keeper.now) c.args.at c.args.paths.now c.loop-path.path-index c.loop-path.first c.loop-path.decks
+    let start : Name = first_name tables.Deck c.args.at in
+    made_answers (g.K.Lookup.keeping c.args.keeper.now) IsNewDeck start c.args.paths.now c.loop-path.decks c.loop-path.decks
+    (made_all (g.K.Lookup.keeping c.args.keeper.now) IsNewDeck start c.args.paths.now c.loop-path.path-index c.loop-path.first c.loop-path.decks
     (omega (arith, ap (λ (xs : List (List ℕ)). length xs) c.as_slice-path-items.ensures)) (rw (to_z-of_z w64 c.args.at at) at c.loop-path.invariant.made))

@@ -1,4 +1,4 @@
-use Rattle.std.proofs.Common.{◌≡◌, ◌≤ℤ◌, ℕ, ◌-◌, suc, pos, refl, ◌∙◌, arith, rules, w64, SFits}
+use Rattle.std.proofs.Common.{◌≡◌, ◌≤ℤ◌, ◌-◌, suc, pos, refl, ◌∙◌, arith, rules, w64, SFits}
 use Rattle.std.proofs.lemmas.Int.{ints, to_z-of_z}
 use Rattle.ak_faults.proofs.Healths.{goes_further, goes_nowhere}
 use Rattle.ak_lab_sides.proofs.NewReviews.{made_all, made_answers, makes_all, makes_one, one_lacks}
@@ -15,12 +15,12 @@ reviews-init g c = record {
 pub reviews-preserved : goal.reviews-preserved
 reviews-preserved g c =
     let k = g.K.Lookup.keeping c.args.keeper.now in
-    let ahead : pos 1 ≤ℤ c.next_name-first.result.id = rw c.next_name-first.ensures (grind (arith, ints, c.reviews.invariant.id, c.in-Ok.ensures.range.1.low)) in
+    let ahead : pos 1 ≤ℤ c.next-first.result.id = rw c.next-first.ensures (grind (arith, ints, c.reviews.invariant.id, c.in-Ok.ensures.range.1.low)) in
     let less : c.reviews.left ≡ suc (c.reviews.left - 1) = omega arith in
     let fits : SFits w64 c.in-Ok.name.id = search rules in
     record {
       id = ahead;
-      made = rw (c.next_name-first.ensures, c.in_ok-push.ensures.items)
+      made = rw (c.next-first.ensures, c.in_ok-push.ensures.items)
           (makes_one k c.args.plan c.args.start c.args.plan.count c.reviews.left (c.reviews.left - 1) c.reviews.first c.in-Ok.name c.reviews.reviews.items c.new_review.result
           less (rw (to_z-of_z w64 c.in-Ok.name.id fits) at c.new_review.ensures) (rw c.reviews.invariant.same at c.in-Ok.ensures.free) c.reviews.invariant.made);
       same = c.in-Ok.ensures.same ∙ c.reviews.invariant.same;

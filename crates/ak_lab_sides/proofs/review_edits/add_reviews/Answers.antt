@@ -2,7 +2,7 @@ use Rattle.std.proofs.Common.{w64, SFits, ◌≡◌, refl, ap, ◌∙◌}
 use Rattle.std.proofs.lemmas.Int.{to_z-of_z}
 use Rattle.ak_calls.proofs.Answering.{on_ok-map}
 use Rattle.ak_edit.specs.Ends.{FinishedBy}
-use Rattle.ak_edit.specs.Overlays.{Overlay, unchanged}
+use Rattle.ak_edit.specs.Overlays.{unchanged}
 use Rattle.ak_keep.specs.Keepers.{Keeping, WhereHeld}
 use Rattle.ak_lab_sides.proofs.ReviewEdits.{IsPlanInRange, ids_refused, planned_held, reviews_answered, reviews_done}
 use Rattle.ak_lab_sides.specs.NewReviews.{AddsReviews, ArePlanned}
@@ -18,7 +18,7 @@ returns-in-Err-clause-ends g c =
       same = c.in-Err.ensures.same;
       kept = refl;
       stays = ap (λ (k : Keeping). k.headed) c.in-Err.ensures.same;
-      answers = ids_refused _ k c.args.at c.args.plan c.in-Err.fault (rw (to_z-of_z w64 c.args.at fits) at (rw c.first_review.ensures.name at c.in-Err.ensures.refused));
+      answers = ids_refused _ k c.args.at c.args.plan c.in-Err.fault (rw (to_z-of_z w64 c.args.at fits) at (rw c.first_name.ensures.name at c.in-Err.ensures.refused));
     }
 
 pub returns-clause-ends : goal.returns-clause-ends
@@ -29,7 +29,7 @@ returns-clause-ends g c =
     let over : c.put_reviews.new.change ≡ reviews_over c.in-Ok.reviews.items unchanged = rw c.new-change.ensures at c.in_ok-put_reviews.ensures in
     let range : IsPlanInRange c.args.plan = record { card = c.requires.card; ease = c.requires.ease } in
     let planned : WhereHeld k (λ c0. ArePlanned c.args.at c.args.plan c0 c.in-Ok.reviews.items) =
-    planned_held k c.args.at c.args.plan c.in-Ok.reviews.items (rw (to_z-of_z w64 c.args.at fits) at (rw c.first_review.ensures.name at c.in-Ok.ensures.made)) in
+    planned_held k c.args.at c.args.plan c.in-Ok.reviews.items (rw (to_z-of_z w64 c.args.at fits) at (rw c.first_name.ensures.name at c.in-Ok.ensures.made)) in
     let same = c.in-Ok.ensures.same in
     record {
       done = on_ok-map c.finish.result (FinishedBy c.args.at c.put_reviews.new.change k now c.args.steps.now c.finish.new.steps) (WhereHeld k (λ c0. AddsReviews c.args.at c.args.plan c0 k now c.args.steps.now c.finish.new.steps))

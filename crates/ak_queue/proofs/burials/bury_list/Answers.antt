@@ -6,7 +6,7 @@ use Rattle.ak_faults.proofs.Healths.{goes_further}
 use Rattle.ak_keep.specs.Collections.{Holding, IsId, cards_of}
 use Rattle.ak_queue.specs.Burials.{TakesOther, is_sibling_buried}
 use Rattle.ak_queue.specs.declared.burials.Burial.{Burial}
-use Rattle.ak_queue.proofs.Collecting.{filter-first, one_told}
+use Rattle.ak_keep.proofs.Collecting.{filter-first, one_told}
 use Rattle.ak_queue.proofs.PartLists.{IsPartOf, all_part, all_taken, one_taken, others_taken, sorted_part}
 use Rattle.ak_queue.proofs.burials.bury_list.Goals as goal
 

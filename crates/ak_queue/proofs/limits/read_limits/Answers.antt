@@ -3,7 +3,7 @@ use Rattle.ak_base.specs.declared.decks.Deck.{Deck}
 use Rattle.ak_faults.proofs.Healths.{goes_nowhere, goes_further}
 use Rattle.ak_keep.specs.Collections.{Holding}
 use Rattle.ak_queue.specs.Limits.{all_limits}
-use Rattle.ak_queue.proofs.Collecting.{none_told, one_told}
+use Rattle.ak_keep.proofs.Collecting.{none_told, one_told}
 use Rattle.ak_queue.proofs.Limiting.{limits-first}
 use Rattle.ak_queue.proofs.limits.read_limits.Goals as goal
 

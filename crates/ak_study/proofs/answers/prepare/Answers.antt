@@ -15,6 +15,6 @@ returns-clause-reads g c =
       same = begun.same ∙ free.same;
       cause = cause-ok _ (goes_further free.cause.goes begun.cause.goes);
       told = prepared_told (g.K.Lookup.keeping c.args.keeper.now) c.args.at (record { change = c.begin_day.new.change; begun = c.in_ok-begun.begun; free = c.in_ok-free.free })
-          (rw (c.new-change.ensures, to_z-of_z w64 c.args.at at) at free.told)
+          (rw (c.first_name.ensures.name, to_z-of_z w64 c.args.at at) at free.told)
           (rw (free.same, c.new-change.ensures, to_z-of_z w64 c.args.at at) at begun.told);
     }

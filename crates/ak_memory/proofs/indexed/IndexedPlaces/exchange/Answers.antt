@@ -5,11 +5,13 @@ use Rattle.ak_memory.specs.declared.places.Place.{Place}
 use Rattle.ak_memory.specs.declared.versions.Version.TheVariants.{Mark, Now}
 use Rattle.ak_memory.specs.Indexes.{AreNoted, HaveAllKeys, IsCounted}
 use Rattle.ak_memory.specs.HeldRows.{row_in}
-use Rattle.ak_memory.specs.Places.{AreFull, rows_at, unchanged_count, with_under}
+use Rattle.ak_memory.specs.Places.{AreFull, row_under, rows_at, unchanged_count, with_under}
+use Rattle.ak_memory.specs.TakenRuns.{AreRuns, is_used_under}
 use Rattle.ak_memory.proofs.Counting.{counts-fit, counts-held, counts-with, named-with, some_in}
 use Rattle.ak_memory.proofs.Keys.{keys-held}
 use Rattle.ak_memory.proofs.RowsUnder.{get-rows_at, no_place, rows_at-same, rows_at-with, with_none}
 use Rattle.ak_memory.proofs.Settling.{noted-change}
+use Rattle.ak_memory.proofs.TakenRuns.{runs_with}
 use Rattle.ak_memory.proofs.indexed.IndexedPlaces.exchange.Goals as goal
 
 pub returns-in_default-clause-indexed : goal.returns-in_default-clause-indexed
@@ -23,6 +25,7 @@ returns-in_default-clause-indexed c =
       noted = subst (λ (es : List (Name × Place)). AreNoted c.args.self.now.noted.items es) same was.noted;
       full = subst AreFull same was.full;
       room = let count = ap unchanged_count same in omega (arith, count, was.room);
+      taken = subst (λ (es : List (Name × Place)). AreRuns (is_used_under es) c.args.self.now.taken) same was.taken;
     }
 
 pub returns-in_default-clause-now : goal.returns-in_default-clause-now
@@ -66,6 +69,8 @@ returns-clause-indexed c =
       noted = noted-change c.args.self.now.noted.items c.note_change.new.noted.items es fs name c.in-Some.change.first c.in-Some.ensures.changed was.noted c.in-Some.ensures.first c.note_change.ensures.names;
       full = c.in-Some.ensures.full was.full;
       room = omega (arith, was.room, c.in-Some.ensures.count, c.note_change.ensures.len, c.note_change.ensures.capacity);
+      taken = runs_with (row_under Now es) (row_under Now fs) name o c.is_some-holds.result c.args.self.now.taken c.forget_taken.new.taken
+          (c.is_some-holds.ensures ∙ some_in c.args.row) c.in-Some.ensures.now c.forget_taken.ensures was.taken;
     }
 
 pub returns-clause-now : goal.returns-clause-now

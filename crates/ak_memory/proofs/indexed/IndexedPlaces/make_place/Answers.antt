@@ -3,11 +3,13 @@ use Rattle.ak_base.specs.declared.names.Name.{Name}
 use Rattle.ak_memory.specs.declared.places.Place.{Place}
 use Rattle.ak_memory.specs.declared.versions.Version.TheVariants.{Mark, Now}
 use Rattle.ak_memory.specs.Indexes.{AreNoted, HaveAllKeys, IsCounted}
-use Rattle.ak_memory.specs.Places.{AreFull, rows_at, unchanged_count}
+use Rattle.ak_memory.specs.Places.{AreFull, row_under, rows_at, unchanged_count}
+use Rattle.ak_memory.specs.TakenRuns.{AreRuns, is_used_under}
 use Rattle.ak_memory.proofs.Counting.{unchanged-few}
 use Rattle.ak_memory.proofs.Keys.{keys-same}
 use Rattle.ak_memory.proofs.RowsUnder.{rows_at-same}
 use Rattle.ak_memory.proofs.Settling.{noted-more}
+use Rattle.ak_memory.proofs.TakenRuns.{runs_same}
 use Rattle.ak_memory.proofs.indexed.IndexedPlaces.make_place.Goals as goal
 
 pub returns-in_err-add_place-clause-indexed : goal.returns-in_err-add_place-clause-indexed
@@ -21,6 +23,7 @@ returns-in_err-add_place-clause-indexed c =
       noted = subst (λ (ns : List Name). AreNoted ns fs) (sym c.reserve.ensures.items) (subst (λ (es : List (Name × Place)). AreNoted c.args.self.now.noted.items es) same c.requires.noted);
       full = subst AreFull same c.requires.full;
       room = let count = ap unchanged_count same in omega (arith, count, c.reserve.ensures.len, c.reserve.ensures.capacity, c.requires.room);
+      taken = subst (λ (es : List (Name × Place)). AreRuns (is_used_under es) c.args.self.now.taken) same c.requires.taken;
     }
 
 pub returns-clause-indexed : goal.returns-clause-indexed
@@ -36,6 +39,7 @@ returns-clause-indexed c =
           (noted-more c.args.self.now.noted.items es fs c.args.name c.in_ok-add_place.ensures.changed c.requires.noted);
       full = c.in_ok-add_place.ensures.full c.requires.full;
       room = omega (arith, c.push_reserved.ensures.len, c.push_reserved.ensures.capacity, c.in_ok-reserve.ensures.ok, c.in_ok-add_place.ensures.count, unchanged-few es, c.len.ensures.len);
+      taken = runs_same (row_under Now es) (row_under Now fs) c.args.self.now.taken (rows Now) c.requires.taken;
     }
 
 pub returns-clause-rows : goal.returns-clause-rows

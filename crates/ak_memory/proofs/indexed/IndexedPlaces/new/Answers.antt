@@ -4,7 +4,10 @@ use Rattle.ak_memory.specs.declared.places.Place.{Place}
 use Rattle.ak_memory.specs.declared.versions.Version.TheVariants.{Mark, Now}
 use Rattle.ak_memory.specs.Indexes.{AreNoted, HaveAllKeys, IsCounted}
 use Rattle.ak_memory.specs.Places.{AreFull, rows_at, unchanged_count}
+use Rattle.ak_memory.specs.TakenRuns.{AreRuns, is_used_under}
+use Rattle.ak_memory.specs.declared.taken_runs.TakenRuns.{TakenRuns}
 use Rattle.ak_memory.proofs.Counting.{counted-none}
+use Rattle.ak_memory.proofs.TakenRuns.{no_runs-are}
 use Rattle.ak_memory.proofs.indexed.IndexedPlaces.new.Goals as goal
 
 pub returns-clause-indexed : goal.returns-clause-indexed
@@ -17,4 +20,5 @@ returns-clause-indexed c =
       noted = subst (λ (es : List (Name × Place)). AreNoted c.new-3.result.items es) none (λ q is. absurd (subst T (sym is) tt));
       full = subst (λ (es : List (Name × Place)). AreFull es) none (λ q. refl);
       room = let few = ap unchanged_count c.new.ensures.empty in omega (arith, c.new-3.ensures.len, few);
+      taken = subst (λ (runs : TakenRuns). AreRuns (is_used_under c.new.result.entries) runs) (sym c.none.ensures) (no_runs-are _);
     }

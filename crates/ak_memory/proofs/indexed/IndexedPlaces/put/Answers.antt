@@ -14,6 +14,7 @@ returns-in_err-add_key-clause-indexed c =
       noted = made.noted;
       full = made.full;
       room = made.room;
+      taken = made.taken;
     }
 
 pub exchange-requires-clause-indexed : goal.exchange-requires-clause-indexed
@@ -26,4 +27,5 @@ exchange-requires-clause-indexed c =
       noted = made.noted;
       full = made.full;
       room = made.room;
+      taken = made.taken;
     }
