@@ -128,11 +128,27 @@ def try_round(rt, crate, edits, seed):
     return results
 
 
+def why_not_built(rt, crate):
+    """Has the libraries below the crate proved, and returns what was said of the first that is not, if one isn't."""
+    held = rt.rtlib.lock(crate.below())
+    try:
+        proofs = gate_tool.Proofs(rt, crate.below())
+        for it in crate.below():
+            is_proved, said = proofs.prove(it, 1, lambda: print(f"          {crate.name}: proving {it.name} below it", flush=True))
+            if not is_proved:
+                return f"{it.name} below it is not proved:\n{said}"
+        return None
+    finally:
+        for it in held:
+            os.close(it)
+
+
 def try_together(rt, name, edits):
     """Tries the crate's edits and returns the lines of those that were not refused."""
     crate = rt.Crate(f"{gate_tool.TOP}/crates/{name}", gate_tool.TOP, {})
-    if any(dep.build_rlib(["--jobs", "1"], anew=False) for dep in crate.below()):
-        return [f"{name}: NOT TRIED: a library below it is not proved"]
+    why = why_not_built(rt, crate)
+    if why:
+        return [f"{name}: NOT TRIED: {why}"]
     rounds, lost = rounds_of(crate, edits), []
     every = [mine for edits in rounds for _, mine in edits]
     functions = list(dict.fromkeys(it for mine in every for it in mine)) if all(every) else []

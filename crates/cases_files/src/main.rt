@@ -2,7 +2,6 @@
 #![tactic(auto)]
 
 mod files;
-mod heads;
 mod tables;
 
 use crate::files::Files;

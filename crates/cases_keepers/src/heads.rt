@@ -11,13 +11,12 @@ use crate::keepers::{row_of, value_of};
 use ak_base::{Conf, Head, LAST_HEAD_USN, LAST_MOMENT, List, Row, Tag, Text, cut};
 use ak_json::{read_conf, write_conf};
 use ak_keep::{Keeper, Lookup};
-use ak_memory::MemoryKeeper;
 use cases_lines::{Unread, list_at, number_at, quoted, text_at, value_text};
 use serde_json::Value;
 use std::alloc::Global;
 
 /// The head that is held: crt, moment, schema, usn, last sync, the settings and the tags, each with its usn.
-pub fn head_text(alloc: Global, keeper: &mut MemoryKeeper) -> Result<String, Unread> {
+pub fn head_text<L: Lookup>(alloc: Global, keeper: &mut L) -> Result<String, Unread> {
     match keeper.head() {
         Ok(Some(head)) => told(alloc, &head),
         Ok(None) => Ok(String::from_str(alloc, "none")?),
@@ -53,7 +52,7 @@ fn tag_text(alloc: Global, tag: &Tag) -> Result<String, Unread> {
 }
 
 /// `set-head [CRT, MOMENT, SCHEMA, USN, LAST-SYNC, CONF, TAGS]`, each tag being `[NAME, USN]`.
-pub fn set_head(alloc: Global, keeper: &mut MemoryKeeper, rest: &str) -> Result<String, Unread> {
+pub fn set_head<K: Keeper>(alloc: Global, keeper: &mut K, rest: &str) -> Result<String, Unread> {
     if !keeper.marked() {
         return Err(Unread::Bad);
     }
@@ -108,7 +107,7 @@ fn tag_of(alloc: Global, value: &Value) -> Result<Tag, Unread> {
 }
 
 /// `set-moments [MOMENT, SCHEMA, USN, LAST-SYNC]`.
-pub fn set_moments(alloc: Global, keeper: &mut MemoryKeeper, rest: &str) -> Result<String, Unread> {
+pub fn set_moments<K: Keeper>(alloc: Global, keeper: &mut K, rest: &str) -> Result<String, Unread> {
     let arguments = value_of(alloc, rest)?;
     let moments = moments_at(&arguments)?;
     if !keeper.marked() || !keeper.held() {
@@ -157,7 +156,7 @@ fn within(arguments: &Value, place: usize, most: i64) -> Result<i64, Unread>
 }
 
 /// `replace HEAD` or `replace HEAD TABLE JSON`: no row, or one. HEAD is the arguments of `set-head`, without a space in it.
-pub fn replace(alloc: Global, keeper: &mut MemoryKeeper, rest: &str) -> Result<String, Unread> {
+pub fn replace<K: Keeper>(alloc: Global, keeper: &mut K, rest: &str) -> Result<String, Unread> {
     if !keeper.marked() {
         return Err(Unread::Bad);
     }

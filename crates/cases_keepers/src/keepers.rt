@@ -7,20 +7,18 @@ use crate::related::related;
 use ak_base::{List, Name, Row, Table, cut};
 use ak_json::{read_row, read_text};
 use ak_keep::{KeepFault, Keeper, Lookup, Readable, Wanted};
-use ak_memory::MemoryKeeper;
 use cases_lines::{Unread, listed, number_at, row_text, table_of};
 use serde_json::Value;
 use std::alloc::Global;
 
-/// The answer to a command that one keeper can follow alone.
-pub fn answer_of(
+/// The answer to a command that any keeper can follow alone.
+pub fn answer_of_keeper<K: Keeper>(
     alloc: Global,
-    keeper: &mut MemoryKeeper,
+    keeper: &mut K,
     word: &str,
     rest: &str,
 ) -> Result<String, Unread> {
     match word {
-        "new" => new(alloc, keeper),
         "mark" => mark(alloc, keeper),
         "back" => back(alloc, keeper),
         "commit" => commit(alloc, keeper),
@@ -33,9 +31,9 @@ pub fn answer_of(
     }
 }
 
-fn answer_of_rows(
+fn answer_of_rows<K: Keeper>(
     alloc: Global,
-    keeper: &mut MemoryKeeper,
+    keeper: &mut K,
     word: &str,
     rest: &str,
 ) -> Result<String, Unread> {
@@ -50,7 +48,6 @@ fn answer_of_rows(
         "cards-of" => cards_of(alloc, keeper, rest),
         "count" => count(alloc, keeper, rest),
         "free" => free(alloc, keeper, rest),
-        "fail" => fail(alloc, keeper, rest),
         "type-of" | "deck-of" | "options-of" | "options-of-deck" => {
             related(alloc, keeper, word, rest)
         },
@@ -58,19 +55,14 @@ fn answer_of_rows(
     }
 }
 
-fn new(alloc: Global, keeper: &mut MemoryKeeper) -> Result<String, Unread> {
-    *keeper = MemoryKeeper::new(alloc);
-    Ok(String::from_str(alloc, "ok")?)
-}
-
-fn mark(alloc: Global, keeper: &mut MemoryKeeper) -> Result<String, Unread> {
+fn mark<K: Keeper>(alloc: Global, keeper: &mut K) -> Result<String, Unread> {
     if keeper.marked() {
         return Err(Unread::Bad);
     }
     done(alloc, keeper.mark())
 }
 
-fn back(alloc: Global, keeper: &mut MemoryKeeper) -> Result<String, Unread> {
+fn back<K: Keeper>(alloc: Global, keeper: &mut K) -> Result<String, Unread> {
     if !keeper.marked() {
         return Err(Unread::Bad);
     }
@@ -78,7 +70,7 @@ fn back(alloc: Global, keeper: &mut MemoryKeeper) -> Result<String, Unread> {
     Ok(String::from_str(alloc, "ok")?)
 }
 
-fn commit(alloc: Global, keeper: &mut MemoryKeeper) -> Result<String, Unread> {
+fn commit<K: Keeper>(alloc: Global, keeper: &mut K) -> Result<String, Unread> {
     if !keeper.marked() {
         return Err(Unread::Bad);
     }
@@ -86,7 +78,7 @@ fn commit(alloc: Global, keeper: &mut MemoryKeeper) -> Result<String, Unread> {
 }
 
 /// The faults so far, whether it is marked, and whether a head is held.
-fn state(alloc: Global, keeper: &MemoryKeeper) -> Result<String, Unread> {
+fn state<K: Keeper>(alloc: Global, keeper: &K) -> Result<String, Unread> {
     let faults = keeper.faults();
     let marked = keeper.marked();
     let held = keeper.held();
@@ -96,7 +88,7 @@ fn state(alloc: Global, keeper: &MemoryKeeper) -> Result<String, Unread> {
 // ---- rows
 
 /// `put TABLE JSON`.
-fn put(alloc: Global, keeper: &mut MemoryKeeper, rest: &str) -> Result<String, Unread> {
+fn put<K: Keeper>(alloc: Global, keeper: &mut K, rest: &str) -> Result<String, Unread> {
     if !keeper.marked() {
         return Err(Unread::Bad);
     }
@@ -136,7 +128,7 @@ pub fn value_of(alloc: Global, text: &str) -> Result<Value, Unread> {
 }
 
 /// `put-cards [FIRST, COUNT, NOTE]`: so many new cards of a note, with the ids from the first on.
-fn put_cards(alloc: Global, keeper: &mut MemoryKeeper, rest: &str) -> Result<String, Unread> {
+fn put_cards<K: Keeper>(alloc: Global, keeper: &mut K, rest: &str) -> Result<String, Unread> {
     let arguments = value_of(alloc, rest)?;
     let first = number_at(&arguments, 0)?;
     let count = number_at(&arguments, 1)?;
@@ -150,7 +142,7 @@ fn put_cards(alloc: Global, keeper: &mut MemoryKeeper, rest: &str) -> Result<Str
     Ok(String::from_str(alloc, "ok")?)
 }
 
-fn put_card(alloc: Global, keeper: &mut MemoryKeeper, id: i64, note: i64) -> Result<(), Unread> {
+fn put_card<K: Keeper>(alloc: Global, keeper: &mut K, id: i64, note: i64) -> Result<(), Unread> {
     let text = format!(in alloc; "card [{id},{note},1,0,0,-1,0,0,1,0,0,0,0,0,0,0,0,\"\"]")?;
     put(alloc, keeper, text.as_str())?;
     Ok(())
@@ -172,7 +164,7 @@ fn whole(text: &str) -> Result<i64, Unread> {
 }
 
 /// `get TABLE ID`.
-fn get(alloc: Global, keeper: &mut MemoryKeeper, rest: &str) -> Result<String, Unread> {
+fn get<K: Keeper>(alloc: Global, keeper: &mut K, rest: &str) -> Result<String, Unread> {
     let name = name_of(rest)?;
     match keeper.get(name) {
         Ok(row) => row_or_none(alloc, row),
@@ -188,7 +180,7 @@ fn row_or_none(alloc: Global, row: Option<Row>) -> Result<String, Unread> {
 }
 
 /// `remove TABLE ID`.
-fn remove(alloc: Global, keeper: &mut MemoryKeeper, rest: &str) -> Result<String, Unread> {
+fn remove<K: Keeper>(alloc: Global, keeper: &mut K, rest: &str) -> Result<String, Unread> {
     if !keeper.marked() {
         return Err(Unread::Bad);
     }
@@ -221,7 +213,7 @@ fn span_of(rest: &str) -> Result<Span, Unread>
 }
 
 /// `page TABLE PAST LIMIT`: the ids of the rows.
-fn page(alloc: Global, keeper: &mut MemoryKeeper, rest: &str) -> Result<String, Unread> {
+fn page<K: Keeper>(alloc: Global, keeper: &mut K, rest: &str) -> Result<String, Unread> {
     let span = span_of(rest)?;
     paged(alloc, keeper.page(span.table, span.past, span.limit))
 }
@@ -242,7 +234,7 @@ fn ids_text(alloc: Global, rows: &[Row]) -> Result<String, Unread> {
 }
 
 /// `unsent TABLE PAST LIMIT`: the ids of the rows that were not sent yet.
-fn unsent(alloc: Global, keeper: &mut MemoryKeeper, rest: &str) -> Result<String, Unread> {
+fn unsent<K: Keeper>(alloc: Global, keeper: &mut K, rest: &str) -> Result<String, Unread> {
     let span = span_of(rest)?;
     paged(
         alloc,
@@ -251,7 +243,7 @@ fn unsent(alloc: Global, keeper: &mut MemoryKeeper, rest: &str) -> Result<String
 }
 
 /// `from USN TABLE PAST LIMIT`: the ids of the rows with at least this usn.
-fn from(alloc: Global, keeper: &mut MemoryKeeper, rest: &str) -> Result<String, Unread> {
+fn from<K: Keeper>(alloc: Global, keeper: &mut K, rest: &str) -> Result<String, Unread> {
     let (usn, rest) = cut(rest, " ").ok_or(Unread::Bad)?;
     let want = Wanted::From(whole(usn)?);
     let span = span_of(rest)?;
@@ -262,7 +254,7 @@ fn from(alloc: Global, keeper: &mut MemoryKeeper, rest: &str) -> Result<String, 
 }
 
 /// `cards-of NOTE`.
-fn cards_of(alloc: Global, keeper: &mut MemoryKeeper, rest: &str) -> Result<String, Unread> {
+fn cards_of<K: Keeper>(alloc: Global, keeper: &mut K, rest: &str) -> Result<String, Unread> {
     let note = whole(rest)?;
     match keeper.cards_of(note) {
         Ok(ids) => listed(alloc, ids.as_slice()),
@@ -271,7 +263,7 @@ fn cards_of(alloc: Global, keeper: &mut MemoryKeeper, rest: &str) -> Result<Stri
 }
 
 /// `count TABLE`.
-fn count(alloc: Global, keeper: &mut MemoryKeeper, rest: &str) -> Result<String, Unread> {
+fn count<K: Keeper>(alloc: Global, keeper: &mut K, rest: &str) -> Result<String, Unread> {
     let table = table_of(rest)?;
     match keeper.count(table) {
         Ok(count) => Ok(format!(in alloc; "{count}")?),
@@ -280,7 +272,7 @@ fn count(alloc: Global, keeper: &mut MemoryKeeper, rest: &str) -> Result<String,
 }
 
 /// `free TABLE ID`.
-fn free(alloc: Global, keeper: &mut MemoryKeeper, rest: &str) -> Result<String, Unread> {
+fn free<K: Keeper>(alloc: Global, keeper: &mut K, rest: &str) -> Result<String, Unread> {
     let first = name_of(rest)?;
     if first.id < 1 {
         return Err(Unread::Bad);
@@ -289,24 +281,4 @@ fn free(alloc: Global, keeper: &mut MemoryKeeper, rest: &str) -> Result<String, 
         Ok(name) => name_text(alloc, name),
         Err(fault) => failed(alloc, fault),
     }
-}
-
-/// `fail [CALL, ..]`: the calls that are to fail, counted from 0 from here on.
-fn fail(alloc: Global, keeper: &mut MemoryKeeper, rest: &str) -> Result<String, Unread> {
-    let calls = calls_of(alloc, rest)?;
-    keeper.fail_at(calls);
-    Ok(String::from_str(alloc, "ok")?)
-}
-
-fn calls_of(alloc: Global, rest: &str) -> Result<List<u64>, Unread> {
-    let arguments = value_of(alloc, rest)?;
-    calls_in(alloc, &arguments)
-}
-
-fn calls_in(alloc: Global, arguments: &Value) -> Result<List<u64>, Unread> {
-    let mut calls = List::new(alloc);
-    for call in arguments.as_array().ok_or(Unread::Bad)? {
-        calls.push(call.as_u64().ok_or(Unread::Bad)?)?;
-    }
-    Ok(calls)
 }

@@ -1,10 +1,12 @@
-// The commands of a keeper in memory, which programs of cases over collections share.
+// The commands of a keeper, which programs of cases over collections share.
 #![tactic(auto)]
 
 mod faults;
 mod heads;
 mod keepers;
+mod memory;
 mod related;
 
-pub use faults::{done, failed, name_text};
-pub use keepers::{answer_of, row_of, value_of};
+pub use faults::{failed, name_text};
+pub use keepers::{answer_of_keeper, row_of, value_of};
+pub use memory::answer_of;

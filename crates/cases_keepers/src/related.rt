@@ -4,14 +4,13 @@ use ak_keep::{
     KeepFault, Lookup, card_at, deck_at, deck_of_card, note_at, options_of_card, options_of_deck,
     type_of_note,
 };
-use ak_memory::MemoryKeeper;
 use cases_lines::Unread;
 use std::alloc::Global;
 
 /// `type-of NOTE`, `deck-of CARD`, `options-of CARD` and `options-of-deck DECK`: an id, or `none`.
-pub fn related(
+pub fn related<L: Lookup>(
     alloc: Global,
-    keeper: &mut MemoryKeeper,
+    keeper: &mut L,
     word: &str,
     rest: &str,
 ) -> Result<String, Unread> {

@@ -1,13 +1,14 @@
+ghost use Rattle.std.specs.Prelude.{IfOk};
 ghost use Rattle.ak_io.specs.Arrivals.{IsClockMoment};
 
 use crate::shown::{all, sum};
 use ak_answers::whole_of;
 use ak_base::{List, SessionKey};
 use ak_keep::{KeepFault, Lookup};
-use ak_loops::{LoggedServer, keeper_with};
+use ak_loops::{LoggedServer, LoopWire, NothingBetween, keeper_with};
 use ak_memory::MemoryKeeper;
 use ak_server_copies::view_all;
-use ak_wire::{Ask, Request, Whole, write_reply};
+use ak_wire::{Ask, Reply, Request, Whole, write_reply};
 use cases_accounts::{empty_account, host_key, moment_at};
 use cases_keepers::{answer_of, value_of};
 use cases_lines::Unread;
@@ -36,8 +37,7 @@ impl Host {
 
     /// `open [AT]`: a server whose account holds no row, and was changed last at this moment.
     fn open(&mut self, alloc: Global, rest: &str) -> Result<String, Unread> {
-        let arguments = value_of(alloc, rest)?;
-        let at = moment_at(&arguments, 0)?;
+        let at = moment_of(alloc, rest)?;
         self.logged = Some(empty_account(alloc, at)?);
         Ok(String::from_str(alloc, "ok")?)
     }
@@ -62,6 +62,14 @@ impl Host {
         }
     }
 
+    /// Takes the server back from a wire, and tells how many calls came.
+    pub fn take_back(&mut self, wire: LoopWire<NothingBetween>) -> u64 {
+        let calls = wire.calls();
+        let (server, _nothing) = wire.into_parts();
+        self.logged = Some(server);
+        calls
+    }
+
     /// A keeper that holds what the account holds.
     pub fn copied(&mut self, alloc: Global) -> Result<MemoryKeeper, Unread> {
         match &mut self.logged {
@@ -69,6 +77,14 @@ impl Host {
             None => Err(Unread::Bad),
         }
     }
+}
+
+/// The moment of `[AT]`.
+fn moment_of(alloc: Global, rest: &str) -> Result<i64, Unread>
+    ensures { IfOk result IsClockMoment }
+{
+    let arguments = value_of(alloc, rest)?;
+    moment_at(&arguments, 0)
 }
 
 fn calls_of(alloc: Global, rest: &str) -> Result<List<u64>, Unread> {
@@ -113,8 +129,7 @@ pub fn upload(
     server: &mut LoggedServer,
     rest: &str,
 ) -> Result<String, Unread> {
-    let arguments = value_of(alloc, rest)?;
-    let at = moment_at(&arguments, 0)?;
+    let at = moment_of(alloc, rest)?;
     let base = done(server.view_head())?.moment;
     let meta = Step {
         step: 0,
@@ -146,7 +161,11 @@ fn ask(alloc: Global, server: &mut LoggedServer, step: Step, ask: Ask) -> Result
         ask,
     };
     let reply = server.serve(&request, step.at)?;
-    let body = write_reply(alloc, &reply)?;
+    reply_text(alloc, &reply)
+}
+
+fn reply_text(alloc: Global, reply: &Reply) -> Result<String, Unread> {
+    let body = write_reply(alloc, reply)?;
     let status = reply.status;
     let text = body.as_str();
     Ok(format!(in alloc; "{status} {text}")?)

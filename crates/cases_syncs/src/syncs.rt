@@ -1,6 +1,3 @@
-ghost use Rattle.std.specs.Prelude.{IfOk};
-ghost use Rattle.ak_io.specs.Arrivals.{IsClockMoment};
-
 use crate::liars::LiarWire;
 use crate::lies::lie_at;
 use crate::servers::Host;
@@ -8,7 +5,7 @@ use ak_base::{HostKey, List, SessionKey, cut};
 use ak_client::{Ids, Outcome, sync_over};
 use ak_io::ListClock;
 use ak_keep::{Keeper, Lookup};
-use ak_loops::{LoggedServer, LoopWire, Mishap, NothingBetween, What};
+use ak_loops::{LoopWire, Mishap, NothingBetween, What};
 use ak_memory::MemoryKeeper;
 use ak_undo::UndoList;
 use ak_wires::Wire;
@@ -29,11 +26,20 @@ pub fn sync(
     let arguments = value_of(alloc, rest)?;
     let ids = ids_at(key, &arguments)?;
     let mut clock = clock_at(alloc, &arguments)?;
-    let mut wire = wire_at(alloc, host, &arguments)?;
-    let outcome = synced(alloc, keeper, &mut wire, &mut clock, ids);
-    let calls = wire.calls();
-    let (server, _nothing) = wire.into_parts();
-    host.logged = Some(server);
+    let wire = wire_at(alloc, host, &arguments)?;
+    sync_by_wire(alloc, keeper, host, wire, &mut clock, ids)
+}
+
+fn sync_by_wire(
+    alloc: Global,
+    keeper: &mut MemoryKeeper,
+    host: &mut Host,
+    mut wire: LoopWire<NothingBetween>,
+    clock: &mut ListClock,
+    ids: Ids,
+) -> Result<String, Unread> {
+    let outcome = synced(alloc, keeper, &mut wire, clock, ids);
+    let calls = host.take_back(wire);
     outcome_text(alloc, outcome?, calls)
 }
 
@@ -50,14 +56,20 @@ pub fn sync_by_lie(
     let arguments = value_of(alloc, rest)?;
     let ids = ids_at(key, &arguments)?;
     let mut clock = clock_at(alloc, &arguments)?;
-    let lie = lie_at(alloc, &arguments)?;
-    let from = natural_at(&arguments, 5)?;
-    let mut wire = LiarWire::new(wire_at(alloc, host, &arguments)?, from, lie);
-    let outcome = synced(alloc, keeper, &mut wire, &mut clock, ids);
-    let inner = wire.into_inner();
-    let calls = inner.calls();
-    let (server, _nothing) = inner.into_parts();
-    host.logged = Some(server);
+    let wire = liar_at(alloc, host, &arguments)?;
+    sync_by_liar(alloc, keeper, host, wire, &mut clock, ids)
+}
+
+fn sync_by_liar(
+    alloc: Global,
+    keeper: &mut MemoryKeeper,
+    host: &mut Host,
+    mut wire: LiarWire,
+    clock: &mut ListClock,
+    ids: Ids,
+) -> Result<String, Unread> {
+    let outcome = synced(alloc, keeper, &mut wire, clock, ids);
+    let calls = host.take_back(wire.into_inner());
     outcome_text(alloc, outcome?, calls)
 }
 
@@ -109,6 +121,14 @@ fn wire_at(
         Some(server) => Ok(LoopWire::new(server, at, mishaps, NothingBetween)),
         None => Err(Unread::Bad),
     }
+}
+
+/// A wire to the server that lies.
+fn liar_at(alloc: Global, host: &mut Host, arguments: &Value) -> Result<LiarWire, Unread> {
+    let lie = lie_at(alloc, arguments)?;
+    let from = natural_at(arguments, 5)?;
+    let wire = wire_at(alloc, host, arguments)?;
+    Ok(LiarWire::new(wire, from, lie))
 }
 
 /// A list of `[CALL, WHAT]`.

@@ -1,10 +1,10 @@
+use crate::runs::run_text;
 use ak_base::{Head, List, Row, Table};
 use ak_keep::{KeepFault, Lookup, Readable};
 use ak_memory::MemoryKeeper;
 use ak_sqlite::SqliteKeeper;
 use ak_sync_runs::NoServer;
 use cases_lines::Unread;
-use cases_programs::run_text;
 use serde_json::Value;
 use std::alloc::Global;
 use std::fs;

@@ -1,29 +1,15 @@
 use crate::files::{is_held_in_file, text_in_file, without_file};
+use crate::run_lists::{RunsCases, run_texts};
+use crate::runs::run_text;
 use ak_memory::MemoryKeeper;
 use ak_sync_runs::NoServer;
-use cases_lines::{Answers, Unread};
-use cases_programs::{RunsCases, run_text, run_texts};
+use cases_lines::Unread;
 use serde_json::Value;
 use std::alloc::Global;
 use std::rt::HostRuntime;
 
-/// Nothing is kept from one line to the next.
-#[derive(Drop)]
-pub struct Twins<'a> {
-    pub rt: &'a HostRuntime,
-}
-
-impl Answers for Twins<'_> {
-    fn answer(&mut self, alloc: Global, word: &str, rest: &str) -> Result<String, Unread> {
-        match (word, Value::from_str(alloc, rest)) {
-            ("reopened", Ok(arguments)) => run_beside(alloc, self.rt, &arguments),
-            _ => Err(Unread::Bad),
-        }
-    }
-}
-
 /// `reopened [[RUN, ..]]`: what each run over a new file is told as.
-fn run_beside(alloc: Global, rt: &HostRuntime, arguments: &Value) -> Result<String, Unread> {
+pub fn run_beside(alloc: Global, rt: &HostRuntime, arguments: &Value) -> Result<String, Unread> {
     without_file(rt);
     let mut beside = Beside {
         rt,

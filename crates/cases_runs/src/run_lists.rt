@@ -8,7 +8,7 @@ pub trait RunsCases {
     fn next_text(&mut self, alloc: Global, run: &Value) -> Result<String, Unread>;
 }
 
-/// What the runs that are listed at a place of the arguments are told as, one after another, each with ` / ` behind it.
+/// What the runs that are listed at a place of the arguments are told as, one after another, each with ` / ` after it.
 pub fn run_texts<R: RunsCases>(
     alloc: Global,
     runs: &mut R,

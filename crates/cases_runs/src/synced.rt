@@ -1,5 +1,7 @@
 ghost use Rattle.ak_io.specs.Arrivals.{IsClockMoment};
 
+use crate::run_lists::{RunsCases, run_texts};
+use crate::runs::{numbers_at, run_text};
 use crate::servers::{row_counts, server_moment};
 use ak_base::{List, cut};
 use ak_keep::Lookup;
@@ -7,27 +9,13 @@ use ak_loops::{LoggedServer, LoopWire, NothingBetween};
 use ak_memory::MemoryKeeper;
 use cases_accounts::{empty_account, moment_at};
 use cases_keepers::answer_of;
-use cases_lines::{Answers, Unread};
-use cases_programs::{RunsCases, numbers_at, run_text, run_texts};
+use cases_lines::Unread;
 use serde_json::Value;
 use std::alloc::Global;
 
-/// Nothing is kept from one line to the next.
-#[derive(Drop)]
-pub struct Synced;
-
-impl Answers for Synced {
-    fn answer(&mut self, alloc: Global, word: &str, rest: &str) -> Result<String, Unread> {
-        match (word, Value::from_str(alloc, rest)) {
-            ("synced", Ok(arguments)) => run_synced(alloc, &arguments),
-            _ => Err(Unread::Bad),
-        }
-    }
-}
-
 /// `synced [OPENING-MOMENT, FAILING-CALLS, [RUN, ..]]`: what each run over one keeper, and a wire in memory to one server, is
 /// told as, the faults of the keeper, and how many rows of each table the server holds then.
-fn run_synced(alloc: Global, arguments: &Value) -> Result<String, Unread> {
+pub fn run_synced(alloc: Global, arguments: &Value) -> Result<String, Unread> {
     let moment = moment_at(arguments, 0)?;
     match empty_account(alloc, moment) {
         Ok(server) => run_with(alloc, server, arguments),
@@ -94,7 +82,7 @@ impl Sides {
 }
 
 impl RunsCases for Sides {
-    /// What a run is told as. The server's clock stands at the moment behind the run's words of chance, or at 1700000000000. A
+    /// What a run is told as. The server's clock stands at the moment after the run's words of chance, or at 1700000000000. A
     /// text is a command of the device's keeper.
     fn next_text(&mut self, alloc: Global, run: &Value) -> Result<String, Unread> {
         if let Some(command) = run.as_str() {
