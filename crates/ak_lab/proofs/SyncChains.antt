@@ -15,9 +15,10 @@ use Rattle.ak_lab.specs.LabSyncs.{IsLabIds, IsLabSync, sent_by}
 use Rattle.ak_lab_devices.specs.Devices.{keeping_of}
 use Rattle.ak_lab_devices.specs.declared.devices.Device.{Device}
 use Rattle.ak_loops.specs.Entries.{LoggedState, collection_in, log_in}
-use Rattle.ak_loops.specs.LoopWires.{IsServedBy, given_with, health_over, no_calls, state_over}
+use Rattle.ak_call_counts.specs.CallCounts.{no_calls}
+use Rattle.ak_loops.specs.LoopWires.{IsServedBy, given_with, health_over, state_over}
 use Rattle.ak_loops.specs.Mishaps.{loses_nothing}
-use Rattle.ak_loops.specs.declared.call_counts.CallCounts.{CallCounts}
+use Rattle.ak_call_counts.specs.declared.call_counts.CallCounts.{CallCounts}
 use Rattle.ak_loops.specs.declared.mishaps.Mishap.{Mishap}
 use Rattle.ak_messages.specs.declared.replies.Reply.{Reply}
 use Rattle.ak_protocol.specs.Logs.{Event, with_growth}

@@ -15,7 +15,8 @@ use Rattle.ak_lab_keepers.specs.RestingKeepers.{Holds}
 use Rattle.ak_lab.specs.LabStates.{LabState, lab_host, with_changed}
 use Rattle.ak_lab_devices.specs.declared.devices.Device.{Device}
 use Rattle.ak_loops.specs.Entries.{LoggedState, log_in}
-use Rattle.ak_loops.specs.LoopWires.{IsServedBy, health_over, no_calls, state_over}
+use Rattle.ak_call_counts.specs.CallCounts.{no_calls}
+use Rattle.ak_loops.specs.LoopWires.{IsServedBy, health_over, state_over}
 use Rattle.ak_merge.specs.Conflicts.{first_conflict}
 use Rattle.ak_messages.specs.declared.replies.Reply.{Reply}
 use Rattle.ak_messages.specs.declared.requests.Request.{Request}

@@ -31,7 +31,8 @@ use Rattle.ak_lab_devices.specs.Devices.{keeping_of}
 use Rattle.ak_lab_devices.specs.declared.devices.Device.{Device}
 use Rattle.ak_lab_keepers.specs.RestingKeepers.{Holds, kept_of}
 use Rattle.ak_loops.specs.Entries.{LoggedState, log_in}
-use Rattle.ak_loops.specs.LoopWires.{health_over, no_calls, state_over}
+use Rattle.ak_call_counts.specs.CallCounts.{no_calls}
+use Rattle.ak_loops.specs.LoopWires.{health_over, state_over}
 use Rattle.ak_merge.specs.Edits.{Reversal}
 use Rattle.ak_merge.specs.Exchanges.{AreExchanged}
 use Rattle.ak_keep.specs.Graves.{RowsByName}

@@ -9,7 +9,7 @@ use Rattle.ak_loops.specs.Betweens.{StaysIdle}
 use Rattle.ak_loops.specs.Entries.{LoggedState, log_in}
 use Rattle.ak_loops.specs.LoopWires.{Fares, FaresAt, ServesUpTo, state_over}
 use Rattle.ak_loops.specs.Mishaps.{is_lost, servings}
-use Rattle.ak_loops.specs.declared.call_counts.CallCounts.{CallCounts}
+use Rattle.ak_call_counts.specs.declared.call_counts.CallCounts.{CallCounts}
 use Rattle.ak_loops.specs.declared.mishaps.Mishap.{Mishap}
 use Rattle.ak_messages.specs.declared.replies.Reply.{Reply}
 use Rattle.ak_messages.specs.declared.requests.Request.{Request}

@@ -10,9 +10,10 @@ use Rattle.ak_loops.proofs.Kept.{keeps_given}
 use Rattle.ak_loops.proofs.Losing.{not_lost}
 use Rattle.ak_loops.specs.Betweens.{ComesBetween, StaysIdle}
 use Rattle.ak_loops.specs.Entries.{LoggedState, log_in}
-use Rattle.ak_loops.specs.LoopWires.{Fares, FaresAt, counts_after, faults_after, health_over, state_over}
+use Rattle.ak_call_counts.specs.CallCounts.{counts_after, faults_after}
+use Rattle.ak_loops.specs.LoopWires.{Fares, FaresAt, health_over, state_over}
 use Rattle.ak_loops.specs.Mishaps.{is_lost, servings}
-use Rattle.ak_loops.specs.declared.call_counts.CallCounts.{CallCounts}
+use Rattle.ak_call_counts.specs.declared.call_counts.CallCounts.{CallCounts}
 use Rattle.ak_loops.specs.declared.mishaps.Mishap.{Mishap}
 use Rattle.ak_messages.specs.declared.replies.Reply.{Reply}
 use Rattle.ak_messages.specs.declared.requests.Request.{Request}

@@ -2,12 +2,12 @@
 use Rattle.std.specs.List.{AllByRecursion, list_all}
 use Rattle.std.specs.Ordering.{int_eq}
 use Rattle.std.specs.Prelude.{◌≡◌, ◌<◌, ◌==◌, ◌&&◌, ◌⊎◌, ℕ, zero, suc, ℤ, pos, if◌then◌else◌, Bool, true, false, List, [], ◌∷◌, ◌++◌, Some, None, Result, Ok, Err}
-use Rattle.ak_faults.specs.Causes.{Health, one_more}
+use Rattle.ak_call_counts.specs.declared.call_counts.CallCounts.{CallCounts}
+use Rattle.ak_faults.specs.Causes.{Health}
 use Rattle.ak_loops.specs.Betweens.{ComesBetween, StaysIdle}
 use Rattle.ak_loops.specs.Entries.{LoggedState, collection_in, events_in, log_in}
 use Rattle.ak_loops.specs.LoggedServers.{IsServed}
 use Rattle.ak_loops.specs.Mishaps.{is_lost, loses_nothing, servings}
-use Rattle.ak_loops.specs.declared.call_counts.CallCounts.{CallCounts}
 use Rattle.ak_loops.specs.declared.logs.Entry.{Entry}
 use Rattle.ak_loops.specs.declared.logs.Logged.{Logged}
 use Rattle.ak_loops.specs.declared.logs.Logged.TheVariants as logged
@@ -15,30 +15,9 @@ use Rattle.ak_loops.specs.declared.mishaps.Mishap.{Mishap}
 use Rattle.ak_messages.specs.declared.replies.Reply.{Reply}
 use Rattle.ak_messages.specs.declared.requests.Request.{Request}
 use Rattle.ak_protocol.specs.Logs.{Event}
-use Rattle.ak_wires.specs.Wires.{WireState, said_after, silence_after}
+use Rattle.ak_wires.specs.Wires.{WireState}
 use Rattle.ak_wires.specs.declared.wires.WireEnd.{WireEnd}
 use Rattle.ak_wires.specs.declared.wires.WireEnd.TheVariants as ends
-
--- ---- what it counts
--- no call was made
-abbrev pub no_calls : CallCounts
-no_calls = record { calls = 0; faults = 0; silent = 0; said = None }
-
--- how many calls failed, once so many did before this call
-abbrev pub faults_after : ℕ → Result Reply WireEnd → ℕ
-faults_after before (Err ends.Failed) = one_more before
-faults_after before (Err ends.BadReply) = before
-faults_after before (Err ends.Memory) = before
-faults_after before (Ok reply) = before
-
--- the counts after a call that was answered so
-abbrev pub counts_after : CallCounts → Request → Result Reply WireEnd → CallCounts
-counts_after c request answer = record {
-  calls = one_more c.calls;
-  faults = faults_after c.faults answer;
-  silent = silence_after c.silent answer;
-  said = said_after request answer;
-}
 
 -- ---- what it tells
 -- how many of its calls failed. It is known not to fail if no mishap loses a message

@@ -4,7 +4,6 @@
 
 mod between_laws;
 mod betweens;
-mod call_counts;
 mod deliveries;
 mod filled_keepers;
 mod logged_servers;

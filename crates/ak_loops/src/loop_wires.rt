@@ -1,11 +1,11 @@
 ghost use Rattle.ak_io.specs.Arrivals.{IsClockMoment};
 
 use crate::betweens::Between;
-use crate::call_counts::CallCounts;
 use crate::deliveries::{fate_at, serve_by};
 use crate::logged_servers::LoggedServer;
 use crate::mishaps::Mishap;
 use ak_base::{List, Memory};
+use ak_call_counts::CallCounts;
 use ak_io::End;
 use ak_messages::{Reply, Request};
 use ak_wires::{Said, Wire, WireEnd};
@@ -25,7 +25,8 @@ pub struct LoopWire<B> {
 impl<B: Between> LoopWire<B> {
     ghost use Rattle.std.specs.Prelude.{◌≡◌, ℤ, List};
     ghost use Rattle.ak_loops.specs.Entries.{LoggedState, log_in};
-    ghost use Rattle.ak_loops.specs.LoopWires.{Delivers, IsServedBy, given_with, no_calls};
+    ghost use Rattle.ak_call_counts.specs.CallCounts.{no_calls};
+    ghost use Rattle.ak_loops.specs.LoopWires.{Delivers, IsServedBy, given_with};
     ghost use Rattle.ak_protocol.specs.Logs.{Event, with_growth};
 
     /// A wire to this server, whose clock stays at this moment, in milliseconds.
@@ -97,7 +98,8 @@ impl<B: Between> End for LoopWire<B> {
 
 impl<B: Between> Wire for LoopWire<B> {
     ghost use Rattle.std.specs.Prelude.{◌≡◌};
-    ghost use Rattle.ak_loops.specs.LoopWires.{Delivers, counts_after, health_over, state_over};
+    ghost use Rattle.ak_call_counts.specs.CallCounts.{counts_after};
+    ghost use Rattle.ak_loops.specs.LoopWires.{Delivers, health_over, state_over};
     ghost use Rattle.ak_wires.specs.Wires.{Called};
 
     ghost state = { λ wire. state_over wire.server wire.counts wire.moment (B.idle wire.between) };

@@ -1,7 +1,7 @@
 use Rattle.std.proofs.Common.{ap, ◌∙◌}
 use Rattle.ak_loops.proofs.Calling.{called_from}
-use Rattle.ak_loops.specs.LoopWires.{counts_after}
-use Rattle.ak_loops.specs.declared.call_counts.CallCounts.{CallCounts}
+use Rattle.ak_call_counts.specs.CallCounts.{counts_after}
+use Rattle.ak_call_counts.specs.declared.call_counts.CallCounts.{CallCounts}
 use Rattle.ak_loops.proofs.loop_wires.LoopWireWire.call.Goals as goal
 
 pub returns-clause-called : goal.returns-clause-called

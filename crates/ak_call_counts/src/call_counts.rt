@@ -1,24 +1,24 @@
 ghost use Rattle.std.specs.Prelude.{◌≡◌, ◌≤◌};
-ghost use Rattle.ak_loops.specs.LoopWires.{counts_after, no_calls};
+ghost use Rattle.ak_call_counts.specs.CallCounts.{counts_after, no_calls};
 
 use ak_messages::{Reply, Request, SanityReply};
 use ak_wires::{Said, WireEnd, said_of};
 
-/// What a wire counts of its calls, and what the reply of the last one said. Each count stays at the last `u64`.
+/// What a wire counts of its calls, and what the reply of the last one said. Each count stays at the last `u64`. It takes no memory.
 #[derive(Drop)]
-pub(crate) struct CallCounts {
+pub struct CallCounts {
     /// The calls that were made.
-    pub(crate) calls: u64,
+    pub calls: u64,
     /// Those that failed.
-    pub(crate) faults: u64,
+    pub faults: u64,
     /// Those that failed in a row, up to the last one.
-    pub(crate) silent: u64,
-    pub(crate) said: Option<Said>,
+    pub silent: u64,
+    pub said: Option<Said>,
 }
 
 impl CallCounts {
     /// No call was made.
-    pub(crate) fn new() -> CallCounts
+    pub fn new() -> CallCounts
         ensures { result ≡ no_calls }
     {
         CallCounts {
@@ -30,7 +30,7 @@ impl CallCounts {
     }
 
     /// What the reply of the last call said.
-    pub(crate) fn last(&self) -> Option<Said>
+    pub fn last(&self) -> Option<Said>
         ensures { result ≡ self.now.said }
     {
         match &self.said {
@@ -40,7 +40,7 @@ impl CallCounts {
     }
 
     /// Counts a call that was answered so.
-    pub(crate) fn count(&mut self, request: &Request, answer: &Result<Reply, WireEnd>)
+    pub fn count(&mut self, request: &Request, answer: &Result<Reply, WireEnd>)
         ensures counts { self.new ≡ counts_after self.old request.now answer.now }
         ensures later { self.old.faults ≤ self.new.faults }
     {
