@@ -1,6 +1,11 @@
+use crate::cuts::cuts;
+use crate::desk_lines::desk_line;
+use crate::message_fields::message_fields;
 use crate::notes::{checksum, ords, sorted_by};
 use crate::pages::{pages, parsed, shown};
 use crate::paths::{fields, opening, parts, subtree, tags};
+use crate::replies::reply;
+use crate::requests::request;
 use crate::rows::{about, check, conf, row, same};
 use crate::schedules::{answered, can_be_answered, fuzz, leech};
 use crate::texts::{
@@ -10,7 +15,7 @@ use cases_lines::{Answers, Unread};
 use serde_json::Value;
 use std::alloc::Global;
 
-/// The commands over values: nothing is kept from one to the next.
+/// The commands over values, bodies of messages and desk lines: nothing is kept from one to the next.
 #[derive(Drop)]
 pub struct Values;
 
@@ -26,7 +31,21 @@ fn answer_to(alloc: Global, word: &str, rest: &str) -> Result<String, Unread> {
         "check" => check(alloc, rest),
         "conf" => conf(alloc, rest),
         "about" => about(alloc, rest),
+        "fields" => answer_to_fields(alloc, rest),
+        "request" => request(alloc, rest),
+        "reply" => reply(alloc, rest),
+        "cuts" => cuts(alloc, rest),
+        "desk" => desk_line(alloc, rest),
         _ => answer_to_values(alloc, word, rest),
+    }
+}
+
+/// `fields [NOTE]`, or `fields` of a message: what the arguments of a note begin with tells them apart.
+fn answer_to_fields(alloc: Global, rest: &str) -> Result<String, Unread> {
+    if rest.starts_with("[") {
+        answer_to_values(alloc, "fields", rest)
+    } else {
+        message_fields(alloc, rest)
     }
 }
 

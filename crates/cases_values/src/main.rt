@@ -1,10 +1,17 @@
-// Cases of the values and their rules: one command a line, and one line printed for each. README.md tells the commands.
+// Cases of the values and their rules, of the bodies of messages and of desk lines: one command a line, and one line printed
+// for each. README.md tells the commands.
 #![tactic(auto)]
 
 mod commands;
+mod cuts;
+mod desk_lines;
+mod message_fields;
+mod message_words;
 mod notes;
 mod pages;
 mod paths;
+mod replies;
+mod requests;
 mod rows;
 mod schedules;
 mod texts;

@@ -1,6 +1,6 @@
 use crate::replies::{reply_fields, status_in};
 use crate::requests::request_fields;
-use crate::words::method_in;
+use crate::message_words::method_in;
 use ak_base::cut;
 use ak_merge::CheckFault;
 use ak_wire::{Ask, Changes, Chunk, Give, GraveIds, MetaReply, SanityCounts, SanityReply, Whole};
@@ -9,7 +9,7 @@ use std::alloc::Global;
 
 /// `fields request METHOD BODY` or `fields reply METHOD STATUS BODY`: the numbers that the message holds, in the order
 /// of their names, which are not those of its keys.
-pub fn fields(alloc: Global, rest: &str) -> Result<String, Unread> {
+pub fn message_fields(alloc: Global, rest: &str) -> Result<String, Unread> {
     let (word, words) = cut(rest, " ").ok_or(Unread::Bad)?;
     let (method, words) = method_in(words)?;
     match word {

@@ -1,38 +1,14 @@
 use ak_base::{List, Text};
-use ak_io::{Line, LineReader, Sink, Source, print_line};
 use ak_lines::{DeskLine, LineFault, read_line};
 use ak_texts::write_line_fault;
 use cases_lines::{Unread, listed, quoted};
 use std::alloc::Global;
-use std::str;
 
-/// Prints a line for each line of the input.
-pub(crate) fn print_lines<I: Source, O: Sink>(
-    alloc: Global,
-    input: &mut I,
-    out: &mut O,
-) -> Result<(), Unread> {
-    let mut reader = LineReader::new(alloc)?;
-    for _ in 0..u64::MAX {
-        match reader.next(input)? {
-            Some(Line::Whole(line)) => {
-                let answer = answer(alloc, line.as_slice())?;
-                print_line(out, answer.as_bytes())?;
-            },
-            Some(_) => return Err(Unread::Bad),
-            None => return Ok(()),
-        }
-    }
-    Ok(())
-}
-
-fn answer(alloc: Global, line: &[u8]) -> Result<String, Unread> {
-    match str::from_utf8(line) {
-        Ok(line) => match read_line(alloc, line) {
-            Ok(line) => said(alloc, &line),
-            Err(fault) => refused(alloc, &fault),
-        },
-        Err(_) => Err(Unread::Bad),
+/// `desk LINE`: what the desk line says, or why it is refused.
+pub fn desk_line(alloc: Global, line: &str) -> Result<String, Unread> {
+    match read_line(alloc, line) {
+        Ok(line) => said(alloc, &line),
+        Err(fault) => refused(alloc, &fault),
     }
 }
 

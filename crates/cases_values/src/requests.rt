@@ -1,5 +1,5 @@
-use crate::fields::ask_fields;
-use crate::words::{body_text, method_in, wire_fault};
+use crate::message_fields::ask_fields;
+use crate::message_words::{body_text, method_in, wire_fault};
 use ak_base::{HostKey, SessionKey};
 use ak_wire::{Envelope, Method, Request, WireFault, read_request, write_request};
 use cases_lines::Unread;

@@ -1,5 +1,5 @@
-use crate::fields::give_fields;
-use crate::words::{body_text, method_in, wire_fault};
+use crate::message_fields::give_fields;
+use crate::message_words::{body_text, method_in, wire_fault};
 use ak_base::{cut, read_number};
 use ak_wire::{Method, Reply, WireFault, Word, read_reply, write_reply};
 use cases_lines::Unread;
