@@ -1,6 +1,6 @@
 ghost use Rattle.std.specs.Prelude.{◌≤ℤ◌, pos, IfOk};
 
-use crate::faults::fault_text;
+use crate::call_faults::fault_text;
 use crate::sessions::Session;
 use crate::{deck_calls, note_calls, option_calls, queue_calls, study_calls, type_calls};
 use ak_decks::{FlagCards, MoveCards, UseOptions, flag, move_cards, use_options};

@@ -1,9 +1,10 @@
 use crate::calls::call;
-use ak_base::cut;
+use crate::merges::{checked, take};
+use crate::searches::found;
 use ak_memory::MemoryKeeper;
 use ak_undo::UndoList;
 use cases_keepers::answer_of;
-use cases_lines::{Answers, Unread};
+use cases_lines::Unread;
 use std::alloc::Global;
 
 /// A collection in memory, and the steps that can be undone.
@@ -23,7 +24,8 @@ impl Session {
         })
     }
 
-    fn command(&mut self, alloc: Global, word: &str, rest: &str) -> Result<String, Unread> {
+    /// The answer to a command of side A.
+    pub fn answer(&mut self, alloc: Global, word: &str, rest: &str) -> Result<String, Unread> {
         match word {
             "steps" => self.steps_text(alloc),
             "forget" => self.forget(alloc),
@@ -51,7 +53,7 @@ impl Session {
             | "next"
             | "counts"
             | "undo" => call(alloc, self, word, rest),
-            _ => answer_of(alloc, &mut self.keeper, word, rest),
+            _ => answer_of_side(alloc, &mut self.keeper, word, rest),
         }
     }
 
@@ -68,14 +70,17 @@ impl Session {
     }
 }
 
-impl Answers for Session {
-    fn answer(&mut self, alloc: Global, word: &str, rest: &str) -> Result<String, Unread> {
-        if word != "A" {
-            return Err(Unread::Bad);
-        }
-        match cut(rest, " ") {
-            Some((word, rest)) => self.command(alloc, word, rest),
-            None => self.command(alloc, rest, ""),
-        }
+/// The answer to a command that needs no list of steps.
+pub fn answer_of_side(
+    alloc: Global,
+    keeper: &mut MemoryKeeper,
+    word: &str,
+    rest: &str,
+) -> Result<String, Unread> {
+    match word {
+        "check" => checked(alloc, keeper),
+        "find" => found(alloc, keeper, rest),
+        "take" => take(alloc, keeper, rest),
+        _ => answer_of(alloc, keeper, word, rest),
     }
 }

@@ -5,7 +5,7 @@ use ak_keep::{Keeper, Lookup};
 use ak_memory::MemoryKeeper;
 use ak_server::{AddFault, Server};
 use cases_keepers::{answer_of, value_of};
-use cases_lines::{Answers, Unread};
+use cases_lines::Unread;
 use std::alloc::Global;
 use std::mem;
 
@@ -22,6 +22,22 @@ impl Hosts {
         Hosts {
             keeper: MemoryKeeper::new(alloc),
             server: Server::new(alloc),
+        }
+    }
+
+    /// The answer to a command of the server.
+    pub fn answer(&mut self, alloc: Global, word: &str, rest: &str) -> Result<String, Unread> {
+        match word {
+            "keeper" => self.keep(alloc, rest),
+            "add" => self.add(alloc, rest),
+            "faults" => self.faults(alloc, rest),
+            "fail-at" => self.fail_at(alloc, rest),
+            "serve" => serve(alloc, &mut self.server, rest),
+            "forge" => forge(alloc, &mut self.server, rest),
+            "view" => view(alloc, &mut self.server, rest),
+            "view-head" => view_head(alloc, &mut self.server, rest),
+            "all" => all(alloc, &mut self.server, rest),
+            _ => Err(Unread::Bad),
         }
     }
 
@@ -68,23 +84,6 @@ impl Hosts {
             Ok(String::from_str(alloc, "ok")?)
         } else {
             Ok(String::from_str(alloc, "none")?)
-        }
-    }
-}
-
-impl Answers for Hosts {
-    fn answer(&mut self, alloc: Global, word: &str, rest: &str) -> Result<String, Unread> {
-        match word {
-            "keeper" => self.keep(alloc, rest),
-            "add" => self.add(alloc, rest),
-            "faults" => self.faults(alloc, rest),
-            "fail-at" => self.fail_at(alloc, rest),
-            "serve" => serve(alloc, &mut self.server, rest),
-            "forge" => forge(alloc, &mut self.server, rest),
-            "view" => view(alloc, &mut self.server, rest),
-            "view-head" => view_head(alloc, &mut self.server, rest),
-            "all" => all(alloc, &mut self.server, rest),
-            _ => Err(Unread::Bad),
         }
     }
 }
