@@ -1,25 +1,44 @@
+use crate::file_commands::answer_of_file;
 use crate::in_memory::{run_alone, run_in_turn};
+use crate::kept_files::Files;
 use crate::reopened::run_beside;
 use crate::synced::run_synced;
+use ak_tables::Tables;
 use cases_lines::{Answers, Unread};
 use serde_json::Value;
 use std::alloc::Global;
-use std::rt::HostRuntime;
 
-/// Nothing is kept from one line to the next.
-#[derive(Drop)]
-pub struct Runs<'a> {
-    pub rt: &'a HostRuntime,
+impl<T: Tables> Answers for Files<'_, T> {
+    fn answer(&mut self, alloc: Global, word: &str, rest: &str) -> Result<String, Unread> {
+        match word {
+            "run" | "runs" | "reopened" | "synced" => answer_of_runs(alloc, self, word, rest),
+            _ => answer_of_file(alloc, self, word, rest),
+        }
+    }
 }
 
-impl Answers for Runs<'_> {
-    fn answer(&mut self, alloc: Global, word: &str, rest: &str) -> Result<String, Unread> {
-        match (word, Value::from_str(alloc, rest)) {
-            ("run", Ok(arguments)) => run_alone(alloc, &arguments),
-            ("runs", Ok(arguments)) => run_in_turn(alloc, &arguments),
-            ("reopened", Ok(arguments)) => run_beside(alloc, self.rt, &arguments),
-            ("synced", Ok(arguments)) => run_synced(alloc, &arguments),
-            _ => Err(Unread::Bad),
-        }
+fn answer_of_runs<T: Tables>(
+    alloc: Global,
+    files: &mut Files<'_, T>,
+    word: &str,
+    rest: &str,
+) -> Result<String, Unread> {
+    match Value::from_str(alloc, rest) {
+        Ok(arguments) => answer_by(alloc, files, word, &arguments),
+        Err(_) => Err(Unread::Bad),
+    }
+}
+
+fn answer_by<T: Tables>(
+    alloc: Global,
+    files: &mut Files<'_, T>,
+    word: &str,
+    arguments: &Value,
+) -> Result<String, Unread> {
+    match word {
+        "run" => run_alone(alloc, arguments),
+        "runs" => run_in_turn(alloc, arguments),
+        "synced" => run_synced(alloc, arguments),
+        _ => run_beside(alloc, files, arguments),
     }
 }

@@ -1,53 +1,73 @@
-use crate::files::{is_held_in_file, text_in_file, without_file};
+use crate::kept_files::Files;
 use crate::run_lists::{RunsCases, run_texts};
 use crate::runs::run_text;
-use ak_memory::MemoryKeeper;
+use crate::twins::hold_the_same;
+use ak_keep::Keeper;
 use ak_sync_runs::NoServer;
+use ak_tables::Tables;
 use cases_lines::Unread;
 use serde_json::Value;
 use std::alloc::Global;
-use std::rt::HostRuntime;
 
-/// `reopened [[RUN, ..]]`: what each run over a new file is told as.
-pub fn run_beside(alloc: Global, rt: &HostRuntime, arguments: &Value) -> Result<String, Unread> {
-    without_file(rt);
-    let mut beside = Beside {
-        rt,
-        twin: MemoryKeeper::new(alloc),
-    };
-    beside.texts(alloc, arguments)
+/// `reopened [[RUN, ..]]`: what each run over a new file is told as. The file is closed then.
+pub fn run_beside<T: Tables>(
+    alloc: Global,
+    files: &mut Files<'_, T>,
+    arguments: &Value,
+) -> Result<String, Unread> {
+    files.forget();
+    let mut texts = run_texts(alloc, files, arguments, 0)?;
+    texts.push_str("end")?;
+    Ok(texts)
 }
 
-/// The file and its twin, a keeper in memory over which the same runs go.
-#[derive(Drop)]
-struct Beside<'a> {
-    rt: &'a HostRuntime,
-    twin: MemoryKeeper,
-}
-
-impl Beside<'_> {
-    fn texts(&mut self, alloc: Global, arguments: &Value) -> Result<String, Unread> {
-        let mut texts = run_texts(alloc, self, arguments, 0)?;
-        texts.push_str("end")?;
-        Ok(texts)
+impl<T: Tables> Files<'_, T> {
+    /// What a run over the file, which is opened for it and closed again, is told as.
+    fn text_in_file(&mut self, alloc: Global, run: &Value) -> Result<String, Unread> {
+        let text = match self.open() {
+            Ok(()) => text_over(alloc, &mut self.keeper, run),
+            Err(_) => not_opened(alloc),
+        };
+        self.close();
+        text
     }
 
-    fn twin_text(&mut self, alloc: Global, run: &Value) -> Result<String, Unread> {
-        run_text(alloc, &mut self.twin, &mut NoServer::new(), run)
+    /// Whether the file, opened again, holds what the twin holds.
+    fn is_like_its_twin(&mut self) -> bool {
+        let is_like = match self.open() {
+            Ok(()) => match &mut self.keeper {
+                Some(keeper) => hold_the_same(keeper, &mut self.twin),
+                None => false,
+            },
+            Err(_) => false,
+        };
+        self.close();
+        is_like
     }
 }
 
-impl RunsCases for Beside<'_> {
+fn text_over<K: Keeper>(alloc: Global, keeper: &mut Option<K>, run: &Value) -> Result<String, Unread> {
+    match keeper {
+        Some(keeper) => run_text(alloc, keeper, &mut NoServer::new(), run),
+        None => not_opened(alloc),
+    }
+}
+
+fn not_opened(alloc: Global) -> Result<String, Unread> {
+    Ok(String::from_str(alloc, "not opened")?)
+}
+
+impl<T: Tables> RunsCases for Files<'_, T> {
     /// What a run over the file is told as. It is followed by what the twin is told as if that is another text, and by a remark
     /// if the file, opened again, holds another collection than the twin.
     fn next_text(&mut self, alloc: Global, run: &Value) -> Result<String, Unread> {
-        let mut text = text_in_file(alloc, self.rt, run)?;
-        let of_twin = self.twin_text(alloc, run)?;
+        let mut text = self.text_in_file(alloc, run)?;
+        let of_twin = run_text(alloc, &mut self.twin, &mut NoServer::new(), run)?;
         if text.as_str() != of_twin.as_str() {
             text.push_str(" but in memory ")?;
             text.push_str(of_twin.as_str())?;
         }
-        if !is_held_in_file(self.rt, &mut self.twin) {
+        if !self.is_like_its_twin() {
             text.push_str(" but other rows")?;
         }
         Ok(text)

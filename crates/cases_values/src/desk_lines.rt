@@ -1,3 +1,4 @@
+use crate::words::push_quoted;
 use ak_base::{List, Text};
 use ak_lines::{DeskLine, LineFault, read_line};
 use ak_texts::write_line_fault;
@@ -155,8 +156,7 @@ fn texts(alloc: Global, texts: &List<Text>) -> Result<String, Unread> {
         if place > 0 {
             made.push(',')?;
         }
-        let text = quoted(alloc, text.as_str())?;
-        made.push_str(text.as_str())?;
+        push_quoted(alloc, &mut made, text.as_str())?;
     }
     made.push(']')?;
     Ok(made)

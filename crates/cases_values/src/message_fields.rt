@@ -75,9 +75,16 @@ fn meta_fields(alloc: Global, meta: &MetaReply) -> Result<String, Unread> {
 
 fn grave_fields(alloc: Global, ids: &GraveIds) -> Result<String, Unread> {
     let mut made = labelled(alloc, "cards ", ids.cards.as_slice())?;
-    made.push_str(labelled(alloc, " notes ", ids.notes.as_slice())?.as_str())?;
-    made.push_str(labelled(alloc, " decks ", ids.decks.as_slice())?.as_str())?;
+    push_ids(alloc, &mut made, " notes ", ids.notes.as_slice())?;
+    push_ids(alloc, &mut made, " decks ", ids.decks.as_slice())?;
     Ok(made)
+}
+
+fn push_ids(alloc: Global, made: &mut String, words: &str, ids: &[i64]) -> Result<(), Unread> {
+    let list = listed(alloc, ids)?;
+    made.push_str(words)?;
+    made.push_str(list.as_str())?;
+    Ok(())
 }
 
 fn change_fields(alloc: Global, changes: &Changes) -> Result<String, Unread> {
@@ -113,19 +120,21 @@ fn count_fields(alloc: Global, counts: SanityCounts) -> Result<String, Unread> {
 
 fn sanity_fields(alloc: Global, sanity: &SanityReply) -> Result<String, Unread> {
     let mut made = check_fields(alloc, sanity.good, sanity.fault)?;
-    made.push_str(named(
-        alloc,
-        ", client ",
-        count_fields(alloc, sanity.client)?.as_str(),
-    )?
-    .as_str())?;
-    made.push_str(named(
-        alloc,
-        ", server ",
-        count_fields(alloc, sanity.server)?.as_str(),
-    )?
-    .as_str())?;
+    push_counts(alloc, &mut made, ", client ", sanity.client)?;
+    push_counts(alloc, &mut made, ", server ", sanity.server)?;
     Ok(made)
+}
+
+fn push_counts(
+    alloc: Global,
+    made: &mut String,
+    words: &str,
+    counts: SanityCounts,
+) -> Result<(), Unread> {
+    let told = count_fields(alloc, counts)?;
+    made.push_str(words)?;
+    made.push_str(told.as_str())?;
+    Ok(())
 }
 
 fn check_fields(alloc: Global, good: bool, fault: Option<CheckFault>) -> Result<String, Unread> {

@@ -1,4 +1,4 @@
-use crate::words::{page_fault, template_fault};
+use crate::words::{page_fault, push_quoted, template_fault};
 use ak_base::{List, Text};
 use ak_filters::{FieldFilter, HintFilter, TextFilter};
 use ak_template::{Face, PageFault, Pair, Step, TemplateFault, parse, render, shows};
@@ -40,8 +40,7 @@ fn push_step(alloc: Global, made: &mut String, step: &Step) -> Result<(), Unread
 
 fn push_named(alloc: Global, made: &mut String, word: &str, name: &Text) -> Result<(), Unread> {
     made.push_str(word)?;
-    made.push_str(quoted(alloc, name.as_str())?.as_str())?;
-    Ok(())
+    push_quoted(alloc, made, name.as_str())
 }
 
 /// `shows [TEMPLATE, FIELDS]`: whether a front shows something of these pairs of a name and a value.
@@ -76,8 +75,9 @@ fn face_at(
 }
 
 fn push_pair(alloc: Global, fields: &mut List<Pair>, pair: &Value) -> Result<(), Unread> {
-    let name = Text::of(alloc, text_at(pair, 0)?)?;
-    let value = Text::of(alloc, text_at(pair, 1)?)?;
+    let (name, value) = (text_at(pair, 0)?, text_at(pair, 1)?);
+    let name = Text::of(alloc, name)?;
+    let value = Text::of(alloc, value)?;
     fields.push(Pair { name, value })?;
     Ok(())
 }

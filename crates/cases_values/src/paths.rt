@@ -1,5 +1,7 @@
+use crate::rows::told_row;
+use crate::words::push_quoted;
 use ak_base::{Note, Options, Row, is_in_subtree, path_parts};
-use cases_lines::{Unread, note_at, number_at, quoted, row_text, text_at, truth};
+use cases_lines::{Unread, note_at, number_at, text_at, truth};
 use serde_json::Value;
 use std::alloc::Global;
 
@@ -13,7 +15,7 @@ fn all_quoted(alloc: Global, texts: &[&str]) -> Result<String, Unread> {
     let mut made = String::from_str(alloc, "list")?;
     for text in texts {
         made.push_str(" ")?;
-        made.push_str(quoted(alloc, text)?.as_str())?;
+        push_quoted(alloc, &mut made, text)?;
     }
     Ok(made)
 }
@@ -51,6 +53,5 @@ fn tags_of(alloc: Global, note: &Note) -> Result<String, Unread> {
 /// `opening [STAMP]`: the options that a collection opens with.
 pub fn opening(alloc: Global, arguments: &Value) -> Result<String, Unread> {
     let options = Options::opening(alloc, number_at(arguments, 0)?)?;
-    let row = Row::Options(options);
-    row_text(alloc, &row)
+    told_row(alloc, Row::Options(options))
 }

@@ -2,7 +2,7 @@ ghost use Rattle.std.specs.Prelude.{◌<◌};
 
 use ak_base::{Row, Table, cut};
 use ak_json::{JsonFault, read_conf, read_row, read_text, write_conf};
-use cases_lines::{Unread, json_fault, row_fault, row_text, table_of, text_at, value_text};
+use cases_lines::{Unread, json_fault, row_at, row_fault, row_text, table_of, text_at, value_text};
 use serde_json::Value;
 use std::alloc::Global;
 
@@ -60,9 +60,18 @@ fn told_of(alloc: Global, row: &Row) -> Result<String, Unread> {
 }
 
 fn copied_text(alloc: Global, row: &Row) -> Result<String, Unread> {
-    let mut copied = row.copy()?;
-    copied.set_usn(77);
-    row_text(alloc, &copied)
+    told_row(alloc, with_usn(row.copy()?))
+}
+
+fn with_usn(row: Row) -> Row {
+    let mut row = row;
+    row.set_usn(77);
+    row
+}
+
+/// The text of a row that is needed no more: a drop of a row is dear to prove, so it stands here alone.
+pub fn told_row(alloc: Global, row: Row) -> Result<String, Unread> {
+    row_text(alloc, &row)
 }
 
 /// `same [TABLE, ROW, TABLE, ROW]`: whether two rows are equal, and whether their content is.
@@ -87,10 +96,7 @@ fn named_row(alloc: Global, arguments: &Value, place: usize) -> Result<Row, Unre
     requires { place < 4 }
 {
     let table = table_of(text_at(arguments, place)?)?;
-    match arguments.get(place + 1) {
-        Some(value) => read_row(alloc, table, value).map_err(|_| Unread::Bad),
-        None => Err(Unread::Bad),
-    }
+    row_at(alloc, arguments, place + 1, table)
 }
 
 /// `conf JSON`: the text of the settings that the JSON is read as, or their first fault.

@@ -1,9 +1,10 @@
 ghost use Rattle.std.specs.Prelude.{◌≤◌, ◌<◌, IfOk};
 ghost use Rattle.ak_base.specs.Days.{IsDay};
 
+use crate::rows::told_row;
 use ak_base::{Card, Day, Options, Review, Row};
 use ak_sched::{Answered, answer, can_answer, fuzz_range, is_leech};
-use cases_lines::{Unread, card_at, natural_at, number_at, options_at, row_text, truth};
+use cases_lines::{Unread, card_at, natural_at, number_at, options_at, truth};
 use serde_json::Value;
 use std::alloc::Global;
 
@@ -109,11 +110,9 @@ fn told(alloc: Global, card: Card, answered: Answered) -> Result<String, Unread>
 }
 
 fn card_text(alloc: Global, card: Card) -> Result<String, Unread> {
-    let row = Row::Card(card);
-    row_text(alloc, &row)
+    told_row(alloc, Row::Card(card))
 }
 
 fn review_text(alloc: Global, review: Review) -> Result<String, Unread> {
-    let row = Row::Review(review);
-    row_text(alloc, &row)
+    told_row(alloc, Row::Review(review))
 }

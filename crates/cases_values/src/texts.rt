@@ -1,4 +1,5 @@
 use crate::schedules::day_at;
+use crate::words::push_quoted;
 use ak_base::{HostKey, cut, read_number};
 use ak_filters::{FieldFilter, HintFilter, TextFilter, is_blank, is_empty_value, strip};
 use ak_template::{cloze_numbers, show_clozes};
@@ -62,7 +63,7 @@ pub fn cut_at(alloc: Global, arguments: &Value) -> Result<String, Unread> {
 fn both_quoted(alloc: Global, front: &str, behind: &str) -> Result<String, Unread> {
     let mut made = quoted(alloc, front)?;
     made.push_str(" ")?;
-    made.push_str(quoted(alloc, behind)?.as_str())?;
+    push_quoted(alloc, &mut made, behind)?;
     Ok(made)
 }
 
@@ -100,8 +101,7 @@ fn push_applied<F: FieldFilter>(
 ) -> Result<(), Unread> {
     let text = text.as_str().ok_or(Unread::Bad)?;
     let applied = filter.apply(text)?;
-    made.push_str(quoted(alloc, applied.as_str())?.as_str())?;
-    Ok(())
+    push_quoted(alloc, made, applied.as_str())
 }
 
 /// `clozes [TEXT]`: the numbers of its clozes.

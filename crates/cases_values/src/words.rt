@@ -1,7 +1,14 @@
 use ak_cardgen::GenFault;
 use ak_template::{PageFault, TemplateFault};
-use cases_lines::{Unread, at_place, named};
+use cases_lines::{Unread, at_place, named, quoted};
 use std::alloc::Global;
+
+/// Puts a text as JSON behind what is there.
+pub fn push_quoted(alloc: Global, made: &mut String, text: &str) -> Result<(), Unread> {
+    let text = quoted(alloc, text)?;
+    made.push_str(text.as_str())?;
+    Ok(())
+}
 
 /// A fault of a template in words, with its place.
 pub fn template_fault(alloc: Global, fault: TemplateFault) -> Result<String, Unread> {

@@ -1,59 +1,49 @@
-use ak_base::Table;
-use ak_keep::Readable;
-use cases_keepers::failed;
-use cases_lines::{Unread, row_text};
+use cases_lines::Unread;
 use sqlite::types::ValueRef;
-use sqlite::{Connection, Error, Row};
+use sqlite::{Alter, Connection, Error, Row};
 use std::alloc::Global;
 use std::rt::HostRuntime;
 use std::str;
 
-/// Up to 100 rows of a table, with a space between.
-pub fn row_texts<R: Readable>(
-    alloc: Global,
-    keeper: &mut R,
-    table: Table,
-) -> Result<String, Unread> {
-    match keeper.page(table, -1, 100) {
-        Ok(page) => {
-            let mut made = String::new(alloc);
-            for row in page.as_slice() {
-                made.push_str(row_text(alloc, row)?.as_str())?;
-                made.push_str(" ")?;
-            }
-            made.push_str("end")?;
-            Ok(made)
-        }
-        Err(fault) => failed(alloc, fault),
-    }
-}
-
-/// Runs statements over the file.
+/// `sql TEXT`: runs the statements over the file at this path.
 pub fn ran(alloc: Global, rt: &HostRuntime, path: &str, text: &str) -> Result<String, Unread> {
-    let answer = match run(rt, path, text) {
-        Ok(()) => "ok",
+    let answer = match shown(rt, path, text, false) {
+        Ok(_) => "ok",
         Err(_) => "refused",
     };
     Ok(String::from_str(alloc, answer)?)
 }
 
-fn run(rt: &HostRuntime, path: &str, text: &str) -> Result<(), Error> {
-    let mut conn = Connection::open(rt, path)?;
-    conn.execute_batch(text)?;
-    conn.close()
-}
-
-/// The rows that a statement over the file shows.
+/// `ask TEXT`: the rows that the statement shows.
 pub fn asked(alloc: Global, rt: &HostRuntime, path: &str, text: &str) -> Result<String, Unread> {
-    match rows_of(rt, path, text) {
+    match shown(rt, path, text, true) {
         Ok(rows) => rows_text(alloc, rows.as_slice()),
         Err(_) => Ok(String::from_str(alloc, "refused")?),
     }
 }
 
-fn rows_of(rt: &HostRuntime, path: &str, text: &str) -> Result<Vec<Row>, Error> {
+// The one function that owns a connection, and it ends in one way alone while it does: each drop of one is dear to prove.
+fn shown(rt: &HostRuntime, path: &str, text: &str, asks: bool) -> Result<Vec<Row>, Error> {
     let mut conn = Connection::open(rt, path)?;
-    conn.query_all(text, &[])
+    let rows = rows_by(rt.alloc(), &mut conn, text, asks);
+    match conn.close() {
+        Ok(()) => rows,
+        Err(error) => Err(error),
+    }
+}
+
+/// The rows that one statement shows, or none of statements that only run.
+fn rows_by<S: Alter>(
+    alloc: Global,
+    conn: &mut Connection<S>,
+    text: &str,
+    asks: bool,
+) -> Result<Vec<Row>, Error> {
+    if asks {
+        return conn.query_all(text, &[]);
+    }
+    conn.execute_batch(text)?;
+    Ok(Vec::new(alloc))
 }
 
 fn rows_text(alloc: Global, rows: &[Row]) -> Result<String, Unread> {
