@@ -1,6 +1,8 @@
-# What bin/anki and bin/ship share: what a program is made of, the one in dist/, and how it is built. It is read by `.`, with the names
+# What the scripts of programs share: what a program is made of, the one in dist/, how it is built and found. It is read by `.`, with the names
 #   root     the top of this repository
 #   program  the program: the name of its crate
+out=$root/out
+log=$out/build.log
 
 say() {
     echo "$program: $*" >&2
@@ -65,4 +67,54 @@ prove_copy() {
         $1 == "rt:" && ($3 == "proved" || $4 == "kept:") { done++; print program ": " $2 " is proved, " done " of " all " crates" > "/dev/stderr" }
         $1 == "status" { status = $2 }
         END { exit status }'
+}
+
+# Finds the program for the sources as they are, and names it `built`. With the words `- -` it prints its usage and ends with 2.
+find_program() {
+    sum=$(sum_of_sources "$root")
+    built=$out/$program-$sum
+    [ -x "$built" ] && return 0
+    is_shipped "$sum" || return 1
+    "$root/dist/$program" - - </dev/null >/dev/null 2>&1
+    [ $? -eq 2 ] && built=$root/dist/$program && return 0
+    say "dist/$program can't be started here: the processor or the C library is not what dist/$program.txt says it needs"
+    return 1
+}
+
+build_program() {
+    say "proving and building the program first; from nothing that takes hours of processor time"
+    : >"$log"
+    copy=$(copy_of_program) || return 1
+    trap 'rm -rf "$copy"' EXIT
+    trap 'exit 130' INT
+    trap 'exit 143' TERM HUP
+    sum=$(sum_of_sources "$copy")
+    prove_copy "$copy" "$log" && rm -f "$out/$program"-* && cp "$copy/crates/$program/out/$program" "$out/new-$$" && mv "$out/new-$$" "$out/$program-$sum"
+    status=$?
+    rm -rf "$copy"
+    trap - EXIT INT TERM HUP
+    return $status
+}
+
+# Finds the program, and builds it first if it must. Where that can't be, the script ends: with 100 if the toolchain is missing, with 101 if the build failed.
+have_program() {
+    find_program && return
+    if ! command -v rt >/dev/null 2>&1; then
+        say "the toolchain's command rt is not on the PATH, so the program can't be built"
+        exit 100
+    fi
+    if ! mkdir -p "$out" 2>/dev/null || [ ! -w "$out" ]; then
+        say "$out can't be written to, so the program can't be built"
+        exit 101
+    fi
+    # One call builds at a time. The others wait, and find the program.
+    exec 9>"$out/lock"
+    flock -n 9 || { say "another call builds the program: waiting for it"; flock 9; }
+    until find_program; do
+        if ! build_program 9>&-; then
+            say "the build failed; what it printed is in $log"
+            exit 101
+        fi
+    done
+    exec 9>&-
 }
