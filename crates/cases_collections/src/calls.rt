@@ -53,12 +53,15 @@ pub fn call(
 
 /// `flag [AT, IDS, VALUE]`.
 fn flag_by(alloc: Global, session: &mut Session, arguments: &Value) -> Result<String, Unread> {
-    let at = moment_at(arguments)?;
-    let cards = ids_at(alloc, arguments, 1)?;
-    let value = number_at(arguments, 2)?;
-    if value < 0 || value > 7 || session.keeper.marked() || !session.keeper.held() {
+    if session.keeper.marked() || !session.keeper.held() {
         return Err(Unread::Bad);
     }
+    let at = moment_at(arguments)?;
+    let value = number_at(arguments, 2)?;
+    if value < 0 || value > 7 {
+        return Err(Unread::Bad);
+    }
+    let cards = ids_at(alloc, arguments, 1)?;
     let wanted = FlagCards {
         cards: cards.as_slice(),
         value,
@@ -71,12 +74,12 @@ fn flag_by(alloc: Global, session: &mut Session, arguments: &Value) -> Result<St
 
 /// `move-cards [AT, IDS, DECK]`.
 fn move_by(alloc: Global, session: &mut Session, arguments: &Value) -> Result<String, Unread> {
-    let at = moment_at(arguments)?;
-    let cards = ids_at(alloc, arguments, 1)?;
-    let deck = number_at(arguments, 2)?;
     if session.keeper.marked() || !session.keeper.held() {
         return Err(Unread::Bad);
     }
+    let at = moment_at(arguments)?;
+    let deck = number_at(arguments, 2)?;
+    let cards = ids_at(alloc, arguments, 1)?;
     let wanted = MoveCards {
         cards: cards.as_slice(),
         deck,
@@ -89,12 +92,12 @@ fn move_by(alloc: Global, session: &mut Session, arguments: &Value) -> Result<St
 
 /// `use-options [AT, DECK, OPTIONS]`.
 fn use_by(alloc: Global, session: &mut Session, arguments: &Value) -> Result<String, Unread> {
-    let at = moment_at(arguments)?;
-    let deck = number_at(arguments, 1)?;
-    let options = number_at(arguments, 2)?;
     if session.keeper.marked() || !session.keeper.held() {
         return Err(Unread::Bad);
     }
+    let at = moment_at(arguments)?;
+    let deck = number_at(arguments, 1)?;
+    let options = number_at(arguments, 2)?;
     let wanted = UseOptions { deck, options };
     done(
         alloc,
@@ -104,11 +107,11 @@ fn use_by(alloc: Global, session: &mut Session, arguments: &Value) -> Result<Str
 
 /// `delete-notes [AT, IDS]`.
 fn delete_by(alloc: Global, session: &mut Session, arguments: &Value) -> Result<String, Unread> {
-    let at = moment_at(arguments)?;
-    let notes = ids_at(alloc, arguments, 1)?;
     if session.keeper.marked() || !session.keeper.held() {
         return Err(Unread::Bad);
     }
+    let at = moment_at(arguments)?;
+    let notes = ids_at(alloc, arguments, 1)?;
     let made = delete_notes(
         &mut session.keeper,
         &mut session.steps,
@@ -120,10 +123,10 @@ fn delete_by(alloc: Global, session: &mut Session, arguments: &Value) -> Result<
 
 /// `undo [AT]`.
 fn undo_by(alloc: Global, session: &mut Session, arguments: &Value) -> Result<String, Unread> {
-    let at = moment_at(arguments)?;
     if session.keeper.marked() || !session.keeper.held() {
         return Err(Unread::Bad);
     }
+    let at = moment_at(arguments)?;
     done(alloc, undo(&mut session.keeper, &mut session.steps, at))
 }
 

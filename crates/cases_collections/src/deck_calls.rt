@@ -9,11 +9,11 @@ use std::alloc::Global;
 
 /// `add-deck [AT, PATH]`.
 pub fn add_by(alloc: Global, session: &mut Session, arguments: &Value) -> Result<String, Unread> {
-    let at = number_at(arguments, 0)?;
-    let path = text_at(arguments, 1)?;
     if session.keeper.marked() || !session.keeper.held() {
         return Err(Unread::Bad);
     }
+    let at = number_at(arguments, 0)?;
+    let path = text_at(arguments, 1)?;
     added(
         alloc,
         add_deck(&mut session.keeper, &mut session.steps, path, at),
@@ -26,14 +26,14 @@ pub fn rename_by(
     session: &mut Session,
     arguments: &Value,
 ) -> Result<String, Unread> {
+    if session.keeper.marked() || !session.keeper.held() {
+        return Err(Unread::Bad);
+    }
     let at = number_at(arguments, 0)?;
     let rename = RenameDeck {
         deck: number_at(arguments, 1)?,
         path: text_at(arguments, 2)?,
     };
-    if session.keeper.marked() || !session.keeper.held() {
-        return Err(Unread::Bad);
-    }
     done(
         alloc,
         rename_deck(&mut session.keeper, &mut session.steps, &rename, at),
@@ -46,11 +46,11 @@ pub fn delete_by(
     session: &mut Session,
     arguments: &Value,
 ) -> Result<String, Unread> {
-    let at = moment_at(arguments)?;
-    let deck = number_at(arguments, 1)?;
     if session.keeper.marked() || !session.keeper.held() {
         return Err(Unread::Bad);
     }
+    let at = moment_at(arguments)?;
+    let deck = number_at(arguments, 1)?;
     done(
         alloc,
         delete_deck(&mut session.keeper, &mut session.steps, deck, at),

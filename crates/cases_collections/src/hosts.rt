@@ -53,10 +53,10 @@ impl Hosts {
     fn add(&mut self, alloc: Global, rest: &str) -> Result<String, Unread> {
         let (name, host) = cut(rest, " ").ok_or(Unread::Bad)?;
         let host = host_of(host)?;
-        let name = Text::of(alloc, name)?;
         if self.keeper.marked() {
             return Err(Unread::Bad);
         }
+        let name = Text::of(alloc, name)?;
         let keeper = mem::replace(&mut self.keeper, MemoryKeeper::new(alloc));
         match self.server.add(name, host, keeper) {
             Ok(()) => Ok(String::from_str(alloc, "ok")?),

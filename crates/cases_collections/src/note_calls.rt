@@ -11,11 +11,11 @@ use std::alloc::Global;
 
 /// `add-note [AT, WORD, TYPE, DECK, GUID, FIELDS, TAGS]`.
 pub fn add_by(alloc: Global, session: &mut Session, arguments: &Value) -> Result<String, Unread> {
-    let at = number_at(arguments, 0)?;
-    let new = new_note_at(alloc, arguments)?;
     if session.keeper.marked() || !session.keeper.held() {
         return Err(Unread::Bad);
     }
+    let at = number_at(arguments, 0)?;
+    let new = new_note_at(alloc, arguments)?;
     added(
         alloc,
         add_note(&mut session.keeper, &mut session.steps, &new, at),
@@ -24,16 +24,19 @@ pub fn add_by(alloc: Global, session: &mut Session, arguments: &Value) -> Result
 
 /// The note that the arguments give from the second place on.
 fn new_note_at(alloc: Global, arguments: &Value) -> Result<NewNote, Unread> {
+    let chance = natural_at(arguments, 1)?;
+    let note_type = number_at(arguments, 2)?;
+    let deck = number_at(arguments, 3)?;
     let guid = guid_at(alloc, arguments)?;
     let fields = texts_at(alloc, arguments, 5)?;
     let tags = texts_at(alloc, arguments, 6)?;
     Ok(NewNote {
-        note_type: number_at(arguments, 2)?,
-        deck: number_at(arguments, 3)?,
+        note_type,
+        deck,
         guid,
         fields,
         tags,
-        chance: natural_at(arguments, 1)?,
+        chance,
     })
 }
 
@@ -66,11 +69,11 @@ fn added_text(alloc: Global, added: &Added) -> Result<String, Unread> {
 
 /// `edit-note [AT, NOTE, FIELDS, TAGS]`.
 pub fn edit_by(alloc: Global, session: &mut Session, arguments: &Value) -> Result<String, Unread> {
-    let at = number_at(arguments, 0)?;
-    let given = note_edit_at(alloc, arguments)?;
     if session.keeper.marked() || !session.keeper.held() {
         return Err(Unread::Bad);
     }
+    let at = number_at(arguments, 0)?;
+    let given = note_edit_at(alloc, arguments)?;
     done(
         alloc,
         edit_note(&mut session.keeper, &mut session.steps, &given, at),
@@ -79,11 +82,8 @@ pub fn edit_by(alloc: Global, session: &mut Session, arguments: &Value) -> Resul
 
 /// The texts that the arguments give a note from the first place on.
 fn note_edit_at(alloc: Global, arguments: &Value) -> Result<NoteEdit, Unread> {
+    let note = number_at(arguments, 1)?;
     let fields = texts_at(alloc, arguments, 2)?;
     let tags = texts_at(alloc, arguments, 3)?;
-    Ok(NoteEdit {
-        note: number_at(arguments, 1)?,
-        fields,
-        tags,
-    })
+    Ok(NoteEdit { note, fields, tags })
 }

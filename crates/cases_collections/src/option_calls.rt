@@ -9,11 +9,11 @@ use std::alloc::Global;
 
 /// `set-options [AT, GROUP, ID, STAMP, USN, TAKEN]`.
 pub fn set_by(alloc: Global, session: &mut Session, arguments: &Value) -> Result<String, Unread> {
-    let at = moment_at(arguments)?;
-    let options = group_at(alloc, arguments)?;
     if session.keeper.marked() || !session.keeper.held() {
         return Err(Unread::Bad);
     }
+    let at = moment_at(arguments)?;
+    let options = group_at(alloc, arguments)?;
     done(
         alloc,
         set_options(&mut session.keeper, &mut session.steps, options, at),
@@ -22,11 +22,11 @@ pub fn set_by(alloc: Global, session: &mut Session, arguments: &Value) -> Result
 
 /// `add-options [AT, GROUP, ID, STAMP, USN, TAKEN]`.
 pub fn add_by(alloc: Global, session: &mut Session, arguments: &Value) -> Result<String, Unread> {
-    let at = number_at(arguments, 0)?;
-    let options = group_at(alloc, arguments)?;
     if session.keeper.marked() || !session.keeper.held() {
         return Err(Unread::Bad);
     }
+    let at = number_at(arguments, 0)?;
+    let options = group_at(alloc, arguments)?;
     added(
         alloc,
         add_options(&mut session.keeper, &mut session.steps, options, at),
@@ -39,12 +39,12 @@ pub fn delete_by(
     session: &mut Session,
     arguments: &Value,
 ) -> Result<String, Unread> {
-    let at = moment_at(arguments)?;
-    let options = number_at(arguments, 1)?;
-    let allow = truth_at(arguments, 2)?;
     if session.keeper.marked() || !session.keeper.held() {
         return Err(Unread::Bad);
     }
+    let at = moment_at(arguments)?;
+    let options = number_at(arguments, 1)?;
+    let allow = truth_at(arguments, 2)?;
     let wanted = DeleteOptions { options, allow };
     done(
         alloc,
@@ -58,9 +58,12 @@ pub fn spread_by(
     session: &mut Session,
     arguments: &Value,
 ) -> Result<String, Unread> {
+    if session.keeper.marked() || !session.keeper.held() {
+        return Err(Unread::Bad);
+    }
     let at = moment_at(arguments)?;
     let value = number_at(arguments, 1)?;
-    if value < 0 || value > 2 || session.keeper.marked() || !session.keeper.held() {
+    if value < 0 || value > 2 {
         return Err(Unread::Bad);
     }
     done(
@@ -72,12 +75,23 @@ pub fn spread_by(
 /// The group at the second place, with the id, stamp, update sequence number and longest time that follow it: a group that is
 /// read is in its ranges, and these four may be out of them.
 fn group_at(alloc: Global, arguments: &Value) -> Result<Options, Unread> {
+    let [id, stamp, usn, taken] = numbers_behind(arguments)?;
     let mut group = options_at(alloc, arguments, 1)?;
-    group.id = number_at(arguments, 2)?;
-    group.stamp = number_at(arguments, 3)?;
-    group.usn = number_at(arguments, 4)?;
-    group.max_taken = number_at(arguments, 5)?;
+    group.id = id;
+    group.stamp = stamp;
+    group.usn = usn;
+    group.max_taken = taken;
     Ok(group)
+}
+
+/// The four numbers behind the second place of the arguments.
+pub fn numbers_behind(arguments: &Value) -> Result<[i64; 4], Unread> {
+    Ok([
+        number_at(arguments, 2)?,
+        number_at(arguments, 3)?,
+        number_at(arguments, 4)?,
+        number_at(arguments, 5)?,
+    ])
 }
 
 /// The truth value at a place of the arguments.

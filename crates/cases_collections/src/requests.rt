@@ -1,4 +1,5 @@
-ghost use Rattle.std.specs.Prelude.{◌≤ℤ◌, pos, IfOk};
+ghost use Rattle.std.specs.Prelude.{IfOk};
+ghost use Rattle.ak_io.specs.Arrivals.{IsClockMoment};
 
 use crate::forged::with_part;
 use crate::replies::reply_text;
@@ -17,8 +18,8 @@ pub fn serve(
     rest: &str,
 ) -> Result<String, Unread> {
     let words = words_in(rest)?;
-    let request = request_of(alloc, &words)?;
-    served(alloc, server, &request, words.now)
+    let now = moment_of(words.now)?;
+    served(alloc, server, request_of(alloc, &words)?, now)
 }
 
 /// `forge PART HOST SESSION STEP BASE METHOD NOW BODY`: the same of the request that has this part besides, or in the
@@ -30,24 +31,24 @@ pub fn forge(
 ) -> Result<String, Unread> {
     let (part, rest) = cut(rest, " ").ok_or(Unread::Bad)?;
     let words = words_in(rest)?;
-    let request = forged_of(alloc, &words, part)?;
-    served(alloc, server, &request, words.now)
+    let now = moment_of(words.now)?;
+    served(alloc, server, forged_of(alloc, &words, part)?, now)
 }
 
 fn forged_of(alloc: Global, words: &Words<'_>, part: &str) -> Result<Request, Unread> {
-    let request = request_of(alloc, words)?;
     let part = value_of(alloc, part)?;
-    with_part(alloc, request, &part)
+    with_part(alloc, request_of(alloc, words)?, &part)
 }
 
 fn served(
     alloc: Global,
     server: &mut Server<MemoryKeeper>,
-    request: &Request,
-    now: &str,
-) -> Result<String, Unread> {
-    let now = moment_of(now)?;
-    let reply = server.serve(request, now);
+    request: Request,
+    now: i64,
+) -> Result<String, Unread>
+    requires { IsClockMoment now }
+{
+    let reply = server.serve(&request, now);
     reply_text(alloc, &reply)
 }
 
@@ -58,7 +59,7 @@ pub fn host_of(text: &str) -> Result<HostKey, Unread> {
 
 /// A moment that a clock may tell, in milliseconds.
 fn moment_of(text: &str) -> Result<i64, Unread>
-    ensures { IfOk result (λ now. (pos 0 ≤ℤ now) × (now ≤ℤ pos 4_294_967_294_999)) }
+    ensures { IfOk result IsClockMoment }
 {
     match text.parse::<i64>() {
         Ok(now) if now >= 0 && now <= 4_294_967_294_999 => Ok(now),

@@ -13,10 +13,10 @@ use std::alloc::Global;
 
 /// `start-day [AT]`.
 pub fn start_by(alloc: Global, session: &mut Session, arguments: &Value) -> Result<String, Unread> {
-    let at = moment_at(arguments)?;
     if session.keeper.marked() || !session.keeper.held() {
         return Err(Unread::Bad);
     }
+    let at = moment_at(arguments)?;
     done(
         alloc,
         start_day(&mut session.keeper, &mut session.steps, at),
@@ -29,11 +29,11 @@ pub fn suspend_by(
     session: &mut Session,
     arguments: &Value,
 ) -> Result<String, Unread> {
-    let at = moment_at(arguments)?;
-    let cards = ids_at(alloc, arguments, 1)?;
     if session.keeper.marked() || !session.keeper.held() {
         return Err(Unread::Bad);
     }
+    let at = moment_at(arguments)?;
+    let cards = ids_at(alloc, arguments, 1)?;
     let made = suspend(
         &mut session.keeper,
         &mut session.steps,
@@ -49,11 +49,11 @@ pub fn unsuspend_by(
     session: &mut Session,
     arguments: &Value,
 ) -> Result<String, Unread> {
-    let at = moment_at(arguments)?;
-    let cards = ids_at(alloc, arguments, 1)?;
     if session.keeper.marked() || !session.keeper.held() {
         return Err(Unread::Bad);
     }
+    let at = moment_at(arguments)?;
+    let cards = ids_at(alloc, arguments, 1)?;
     let made = unsuspend(
         &mut session.keeper,
         &mut session.steps,
@@ -65,11 +65,11 @@ pub fn unsuspend_by(
 
 /// `bury [AT, IDS]`.
 pub fn bury_by(alloc: Global, session: &mut Session, arguments: &Value) -> Result<String, Unread> {
-    let at = moment_at(arguments)?;
-    let cards = ids_at(alloc, arguments, 1)?;
     if session.keeper.marked() || !session.keeper.held() {
         return Err(Unread::Bad);
     }
+    let at = moment_at(arguments)?;
+    let cards = ids_at(alloc, arguments, 1)?;
     let made = bury(
         &mut session.keeper,
         &mut session.steps,
@@ -85,11 +85,11 @@ pub fn answer_by(
     session: &mut Session,
     arguments: &Value,
 ) -> Result<String, Unread> {
-    let at = moment_at(arguments)?;
-    let given = answer_at(arguments)?;
     if session.keeper.marked() || !session.keeper.held() {
         return Err(Unread::Bad);
     }
+    let at = moment_at(arguments)?;
+    let given = answer_at(arguments)?;
     answered(
         alloc,
         answer(&mut session.keeper, &mut session.steps, &given, at),

@@ -1,5 +1,5 @@
 use crate::calls::{added, done, moment_at};
-use crate::option_calls::truth_at;
+use crate::option_calls::{numbers_behind, truth_at};
 use crate::sessions::Session;
 use ak_base::{List, NoteType};
 use ak_keep::{Keeper, Lookup};
@@ -10,11 +10,11 @@ use std::alloc::Global;
 
 /// `add-type [AT, TYPE, ID, STAMP, USN, SORTF]`.
 pub fn add_by(alloc: Global, session: &mut Session, arguments: &Value) -> Result<String, Unread> {
-    let at = number_at(arguments, 0)?;
-    let note_type = type_at(alloc, arguments)?;
     if session.keeper.marked() || !session.keeper.held() {
         return Err(Unread::Bad);
     }
+    let at = number_at(arguments, 0)?;
+    let note_type = type_at(alloc, arguments)?;
     added(
         alloc,
         add_note_type(&mut session.keeper, &mut session.steps, note_type, at),
@@ -23,24 +23,29 @@ pub fn add_by(alloc: Global, session: &mut Session, arguments: &Value) -> Result
 
 /// `edit-type [AT, TYPE, ID, STAMP, USN, SORTF, FROM-FIELDS, FROM-TEMPLATES, ALLOW]`.
 pub fn edit_by(alloc: Global, session: &mut Session, arguments: &Value) -> Result<String, Unread> {
-    let at = number_at(arguments, 0)?;
-    let note_type = type_at(alloc, arguments)?;
-    let from_fields = places_at(alloc, arguments, 6)?;
-    let from_templates = places_at(alloc, arguments, 7)?;
-    let allow = truth_at(arguments, 8)?;
     if session.keeper.marked() || !session.keeper.held() {
         return Err(Unread::Bad);
     }
-    let given = TypeEdit {
-        note_type,
-        from_fields,
-        from_templates,
-        allow,
-    };
+    let at = number_at(arguments, 0)?;
+    let given = type_edit_at(alloc, arguments)?;
     done(
         alloc,
         edit_note_type(&mut session.keeper, &mut session.steps, &given, at),
     )
+}
+
+/// The note type that the arguments give in place of another one. What is dear to drop is read last.
+fn type_edit_at(alloc: Global, arguments: &Value) -> Result<TypeEdit, Unread> {
+    let allow = truth_at(arguments, 8)?;
+    let from_fields = places_at(alloc, arguments, 6)?;
+    let from_templates = places_at(alloc, arguments, 7)?;
+    let note_type = type_at(alloc, arguments)?;
+    Ok(TypeEdit {
+        note_type,
+        from_fields,
+        from_templates,
+        allow,
+    })
 }
 
 /// `delete-type [AT, TYPE, ALLOW]`.
@@ -49,12 +54,12 @@ pub fn delete_by(
     session: &mut Session,
     arguments: &Value,
 ) -> Result<String, Unread> {
-    let at = moment_at(arguments)?;
-    let note_type = number_at(arguments, 1)?;
-    let allow = truth_at(arguments, 2)?;
     if session.keeper.marked() || !session.keeper.held() {
         return Err(Unread::Bad);
     }
+    let at = moment_at(arguments)?;
+    let note_type = number_at(arguments, 1)?;
+    let allow = truth_at(arguments, 2)?;
     let wanted = DeleteNoteType { note_type, allow };
     done(
         alloc,
@@ -65,11 +70,12 @@ pub fn delete_by(
 /// The type at the second place, with the id, stamp, update sequence number and place of the sort field that follow it: a type
 /// that is read is in its ranges, and these four may be out of them.
 fn type_at(alloc: Global, arguments: &Value) -> Result<NoteType, Unread> {
+    let [id, stamp, usn, sortf] = numbers_behind(arguments)?;
     let mut note_type = note_type_at(alloc, arguments, 1)?;
-    note_type.id = number_at(arguments, 2)?;
-    note_type.stamp = number_at(arguments, 3)?;
-    note_type.usn = number_at(arguments, 4)?;
-    note_type.sortf = number_at(arguments, 5)?;
+    note_type.id = id;
+    note_type.stamp = stamp;
+    note_type.usn = usn;
+    note_type.sortf = sortf;
     Ok(note_type)
 }
 
