@@ -1,5 +1,5 @@
-use crate::calls::done;
 use crate::call_faults::fault_text;
+use crate::calls::done;
 use crate::sessions::Session;
 use ak_base::Text;
 use ak_edit::DeskFault;

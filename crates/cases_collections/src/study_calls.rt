@@ -1,7 +1,7 @@
 ghost use Rattle.std.specs.Prelude.{◌≤◌, IfOk};
 
-use crate::calls::{done, ids_at, moment_at};
 use crate::call_faults::fault_text;
+use crate::calls::{done, ids_at, moment_at};
 use crate::sessions::Session;
 use ak_base::{Card, Row};
 use ak_edit::DeskFault;

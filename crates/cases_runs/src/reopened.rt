@@ -46,7 +46,11 @@ impl<T: Tables> Files<'_, T> {
     }
 }
 
-fn text_over<K: Keeper>(alloc: Global, keeper: &mut Option<K>, run: &Value) -> Result<String, Unread> {
+fn text_over<K: Keeper>(
+    alloc: Global,
+    keeper: &mut Option<K>,
+    run: &Value,
+) -> Result<String, Unread> {
     match keeper {
         Some(keeper) => run_text(alloc, keeper, &mut NoServer::new(), run),
         None => not_opened(alloc),

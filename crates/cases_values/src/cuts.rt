@@ -1,6 +1,6 @@
+use crate::message_words::method_in;
 use crate::replies::{reply_fault, status_in};
 use crate::requests::request_fault;
-use crate::message_words::method_in;
 use ak_base::cut;
 use ak_json::JsonFault;
 use ak_wire::{Method, WireFault};

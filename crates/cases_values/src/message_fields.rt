@@ -1,6 +1,6 @@
+use crate::message_words::method_in;
 use crate::replies::{reply_fields, status_in};
 use crate::requests::request_fields;
-use crate::message_words::method_in;
 use ak_base::cut;
 use ak_merge::CheckFault;
 use ak_wire::{Ask, Changes, Chunk, Give, GraveIds, MetaReply, SanityCounts, SanityReply, Whole};
