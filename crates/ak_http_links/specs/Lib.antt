@@ -1,0 +1,4 @@
+pub mod LinkReads
+pub mod LinkWrites
+pub mod ServedLinks
+pub mod Isolation
