@@ -4,6 +4,9 @@
 ghost use Rattle.std.specs.Prelude.{◌≡◌, false};
 ghost use Rattle.ak_keep.specs.Keepers.{is_marked};
 
+mod servers;
+
+use crate::servers::{is_server, wire_to};
 use ak_base::Memory;
 use ak_cli::{KEEPER_FAILED, NO_MEMORY, print_usage, run};
 use ak_filters::{FieldFilter, HintFilter, TextFilter};
@@ -12,20 +15,20 @@ use ak_keep::{KeepFault, Keeper};
 use ak_loops::Log;
 use ak_memory::MemoryKeeper;
 use ak_sqlite::SqliteKeeper;
-use ak_sync_runs::NoServer;
 use std::env::Env;
 use std::io::ErrorKind;
 use std::process::ExitCode;
 use std::{env, io};
 
-// No server can be named yet: its word is `-`. The file `-` is an empty collection in memory, which ends with the program.
+// The file `-` is an empty collection in memory, which ends with the program; the server `-` is none.
 fn main(rt: HostRuntime) -> ExitCode {
     let mut input = StdSource::new(rt.stdin());
     let mut out = StdSink::new(rt.stdout());
     let status = match words_of(&rt) {
         Ok(words) => match words.as_slice() {
-            [file, server, rest @ ..] if server.as_str() == "-" => {
-                run_in(&rt, file.as_str(), rest, &mut input, &mut out)
+            [file, server, rest @ ..] if is_server(server.as_str()) => {
+                let ends = (file.as_str(), server.as_str());
+                run_in(&rt, ends, rest, &mut input, &mut out)
             }
             _ => print_usage(&mut out),
         },
@@ -49,16 +52,16 @@ fn words_of(rt: &(impl Env + AllocGlobal)) -> io::Result<Vec<String>> {
     Ok(words)
 }
 
-/// Runs the command over the collection in a file, and answers its status: 6 if the file can't be opened, or holds anything
-/// else than a collection.
+/// Runs the command over the collection in a file, with a server, and answers its status: 6 if the file can't be opened, or holds
+/// anything else than a collection.
 fn run_in<I: Source, O: Sink>(
     rt: &HostRuntime,
-    file: &str,
+    ends: (&str, &str),
     words: &[String],
     input: &mut I,
     out: &mut O,
 ) -> u8 {
-    match run_over(rt, file, words, input, out) {
+    match run_over(rt, ends, words, input, out) {
         Ok(status) => status,
         Err(KeepFault::Failed) => KEEPER_FAILED,
         Err(KeepFault::Memory) => NO_MEMORY,
@@ -68,23 +71,24 @@ fn run_in<I: Source, O: Sink>(
 /// The same, but that a file or memory that could not be had is a fault.
 fn run_over<I: Source, O: Sink>(
     rt: &HostRuntime,
-    file: &str,
+    (file, server): (&str, &str),
     words: &[String],
     input: &mut I,
     out: &mut O,
 ) -> Result<u8, KeepFault> {
     if file == "-" {
         let mut keeper = MemoryKeeper::new(rt.alloc());
-        return Ok(run_with(rt, &mut keeper, words, input, out)?);
+        return Ok(run_with(rt, &mut keeper, server, words, input, out)?);
     }
     let mut keeper = SqliteKeeper::over_file(rt, file)?;
-    Ok(run_with(rt, &mut keeper, words, input, out)?)
+    Ok(run_with(rt, &mut keeper, server, words, input, out)?)
 }
 
 /// Runs the command over a keeper, and answers its status. Pages have the filters `text` and `hint`.
 fn run_with<K: Keeper, I: Source, O: Sink>(
     rt: &HostRuntime,
     keeper: &mut K,
+    server: &str,
     words: &[String],
     input: &mut I,
     out: &mut O,
@@ -95,7 +99,7 @@ fn run_with<K: Keeper, I: Source, O: Sink>(
     let mut filters: Vec<Box<dyn FieldFilter>> = Vec::new(alloc);
     filters.push(Box::new(alloc, TextFilter::new(alloc))?)?;
     filters.push(Box::new(alloc, HintFilter::new(alloc))?)?;
-    let mut wire = NoServer::new();
+    let mut wire = wire_to(rt, server)?;
     let mut clock = StdClock::new(rt);
     let mut chance = StdChance::new(clock.now() as u64);
     // What comes to a lab's server. Nothing here reads it.
