@@ -1,0 +1,4 @@
+pub mod OpenedLists
+pub mod OpeningHeads
+pub mod OpeningRows
+pub mod ReadFiles

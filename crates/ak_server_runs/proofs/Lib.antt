@@ -1,0 +1,2 @@
+pub mod ServedSoFar
+pub mod CountedFailures

@@ -1,0 +1,3 @@
+pub mod ServedDoors
+pub mod ServerRuns
+pub mod Failures
