@@ -42,9 +42,9 @@ sum_of_file() {
     sha256sum "$1" 2>/dev/null | cut -d ' ' -f 1
 }
 
-# Whether the program in dist/ is of the sources with this sum, and is what was put there.
+# Whether the program in dist/ is of the sources with this sum, and is what was put there. Where no sources are, as in an installed copy, it is of any.
 is_shipped() {
-    [ "$(told_of_shipped sources)" = "$1" ] && [ "$(told_of_shipped sha256)" = "$(sum_of_file "$root/dist/$program")" ]
+    { [ ! -d "$root/crates" ] || [ "$(told_of_shipped sources)" = "$1" ]; } && [ "$(told_of_shipped sha256)" = "$(sum_of_file "$root/dist/$program")" ]
 }
 
 # Copies all that the program is built from into a new folder, as a repository of its own, and prints the folder's path.
@@ -61,17 +61,18 @@ copy_of_program() {
 }
 
 # Runs the gate over such a copy, which proves and builds the program there. What the gate proved on this machine before is kept, crate by crate, also if
-# it was stopped. What it says goes to the log; standard error tells how far it is.
+# it was stopped. What it says goes to the log; a terminal is told how far it is.
 prove_copy() {
-    (cd "$1" && rt ci 2>&1; echo "status $?") </dev/null | tee -a "$2" | awk -v program="$program" -v all="$(crates_of_program "$1" | wc -l)" '
-        $1 == "rt:" && ($3 == "proved" || $4 == "kept:") { done++; print program ": " $2 " is proved, " done " of " all " crates" > "/dev/stderr" }
+    is_terminal=; [ -t 2 ] && is_terminal=1
+    (cd "$1" && rt ci 2>&1; echo "status $?") </dev/null | tee -a "$2" | awk -v program="$program" -v all="$(crates_of_program "$1" | wc -l)" -v is_terminal="$is_terminal" '
+        $1 == "rt:" && ($3 == "proved" || $4 == "kept:") { done++; if (is_terminal) print program ": " $2 " is proved, " done " of " all " crates" > "/dev/stderr" }
         $1 == "status" { status = $2 }
         END { exit status }'
 }
 
 # Finds the program for the sources as they are, and names it `built`. With the words `- -` it prints its usage and ends with 2.
 find_program() {
-    sum=$(sum_of_sources "$root")
+    sum=$(sum_of_sources "$root" 2>/dev/null)
     built=$out/$program-$sum
     [ -x "$built" ] && return 0
     is_shipped "$sum" || return 1
@@ -99,6 +100,10 @@ build_program() {
 # Finds the program, and builds it first if it must. Where that can't be, the script ends: with 100 if the toolchain is missing, with 101 if the build failed.
 have_program() {
     find_program && return
+    if [ ! -d "$root/crates" ]; then
+        say "$root/dist/$program is missing or damaged, and there are no sources to build it from"
+        exit 101
+    fi
     if ! command -v rt >/dev/null 2>&1; then
         say "the toolchain's command rt is not on the PATH, so the program can't be built"
         exit 100
