@@ -1,0 +1,70 @@
+"""Collections for tests, in folders of their own that go at the end of each test."""
+
+import atexit
+import functools
+import os
+import shutil
+import sqlite3
+import subprocess
+import tempfile
+import unittest
+
+from front import program as programs
+
+
+@functools.lru_cache(maxsize=None)
+def built_program():
+    """The program, found once: that takes a second."""
+    return programs.find_program()
+
+
+def fresh_collection(program, _made=[]):
+    """A file with the collection that a learner begins with. It is made once, and copied by those who change it."""
+    if not _made:
+        folder = tempfile.mkdtemp(prefix="anki-front-")
+        atexit.register(shutil.rmtree, folder, ignore_errors=True)
+        _made.append(os.path.join(folder, "fresh.anki"))
+        if programs.make_collection(program, _made[0]) != programs.DONE:
+            raise AssertionError("no collection was made")
+    return _made[0]
+
+
+class FileCase(unittest.TestCase):
+    """A test with the program, and an empty folder."""
+
+    @classmethod
+    def setUpClass(cls):
+        cls.program = built_program()
+
+    def setUp(self):
+        self.folder = tempfile.mkdtemp(prefix="anki-front-")
+        self.addCleanup(shutil.rmtree, self.folder, ignore_errors=True)
+        self.path = os.path.join(self.folder, "my.anki")
+
+    def make(self, *lines):
+        """Makes the collection that a learner begins with, does the desk's lines, and gives what they print."""
+        fresh = fresh_collection(self.program)
+        for end in ("", "-wal"):
+            shutil.copy(fresh + end, self.path + end)
+        return self.do(*lines) if lines else []
+
+    def write(self, *statements):
+        """Writes into the file by sqlite: (statement, values) each."""
+        file = sqlite3.connect(self.path)
+        for statement, values in statements:
+            file.execute(statement, values)
+        file.commit()
+        file.close()
+
+    def do(self, *lines):
+        """Does lines of the desk, and gives the lines that they print."""
+        run = subprocess.run(
+            programs.words_for(self.program, self.path, "desk"),
+            input="".join(line + "\n" for line in lines).encode(),
+            stdout=subprocess.PIPE,
+            check=False,
+        )
+        return run.stdout.decode().split("\n")[:-1]
+
+    def names(self):
+        return sorted(os.listdir(self.folder))
