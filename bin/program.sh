@@ -4,8 +4,9 @@
 out=$root/out
 log=$out/build.log
 
+# Says something on standard error, unless ANKI_QUIET is 1.
 say() {
-    echo "$program: $*" >&2
+    [ "$ANKI_QUIET" = 1 ] || echo "$program: $*" >&2
 }
 
 # The lines of crates.txt for the crates that the program is made of, itself at the end. There a crate stands below those that it uses.
@@ -42,9 +43,9 @@ sum_of_file() {
     sha256sum "$1" 2>/dev/null | cut -d ' ' -f 1
 }
 
-# Whether the program in dist/ is of the sources with this sum, and is what was put there. Where no sources are, as in an installed copy, it is of any.
+# Whether the program in dist/ is of the sources with this sum, and is what was put there.
 is_shipped() {
-    { [ ! -d "$root/crates" ] || [ "$(told_of_shipped sources)" = "$1" ]; } && [ "$(told_of_shipped sha256)" = "$(sum_of_file "$root/dist/$program")" ]
+    [ "$(told_of_shipped sources)" = "$1" ] && [ "$(told_of_shipped sha256)" = "$(sum_of_file "$root/dist/$program")" ]
 }
 
 # Copies all that the program is built from into a new folder, as a repository of its own, and prints the folder's path.
@@ -61,18 +62,18 @@ copy_of_program() {
 }
 
 # Runs the gate over such a copy, which proves and builds the program there. What the gate proved on this machine before is kept, crate by crate, also if
-# it was stopped. What it says goes to the log; a terminal is told how far it is.
+# it was stopped. What it says goes to the log; standard error tells how far it is, if that is a terminal.
 prove_copy() {
-    is_terminal=; [ -t 2 ] && is_terminal=1
-    (cd "$1" && rt ci 2>&1; echo "status $?") </dev/null | tee -a "$2" | awk -v program="$program" -v all="$(crates_of_program "$1" | wc -l)" -v is_terminal="$is_terminal" '
-        $1 == "rt:" && ($3 == "proved" || $4 == "kept:") { done++; if (is_terminal) print program ": " $2 " is proved, " done " of " all " crates" > "/dev/stderr" }
+    (cd "$1" && rt ci 2>&1; echo "status $?") </dev/null | tee -a "$2" | awk -v is_told="$([ -t 2 ] && echo 1)" -v program="$program" -v all="$(crates_of_program "$1" | wc -l)" '
+        $1 == "rt:" && ($3 == "proved" || $4 == "kept:") { done++; if (is_told) print program ": " $2 " is proved, " done " of " all " crates" > "/dev/stderr" }
         $1 == "status" { status = $2 }
         END { exit status }'
 }
 
 # Finds the program for the sources as they are, and names it `built`. With the words `- -` it prints its usage and ends with 2.
 find_program() {
-    sum=$(sum_of_sources "$root" 2>/dev/null)
+    # An installed copy has no sources: there the program is the one that came with it.
+    if [ -d "$root/crates" ]; then sum=$(sum_of_sources "$root"); else sum=$(told_of_shipped sources); fi
     built=$out/$program-$sum
     [ -x "$built" ] && return 0
     is_shipped "$sum" || return 1
@@ -105,11 +106,11 @@ have_program() {
         exit 101
     fi
     if ! command -v rt >/dev/null 2>&1; then
-        say "the toolchain's command rt is not on the PATH, so the program can't be built"
+        say "there is no program of these sources that runs here, and the toolchain's command rt is not on the PATH to build one; nothing was changed; install the toolchain, or take a clone with a program in dist/"
         exit 100
     fi
     if ! mkdir -p "$out" 2>/dev/null || [ ! -w "$out" ]; then
-        say "$out can't be written to, so the program can't be built"
+        say "$out can't be written to, so the program can't be built; nothing was changed; see to the rights of that folder"
         exit 101
     fi
     # One call builds at a time. The others wait, and find the program.
@@ -117,7 +118,7 @@ have_program() {
     flock -n 9 || { say "another call builds the program: waiting for it"; flock 9; }
     until find_program; do
         if ! build_program 9>&-; then
-            say "the build failed; what it printed is in $log"
+            say "the build failed; nothing was changed; what it printed is in $log"
             exit 101
         fi
     done

@@ -1,0 +1,33 @@
+"""What docs/answers.json tells of each printed text and each status."""
+import json
+import re
+
+from tools.pages import path_of
+
+
+def read_answers():
+    with open(path_of("answers.json"), encoding="utf-8") as text:
+        return json.load(text)
+
+
+def status_told(answers, status, on=None):
+    """What is told of a status, of this kind where there are several; None if nothing is."""
+    found = [it for it in answers["statuses"] if it["status"] == status and ("on" not in it or it["on"] == on)]
+    return found[0] if found else None
+
+
+def pattern_of(text):
+    """A pattern that what is printed matches: `<..>` stands for anything."""
+    parts = re.split(r"<[^<>]*>", text)
+    return "(.*)".join(re.escape(part) for part in parts)
+
+
+def text_told(answers, printed):
+    """What is told of a printed text; None if nothing is. Of several patterns the one with the most words of its own counts."""
+    found = [it for it in answers["texts"] if "text" in it and re.fullmatch(pattern_of(it["text"]), printed, re.DOTALL)]
+    return max(found, key=lambda it: len(re.sub(r"<[^<>]*>", "", it["text"])), default=None)
+
+
+def plain(text):
+    """A told text for a terminal: links as their words."""
+    return re.sub(r"\[([^\]]*)\]\([^)]*\)", r"\1", text)

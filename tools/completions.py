@@ -1,0 +1,100 @@
+"""The scripts of completion/ for bash and zsh, whose words are those of the tables of docs/profile/."""
+from tools import helps
+
+TOPICS = ("desk", "lab", "sync", "answers")
+
+
+def commands():
+    """The commands of the program: the third word."""
+    return [entry.forms[0].split(" ")[3] for entry in helps.commands() if entry.example]
+
+
+def words():
+    """The words of bin/anki: the first word, in place of a file."""
+    return helps.verbs_of(helps.script_words())
+
+
+def tables():
+    return list(dict.fromkeys(form.split(" ")[2] for entry in helps.script_words() for form in entry.forms if form.startswith("show ")))
+
+
+def scripts():
+    fill = {
+        "COMMANDS": " ".join(commands()), "WORDS": " ".join(words()), "TABLES": " ".join(tables()), "TOPICS": " ".join(TOPICS),
+        "DESK": " ".join(helps.verbs_of(helps.desk_lines())), "LAB": " ".join(helps.verbs_of(helps.lab_lines())),
+    }
+    made = {"completion/anki.bash": BASH, "completion/_anki": ZSH}
+    for name, text in made.items():
+        for word, value in fill.items():
+            text = text.replace("@%s@" % word, value)
+        made[name] = text
+    return made
+
+
+BASH = r"""# Completion of anki for bash: `. completion/anki.bash`. Made by tools/make_pages.py.
+_anki() {
+    local word=${COMP_WORDS[COMP_CWORD]} first=${COMP_WORDS[1]} second=${COMP_WORDS[2]}
+    COMPREPLY=()
+    if [ "$COMP_CWORD" -eq 1 ]; then
+        COMPREPLY=($(compgen -W "@WORDS@" -- "$word") $(compgen -f -- "$word"))
+        return
+    fi
+    # If the second word is - or host:port, all words go to the program.
+    if [ "$COMP_CWORD" -ge 3 ] && { [ "$second" = - ] || [[ $second == *:* ]] || [[ ${COMP_WORDS[3]} == : ]]; }; then
+        [ "$COMP_CWORD" -eq 3 ] && COMPREPLY=($(compgen -W "@COMMANDS@" -- "$word"))
+        return
+    fi
+    case $first in
+    backup | restore) [ "$COMP_CWORD" -le 3 ] && COMPREPLY=($(compgen -f -- "$word")) ;;
+    doctor) [ "$COMP_CWORD" -eq 2 ] && COMPREPLY=($(compgen -f -- "$word")) ;;
+    show)
+        [ "$COMP_CWORD" -eq 2 ] && COMPREPLY=($(compgen -f -- "$word"))
+        [ "$COMP_CWORD" -eq 3 ] && COMPREPLY=($(compgen -W "@TABLES@" -- "$word"))
+        ;;
+    help) [ "$COMP_CWORD" -eq 2 ] && COMPREPLY=($(compgen -W "@TOPICS@" -- "$word")) ;;
+    --*) ;;
+    *) [ "$COMP_CWORD" -eq 2 ] && COMPREPLY=($(compgen -W "-" -- "$word")) ;;
+    esac
+}
+complete -o filenames -F _anki anki bin/anki ./anki
+
+# The verbs of a desk's and of a lab's lines, for a shell that feeds them: `anki_verbs desk`, `anki_verbs lab`.
+anki_verbs() {
+    case $1 in
+    desk) compgen -W "@DESK@" -- "$2" ;;
+    lab) compgen -W "@LAB@" -- "$2" ;;
+    esac
+}
+"""
+
+ZSH = r"""#compdef anki
+# Completion of anki for zsh: put its folder into fpath. Made by tools/make_pages.py.
+_anki() {
+    local -a commands script tables topics
+    commands=(@COMMANDS@)
+    script=(@WORDS@)
+    tables=(@TABLES@)
+    topics=(@TOPICS@)
+    if (( CURRENT == 2 )); then
+        compadd -a script
+        _files
+        return
+    fi
+    # If the second word is - or host:port, all words go to the program.
+    if (( CURRENT >= 4 )) && [[ $words[3] == - || $words[3] == *:* ]]; then
+        (( CURRENT == 4 )) && compadd -a commands
+        return
+    fi
+    case $words[2] in
+    (backup|restore) (( CURRENT <= 4 )) && _files ;;
+    (doctor) (( CURRENT == 3 )) && _files ;;
+    (show)
+        if (( CURRENT == 3 )); then _files; elif (( CURRENT == 4 )); then compadd -a tables; fi
+        ;;
+    (help) (( CURRENT == 3 )) && compadd -a topics ;;
+    (--*) ;;
+    (*) (( CURRENT == 3 )) && compadd -- - ;;
+    esac
+}
+_anki "$@"
+"""

@@ -1,0 +1,158 @@
+"""The pages of man/, made of the tables of docs/profile/ and of docs/answers.json."""
+import re
+import textwrap
+
+from tools import answers, helps
+from tools.pages import codes_in, plain, tables_of
+
+# The width of a line of a page's source.
+WIDTH = 78
+
+SECTION_NAMES = {1: "User commands", 5: "File formats"}
+
+
+def pages():
+    return {
+        "man/anki.1": page("anki", 1, "keeps a learner's collection, by proved code", of_anki()),
+        "man/anki-desk.5": page("anki-desk", 5, "the lines of a desk", of_desk()),
+        "man/anki-lab.5": page("anki-lab", 5, "the lines of a lab", of_lab()),
+    }
+
+
+def page(name, section, about, lines):
+    """A page of a name and a section, in the macros of man(7)."""
+    head = [
+        '.\\" Made by tools/make_pages.py: change docs/profile/ or docs/answers.json, and make it anew.',
+        '.TH %s %d "%s" "anki %s" "%s"' % (name.upper(), section, helps.version_day(), helps.version_number(), SECTION_NAMES[section]),
+        ".SH NAME",
+        "%s \\- %s" % (escaped(name), escaped(about)),
+    ]
+    return "\n".join(head + list(lines)) + "\n"
+
+
+def escaped(text):
+    """A text in which roff sees no command: each hyphen stays one, as a word that can be copied needs it."""
+    text = text.replace("\\", "\\e").replace("-", "\\-").replace("'", "\\(aq").replace("`", "\\(ga").replace("^", "\\(ha").replace("~", "\\(ti").replace('"', "\\(dq")
+    text = "".join(char if ord(char) < 128 else "\\[u%04X]" % ord(char) for char in text)
+    return "\\&" + text if text[:1] in (".",) else text
+
+
+def paragraph(text):
+    """A text in short lines, each sentence beginning with a line of its own."""
+    lines = [line for sentence in sentences(text) for line in textwrap.wrap(escaped(sentence), WIDTH, break_long_words=False, break_on_hyphens=False)]
+    return ["\\&" + line if line[:1] in (".", "'") else line for line in lines]
+
+
+def sentences(text):
+    """A text with each sentence on a line of its own, as roff wants it."""
+    return re.split(r"(?<=[.:?])\s+(?=[A-Z])", " ".join(text.split()))
+
+
+def code(lines):
+    return [".RS 4", ".nf", *[escaped(line) for line in lines], ".fi", ".RE"]
+
+
+def listed(entries):
+    """Entries of help: each form in bold, what it does, and its examples."""
+    for entry in entries:
+        forms = [".B %s" % escaped(form) for form in entry.forms]
+        yield ".TP"
+        yield forms[0]
+        for form in forms[1:]:
+            yield ".TQ"
+            yield form
+        yield from paragraph(entry.what)
+        if entry.example:
+            yield ".RS"
+            yield ".nf"
+            yield from map(escaped, entry.example)
+            yield ".fi"
+            yield ".RE"
+
+
+def of_anki():
+    yield ".SH SYNOPSIS"
+    for entry in helps.commands():
+        if entry.example:
+            yield ".B %s" % escaped(entry.forms[0])
+            yield ".br"
+    yield ".B anki"
+    yield escaped("backup | restore | doctor | show | help | --help | --version ...")
+    yield ".SH DESCRIPTION"
+    yield from paragraph("The program anki keeps a collection of notes, cards and reviews in a file, and schedules, finds, edits and undoes. It is proved to do so as its documents say. The file is named first; - is an empty collection in memory that ends with the program. The second word is the server, as HOST:PORT; - is none.")
+    yield ".SS Commands"
+    yield from listed([it for it in helps.commands() if it.example])
+    yield ".SS Words beside the program"
+    yield from paragraph("If the second word is - or has the form host:port, all words go to the program. Else these words are done beside it:")
+    yield from listed(helps.script_words())
+    yield ".SH EXIT STATUS"
+    told = answers.read_answers()
+    for number in sorted({it["status"] for it in told["statuses"]}):
+        yield ".TP"
+        yield ".B %d" % number
+        for it in [it for it in told["statuses"] if it["status"] == number]:
+            yield from paragraph(plain("%s%s; %s. To do: %s." % (it["what"][:1].upper(), it["what"][1:], it["safe"], it["do"])))
+    yield ".SH ENVIRONMENT"
+    yield ".TP"
+    yield ".B ANKI_QUIET"
+    yield from paragraph("With the value 1 nothing is said on standard error after a run. Else a run that ends with another status than 0 leaves one sentence there.")
+    yield ".TP"
+    yield ".B ANKI_PROGRAM"
+    yield from paragraph("The path of the program, for the words beside it, in place of the one that is found.")
+    yield ".SH FILES"
+    yield ".TP"
+    yield ".IR FILE ,"
+    yield ".I FILE\\-wal"
+    yield from paragraph("The two files of a collection. They belong together: after a kill the second may hold what was printed last. A run that ends in order leaves all of it in the first.")
+    yield ".SH EXAMPLES"
+    yield from code(["anki my.anki - init", "anki my.anki - desk < first-session.desk", "anki backup my.anki my-monday.anki"])
+    yield ".SH SEE ALSO"
+    yield ".BR anki\\-desk (5),"
+    yield ".BR anki\\-lab (5),"
+    yield ".BR sqlite3 (1)"
+
+
+def of_desk():
+    yield ".SH DESCRIPTION"
+    yield from paragraph("The command desk of anki reads lines from standard input, and prints an answer to each. An empty line and one that begins with # are skipped. A line ends with LF alone. A refused line ends the run with status 3 and line <n>: <text>; what the lines before it did stays.")
+    yield ".SH LINES"
+    yield from listed(helps.desk_lines())
+    yield ".SH ANSWERS"
+    yield from told_under("Answers of the desk", "Answers of a check")
+    yield ".SH REFUSALS"
+    yield from told_under("Refused lines of any input", "Refused lines of the desk")
+    yield ".SH SEE ALSO"
+    yield ".BR anki (1),"
+    yield ".BR anki\\-lab (5)"
+
+
+def of_lab():
+    yield ".SH DESCRIPTION"
+    yield from paragraph("The command lab of anki reads a script from standard input: one server and up to 16 devices, in memory. An empty line and one that begins with # are skipped. A refused line ends the script with status 3 and line <n>: <text>.")
+    yield ".SH LINES"
+    for entry, prints in zip(helps.lab_lines(), helps.lab_prints()):
+        entry.what = "%s; prints: %s" % (entry.what, prints)
+        entry.example = []
+        yield from listed([entry])
+    yield ".SH ANSWERS"
+    yield from told_under("Answers of a lab", "How a sync ends")
+    yield ".SH REFUSALS"
+    yield from told_under("Refused lines of any input", "Refused lines of a lab")
+    yield from paragraph("A line after do is refused by the texts of anki\\-desk(5).".replace("\\-", "-"))
+    yield ".SH EXAMPLES"
+    yield from code(helps.lab_examples()[0])
+    yield ".SH SEE ALSO"
+    yield ".BR anki (1),"
+    yield ".BR anki\\-desk (5)"
+
+
+def told_under(*groups):
+    """What docs/answers.json tells of the texts of these groups."""
+    is_open = False
+    for it in answers.read_answers()["texts"]:
+        if "group" in it:
+            is_open = it["group"] in groups
+        elif is_open:
+            yield ".TP"
+            yield ".B %s" % escaped(it["text"])
+            yield from paragraph(plain("%s%s.%s" % (it["why"][:1].upper(), it["why"][1:], "" if it["do"] == "nothing" else " To do: %s." % it["do"])))
