@@ -107,12 +107,13 @@ pub record OpensNone {K : Type 0} (told left : Option (List K)) (before after : 
 abbrev pub ListsNothing : Option (List ℕ) → Type 0
 ListsNothing text = IfSome text (λ bytes. (listings : List Listing) → Lists bytes listings → ⊥)
 
--- why nothing was opened, by why the file was not read, or its text
+-- why nothing was opened, by why the file was not read
 abbrev pub of_file : FileFault → OpenFault
 of_file files.TooLong = faults.Refused
 of_file files.Failed = faults.FileFailed
 of_file files.Memory = faults.Memory
 
+-- why nothing was opened, by why the text of the file was not read
 abbrev pub of_text : AccountsFault → OpenFault
 of_text texts.Refused = faults.Refused
 of_text texts.Memory = faults.Memory
