@@ -18,12 +18,31 @@ def tables():
     return list(dict.fromkeys(form.split(" ")[2] for entry in helps.script_words() for form in entry.forms if form.startswith("show ")))
 
 
+def server_words():
+    """The words of bin/ankid that begin no server: each stands first."""
+    return [entry.forms[0].split(" ")[1] for entry in helps.server_words() if entry.forms[0].split(" ")[1] not in server_options()]
+
+
+def server_options():
+    """The words of a server, each with what stands behind it."""
+    return dict(entry.forms[0].split(" ") for entry in helps.server_options())
+
+
+def of_server():
+    options = server_options()
+    return {
+        "SERVER": " ".join(server_words()), "OPTIONS": " ".join(options),
+        "FILED": " | ".join(it for it in options if options[it] == "FILE"), "VALUED": " | ".join(it for it in options if options[it] != "FILE"),
+    }
+
+
 def scripts():
     fill = {
         "COMMANDS": " ".join(commands()), "WORDS": " ".join(words()), "TABLES": " ".join(tables()), "TOPICS": " ".join(TOPICS),
         "DESK": " ".join(helps.verbs_of(helps.desk_lines())), "LAB": " ".join(helps.verbs_of(helps.lab_lines())),
     }
-    made = {"completion/anki.bash": BASH, "completion/_anki": ZSH}
+    fill.update(of_server())
+    made = {"completion/anki.bash": BASH, "completion/_anki": ZSH, "completion/ankid.bash": SERVER_BASH, "completion/_ankid": SERVER_ZSH}
     for name, text in made.items():
         for word, value in fill.items():
             text = text.replace("@%s@" % word, value)
@@ -97,4 +116,57 @@ _anki() {
     esac
 }
 _anki "$@"
+"""
+
+SERVER_BASH = r"""# Completion of ankid for bash: `. completion/ankid.bash`. Made by tools/make_pages.py.
+_ankid() {
+    local word=${COMP_WORDS[COMP_CWORD]} before=${COMP_WORDS[COMP_CWORD - 1]} given=" ${COMP_WORDS[*]:1:COMP_CWORD - 1} " option left=
+    COMPREPLY=()
+    case ${COMP_WORDS[1]} in
+    --*) ;;
+    *)
+        if [ "$COMP_CWORD" -gt 1 ]; then
+            [ "${COMP_WORDS[1]}" = new-account ] && [ "$COMP_CWORD" -eq 3 ] && COMPREPLY=($(compgen -f -- "$word"))
+            return
+        fi
+        ;;
+    esac
+    case $before in
+    @FILED@)
+        COMPREPLY=($(compgen -f -- "$word"))
+        return
+        ;;
+    @VALUED@ | : | --program) return ;;
+    esac
+    [ "$COMP_CWORD" -eq 1 ] && left="@SERVER@"
+    for option in @OPTIONS@; do [[ $given == *" $option "* ]] || left="$left $option"; done
+    COMPREPLY=($(compgen -W "$left" -- "$word"))
+}
+complete -o filenames -F _ankid ankid bin/ankid ./ankid
+"""
+
+SERVER_ZSH = r"""#compdef ankid
+# Completion of ankid for zsh: put its folder into fpath. Made by tools/make_pages.py.
+_ankid() {
+    local -a script options given left
+    script=(@SERVER@)
+    options=(@OPTIONS@)
+    given=(${words[1,CURRENT-1]})
+    left=(${options:|given})
+    if (( CURRENT == 2 )); then
+        compadd -a script
+        compadd -a left
+        return
+    fi
+    if [[ $words[2] != --* ]]; then
+        [[ $words[2] == new-account ]] && (( CURRENT == 4 )) && _files
+        return
+    fi
+    case $words[CURRENT-1] in
+    (@FILED@) _files ;;
+    (@VALUED@ | --program) ;;
+    (*) compadd -a left ;;
+    esac
+}
+_ankid "$@"
 """

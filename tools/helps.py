@@ -6,7 +6,7 @@ import subprocess
 import textwrap
 
 from tools import answers, files
-from tools.pages import TOP, codes_in, plain, table_under, tables_of
+from tools.pages import TOP, blocks_under, codes_in, items_under, plain, table_under, tables_of
 
 WIDTH, INDENT = 100, "    "
 
@@ -49,6 +49,39 @@ def lab_prints():
 def lab_examples():
     """Scripts, each a list of lines."""
     return [codes_in(row[0]) for row in table_under("profile/lab.md", "Examples", "script").rows]
+
+
+def server_words():
+    """The forms of the words of bin/ankid, and what each does: the lines of its head."""
+    with open(os.path.join(TOP, "bin", "ankid"), encoding="utf-8") as text:
+        head = re.match(r"(?:#.*\n)*", text.read()).group()
+    return [Entry([form], what, []) for form, what in re.findall(r"^# +bin/(ankid .*\S) {2,}(\S.*)$", head, re.MULTILINE)]
+
+
+def server_options():
+    """The words that the program ankid takes."""
+    return entries_of(table_under("OPERATORS.md", "In short", "word"))
+
+
+class End:
+    """How a run of ankid ends: its status, or `signal`; what happened, what is safe, what to do."""
+
+    def __init__(self, status, what, safe, todo):
+        self.status, self.what, self.safe, self.todo = status, what, safe, todo
+
+
+def server_ends():
+    return [End(*map(plain, row)) for row in table_under("OPERATORS.md", "In short", "status").rows]
+
+
+def server_start():
+    """The lines that start a server."""
+    return blocks_under("OPERATORS.md", "In short")[0]
+
+
+def server_accounts():
+    """The lines of an account, and what holds of accounts and keys."""
+    return blocks_under("OPERATORS.md", "Accounts and keys")[0], [plain(item) for item in items_under("OPERATORS.md", "Accounts and keys")]
 
 
 def verbs_of(entries):

@@ -1,4 +1,4 @@
-"""Makes what is made of the tables of docs/profile/ and of docs/answers.json: docs/ANSWERS.md, the pages of man/ and the words of completion/.
+"""Makes what is made of the tables of docs/profile/ and docs/OPERATORS.md and of docs/answers.json: docs/ANSWERS.md, the pages of man/ and the words of completion/.
 
     python3 tools/make_pages.py            makes them anew
     python3 tools/make_pages.py --check    fails if one of them is stale
@@ -10,7 +10,7 @@ import sys
 sys.dont_write_bytecode = True
 sys.path.insert(0, os.path.dirname(os.path.dirname(os.path.realpath(__file__))))
 
-from tools import answers, completions, manual  # noqa: E402
+from tools import answers, completions, helps, manual  # noqa: E402
 from tools.pages import TOP  # noqa: E402
 
 
@@ -21,6 +21,7 @@ def answers_page():
     yield ""
     yield "What `anki` prints and how it ends: why, what is lost, what to do. This page is made of `answers.json` by `tools/make_pages.py`, and so is the sentence that"
     yield "`bin/anki` leaves on standard error after a run that ends with another status than 0. A word in angle brackets stands for what is printed in its place."
+    yield "At the end of the statuses stand those of the server `ankid`, which are made of [its page](OPERATORS.md)."
     yield ""
     yield "## Statuses"
     yield ""
@@ -31,6 +32,15 @@ def answers_page():
     yield row("ended by a signal", "", told["signals"]["what"], "nothing: " + told["signals"]["safe"], told["signals"]["do"])
     yield ""
     yield "Where the work is in memory alone (`-` as the file, and a lab) nothing of it is kept after any end."
+    yield ""
+    yield "## Statuses of ankid"
+    yield ""
+    yield "| status | what happened | what is lost | what to do |"
+    yield "|---|---|---|---|"
+    for end in helps.server_ends():
+        yield row("ended by a signal" if end.status == "signal" else end.status, end.what, "nothing: " + end.safe, end.todo)
+    yield ""
+    yield "`bin/ankid` ends with 100 and 101 as `bin/anki` does."
     for it in told["texts"]:
         if "group" in it:
             yield ""

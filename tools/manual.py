@@ -1,4 +1,4 @@
-"""The pages of man/, made of the tables of docs/profile/ and of docs/answers.json."""
+"""The pages of man/, made of the tables of docs/profile/, of docs/answers.json, and for the server of docs/OPERATORS.md."""
 import re
 import textwrap
 
@@ -8,7 +8,9 @@ from tools.pages import codes_in, plain, tables_of
 # The width of a line of a page's source.
 WIDTH = 78
 
-SECTION_NAMES = {1: "User commands", 5: "File formats"}
+SECTION_NAMES = {1: "User commands", 5: "File formats", 8: "System administration"}
+
+SOURCES = "docs/profile/ or docs/answers.json"
 
 
 def pages():
@@ -16,13 +18,14 @@ def pages():
         "man/anki.1": page("anki", 1, "keeps a learner's collection, by proved code", of_anki()),
         "man/anki-desk.5": page("anki-desk", 5, "the lines of a desk", of_desk()),
         "man/anki-lab.5": page("anki-lab", 5, "the lines of a lab", of_lab()),
+        "man/ankid.8": page("ankid", 8, "serves the collections of accounts to their devices, by proved code", of_ankid(), "docs/OPERATORS.md or the head of bin/ankid"),
     }
 
 
-def page(name, section, about, lines):
+def page(name, section, about, lines, sources=SOURCES):
     """A page of a name and a section, in the macros of man(7)."""
     head = [
-        '.\\" Made by tools/make_pages.py: change docs/profile/ or docs/answers.json, and make it anew.',
+        '.\\" Made by tools/make_pages.py: change %s, and make it anew.' % sources,
         '.TH %s %d "%s" "anki %s" "%s"' % (name.upper(), section, helps.version_day(), helps.version_number(), SECTION_NAMES[section]),
         ".SH NAME",
         "%s \\- %s" % (escaped(name), escaped(about)),
@@ -109,6 +112,7 @@ def of_anki():
     yield ".SH SEE ALSO"
     yield ".BR anki\\-desk (5),"
     yield ".BR anki\\-lab (5),"
+    yield ".BR ankid (8),"
     yield ".BR sqlite3 (1)"
 
 
@@ -144,6 +148,53 @@ def of_lab():
     yield ".SH SEE ALSO"
     yield ".BR anki (1),"
     yield ".BR anki\\-desk (5)"
+
+
+def of_ankid():
+    yield ".SH SYNOPSIS"
+    for place, entry in enumerate(helps.server_words()):
+        if place > 0:
+            yield ".br"
+        yield ".B %s" % escaped(entry.forms[0])
+    yield ".SH DESCRIPTION"
+    yield from paragraph("The program ankid keeps the collections of accounts, each in a file, and serves their syncs over HTTP, until it is ended. It is proved to do so as its documents say. It prints nothing but usage, where its words are not those below. It has no TLS, and listens best at the loopback, behind a server that has.")
+    yield ".SS Commands"
+    yield from listed(helps.server_words())
+    yield ".SH OPTIONS"
+    yield from listed(helps.server_options())
+    yield ".SH ACCOUNTS AND KEYS"
+    lines, items = helps.server_accounts()
+    yield from paragraph("The accounts' file is TOML:")
+    yield from code(lines)
+    for item in items:
+        yield ".IP \\(bu 2"
+        yield from paragraph(installed(item))
+    yield ".SH EXIT STATUS"
+    for end in helps.server_ends():
+        yield ".TP"
+        yield ".B %s" % escaped(end.status)
+        yield from paragraph(installed("%s%s; %s. To do: %s." % (end.what[:1].upper(), end.what[1:], end.safe, end.todo)))
+    for it in [it for it in answers.read_answers()["statuses"] if it["status"] >= 100]:
+        yield ".TP"
+        yield ".B %d" % it["status"]
+        yield from paragraph(plain("%s%s; %s. To do: %s." % (it["what"][:1].upper(), it["what"][1:], it["safe"], it["do"])))
+    yield ".PP"
+    yield from paragraph("The word new-account ends with 2 if it refuses its words, and with 1 if the system gave no key.")
+    yield ".SH ENVIRONMENT"
+    yield ".TP"
+    yield ".B ANKI_QUIET"
+    yield from paragraph("With the value 1 nothing is said on standard error when it ends. Else one sentence is left there.")
+    yield ".SH EXAMPLES"
+    yield from code(map(installed, helps.server_start()))
+    yield ".SH SEE ALSO"
+    yield ".BR anki (1)"
+    yield ".PP"
+    yield from paragraph("The page docs/OPERATORS.md, under share/anki where it is installed, tells of devices, TLS, systemd, logs, backup and restore, and limits.")
+
+
+def installed(text):
+    """A text of a document, with the commands as they are called where they are installed."""
+    return re.sub(r"\bbin/(ankid?)\b", r"\1", text)
 
 
 def told_under(*groups):

@@ -1,4 +1,4 @@
-"""Reading the tables of docs/profile/, which are the one list of lines, texts, statuses and ranges: nothing here repeats them."""
+"""Reading the tables of docs/, which are the one list of lines, texts, statuses and ranges: nothing here repeats them."""
 import os
 import re
 
@@ -68,6 +68,40 @@ def table_under(page, heading, first_column=None):
         if table.headings[-1:] == [heading] and (first_column is None or table.head[:1] == [first_column]):
             return table
     raise LookupError("docs/%s has no table under %r that begins with %r" % (page, heading, first_column))
+
+
+def lines_under(page, heading):
+    """The lines of a page between this heading and the next one."""
+    lines = read_page(page).split("\n")
+    first = next((place for place, line in enumerate(lines) if re.fullmatch("#+ " + re.escape(heading), line)), None)
+    if first is None:
+        raise LookupError("docs/%s has no heading %r" % (page, heading))
+    rest = lines[first + 1:]
+    return rest[: next((place for place, line in enumerate(rest) if re.match("#+ ", line)), len(rest))]
+
+
+def blocks_under(page, heading):
+    """The blocks of lines that stand four spaces in under this heading."""
+    blocks, is_open = [], False
+    for line in lines_under(page, heading):
+        if line.startswith("    "):
+            if not is_open:
+                blocks.append([])
+            blocks[-1].append(line[4:])
+        is_open = line.startswith("    ")
+    return blocks
+
+
+def items_under(page, heading):
+    """The items of the lists under this heading, each as one line."""
+    items, is_open = [], False
+    for line in lines_under(page, heading):
+        if line.startswith("- "):
+            items.append(line[2:])
+        elif is_open and line.startswith("  "):
+            items[-1] += " " + line.strip()
+        is_open = line.startswith("- ") or is_open and line.startswith("  ")
+    return items
 
 
 def codes_in(cell):

@@ -15,7 +15,7 @@ from tools.tests.support import TOP, Case, run
 # The crates that print, with the files that make what is printed.
 PRINTS = (
     "ak_texts/src/*.rt", "ak_outcomes/src/*.rt", "ak_desk_runs/src/*.rt", "ak_lab/src/*.rt", "ak_lab_lines/src/lab_texts.rt", "ak_lab_sides/src/*.rt",
-    "ak_cli/src/program_runs.rt", "ak_sync_runs/src/*.rt", "ak_io/src/endings.rt", "ak_wire/src/words.rt",
+    "ak_cli/src/program_runs.rt", "ak_sync_runs/src/*.rt", "ak_io/src/endings.rt", "ak_wire/src/words.rt", "ankid/src/*.rt",
 )
 
 # Literals in these files that are not printed: the first words by which lines take a turn, the lab's own account.
@@ -91,6 +91,35 @@ class Answers(unittest.TestCase):
         for row in next(it for it in tables_of("profile/outcomes.md") if it.head[0] == "printed").rows:
             self.assertIn(int(row[1]), known)
 
+    def test_each_word_of_the_server_stands_in_its_group(self):
+        place = next(place for place, it in enumerate(self.told["texts"]) if it.get("on") == "ankid")
+        printed = {it for path in glob.glob(os.path.join(TOP, "crates/ankid/src/*.rt")) for it in literals_of(path)}
+        self.assertEqual(printed, {it["text"] for it in self.told["texts"][place + 1:]})
+
+    def test_each_word_that_the_server_takes_stands_in_its_page(self):
+        with open(os.path.join(TOP, "crates/ak_server_words/src/commands.rt"), encoding="utf-8") as source:
+            names = re.findall(r'(?:needed\(alloc, |\.long\()"(\w+)"\)', source.read())
+        self.assertEqual(3, len(names))
+        self.assertEqual(["--" + name for name in names], list(completions.server_options()))
+
+    def test_each_status_of_the_server_stands_there(self):
+        with open(os.path.join(TOP, "crates/ak_server_runs/src/run_ends.rt"), encoding="utf-8") as source:
+            statuses = re.findall(r"RunEnd::\w+ => (\d+),", source.read())
+        self.assertEqual(7, len(statuses))
+        ends = helps.server_ends()
+        self.assertEqual(statuses + ["signal"], [end.status for end in ends])
+        page = next(it for it in tables_of("ANSWERS.md") if it.headings[-1] == "Statuses of ankid")
+        self.assertEqual(statuses, [row[0] for row in page.rows][:-1])
+        with open(os.path.join(TOP, "man/ankid.8"), encoding="utf-8") as text:
+            shown = text.read()
+        for end in ends:
+            self.assertIn("\n.B %s\n" % end.status, shown)
+
+    def test_what_bin_ankid_says_is_the_same(self):
+        with open(os.path.join(TOP, "deploy/ankid-statuses.txt"), encoding="utf-8") as table:
+            rows = [line.rstrip("\n").split("|") for line in table if not line.startswith("#")]
+        self.assertEqual(rows, [[end.status, end.what, end.safe, end.todo] for end in helps.server_ends()])
+
     def test_the_pages_lead_there(self):
         for page in ("desk", "lab", "outcomes"):
             self.assertIn("(../ANSWERS.md)", read_page("profile/%s.md" % page))
@@ -151,13 +180,49 @@ class Examples(Case):
 
 
 class Completion(Case):
+    # What zsh's completion calls, so that it can be tried without a terminal.
+    STAND_IN = 'compadd() { local name; while [[ $1 == -* && $1 != - ]]; do [[ $1 == -a ]] && { shift; print -l -- ${(P)1}; return; }; shift; done; print -l -- "$@"; }; _files() { print -l -- *(N); }; '
+
     def completed(self, *words):
         """What bash offers for the last of these words."""
         text = '. "$1"; shift; COMP_WORDS=("$@"); COMP_CWORD=$(($# - 1)); _anki; printf "%s\\n" "${COMPREPLY[@]}"'
-        script = os.path.join(TOP, "completion", "anki.bash")
-        ran = run(["bash", "-c", text, "bash", script] + list(words), cwd=self.folder)
+        script = os.path.join(TOP, "completion", words[0] + ".bash")
+        ran = run(["bash", "-c", text.replace("_anki;", "_%s;" % words[0]), "bash", script] + list(words), cwd=self.folder)
         self.assertEqual(b"", ran.stderr)
         return set(ran.stdout.decode().split("\n")) - {""}
+
+    def server_completed(self):
+        """Words of ankid, and what is to be offered for the last of them."""
+        self.write("accounts.toml", "")
+        options = {"--listen", "--accounts", "--turns"}
+        return (
+            (["ankid", ""], options | {"new-account", "--program"}),
+            (["ankid", "--listen", ""], set()),
+            (["ankid", "--listen", "localhost:27701", ""], options - {"--listen"}),
+            (["ankid", "--listen", "localhost:27701", "--accounts", ""], {"accounts.toml"}),
+            (["ankid", "--listen", "localhost:27701", "--accounts", "a.toml", ""], {"--turns"}),
+            (["ankid", "--turns", ""], set()),
+            (["ankid", "--program", ""], set()),
+            (["ankid", "new-account", ""], set()),
+            (["ankid", "new-account", "ada", ""], {"accounts.toml"}),
+            (["ankid", "new-account", "ada", "ada.anki", ""], set()),
+        )
+
+    @unittest.skipUnless(shutil.which("bash"), "bash is not here")
+    def test_bash_for_the_server(self):
+        for words, wanted in self.server_completed():
+            self.assertEqual(wanted, self.completed(*words), words)
+        # So bash parts an address.
+        self.assertEqual({"--accounts"}, self.completed("ankid", "--listen", "localhost", ":", "27701", "--a"))
+        self.assertEqual(set(), self.completed("ankid", "--listen", "localhost", ":", ""))
+        self.assertEqual(set(), self.completed("ankid", "--accounts", "missing"))
+
+    @unittest.skipUnless(shutil.which("zsh"), "zsh is not here")
+    def test_zsh_for_the_server(self):
+        text = self.STAND_IN + 'words=("$@"); CURRENT=$#; . %s' % os.path.join(TOP, "completion", "_ankid")
+        for words, wanted in self.server_completed():
+            ran = run(["zsh", "-f", "-c", text, "zsh"] + words, cwd=self.folder)
+            self.assertEqual((b"", wanted), (ran.stderr, set(ran.stdout.decode().split())), words)
 
     @unittest.skipUnless(shutil.which("bash"), "bash is not here")
     def test_bash(self):
@@ -177,8 +242,7 @@ class Completion(Case):
 
     @unittest.skipUnless(shutil.which("zsh"), "zsh is not here")
     def test_zsh(self):
-        stand_in = 'compadd() { local name; while [[ $1 == -* && $1 != - ]]; do [[ $1 == -a ]] && { shift; print -l -- ${(P)1}; return; }; shift; done; print -l -- "$@"; }; _files() { print -l -- *(N); }; '
-        text = stand_in + 'words=("$@"); CURRENT=$#; . %s' % os.path.join(TOP, "completion", "_anki")
+        text = self.STAND_IN + 'words=("$@"); CURRENT=$#; . %s' % os.path.join(TOP, "completion", "_anki")
         self.write("my.anki", "")
         for words, wanted in ((["anki", ""], {"my.anki"} | set(completions.words())), (["anki", "my.anki", ""], {"-"}), (["anki", "my.anki", "-", ""], set(completions.commands())), (["anki", "show", "my.anki", ""], set(completions.tables())), (["anki", "help", ""], set(completions.TOPICS))):
             ran = run(["zsh", "-f", "-c", text, "zsh"] + words, cwd=self.folder)
@@ -186,13 +250,24 @@ class Completion(Case):
 
 
 class Installed(Case):
+    def try_server(self, ankid):
+        """What is installed for a server: its command has its table of statuses, and the program if that stood in dist/."""
+        self.assertRegex(run([ankid, "new-account", "ada", "ada.anki"]).stdout.decode(), r'\A\[\[account\]\]\nname = "ada"\nkey = "[0-9a-f]{32}"\nfile = "ada.anki"\n\Z')
+        ran = run([ankid, "--turns"])
+        if os.path.exists(os.path.join(TOP, "dist", "ankid")):
+            end = next(it for it in helps.server_ends() if it.status == "2")
+            self.assertEqual((2, b"usage\n", "ankid: %s; %s; %s\n" % (end.what, end.safe, end.todo)), (ran.returncode, ran.stdout, ran.stderr.decode()))
+        else:
+            self.assertEqual((101, b""), (ran.returncode, ran.stdout))
+
     @unittest.skipUnless(shutil.which("make"), "make is not here")
     def test_into_an_empty_prefix_and_away(self):
         prefix = self.path("pre fix")
         os.mkdir(prefix)
         ran = run(["make", "-s", "-C", TOP, "install", "PREFIX=" + prefix])
         self.assertEqual((0, b""), (ran.returncode, ran.stderr))
-        for name in ("bin/anki", "share/man/man1/anki.1", "share/man/man5/anki-desk.5", "share/man/man5/anki-lab.5", "share/bash-completion/completions/anki", "share/zsh/site-functions/_anki", "share/anki/tools/anki_words.py"):
+        for name in ("bin/anki", "share/man/man1/anki.1", "share/man/man5/anki-desk.5", "share/man/man5/anki-lab.5", "share/bash-completion/completions/anki", "share/zsh/site-functions/_anki", "share/anki/tools/anki_words.py",
+                     "bin/ankid", "share/man/man8/ankid.8", "share/bash-completion/completions/ankid", "share/zsh/site-functions/_ankid", "share/anki/deploy/ankid.service", "share/anki/deploy/servers.py"):
             self.assertTrue(os.path.isfile(os.path.join(prefix, name)), name)
         for folder, _, names in os.walk(prefix):
             for name in names:
@@ -202,6 +277,7 @@ class Installed(Case):
         with open(os.path.join(TOP, "bin", "anki"), encoding="utf-8") as script:
             if "anki_words.py" in script.read():
                 self.assertIn(b"note <type> <deck> <fields>", run([os.path.join(prefix, "bin/anki"), "help", "desk"]).stdout)
+        self.try_server(os.path.join(prefix, "bin/ankid"))
         own = os.path.join(prefix, "bin", "other")
         with open(own, "w") as other:
             other.write("mine")
