@@ -91,9 +91,9 @@ class Programs(unittest.TestCase):
 
     def test_a_check_compares_with_what_the_gate_built(self):
         self.put_rt(f"#!/bin/sh\necho '{told_of_shipped('toolchain')}'\n")
-        built = f"{self.top}/crates/anki/out/anki"
-        os.makedirs(os.path.dirname(built))
-        shutil.copyfile(f"{self.top}/dist/anki", built)
+        for program in ("anki", "ankid"):
+            os.makedirs(f"{self.top}/crates/{program}/out")
+            shutil.copyfile(f"{self.top}/dist/{program}", f"{self.top}/crates/{program}/out/{program}")
         self.assertEqual(self.run_in_copy("bin/ship", "--check").returncode, 0)
         self.change("crates/anki/out/anki", 100_000, b"\x7f\x00\x7f")
         ran = self.run_in_copy("bin/ship", "--check")
