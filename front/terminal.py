@@ -182,9 +182,16 @@ class Study:
     def rename_deck(self):
         deck = self.ask_deck("Number of the deck to rename: ")
         if deck is not None:
-            name = self.console.line("New name of %s: " % clean_line(self.session.deck_name(deck)))
-            if name.strip():
-                self.session.rename_deck(deck, name)
+            self.rename(self.session.deck_name(deck), lambda name: self.session.rename_deck(deck, name))
+
+    def rename(self, held, give):
+        """Asks for another name, and gives it after a question."""
+        name = self.console.line("New name of %s: " % clean_line(held)).strip()
+        if name and self.is_sure_of_name(held, name):
+            give(name)
+
+    def is_sure_of_name(self, held, name):
+        return name == held or self.confirm("Rename %s to %s?" % (clean_line(held), clean_line(name)))
 
     def delete_deck(self):
         deck = self.ask_deck("Number of the deck to delete: ")
@@ -355,9 +362,7 @@ class Study:
         elif word in ("r", "x"):
             row = self.ask_choice("Note type", rows, rows[0].id)
             if word == "r":
-                name = self.console.line("New name of %s: " % clean_line(row.name))
-                if name.strip():
-                    self.session.rename_type(row.id, name)
+                self.rename(row.name, lambda name: self.session.rename_type(row.id, name))
             elif self.confirm("Delete the note type %s? %s" % (clean_line(row.name), NO_UNDO)):
                 self.session.drop_type(row.id)
 
@@ -403,6 +408,8 @@ class Study:
         for value in values:
             word = self.console.line("%s [%s]: " % (value.label, clean_line(value.text))).strip()
             made[value.key] = word or value.text
+            if value.key == "name" and not self.is_sure_of_name(value.text, made[value.key]):
+                made[value.key] = value.text
         self.session.set_option_values(options_id, made)
 
     # Browsing.

@@ -22,6 +22,8 @@ SPREADS = ((0, "among the reviews"), (1, "after the reviews"), (2, "before the r
 OWN_ORIGIN = '<meta name="referrer" content="same-origin">'
 
 NEW_TYPE = {"fields": "Front, Back", "front": "{{Front}}", "back": "{{FrontSide}}<hr id=answer>{{Back}}"}
+NAME_INPUT = 'required maxlength="5000"'
+NAMED = {"deck": "deck", "type": "note type"}
 NO_UNDO = "The schema changes, and undo is empty from then on."
 
 
@@ -158,14 +160,13 @@ def deck(screen, session, deck_id, name=None):
     held = session.deck_name(deck_id)
     used = session.options_of_deck(deck_id)
     groups = [(group.id, group.name) for group in session.option_groups()]
-    rename = label("name", "Name") + row(text_input("name", held if name is None else name, "required"), button("Rename"))
     values = link(address("/options", options=used), "Change their values")
     use = label("options", "Options") + row(select("options", groups, used), button("Use these"), values)
     new = label("new", "New options, for this deck")
     new += row('<input type="text" id="new" name="name" required>', button("Add the options"))
     body = (
         heading(held)
-        + screen.form("/deck-rename", rename, deck=deck_id)
+        + rename_form("deck", deck_id, name_row(held if name is None else name))
         + screen.form("/deck-options", use, deck=deck_id)
         + screen.form("/options-new", new, deck=deck_id)
         + "<p>%s</p>" % link(address("/sure", what="deck", id=deck_id), "Delete this deck")
@@ -176,9 +177,12 @@ def deck(screen, session, deck_id, name=None):
 def options(screen, session, options_id, texts=None):
     texts = texts or {}
     lines = [
-        label(value.key, value.label) + text_input(value.key, texts.get(value.key, value.text)) for value in session.option_values(options_id)
+        label(value.key, value.label) + text_input(value.key, texts.get(value.key, value.text))
+        for value in session.option_values(options_id)
+        if value.key != "name"
     ]
-    body = heading("Options") + screen.form("/options-set", "".join(lines) + row(button("Save", "main")), options=options_id)
+    rename = rename_form("options", options_id, name_row(texts.get("name", name_of(session, "options", options_id))))
+    body = heading("Options") + rename + screen.form("/options-set", "".join(lines) + row(button("Save", "main")), id=options_id)
     body += "<p>%s</p>" % link(address("/sure", what="options", id=options_id), "Delete these options")
     return screen.page("Options", body)
 
@@ -188,6 +192,31 @@ def sure(screen, session, what, row_id):
     words, path = {"deck": sure_deck, "note": sure_note, "type": sure_type}.get(what, sure_options)(session, row_id)
     body = heading("Delete?") + '<p dir="auto">%s</p>' % h("Delete %s" % words)
     return screen.page("Delete?", body + row(screen.button(path, "Yes, delete", id=row_id), link("/", "No, keep it")))
+
+
+def rename_form(what, row_id, body, css=""):
+    """A form that leads to the question before a row of an id gets another name."""
+    hidden = '<input type="hidden" name="what" value="%s"><input type="hidden" name="id" value="%d">' % (what, row_id)
+    return '<form class="%s" method="get" action="/sure">%s%s</form>' % (css, hidden, body)
+
+
+def name_row(name):
+    return label("name", "Name") + row(text_input("name", name, NAME_INPUT), button("Rename"))
+
+
+def sure_name(screen, session, what, row_id, name):
+    """The question before something gets another name, with both names."""
+    what, words = (what, NAMED[what]) if what in NAMED else ("options", "options")
+    question = "<p>Rename the %s <bdi>%s</bdi> to <bdi>%s</bdi>?</p>" % (words, h(name_of(session, what, row_id)), h(name.strip()))
+    yes = screen.button("/%s-rename" % what, "Yes, rename", id=row_id, name=name)
+    return screen.page("Rename?", heading("Rename?") + question + row(yes, link("/", "No, keep it")))
+
+
+def name_of(session, what, row_id):
+    if what == "deck":
+        return session.deck_name(row_id)
+    rows = session.note_types() if what == "type" else session.option_groups()
+    return {held.id: held.name for held in rows}.get(row_id, "?")
 
 
 def sure_deck(session, row_id):
@@ -202,13 +231,12 @@ def sure_note(session, row_id):
 
 
 def sure_type(session, row_id):
-    held = {note_type.id: note_type.name for note_type in session.note_types()}
-    return "the note type %s. %s" % (held.get(row_id, "?"), NO_UNDO), "/type-delete"
+    return "the note type %s. %s" % (name_of(session, "type", row_id), NO_UNDO), "/type-delete"
 
 
 def sure_options(session, row_id):
-    held = {group.id: group.name for group in session.option_groups()}
-    return "the options %s. Decks that use them get the default ones. %s" % (held.get(row_id, "?"), NO_UNDO), "/options-delete"
+    words = "the options %s. Decks that use them get the default ones. %s" % (name_of(session, "options", row_id), NO_UNDO)
+    return words, "/options-delete"
 
 
 # Study.
@@ -301,8 +329,9 @@ def add(screen, session, type_id=None, deck_id=None, fields=None, tags=""):
 def types(screen, session, made=None):
     rows = []
     for held in session.note_types():
-        name = '<input type="text" name="name" value="%s" dir="auto" aria-label="%s">' % (h(held.name), h("Name of the note type %s" % held.name))
-        rename = screen.form("/type-rename", name + button("Rename"), "row", type=held.id)
+        words = h("Name of the note type %s" % held.name)
+        name = '<input type="text" name="name" value="%s" dir="auto" aria-label="%s" %s>' % (h(held.name), words, NAME_INPUT)
+        rename = rename_form("type", held.id, name + button("Rename"), "row")
         delete = link(address("/sure", what="type", id=held.id), "Delete", label="Delete the note type %s" % held.name)
         rows.append((rename, h(", ".join(held.fields)), session.notes_of_type(held.id), delete))
     body = heading("Note types") + table(["Name", "Fields", "Notes#", ""], rows) + "<h2>A new note type</h2>"

@@ -180,7 +180,8 @@ class Site:
         return self.shown_screen(values, views.chart_page)
 
     def see_sure(self, values):
-        return self.shown_screen(values, views.sure, values.get("what"), whole(values, "id"))
+        question, name = (views.sure_name, [values["name"]]) if "name" in values else (views.sure, [])
+        return self.shown_screen(values, question, values.get("what"), whole(values, "id"), *name)
 
     def see_sync(self, values):
         return self.shown_screen(values, views.sync)
@@ -195,7 +196,7 @@ class Site:
                 "/add": self.do_add, "/note-delete": self.do_delete_note, "/deck-new": self.do_new_deck,
                 "/deck-rename": self.do_rename_deck, "/deck-delete": self.do_delete_deck,
                 "/deck-options": self.do_use_options, "/options-new": self.do_new_options,
-                "/options-set": self.do_set_options, "/options-delete": self.do_delete_options,
+                "/options-set": self.do_set_options, "/options-rename": self.do_rename_options, "/options-delete": self.do_delete_options,
                 "/type-new": self.do_new_type, "/type-rename": self.do_rename_type,
                 "/type-delete": self.do_delete_type, "/spread": self.do_spread, "/sync": self.do_sync,
             }  # fmt: skip
@@ -234,7 +235,7 @@ class Site:
         return redirect(with_told(location, number))
 
     # Screens whose texts the learner typed: they are shown again with these texts where nothing was changed.
-    FORMS = ("/edit", "/add", "/deck-new", "/deck-rename", "/options-set", "/type-new", "/sync")
+    FORMS = ("/edit", "/add", "/deck-new", "/deck-rename", "/options-rename", "/options-set", "/type-new", "/sync")
 
     def form_again(self, path, form, told):
         screen = self.screen(None, told, True)
@@ -249,9 +250,9 @@ class Site:
             elif path == "/deck-new":
                 body = views.decks(screen, session, form.get("name", ""))
             elif path == "/deck-rename":
-                body = views.deck(screen, session, whole(form, "deck"), form.get("name", ""))
-            elif path == "/options-set":
-                body = views.options(screen, session, whole(form, "options"), form)
+                body = views.deck(screen, session, whole(form, "id"), form.get("name", ""))
+            elif path in ("/options-set", "/options-rename"):
+                body = views.options(screen, session, whole(form, "id"), form)
             elif path == "/type-new":
                 body = views.types(screen, session, form)
             elif path == "/sync":
@@ -309,7 +310,7 @@ class Site:
         return "/", "The deck is added."
 
     def do_rename_deck(self, form):
-        self.session.rename_deck(whole(form, "deck"), form.get("name", ""))
+        self.session.rename_deck(whole(form, "id"), form.get("name", ""))
         return "/", "The deck is renamed."
 
     def do_delete_deck(self, form):
@@ -327,8 +328,12 @@ class Site:
         return address("/options", options=made), "The options are added, and the deck has them."
 
     def do_set_options(self, form):
-        self.session.set_option_values(whole(form, "options"), form)
+        self.session.set_option_values(whole(form, "id"), form)
         return "/", "The options are kept."
+
+    def do_rename_options(self, form):
+        self.session.set_option_values(whole(form, "id"), {"name": form.get("name", "")})
+        return "/", "The options are renamed."
 
     def do_delete_options(self, form):
         self.session.drop_options(whole(form, "id"))
@@ -343,7 +348,7 @@ class Site:
         return "/types", "The note type is added."
 
     def do_rename_type(self, form):
-        self.session.rename_type(whole(form, "type"), form.get("name", ""))
+        self.session.rename_type(whole(form, "id"), form.get("name", ""))
         return "/types", "The note type is renamed."
 
     def do_delete_type(self, form):

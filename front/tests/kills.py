@@ -1,8 +1,9 @@
-"""Kills of the front and of the program at any moment: `python3 -m front.tests.kills [TIMES]` from the top, 100 times at first.
+"""Kills of the fronts and of the program at any moment: `python3 -m front.tests.kills [TIMES [TERMINAL]]` from the top, 100 times
+at the page and 40 times in a terminal if nothing is said.
 
-A learner adds notes and answers cards by the page as fast as it goes. After a random time the front, or the program, is killed.
-Then the file must hold every note and every answer that a screen has shown as done, be sound, and have nothing beside it but
-its journal at rest.
+A learner adds notes and answers cards as fast as it goes, by the page or by keys. After a random time the front, or the program,
+is killed. Then the file must hold every note and every answer that a screen has shown as done, be sound, and have nothing beside
+it but its journal at rest.
 """
 
 import http.client
@@ -20,7 +21,12 @@ import time
 from front import program as programs
 from front.collection import Held, fields_of, open_collection
 from front.session import Session
+from front.tests.keys import Terminal
 from front.tests.pages import Browser
+
+
+# What a terminal tells where the program has ended.
+TOLD = "Undo is empty from here."
 
 
 class Learner:
@@ -52,6 +58,28 @@ class Learner:
             if "The file was closed" not in page or "The answer is in the collection." in page:
                 self.answers += 1
 
+    def press_keys(self, terminal):
+        """Adds notes and answers cards in a terminal that shows its decks, and comes back to them."""
+        terminal.press("a\n\n\n")
+        for _ in range(3):
+            self.turn += 1
+            text = "note %d" % self.turn
+            terminal.press("%s\nback\n\n" % text)
+            terminal.wait_for("Added: 1 card.", TOLD)
+            self.notes.append(text)
+        terminal.press("\n")
+        terminal.wait_for("\n> ", TOLD)
+        terminal.press("1\n")
+        terminal.wait_for("show the back", TOLD)
+        for _ in range(2):
+            terminal.press(" ")
+            terminal.wait_for("space: Good", TOLD)
+            terminal.press("4")
+            terminal.wait_for("show the back", TOLD)
+            self.answers += 1
+        terminal.press("q")
+        terminal.wait_for("\n> ", TOLD)
+
 
 def child_of(process):
     with open("/proc/%d/task/%d/children" % (process, process)) as file:
@@ -63,10 +91,10 @@ def child_of(process):
     return None
 
 
-def one_kill(path, program, learner, kills_front, chance):
+def one_kill(path, program, learner, kills_front, chance, at_page):
     """A sitting until the kill. Gives whether something was killed."""
-    browser = Browser(path, program)
-    front = browser.process.pid
+    sitting = (Browser if at_page else Terminal)(path, program)
+    front = sitting.process.pid
     seconds = chance.uniform(0.01, 0.8)
     killed = []
 
@@ -77,17 +105,20 @@ def one_kill(path, program, learner, kills_front, chance):
             killed.append(target)
 
     try:
-        browser.enter()
+        if at_page:
+            sitting.enter()
+        else:
+            sitting.wait_for("\n> ")
         timer = threading.Timer(seconds, kill)
         timer.start()
         ends = time.monotonic() + seconds + 0.3
         while time.monotonic() < ends:
-            learner.go_on(browser)
+            (learner.go_on if at_page else learner.press_keys)(sitting)
         timer.join()
     except (OSError, http.client.HTTPException, AssertionError):
         timer.join()
     finally:
-        browser.close()
+        sitting.close()
     return bool(killed)
 
 
@@ -119,30 +150,31 @@ def what_is_lost(path, program, learner):
     return ""
 
 
-def main(times):
+def main(times=100, in_terminal=40):
     folder = tempfile.mkdtemp(prefix="anki-kills-")
     path = os.path.join(folder, "my.anki")
     program, learner, chance = programs.find_program(), Learner(), random.Random(7)
-    kills = {True: 0, False: 0}
+    kills = dict.fromkeys([(True, True), (True, False), (False, True), (False, False)], 0)
     try:
         programs.make_collection(program, path)
         session = Session(program, path)
         session.set_option_values(1, {"new.perDay": "9999"})
         session.rest("")
-        while sum(kills.values()) < times:
-            kills_front = sum(kills.values()) % 2 == 0
-            if one_kill(path, program, learner, kills_front, chance):
-                kills[kills_front] += 1
+        while sum(kills.values()) < times + in_terminal:
+            at_page, kills_front = sum(kills.values()) < times, sum(kills.values()) % 2 == 0
+            if one_kill(path, program, learner, kills_front, chance, at_page):
+                kills[at_page, kills_front] += 1
             lost = what_is_lost(path, program, learner)
             if lost:
                 print("after %d kills: %s" % (sum(kills.values()), lost))
                 return 1
-        print("%d kills of the front and %d of the program: %d notes and %d answers that were shown as done are all held" % (
-            kills[True], kills[False], len(learner.notes), learner.answers))
+        for at_page, words in ((True, "at the page"), (False, "in a terminal")):
+            print("%s %d kills of the front and %d of the program" % (words, kills[at_page, True], kills[at_page, False]))
+        print("%d notes and %d answers that were shown as done are all held" % (len(learner.notes), learner.answers))
         return 0
     finally:
         shutil.rmtree(folder, ignore_errors=True)
 
 
 if __name__ == "__main__":
-    sys.exit(main(int(sys.argv[1]) if len(sys.argv) > 1 else 100))
+    sys.exit(main(*map(int, sys.argv[1:])))

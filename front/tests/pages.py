@@ -115,6 +115,13 @@ class Browser:
             return self.see(headers["Location"])
         return text
 
+    def rename(self, page, name, **which):
+        """The question to which a page's form for another name leads, of the row `which`."""
+        for action, _, held in Forms(page).forms:
+            if action == "/sure" and all(held[key] == value for key, value in which.items()):
+                return self.see("/sure?" + urllib.parse.urlencode(dict(held, name=name)))
+        raise AssertionError("no form for a name in\n%s" % page)
+
     def do(self, page, action, **values):
         return self.send(action, self.form(page, action, **values))
 

@@ -1,18 +1,13 @@
-import fcntl
 import os
-import pty
-import select
 import signal
 import sqlite3
 import subprocess
 import sys
-import termios
 import time
 
 from front.program import ROOT
 from front.tests.files import FileCase
-
-STUDY = [sys.executable, os.path.join(ROOT, "bin", "anki-study")]
+from front.tests.keys import STUDY, Terminal
 
 
 class Lines(FileCase):
@@ -60,15 +55,23 @@ class Lines(FileCase):
     def test_what_a_learner_changes(self):
         self.make('note 1 1 ["a","A"]', 'note 1 1 ["b","B"]')
         said = self.study(
-            *("n", "French::Food", "n", "French::Food", "r", "2", "Latin", "x", "3", "no", "x", "3", "yes"),
+            *("n", "French::Food", "n", "French::Food", "r", "2", "Greek", "no", "r", "2", "Latin", "yes", "x", "3", "no", "x", "3", "yes"),
             *("1", "e", ".", "new back", "t1 t2", "f", "9", "f", "5", "b", "s"),
             *("o", "1", "n", "mine", "o", "1", "e", "", "5", *[""] * 16),
             *("t", "n", "Pair", "One, Two", "n", "Card", "{{One}}", "{{Two}}", ""),
-            *("t", "x", "4", "yes"),
+            *("t", "r", "4", "Triple", "no", "t", "r", "4", "Twins", "yes", "t", "x", "4", "yes"),
+            *("o", "1", "e", "ours", "yes", *[""] * 17),
+            *("o", "1", "e", "theirs", "no", *[""] * 17),
             *("/a", "1", "x", ""),
             *("g", "2", "zzz", "99", "q"),
         )
         self.assertIn("! there is a deck French::Food already", said)
+        self.assertIn("Rename French to Greek? Type yes: ", said)
+        self.assertIn("Rename French to Latin? Type yes: ", said)
+        self.assertIn("Rename Pair to Triple? Type yes: ", said)
+        self.assertIn("Delete the note type Twins?", said)
+        self.assertIn("Rename mine to ours? Type yes: ", said)
+        self.assertIn("Rename ours to theirs? Type yes: ", said)
         self.assertIn("Delete Latin::Food: 1 deck, 0 cards and 0 notes go.", said)
         self.assertIn("! a flag is 0 to 7", said)
         self.assertIn("Flag 5.", said)
@@ -79,7 +82,10 @@ class Lines(FileCase):
         file = sqlite3.connect(self.path)
         self.assertEqual(file.execute("select flds, tags from notes order by id").fetchall(), [("\x1fnew back", " t1 t2 "), ("b\x1fB", "")])
         self.assertEqual(file.execute("select queue from cards order by id").fetchall(), [(-3,), (-1,)])
-        self.assertIn('"perDay":5', file.execute("select dconf from col").fetchone()[0])
+        options = file.execute("select dconf from col").fetchone()[0]
+        self.assertIn('"perDay":5', options)
+        self.assertIn('"ours"', options)
+        self.assertNotIn('"theirs"', options)
         self.assertIn('"newSpread":2', file.execute("select conf from col").fetchone()[0])
         self.assertIn('"Latin"', file.execute("select decks from col").fetchone()[0])
         file.close()
@@ -96,31 +102,10 @@ class Lines(FileCase):
 class Keys(FileCase):
     """The front at a terminal."""
 
-    def start(self, words=STUDY):
-        self.master, slave = pty.openpty()
-        self.addCleanup(os.close, self.master)
-        self.process = subprocess.Popen(
-            words + [self.path], stdin=slave, stdout=slave, stderr=slave, start_new_session=True,
-            preexec_fn=lambda: fcntl.ioctl(0, termios.TIOCSCTTY, 0), env=dict(os.environ, ANKI_PROGRAM=self.program, TERM="xterm"),
-        )
-        os.close(slave)
-        self.said = ""
-        self.addCleanup(self.process.wait)
-        self.addCleanup(self.process.kill)
-
-    def wait_for(self, words):
-        ends = time.monotonic() + 60
-        while words not in self.said:
-            if time.monotonic() > ends or not select.select([self.master], [], [], 60)[0]:
-                self.fail("%r did not come in %r" % (words, self.said))
-            try:
-                self.said += os.read(self.master, 65536).decode("utf-8", "replace")
-            except OSError:
-                self.fail("%r did not come in %r" % (words, self.said))
-        self.said = self.said.split(words, 1)[1]
-
-    def press(self, keys):
-        os.write(self.master, keys.encode())
+    def start(self, words=tuple(STUDY)):
+        terminal = Terminal(self.path, self.program, words)
+        self.addCleanup(terminal.close)
+        self.process, self.wait_for, self.press = terminal.process, terminal.wait_for, terminal.press
 
     def test_keys_without_enter(self):
         self.make('note 1 1 ["a","A"]', 'note 1 1 ["b","B"]')

@@ -198,11 +198,35 @@ class Changing(WebCase):
         deck = re.search(r'href="/deck\?deck=(\d+)" aria-label="Change the deck French"', page).group(1)
         page = browser.do(page, "/deck-new", name="French")
         self.assertEqual(self.told(page), ["there is a deck French already"])
-        browser.do(browser.see("/deck?deck=" + deck), "/deck-rename", name="Latin")
-        self.assertIn("Latin", browser.see("/"))
+        # A rename asks first, with both names, and changes nothing before.
+        sure = browser.rename(browser.see("/deck?deck=" + deck), "Latin <b>")
+        self.assertIn("Rename the deck <bdi>French</bdi> to <bdi>Latin &lt;b&gt;</bdi>?", sure)
+        self.assertNotIn("Latin", browser.see("/"))
+        page = browser.do(sure, "/deck-rename")
+        self.assertEqual(self.told(page), ["The deck is renamed."])
+        self.assertIn("Change the deck Latin &lt;b&gt;::Food", page)
+        # The question is of its screen: asked twice it is done once, and on an older one not at all.
+        sure = browser.rename(browser.see("/deck?deck=" + deck), "Latin")
+        page = browser.do(sure, "/deck-rename")
+        self.assertEqual(browser.do(sure, "/deck-rename"), page)
+        self.assertIn("Undo: the name of the deck Latin", page)
+        page = browser.send("/deck-rename", dict(browser.form(sure, "/deck-rename"), name="Greek"))
+        self.assertIn("nothing was saved now", self.told(page)[0])
+        self.assertIn('value="Greek"', page)
+        page = browser.do(browser.rename(page, "Default"), "/deck-rename")
+        self.assertEqual(self.told(page), ["there is a deck Default already"])
+        self.assertIn('value="Default"', page)
+        self.assertNotIn("Greek", browser.see("/"))
         page = browser.do(browser.see("/deck?deck=" + deck), "/options-new", name="mine")
         page = browser.do(page, "/options-set", **{"new.perDay": "5"})
         self.assertEqual(self.told(page), ["The options are kept."])
+        mine = re.search(r'href="/options\?options=(\d+)"', browser.see("/deck?deck=" + deck)).group(1)
+        sure = browser.rename(browser.see("/options?options=" + mine), "ours")
+        self.assertIn("Rename the options <bdi>mine</bdi> to <bdi>ours</bdi>?", sure)
+        self.assertEqual(self.told(browser.do(sure, "/options-rename")), ["The options are renamed."])
+        page = browser.see("/options?options=" + mine)
+        self.assertIn('value="ours"', page)
+        self.assertEqual(browser.form(page, "/options-set")["new.perDay"], "5")
         page = browser.do(browser.see("/options?options=1"), "/options-set", **{"new.perDay": "many"})
         self.assertIn("whole numbers", self.told(page)[0])
         self.assertEqual(browser.form(page, "/options-set")["new.perDay"], "many")
@@ -210,10 +234,12 @@ class Changing(WebCase):
         self.assertEqual(self.told(page), ["no field Three"])
         page = browser.do(page, "/type-new", back="{{Two}}")
         self.assertEqual(self.told(page), ["The note type is added."])
-        made = [values for action, _, values in Forms(page).forms if action == "/type-rename"][-1]
-        page = browser.send("/type-rename", dict(made, name="Twins"))
-        self.assertIn("Twins", page)
-        page = browser.do(browser.see("/sure?what=type&id=" + made["type"]), "/type-delete")
+        made = [values["id"] for action, _, values in Forms(page).forms if action == "/sure"][-1]
+        sure = browser.rename(page, "Twins", id=made)
+        self.assertIn("Rename the note type <bdi>Pair</bdi> to <bdi>Twins</bdi>?", sure)
+        self.assertNotIn("Twins", browser.see("/types"))
+        self.assertIn("Twins", browser.do(sure, "/type-rename"))
+        page = browser.do(browser.see("/sure?what=type&id=" + made), "/type-delete")
         self.assertIn("undo is empty from here", self.told(page)[0])
         self.assertEqual(self.told(browser.do(browser.see("/"), "/spread", spread="2")), ["Kept."])
         sure = browser.see("/sure?what=deck&id=" + deck)
@@ -340,11 +366,11 @@ class Safety(WebCase):
     def test_broken_requests(self):
         browser = self.browser
         for path in ("//", "/study", "/study?deck=x", "/study?deck=99", "/card?card=1", "/edit?note=1", "/deck?deck=99999999999999999999", "/options?options=7",
-                     "/sure?what=x&id=5", "/sure?what=deck&id=9", "/study?deck=1&card=1&at=1", "/add?type=77"):
+                     "/sure?what=x&id=5", "/sure?what=x&id=5&name=a", "/sure?what=deck&id=9&name=a", "/sure?what=type&name=", "/sure?what=deck&id=9", "/study?deck=1&card=1&at=1", "/add?type=77"):
             self.assertIn(browser.ask("GET", path)[0], (200, 404), path)
         form = browser.form(browser.see("/"), "/deck-new", name="D")
         for action in ("/answer", "/bury", "/flag", "/edit", "/add", "/note-delete", "/deck-rename", "/deck-delete", "/deck-options", "/options-new",
-                       "/options-set", "/options-delete", "/type-rename", "/type-delete", "/spread", "/nothing"):
+                       "/options-set", "/options-rename", "/options-delete", "/type-rename", "/type-delete", "/spread", "/nothing"):
             self.assertIn(browser.ask("POST", action, {"number": form["number"], "token": form["token"]})[0], (404, 422), action)
         self.assertEqual(browser.see("/").count("Nothing to undo"), 1)
 
