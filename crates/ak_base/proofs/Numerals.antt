@@ -1,10 +1,12 @@
 -- What `parse` gives at a text of decimal digits.
-use Rattle.std.proofs.Common.{◌≡◌, ℕ, zero, suc, ◌^◌, ◌<◌, ◌≤◌, ◌==◌, Bool, true, false, not, ◌&&◌, List, [], ◌∷◌, length, get_or, Some, None, Ok, Err, refl, ap, arith, rules}
+use Rattle.std.proofs.Common.{◌≡◌, ℕ, zero, suc, ◌^◌, ◌<◌, ◌≤◌, ◌==◌, nat_le, Bool, true, false, not, ◌&&◌, if◌then◌else◌, List, [], ◌∷◌, length, get_or, Some, None, Ok, Err, refl, sym, ap, ◌∙◌, arith, rules}
 use Rattle.std.specs.Cmp.{second_so}
 use Rattle.std.proofs.lemmas.Grind.{common_steps}
 use Rattle.std.proofs.lemmas.Str.Parse.{IsNumeralModel, numerals_by_value, parse_digits}
+use Rattle.std.proofs.lemmas.Bool.{and_parts, not-true}
 use Rattle.std.proofs.lemmas.Bool.Decides.{Decides-eqb}
-use Rattle.std.proofs.lemmas.Fmt.{decimal_digit, digits_decimal, decimal_nonempty, first_decimal, digits_value-decimal}
+use Rattle.std.proofs.lemmas.Option.{same_Some}
+use Rattle.std.proofs.lemmas.Fmt.{decimal_digit, digits_decimal, decimal_nonempty, first_decimal, digits_value-decimal, decimal-digits_value}
 use Rattle.std.specs.Char.{is_ascii_digit}
 use Rattle.std.specs.Fmt.{decimal}
 use Rattle.std.specs.Result.{OkIff}
@@ -79,3 +81,28 @@ unfolding number_of
 decimal_read most n h small =
     let fits : n < 2 ^ 64 = omega (arith, h, small) in
     rw (written n fits, digits_value-decimal own n fits) (in_range most n h)
+
+-- ---- from a text to its number, and back
+at_most_was : (most value n : ℕ) → at_most most value ≡ Some n → (value ≡ n) × (n ≤ most)
+at_most_was most value n h =
+    elim (nat_le value most) as (λ b. nat_le value most ≡ b → (if b then Some value else None) ≡ Some n → (value ≡ n) × (n ≤ most)) [
+      | true ↦ λ e g. let same = same_Some value n g in (same, grind (arith, e, same))
+      | false ↦ λ e g. grind (arith, g)
+    ] refl h
+
+lone_zero : (text : List ℕ) → is_decimal text ≡ true → get_or text 0 0 ≡ 48 → length text ≡ 1
+lone_zero [] h e = grind (arith, h)
+lone_zero (digit ∷ []) h e = refl
+lone_zero (first ∷ second ∷ others) h e =
+    let p : (first == 48) ≡ false = not-true (first == 48) (and_parts (not (first == 48)) _ h).0 in
+    grind (arith, p, e)
+
+-- a text that is read as a number is the text of that number
+pub decimal_written : (most n : ℕ) (text : List ℕ) → most < 2 ^ 64 → number_of most text ≡ Some n → (decimal n ≡ text) × (n ≤ most)
+unfolding number_of
+decimal_written most n text small h =
+    elim (is_decimal text) as (λ b. is_decimal text ≡ b → (if b then at_most most (digits_value 10 text) else None) ≡ Some n → (decimal n ≡ text) × (n ≤ most)) [
+      | true ↦ λ e g. let was = at_most_was most (digits_value 10 text) n g in let d = are_digits text e in
+          (ap decimal (sym was.0) ∙ decimal-digits_value own text d.0 d.1 (lone_zero text e) (omega (arith, was.0, was.1, small)), was.1)
+      | false ↦ λ e g. grind (arith, g)
+    ] refl h

@@ -1,12 +1,17 @@
--- The options that a collection opens with pass their check.
+-- The check of an option group in seconds, which the options that a collection opens with pass.
 use Rattle.std.proofs.Common.{◌≡◌, ℤ, pos, ◌≤ℤ◌, None, Ok, refl, ◌∙◌, arith}
 use Rattle.std.proofs.lemmas.Int.{ints}
 use Rattle.ak_base.specs.Columns.{id_fault, stamp_fault, code_fault, long_fault, first_fault}
 use Rattle.ak_base.specs.Heads.{IsWithin}
 use Rattle.ak_base.specs.Limits.{last_stamp}
-use Rattle.ak_base.specs.OptionGroups.{AreOpeningOptions, IsCheckedOptions, general_faults, new_faults, rev_faults, lapse_faults}
+use Rattle.ak_base.specs.OptionGroups.{AreOpeningOptions, IsCheckedOptions, general_faults, new_faults, rev_faults, lapse_faults, new_faults_by, lapse_faults_by, options_faults, options_faults_by}
 use Rattle.ak_base.specs.declared.option_groups.Options.{Options}
 use Rattle.ak_base.proofs.FirstFaults.{fault_behind}
+
+-- an option group's columns are checked by the steps in seconds
+pub faults_in_seconds : (o : Options) → first_fault (options_faults_by (pos 60_000_000) o) ≡ first_fault (options_faults o)
+unfolding new_faults new_faults_by lapse_faults lapse_faults_by
+faults_in_seconds o = refl
 
 -- a second in the range
 second_passes : (second : ℤ) → pos 0 ≤ℤ second → second ≤ℤ last_stamp → stamp_fault second ≡ None

@@ -53,17 +53,17 @@ conf_keys = codes "newSpread" ∷ codes "collapseTime" ∷ codes "dayLearnFirst"
 abbrev pub options_keys : List (List ℕ)
 options_keys = codes "id" ∷ codes "mod" ∷ codes "usn" ∷ codes "name" ∷ codes "maxTaken" ∷ []
 
--- inside `new`
+-- inside `new`; `delays` there marks a document of version 1, so no rest holds it
 abbrev pub new_keys : List (List ℕ)
-new_keys = codes "delays" ∷ codes "ints" ∷ codes "initialFactor" ∷ codes "perDay" ∷ codes "bury" ∷ []
+new_keys = codes "steps" ∷ codes "ints" ∷ codes "initialFactor" ∷ codes "perDay" ∷ codes "bury" ∷ codes "delays" ∷ []
 
 -- inside `rev`
 abbrev pub rev_keys : List (List ℕ)
-rev_keys = codes "perDay" ∷ codes "ease4Pm" ∷ codes "ivlFctPm" ∷ codes "maxIvl" ∷ codes "hardFactorPm" ∷ codes "bury" ∷ []
+rev_keys = codes "perDay" ∷ codes "ease4" ∷ codes "ivlFct" ∷ codes "maxIvl" ∷ codes "hardFactor" ∷ codes "bury" ∷ []
 
 -- inside `lapse`
 abbrev pub lapse_keys : List (List ℕ)
-lapse_keys = codes "delays" ∷ codes "multPm" ∷ codes "minInt" ∷ codes "leechFails" ∷ codes "leechAction" ∷ []
+lapse_keys = codes "steps" ∷ codes "mult" ∷ codes "minInt" ∷ codes "leechFails" ∷ codes "leechAction" ∷ []
 
 -- some member, and none of these keys
 abbrev pub lacks_but_some : List (List ℕ) → Members → Bool

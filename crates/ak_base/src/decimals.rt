@@ -24,7 +24,8 @@ fn at_most(number: u64, most: u64) -> Option<u64>
     if number <= most { Some(number) } else { None }
 }
 
-fn is_decimal(digits: &[u8]) -> bool
+/// Whether the bytes are a whole number in decimal digits, without sign or leading zero, however long.
+pub fn is_decimal(digits: &[u8]) -> bool
     ensures { result ≡ is_decimal digits.now }
 {
     match digits {

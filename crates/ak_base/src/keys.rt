@@ -28,8 +28,8 @@ impl HostKey {
     }
 }
 
-/// Whether every byte is 0 to 9, or a to f.
-fn are_lower_hex(digits: &[u8]) -> bool
+/// Whether every byte is 0 to 9, or a to f. So it is of no bytes.
+pub fn are_lower_hex(digits: &[u8]) -> bool
     ensures { result ≡ are_lower_hex digits.now }
 {
     for digit in digits {

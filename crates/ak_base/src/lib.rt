@@ -28,20 +28,21 @@ mod texts;
 pub use cards::Card;
 pub use cuts::cut;
 pub use days::{DAY_SECONDS, Day};
-pub use decimals::read_number;
+pub use decimals::{is_decimal, read_number};
 pub use decks::{Count, Deck};
 pub use errors::{Memory, RowFault};
 pub use graves::Grave;
 pub use heads::{Conf, Head, Tag};
-pub use keys::{HostKey, SessionKey};
+pub use keys::{HostKey, SessionKey, are_lower_hex};
 pub use laws::{
     a_decimal_is_read, codes_of_graves, graves_and_rows, name_and_grave, opening_options_pass,
     parts_are_cut_at_colons, parts_make_the_path, same_but_stamp_and_usn_is_equality,
     same_content_is_equality,
 };
 pub use limits::{
-    EXTRA_BYTES, FIRST_DAY, LAST_COUNT, LAST_DAY, LAST_HEAD_USN, LAST_ID, LAST_MOMENT, LAST_ORD,
-    LAST_STAMP, LAST_USN, NAME_BYTES, REST_BYTES, TAGS_BYTES, TEXT_BYTES,
+    EXTRA_BYTES, FIRST_DAY, LAST_CLOCK_MOMENT, LAST_COUNT, LAST_DAY, LAST_HEAD_USN, LAST_ID,
+    LAST_MOMENT, LAST_ORD, LAST_STAMP, LAST_USN, LONGEST_STEP, NAME_BYTES, REST_BYTES, TAGS_BYTES,
+    TEXT_BYTES,
 };
 pub use lists::List;
 pub use names::{Name, Table};

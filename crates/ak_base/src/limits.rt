@@ -15,6 +15,13 @@ pub const LAST_STAMP: i64 = 4_294_967_295;
 /// The last moment of a head, in milliseconds. The first is 0.
 pub const LAST_MOMENT: i64 = 4_294_967_295_999;
 
+/// The last moment that a clock tells, in milliseconds: a second before the last one of a head, so that what follows it
+/// is a moment too.
+pub const LAST_CLOCK_MOMENT: i64 = 4_294_967_294_999;
+
+/// The longest step of an option group, in seconds. The shortest is 1.
+pub const LONGEST_STEP: i64 = 60_000_000;
+
 /// The first day that a column can name, counted from the day that begins with the collection.
 pub const FIRST_DAY: i64 = -10_000_000;
 

@@ -1,7 +1,9 @@
 ghost use Rattle.std.specs.Prelude.{◌≡◌, IfOk};
 
 use crate::columns::{code_fault, first_fault, id_fault, long_fault, stamp_fault};
-use crate::{LAST_USN, List, Memory, NAME_BYTES, OfOptions, REST_BYTES, Rest, RowFault, Text};
+use crate::{
+    LAST_USN, LONGEST_STEP, List, Memory, NAME_BYTES, OfOptions, REST_BYTES, Rest, RowFault, Text,
+};
 use std::alloc::Global;
 
 /// How the cards of a deck are scheduled: one of Anki's option groups.
@@ -16,7 +18,7 @@ pub struct Options {
     pub name: Text,
     /// The longest time of an answer that counts, in seconds.
     pub max_taken: i64,
-    /// The steps of a new card, in minutes.
+    /// The steps of a new card, in seconds.
     pub new_steps: List<i64>,
     /// The days after the last step.
     pub grad_ivl: i64,
@@ -36,7 +38,7 @@ pub struct Options {
     /// What Hard multiplies the days by in place of the factor, in permille.
     pub hard_factor: i64,
     pub rev_bury: bool,
-    /// The steps of a card that was forgotten, in minutes.
+    /// The steps of a card that was forgotten, in seconds.
     pub lapse_steps: List<i64>,
     /// What is left of the days of a card that was forgotten, in permille.
     pub mult: i64,
@@ -51,15 +53,15 @@ pub struct Options {
 
 impl Options {
     ghost use Rattle.ak_base.specs.Columns.{first_fault};
-    ghost use Rattle.ak_base.specs.OptionGroups.{options_faults, general_faults, new_faults, rev_faults, lapse_faults, bad_step, steps_fault, AreOpeningOptions};
+    ghost use Rattle.ak_base.specs.OptionGroups.{options_faults, options_faults_by, general_faults, new_faults_by, rev_faults, lapse_faults_by, bad_step, steps_fault, AreOpeningOptions};
 
     /// The options that a collection opens with: group 1, changed at this second. They serve too where no others are held.
     pub fn opening(alloc: Global, stamp: i64) -> Result<Options, Memory>
         ensures { IfOk result (AreOpeningOptions stamp) }
     {
         let name = Text::of(alloc, "Default")?;
-        let new_steps = List::of(vec![in alloc; 1, 10]?);
-        let lapse_steps = List::of(vec![in alloc; 10]?);
+        let new_steps = List::of(vec![in alloc; 60, 600]?);
+        let lapse_steps = List::of(vec![in alloc; 600]?);
         let rest = Rest::empty(alloc)?;
         Ok(Options {
             id: 1,
@@ -89,14 +91,22 @@ impl Options {
     }
 
     /// The first column that is out of its range. Columns are counted in the order of the fields.
-    #[tactic(auto, using(crate::proofs::FirstFaults::fault_of_front, crate::proofs::FirstFaults::fault_behind))]
+    #[tactic(auto, using(crate::proofs::OpeningOptions::faults_in_seconds))]
     pub fn check(&self) -> Result<(), RowFault>
         ensures { result ≡ first_fault (options_faults self.now) }
     {
+        self.check_by(LONGEST_STEP)
+    }
+
+    /// The same check of a group whose steps are counted in another unit, of which the longest step has `longest`.
+    #[tactic(auto, using(crate::proofs::FirstFaults::fault_of_front, crate::proofs::FirstFaults::fault_behind))]
+    pub fn check_by(&self, longest: i64) -> Result<(), RowFault>
+        ensures { result ≡ first_fault (options_faults_by longest self.now) }
+    {
         self.check_general()?;
-        self.check_new()?;
+        self.check_new(longest)?;
         self.check_reviews()?;
-        self.check_lapses()
+        self.check_lapses(longest)
     }
 
     /// What the group is called, when it was changed, and what serves every card.
@@ -114,12 +124,12 @@ impl Options {
     }
 
     /// What serves new cards.
-    #[tactic(auto, unfolding(crate::specs::OptionGroups::new_faults))]
-    fn check_new(&self) -> Result<(), RowFault>
-        ensures { result ≡ first_fault (new_faults self.now) }
+    #[tactic(auto, unfolding(crate::specs::OptionGroups::new_faults_by))]
+    fn check_new(&self, longest: i64) -> Result<(), RowFault>
+        ensures { result ≡ first_fault (new_faults_by longest self.now) }
     {
         first_fault(&[
-            Options::steps_fault(5, self.new_steps.as_slice()),
+            Options::steps_fault(longest, 5, self.new_steps.as_slice()),
             code_fault(6, self.grad_ivl, 1, 100_000),
             code_fault(7, self.easy_ivl, 1, 100_000),
             code_fault(8, self.initial_factor, 1_300, 100_000),
@@ -142,12 +152,12 @@ impl Options {
     }
 
     /// What serves cards that were forgotten, and the rest.
-    #[tactic(auto, unfolding(crate::specs::OptionGroups::lapse_faults))]
-    fn check_lapses(&self) -> Result<(), RowFault>
-        ensures { result ≡ first_fault (lapse_faults self.now) }
+    #[tactic(auto, unfolding(crate::specs::OptionGroups::lapse_faults_by))]
+    fn check_lapses(&self, longest: i64) -> Result<(), RowFault>
+        ensures { result ≡ first_fault (lapse_faults_by longest self.now) }
     {
         first_fault(&[
-            Options::steps_fault(17, self.lapse_steps.as_slice()),
+            Options::steps_fault(longest, 17, self.lapse_steps.as_slice()),
             code_fault(18, self.mult, 0, 1_000),
             code_fault(19, self.min_int, 1, 100_000),
             code_fault(20, self.leech_fails, 0, 999_999),
@@ -157,21 +167,21 @@ impl Options {
     }
 
     /// The fault of a column of steps, if there is one.
-    fn steps_fault(column: u8, steps: &[i64]) -> Option<RowFault>
-        ensures { result ≡ steps_fault column steps.now }
+    fn steps_fault(longest: i64, column: u8, steps: &[i64]) -> Option<RowFault>
+        ensures { result ≡ steps_fault longest column steps.now }
     {
         match long_fault(column, steps.len() as u64, 50) {
             Some(fault) => Some(fault),
-            None => Options::bad_step(column, steps),
+            None => Options::bad_step(longest, column, steps),
         }
     }
 
-    /// The fault of the first step that is no number of minutes from 1 to 1,000,000.
-    fn bad_step(column: u8, steps: &[i64]) -> Option<RowFault>
-        ensures { result ≡ bad_step column steps.now }
+    /// The fault of the first step that is not from 1 to the longest.
+    fn bad_step(longest: i64, column: u8, steps: &[i64]) -> Option<RowFault>
+        ensures { result ≡ bad_step longest column steps.now }
     {
         for step in steps {
-            if let Some(fault) = code_fault(column, *step, 1, 1_000_000) {
+            if let Some(fault) = code_fault(column, *step, 1, longest) {
                 return Some(fault);
             }
         }

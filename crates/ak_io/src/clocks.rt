@@ -2,7 +2,7 @@ ghost use Rattle.std.specs.Prelude.{◌≡◌, ℤ, pos, ◌<◌, Option, List, 
 ghost use Rattle.std.specs.List.{All};
 ghost use Rattle.ak_io.specs.Arrivals.{GivesNext, IsClockMoment};
 
-use ak_base::List;
+use ak_base::{LAST_CLOCK_MOMENT, List};
 use std::marker::Model;
 use std::time::{self, SystemTime};
 
@@ -62,9 +62,6 @@ impl Clock for ListClock {
     }
 }
 
-/// The last moment that a clock answers.
-const LAST_MOMENT: i64 = 4_294_967_294_999;
-
 /// The clock of the system, cut to the promised range. If it can't be read it answers what it did last, at first 0.
 #[derive(Drop)]
 pub struct StdClock<C> {
@@ -114,7 +111,7 @@ fn moment_of(time: SystemTime) -> i64
     ensures range { IsClockMoment result }
 {
     match time.duration_since(SystemTime::UNIX_EPOCH) {
-        Ok(since) => since.as_millis().min(LAST_MOMENT as u128) as i64,
+        Ok(since) => since.as_millis().min(LAST_CLOCK_MOMENT as u128) as i64,
         Err(_) => 0,
     }
 }

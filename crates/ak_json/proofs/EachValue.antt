@@ -23,23 +23,25 @@ use Rattle.ak_base.specs.declared.rows.Row.{Row}
 use Rattle.ak_base.specs.declared.rows.Row.TheVariants as rows
 use Rattle.ak_base.proofs.Resting.{members_of-written, plain_value, written_is_rest}
 use Rattle.ak_json.specs.Arrays.{note_at, card_at, review_at, grave_at}
-use Rattle.ak_json.specs.Cells.{integer_at, text_at, bool_at, part_at, count_at, steps_at}
+use Rattle.ak_json.specs.Cells.{integer_at, permille_at, text_at, bool_at, part_at, count_at, steps_at}
 use Rattle.ak_json.specs.Confs.{ReadsConf, conf_fault}
 use Rattle.ak_json.specs.Decks.{IsDeck}
 use Rattle.ak_json.specs.Faults.{told, Tells, SomeFault}
 use Rattle.ak_json.specs.FormFaults.{part_form_fault, parts_form_fault}
-use Rattle.ak_json.specs.Groups.{IsOptions, put_group, new_in, rev_in, lapse_in, options_kept}
+use Rattle.ak_json.specs.Groups.{IsOptionsBy, put_group, new_in, rev_in, lapse_in, options_kept, options_kept_by}
+use Rattle.ak_json.specs.Versions.{version_of, new_form_of, rev_form_of, lapse_form_of}
+use Rattle.ak_json.specs.declared.versions.Version.{Version}
 use Rattle.ak_json.specs.Keys.{key_text}
 use Rattle.ak_json.specs.Members.{Form, knows, unknown, deep_member}
 use Rattle.ak_json.specs.NoteTypes.{IsNoteType, field_of, field_in, fields_in, template_of, template_in, templates_in, items_at}
 use Rattle.ak_json.specs.Objects.{object_form_fault}
 use Rattle.ak_json.specs.Rests.{kept, rest_text, deep_fault, deep_key}
-use Rattle.ak_json.specs.Rows.{row_form_fault, deep_in, form_refusal, IsRow, row_check, ReadsRow, RefusesRow}
+use Rattle.ak_json.specs.Rows.{row_form_fault, deep_in, form_refusal, IsRow, stored_check, kept_row, ReadsRow, RefusesRow}
 use Rattle.ak_json.specs.declared.faults.JsonFault.{JsonFault}
 use Rattle.ak_json.specs.declared.faults.JsonFault.TheVariants as faults
 use Rattle.ak_json.specs.declared.form_faults.FormFault.{FormFault}
 use Rattle.ak_json.specs.declared.form_faults.FormFault.TheVariants as form_faults
-use Rattle.ak_json.specs.Forms.{conf_form, deck_form, note_type_form, field_form, template_form, options_form, new_form, rev_form, lapse_form}
+use Rattle.ak_json.specs.Forms.{conf_form, deck_form, note_type_form, field_form, template_form, options_form}
 use Rattle.ak_json.specs.declared.keys.Key.{Key}
 use Rattle.ak_json.specs.declared.keys.Key.TheVariants as keys
 use Rattle.ak_json.proofs.Kept.{lacks_known, plain_kept}
@@ -107,11 +109,11 @@ group_members : (own : Key) (group ms : Members) → AreMembers group → AreMem
 group_members own no_members ms g h = h
 group_members own (member k d group) ms g h = put_members (key_text own) (object (member k d group)) ms g h
 
-options_members : (d : Data) → IsOrderly d → AreMembers (options_kept d)
-options_members d h =
-    let new = kept_members new_form (new_in d) (found_or (get (key_text keys.New) d) d (get_orderly (key_text keys.New) d h) h) in
-    let rev = kept_members rev_form (rev_in d) (found_or (get (key_text keys.Rev) d) d (get_orderly (key_text keys.Rev) d h) h) in
-    let lapse = kept_members lapse_form (lapse_in d) (found_or (get (key_text keys.Lapse) d) d (get_orderly (key_text keys.Lapse) d h) h) in
+options_members : (v : Version) (d : Data) → IsOrderly d → AreMembers (options_kept_by v d)
+options_members v d h =
+    let new = kept_members (new_form_of v) (new_in d) (found_or (get (key_text keys.New) d) d (get_orderly (key_text keys.New) d h) h) in
+    let rev = kept_members (rev_form_of v) (rev_in d) (found_or (get (key_text keys.Rev) d) d (get_orderly (key_text keys.Rev) d h) h) in
+    let lapse = kept_members (lapse_form_of v) (lapse_in d) (found_or (get (key_text keys.Lapse) d) d (get_orderly (key_text keys.Lapse) d h) h) in
     group_members keys.Lapse _ _ lapse (group_members keys.Rev _ _ rev (group_members keys.New _ _ new (kept_members options_form d h)))
 
 -- ---- the rest of an orderly value
@@ -195,35 +197,35 @@ note_type_made d h faultless shallow =
       record { id = refl; stamp = refl; usn = refl; name = refl; cloze = refl; sortf = refl; fields = fields.1; templates = templates.1; rest = refl },
     )
 
-options_made : (d : Data) → IsOrderly d → deep_fault (options_kept d) ≡ None → (o : Options) × IsOptions d o
-options_made d h shallow = (
+options_made : (v : Version) (d : Data) → IsOrderly d → deep_fault (options_kept_by v d) ≡ None → (o : Options) × IsOptionsBy v d o
+options_made v d h shallow = (
   record {
     id = integer_at options_form 0 d;
     stamp = integer_at options_form 1 d;
     usn = integer_at options_form 2 d;
     name = text_at options_form 3 d;
     max_taken = integer_at options_form 4 d;
-    new_steps = steps_at new_form 0 (new_in d);
-    grad_ivl = part_at new_form 1 0 (new_in d);
-    easy_ivl = part_at new_form 1 1 (new_in d);
-    initial_factor = integer_at new_form 2 (new_in d);
-    new_per_day = integer_at new_form 3 (new_in d);
-    new_bury = bool_at new_form 4 (new_in d);
-    rev_per_day = integer_at rev_form 0 (rev_in d);
-    ease4 = integer_at rev_form 1 (rev_in d);
-    ivl_fct = integer_at rev_form 2 (rev_in d);
-    max_ivl = integer_at rev_form 3 (rev_in d);
-    hard_factor = integer_at rev_form 4 (rev_in d);
-    rev_bury = bool_at rev_form 5 (rev_in d);
-    lapse_steps = steps_at lapse_form 0 (lapse_in d);
-    mult = integer_at lapse_form 1 (lapse_in d);
-    min_int = integer_at lapse_form 2 (lapse_in d);
-    leech_fails = integer_at lapse_form 3 (lapse_in d);
-    leech_action = integer_at lapse_form 4 (lapse_in d);
+    new_steps = steps_at (new_form_of v) 0 (new_in d);
+    grad_ivl = part_at (new_form_of v) 1 0 (new_in d);
+    easy_ivl = part_at (new_form_of v) 1 1 (new_in d);
+    initial_factor = integer_at (new_form_of v) 2 (new_in d);
+    new_per_day = integer_at (new_form_of v) 3 (new_in d);
+    new_bury = bool_at (new_form_of v) 4 (new_in d);
+    rev_per_day = integer_at (rev_form_of v) 0 (rev_in d);
+    ease4 = permille_at (rev_form_of v) 1 (rev_in d);
+    ivl_fct = permille_at (rev_form_of v) 2 (rev_in d);
+    max_ivl = integer_at (rev_form_of v) 3 (rev_in d);
+    hard_factor = permille_at (rev_form_of v) 4 (rev_in d);
+    rev_bury = bool_at (rev_form_of v) 5 (rev_in d);
+    lapse_steps = steps_at (lapse_form_of v) 0 (lapse_in d);
+    mult = permille_at (lapse_form_of v) 1 (lapse_in d);
+    min_int = integer_at (lapse_form_of v) 2 (lapse_in d);
+    leech_fails = integer_at (lapse_form_of v) 3 (lapse_in d);
+    leech_action = integer_at (lapse_form_of v) 4 (lapse_in d);
     rest = record {
-      text = compact_text (object (options_kept d));
+      text = compact_text (object (options_kept_by v d));
       owner = record {};
-      unknown = text_is_rest lacks_options (options_kept d) (options_members d h) (none_mapped faults.WrongKind _ shallow) (options_ignored d);
+      unknown = text_is_rest lacks_options (options_kept_by v d) (options_members v d h) (none_mapped faults.WrongKind _ shallow) (options_ignored v d);
     };
   },
   record {
@@ -259,7 +261,7 @@ row_made tables.Card d h faultless shallow = (rows.Card (card_at d), (tt, refl))
 row_made tables.Review d h faultless shallow = (rows.Review (review_at d), (tt, refl))
 row_made tables.NoteType d h faultless shallow = let made = note_type_made d h faultless shallow in (rows.NoteType made.0, (tt, made.1))
 row_made tables.Deck d h faultless shallow = let made = deck_made d h shallow in (rows.Deck made.0, (tt, made.1))
-row_made tables.Options d h faultless shallow = let made = options_made d h shallow in (rows.Options made.0, (tt, made.1))
+row_made tables.Options d h faultless shallow = let made = options_made (version_of d) d h shallow in (rows.Options made.0, (tt, made.1))
 row_made tables.NoteGrave d h faultless shallow = (rows.Grave (grave_at d), (tt, refl))
 row_made tables.CardGrave d h faultless shallow = (rows.Grave (grave_at d), (tt, refl))
 row_made tables.DeckGrave d h faultless shallow = (rows.Grave (grave_at d), (tt, refl))
@@ -301,8 +303,8 @@ fault_of_form table d =
 abbrev IsDecided : Table → Data → Type 0
 IsDecided table d = ((row : Row) × ReadsRow table d row) ⊎ SomeFault (RefusesRow table d)
 
-of_row : (table : Table) (d : Data) (row : Row) → form_refusal table d ≡ None → IsRow table d row → (checked : Result (Unit {0}) RowFault) → row_check table row ≡ checked → IsDecided table d
-of_row table d row form is (Ok good) e = inl (row, record { form = form; is = is; good = e })
+of_row : (table : Table) (d : Data) (row : Row) → form_refusal table d ≡ None → IsRow table d row → (checked : Result (Unit {0}) RowFault) → stored_check table d row ≡ checked → IsDecided table d
+of_row table d row form is (Ok good) e = inl (kept_row d row, record { form = form; stored = row; is = is; good = e; kept = refl })
 of_row table d row form is (Err fault) e = inr (faults.Row fault, (row, record { form = form; is = is; bad = e }), λ m. cc)
 
 of_fault : (table : Table) (d : Data) (fault : JsonFault) → IsOfForm fault → form_refusal table d ≡ Some fault → IsDecided table d
@@ -321,7 +323,7 @@ each_value table d h = one (form_refusal table d) refl
         let faultless : row_form_fault table d ≡ None = none_mapped told (row_form_fault table d) (first_none _ (deep_in table d) e) in
         let shallow : deep_in table d ≡ None = second_none (option_map told (row_form_fault table d)) _ e in
         let made = row_made table d h faultless shallow in
-        of_row table d made.0 e made.1 (row_check table made.0) refl
+        of_row table d made.0 e made.1 (stored_check table d made.0) refl
     one (Some fault) e = of_fault table d fault (subst (λ (o : Option JsonFault). IfSome o IsOfForm) e (fault_of_form table d)) e
 
 -- ---- the same of the settings

@@ -13,7 +13,9 @@ pub mod DecksAgain
 pub mod NoteTypesAgain
 pub mod Sorted
 pub mod ReadSorted
+pub mod DecimalTexts
 pub mod OptionsAgain
+pub mod Migration
 pub mod ConfRanges
 pub mod OneRow
 pub mod Orderly

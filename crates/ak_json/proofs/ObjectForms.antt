@@ -55,7 +55,7 @@ put_other : (place : Place) (k : List ℕ) (x : Data) (ms : Members) → is_plac
 put_other (places.Key word) k x ms h = get_member-put_other k (key_text word) x ms (unlike (key_text word) k h)
 put_other (places.At place) k x ms h = refl
 
-stays : (columns : Form) (cells : List Data) (k : List ℕ) (ms : Members) → knows columns k ≡ false → get_member k (put_cells columns cells ms) ≡ get_member k ms
+pub stays : (columns : Form) (cells : List Data) (k : List ℕ) (ms : Members) → knows columns k ≡ false → get_member k (put_cells columns cells ms) ≡ get_member k ms
 stays [] cells k ms h = refl
 stays (column ∷ columns) [] k ms h = refl
 stays (column ∷ columns) (cell ∷ cells) k ms h =
@@ -194,7 +194,7 @@ all_hold [] cells = true
 all_hold (column ∷ columns) [] = false
 all_hold (column ∷ columns) (cell ∷ cells) = holds column.1 cell && (is_none (form_fault_inside column.1 cell) && all_hold columns cells)
 
-none_of : {T : Type 0} (o : Option T) → is_none o ≡ true → o ≡ None
+pub none_of : {T : Type 0} (o : Option T) → is_none o ≡ true → o ≡ None
 none_of None h = refl
 none_of (Some x) h = cc
 

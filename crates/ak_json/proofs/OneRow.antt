@@ -24,7 +24,7 @@ use Rattle.ak_json.specs.Decks.{IsDeck}
 use Rattle.ak_json.specs.Faults.{Tells}
 use Rattle.ak_json.specs.Groups.{IsOptions}
 use Rattle.ak_json.specs.NoteTypes.{IsNoteType, field_of, template_of}
-use Rattle.ak_json.specs.Rows.{IsRow, row_check, form_refusal, MissesRange, ReadsRow, RefusesRow}
+use Rattle.ak_json.specs.Rows.{IsRow, stored_check, kept_row, form_refusal, MissesRange, ReadsRow, RefusesRow}
 use Rattle.ak_json.specs.declared.faults.JsonFault.{JsonFault}
 use Rattle.ak_json.specs.declared.faults.JsonFault.TheVariants as faults
 
@@ -196,20 +196,20 @@ one_row table d (rows.Grave g) row x y = same_grave table d g row x y
 
 -- a value is read as the same row each time
 pub one_row_read : (table : Table) (d : Data) (a b : Row) → ReadsRow table d a → ReadsRow table d b → a ≡ b
-one_row_read table d a b x y = one_row table d a b x.is y.is
+one_row_read table d a b x y = x.kept ∙ ap (kept_row d) (one_row table d x.stored y.stored x.is y.is) ∙ sym y.kept
 
 -- ---- a value has one fault
 
 -- a row in its ranges has no column out of its range
-in_and_out : (table : Table) (a b : Row) (fault : RowFault) → a ≡ b → row_check table a ≡ Ok tt → row_check table b ≡ Err fault → ⊥
-in_and_out table a b fault e good bad = let same : row_check table a ≡ row_check table b = ap (row_check table) e in cc
+in_and_out : (table : Table) (d : Data) (a b : Row) (fault : RowFault) → a ≡ b → stored_check table d a ≡ Ok tt → stored_check table d b ≡ Err fault → ⊥
+in_and_out table d a b fault e good bad = let same : stored_check table d a ≡ stored_check table d b = ap (stored_check table d) e in cc
 
 -- a value that is read is refused for out of memory alone
 pub read_or_refused : (table : Table) (d : Data) (row : Row) (fault : JsonFault) → ReadsRow table d row → RefusesRow table d fault → fault ≡ faults.Memory
 read_or_refused table d row faults.NotJson x y = absurd y
 read_or_refused table d row (faults.Missing text) x y = let none : form_refusal table d ≡ None = x.form in cc
 read_or_refused table d row (faults.WrongKind text) x y = let none : form_refusal table d ≡ None = x.form in cc
-read_or_refused table d row (faults.Row fault) x y = absurd (in_and_out table row y.0 fault (one_row table d row y.0 x.is y.1.is) x.good y.1.bad)
+read_or_refused table d row (faults.Row fault) x y = absurd (in_and_out table d x.stored y.0 fault (one_row table d x.stored y.0 x.is y.1.is) x.good y.1.bad)
 read_or_refused table d row faults.Memory x y = refl
 
 form_first : (table : Table) (d : Data) (a b : JsonFault) → form_refusal table d ≡ Some a → RefusesRow table d b → (a ≡ b) ⊎ (b ≡ faults.Memory)
@@ -220,8 +220,8 @@ form_first table d a (faults.Row fault) x y = let none : form_refusal table d �
 form_first table d a faults.Memory x y = inr refl
 
 -- rows that are one have one first column out of its range
-one_range : (table : Table) (a b : Row) (one other : RowFault) → a ≡ b → row_check table a ≡ Err one → row_check table b ≡ Err other → one ≡ other
-one_range table a b one other e x y = let same : row_check table a ≡ row_check table b = ap (row_check table) e in cc
+one_range : (table : Table) (d : Data) (a b : Row) (one other : RowFault) → a ≡ b → stored_check table d a ≡ Err one → stored_check table d b ≡ Err other → one ≡ other
+one_range table d a b one other e x y = let same : stored_check table d a ≡ stored_check table d b = ap (stored_check table d) e in cc
 
 range_first : (table : Table) (d : Data) (row : Row) (fault : RowFault) (b : JsonFault) → MissesRange table d fault row → RefusesRow table d b
     → (faults.Row fault ≡ b) ⊎ (b ≡ faults.Memory)
@@ -229,7 +229,7 @@ range_first table d row fault faults.NotJson x y = absurd y
 range_first table d row fault (faults.Missing text) x y = let none : form_refusal table d ≡ None = x.form in absurd cc
 range_first table d row fault (faults.WrongKind text) x y = let none : form_refusal table d ≡ None = x.form in absurd cc
 range_first table d row fault (faults.Row other) x y =
-    inl (ap faults.Row (one_range table row y.0 fault other (one_row table d row y.0 x.is y.1.is) x.bad y.1.bad))
+    inl (ap faults.Row (one_range table d row y.0 fault other (one_row table d row y.0 x.is y.1.is) x.bad y.1.bad))
 range_first table d row fault faults.Memory x y = inr refl
 
 or_memory : {a b : JsonFault} → (a ≡ b) ⊎ (b ≡ faults.Memory) → (a ≡ b) ⊎ ((a ≡ faults.Memory) ⊎ (b ≡ faults.Memory))

@@ -12,12 +12,15 @@ use Rattle.serde_json.specs.declared.value.Value.{Value, Object}
 use Rattle.serde_json.proofs.Views.{Entry, view-Object, get_member-put, get_member-put_other}
 use Rattle.ak_base.specs.Rests.{lacks, lacks_but_some, keeps_unknown, lacks_options, options_keys, new_keys, rev_keys, lapse_keys}
 use Rattle.ak_json.specs.Keys.{key_text}
-use Rattle.ak_json.specs.Members.{unknown}
+use Rattle.ak_json.specs.Members.{Form, knows, unknown}
 use Rattle.ak_json.specs.Rests.{kept}
-use Rattle.ak_json.specs.Groups.{put_group, options_kept, new_in, rev_in, lapse_in}
+use Rattle.ak_json.specs.Groups.{put_group, options_kept_by, new_in, rev_in, lapse_in}
 use Rattle.ak_json.specs.declared.keys.Key.{Key}
 use Rattle.ak_json.specs.declared.keys.Key.TheVariants as keys
-use Rattle.ak_json.specs.Forms.{options_form, new_form, rev_form, lapse_form}
+use Rattle.ak_json.specs.Forms.{options_form}
+use Rattle.ak_json.specs.Versions.{new_form_of, rev_form_of, lapse_form_of}
+use Rattle.ak_json.specs.declared.versions.Version.{Version}
+use Rattle.ak_json.specs.declared.versions.Version.TheVariants.{First, Second}
 use Rattle.ak_json.proofs.Kept.{lacking, lacks_known, not_true}
 
 pub group_none : (own : Key) (es : List Entry) (ms : Members) → length es ≡ 0 → put_group own (members_view es) ms ≡ ms
@@ -58,9 +61,21 @@ keeps_other : (key : List ℕ) (keys : List (List ℕ)) (own : Key) (group ms : 
 keeps_other key keys own group ms h k =
     ap (λ (o : Option Data). option_map_or (λ d. option_map_or (lacks_but_some keys) (as_object d) false) o true) (other_key key own group ms h) ∙ k
 
+-- the forms of a version know the keys that no rest holds
+record KnowsKeys (v : Version) : Type 0 where
+  new : list_all (knows (new_form_of v)) new_keys ≡ true
+  rev : list_all (knows (rev_form_of v)) rev_keys ≡ true
+  lapse : list_all (knows (lapse_form_of v)) lapse_keys ≡ true
+
+knows_keys : (v : Version) → KnowsKeys v
+knows_keys First = record { new = refl; rev = refl; lapse = refl }
+knows_keys Second = record { new = refl; rev = refl; lapse = refl }
+
 -- none of an option group's known keys is kept, inside `new`, `rev` and `lapse` either
-options_lack : (all new rev lapse : Members) → lacks_options (put_group keys.Lapse (unknown lapse_form lapse) (put_group keys.Rev (unknown rev_form rev) (put_group keys.New (unknown new_form new) (unknown options_form all)))) ≡ true
-options_lack all new rev lapse =
+options_lack : (new_form rev_form lapse_form : Form) (all new rev lapse : Members)
+    → list_all (knows new_form) new_keys ≡ true → list_all (knows rev_form) rev_keys ≡ true → list_all (knows lapse_form) lapse_keys ≡ true
+    → lacks_options (put_group keys.Lapse (unknown lapse_form lapse) (put_group keys.Rev (unknown rev_form rev) (put_group keys.New (unknown new_form new) (unknown options_form all)))) ≡ true
+options_lack new_form rev_form lapse_form all new rev lapse in_new in_rev in_lapse =
     let base = unknown options_form all in
     let with_new = put_group keys.New (unknown new_form new) base in
     let with_rev = put_group keys.Rev (unknown rev_form rev) with_new in
@@ -71,29 +86,32 @@ options_lack all new rev lapse =
     (and_from _ _
     (keeps_other (key_text keys.New) new_keys keys.Lapse (unknown lapse_form lapse) with_rev (unlike _ _ refl refl)
     (keeps_other (key_text keys.New) new_keys keys.Rev (unknown rev_form rev) with_new (unlike _ _ refl refl)
-    (keeps_own keys.New new_keys (unknown new_form new) base (lacking options_form (key_text keys.New) all refl) (lacks_known new_keys new_form new refl))))
+    (keeps_own keys.New new_keys (unknown new_form new) base (lacking options_form (key_text keys.New) all refl) (lacks_known new_keys new_form new in_new))))
     (and_from _ _
     (keeps_other (key_text keys.Rev) rev_keys keys.Lapse (unknown lapse_form lapse) with_rev (unlike _ _ refl refl)
     (keeps_own keys.Rev rev_keys (unknown rev_form rev) with_new
     (other_key (key_text keys.Rev) keys.New (unknown new_form new) base (unlike _ _ refl refl) ∙ lacking options_form (key_text keys.Rev) all refl)
-    (lacks_known rev_keys rev_form rev refl)))
+    (lacks_known rev_keys rev_form rev in_rev)))
     (keeps_own keys.Lapse lapse_keys (unknown lapse_form lapse) with_rev
     (other_key (key_text keys.Lapse) keys.Rev (unknown rev_form rev) with_new (unlike _ _ refl refl)
     ∙ (other_key (key_text keys.Lapse) keys.New (unknown new_form new) base (unlike _ _ refl refl) ∙ lacking options_form (key_text keys.Lapse) all refl))
-    (lacks_known lapse_keys lapse_form lapse refl))))
+    (lacks_known lapse_keys lapse_form lapse in_lapse))))
 
 -- what an option group keeps is its rest
-pub options_ignored : (d : Data) → lacks_options (options_kept d) ≡ true
-options_ignored d =
-    options_lack
+pub options_ignored : (v : Version) (d : Data) → lacks_options (options_kept_by v d) ≡ true
+options_ignored v d =
+    options_lack (new_form_of v) (rev_form_of v) (lapse_form_of v)
     (unwrap_or (as_object d) no_members)
     (unwrap_or (as_object (new_in d)) no_members)
     (unwrap_or (as_object (rev_in d)) no_members)
     (unwrap_or (as_object (lapse_in d)) no_members)
+    (knows_keys v).new (knows_keys v).rev (knows_keys v).lapse
 
 -- what is kept is put together, a group at a time
-pub put_together : (d new rev lapse : Data) (own with_new with_rev all kept_new kept_rev kept_lapse : Members)
+pub put_together : (v : Version) (new_form rev_form lapse_form : Form) (d new rev lapse : Data) (own with_new with_rev all kept_new kept_rev kept_lapse : Members)
+    → new_form ≡ new_form_of v → rev_form ≡ rev_form_of v → lapse_form ≡ lapse_form_of v
     → own ≡ kept options_form d → new ≡ new_in d → kept_new ≡ kept new_form new → with_new ≡ put_group keys.New kept_new own
     → rev ≡ rev_in d → kept_rev ≡ kept rev_form rev → with_rev ≡ put_group keys.Rev kept_rev with_new
-    → lapse ≡ lapse_in d → kept_lapse ≡ kept lapse_form lapse → all ≡ put_group keys.Lapse kept_lapse with_rev → all ≡ options_kept d
-put_together d new rev lapse own with_new with_rev all kept_new kept_rev kept_lapse a b c e f g h i j k = rw (k, j, i, h, g, f, e, c, b, a) refl
+    → lapse ≡ lapse_in d → kept_lapse ≡ kept lapse_form lapse → all ≡ put_group keys.Lapse kept_lapse with_rev → all ≡ options_kept_by v d
+put_together v new_form rev_form lapse_form d new rev lapse own with_new with_rev all kept_new kept_rev kept_lapse x y z a b c e f g h i j k =
+    rw (k, j, i, h, g, f, e, c, b, a, x, y, z) refl

@@ -1,5 +1,5 @@
 -- What was written of a row in its ranges is read again.
-use Rattle.std.proofs.Common.{◌≡◌, zero, suc, ◌≤◌, ℤ, pos, negsuc, Bool, true, false, Option, Some, None, Result, Ok, Err, refl, sym, ap, ◌∙◌, arith}
+use Rattle.std.proofs.Common.{◌≡◌, zero, suc, ◌≤◌, ℤ, pos, negsuc, Bool, true, false, Option, Some, None, Result, Ok, Err, refl, sym, ap, subst, ◌∙◌, arith}
 use Rattle.std.specs.Prelude.{if◌then◌else◌, option_map}
 use Rattle.std.specs.Option.{option_or, option_map_or, option_and_then, unwrap_or}
 use Rattle.ak_base.specs.Cards.{card_faults}
@@ -7,7 +7,8 @@ use Rattle.ak_base.specs.Decks.{deck_faults}
 use Rattle.ak_base.specs.Graves.{grave_faults, grave_table}
 use Rattle.ak_base.specs.Notes.{note_faults}
 use Rattle.ak_base.specs.NoteTypes.{note_type_faults}
-use Rattle.ak_base.specs.OptionGroups.{options_faults}
+use Rattle.serde_json.specs.Data.{Data}
+use Rattle.ak_base.specs.OptionGroups.{options_faults, options_faults_by}
 use Rattle.ak_base.specs.Reviews.{review_faults}
 use Rattle.std.specs.Ordering.{int_eq}
 use Rattle.ak_base.specs.Columns.{first_fault, code_fault}
@@ -29,10 +30,16 @@ use Rattle.ak_base.specs.Tables.{graves_of, stored_code}
 use Rattle.ak_json.specs.Rows.{StandsIn, checked_then, code_check, row_check, row_json, ReadsRow}
 use Rattle.ak_json.specs.Decks.{deck_json}
 use Rattle.ak_json.specs.Faults.{told}
-use Rattle.ak_json.specs.Groups.{options_kept, options_json}
+use Rattle.ak_json.specs.Groups.{options_kept_by, IsOptionsBy, options_json}
+use Rattle.ak_json.specs.Objects.{object_form_fault}
+use Rattle.ak_json.specs.Versions.{version_of, whole_form, longest_step, in_seconds}
 use Rattle.ak_json.specs.NoteTypes.{note_type_json}
 use Rattle.ak_json.specs.Rests.{deep_key, deep_fault}
+use Rattle.ak_json.specs.declared.faults.JsonFault.{JsonFault}
 use Rattle.ak_json.specs.declared.form_faults.FormFault.{FormFault}
+use Rattle.ak_json.specs.declared.versions.Version.{Version}
+use Rattle.ak_json.specs.declared.versions.Version.TheVariants.{First, Second}
+use Rattle.ak_base.proofs.OpeningOptions.{faults_in_seconds}
 use Rattle.ak_json.specs.Forms.{deck_form, note_type_form}
 use Rattle.ak_json.proofs.DecksAgain.{IsDeckAgain, deck_again}
 use Rattle.ak_json.proofs.OptionsAgain.{IsOptionsAgain, options_again}
@@ -46,31 +53,31 @@ in_range (Err fault) later h = cc
 note_in : (table : Table) (n : Note) → StandsIn table (rows.Note n) → row_check table (rows.Note n) ≡ Ok tt → ReadsRow table (row_json (rows.Note n)) (rows.Note n)
 note_in tables.Note n s h =
     let read : IsNote n = note_again n tt (in_range (first_fault (note_faults n)) (Ok tt) h) in
-    record { form = rw read.form refl; is = (tt, sym read.row); good = h }
+    record { form = rw read.form refl; stored = rows.Note n; is = (tt, sym read.row); good = h; kept = refl }
 note_in table n s h = absurd s
 
 card_in : (table : Table) (c : Card) → StandsIn table (rows.Card c) → row_check table (rows.Card c) ≡ Ok tt → ReadsRow table (row_json (rows.Card c)) (rows.Card c)
 card_in tables.Card c s h =
     let read : IsCard c = card_again c tt (in_range (first_fault (card_faults c)) (Ok tt) h) in
-    record { form = rw read.form refl; is = (tt, sym read.row); good = h }
+    record { form = rw read.form refl; stored = rows.Card c; is = (tt, sym read.row); good = h; kept = refl }
 card_in table c s h = absurd s
 
 review_in : (table : Table) (r : Review) → StandsIn table (rows.Review r) → row_check table (rows.Review r) ≡ Ok tt → ReadsRow table (row_json (rows.Review r)) (rows.Review r)
 review_in tables.Review r s h =
     let read : IsReview r = review_again r tt (in_range (first_fault (review_faults r)) (Ok tt) h) in
-    record { form = rw read.form refl; is = (tt, sym read.row); good = h }
+    record { form = rw read.form refl; stored = rows.Review r; is = (tt, sym read.row); good = h; kept = refl }
 review_in table r s h = absurd s
 
 grave_in : (table : Table) (g : Grave) → StandsIn table (rows.Grave g) → row_check table (rows.Grave g) ≡ Ok tt → ReadsRow table (row_json (rows.Grave g)) (rows.Grave g)
 grave_in tables.NoteGrave g s h =
     let read : IsGrave g = grave_again g tt (in_range (first_fault (grave_faults g)) (code_check tables.NoteGrave g) h) in
-    record { form = rw read.form refl; is = (tt, sym read.row); good = h }
+    record { form = rw read.form refl; stored = rows.Grave g; is = (tt, sym read.row); good = h; kept = refl }
 grave_in tables.CardGrave g s h =
     let read : IsGrave g = grave_again g tt (in_range (first_fault (grave_faults g)) (code_check tables.CardGrave g) h) in
-    record { form = rw read.form refl; is = (tt, sym read.row); good = h }
+    record { form = rw read.form refl; stored = rows.Grave g; is = (tt, sym read.row); good = h; kept = refl }
 grave_in tables.DeckGrave g s h =
     let read : IsGrave g = grave_again g tt (in_range (first_fault (grave_faults g)) (code_check tables.DeckGrave g) h) in
-    record { form = rw read.form refl; is = (tt, sym read.row); good = h }
+    record { form = rw read.form refl; stored = rows.Grave g; is = (tt, sym read.row); good = h; kept = refl }
 grave_in table g s h = absurd s
 
 deck_in : (table : Table) (k : Deck) → StandsIn table (rows.Deck k) → row_check table (rows.Deck k) ≡ Ok tt → ReadsRow table (row_json (rows.Deck k)) (rows.Deck k)
@@ -78,8 +85,10 @@ deck_in tables.Deck k s h =
     let read : IsDeckAgain k = deck_again k tt (in_range (first_fault (deck_faults k)) (Ok tt) h) in
     record {
       form = ap (λ (o : Option FormFault). option_or (option_map told o) (deep_key deck_form (deck_json k))) read.fault ∙ read.deep;
+      stored = rows.Deck k;
       is = (tt, read.row);
       good = h;
+      kept = refl;
     }
 deck_in table k s h = absurd s
 
@@ -88,18 +97,32 @@ note_type_in tables.NoteType n s h =
     let read : IsNoteTypeAgain n = note_type_again n tt (in_range (first_fault (note_type_faults n)) (Ok tt) h) in
     record {
       form = ap (λ (o : Option FormFault). option_or (option_map told o) (deep_key note_type_form (note_type_json n))) read.fault ∙ read.deep;
+      stored = rows.NoteType n;
       is = (tt, read.row);
       good = h;
+      kept = refl;
     }
 note_type_in table n s h = absurd s
 
+-- the fault of the form of an option group's object of that version
+abbrev refusal_by : Version → Data → Option JsonFault
+refusal_by v d = option_or (option_map told (object_form_fault (whole_form v) d)) (deep_fault (options_kept_by v d))
+
 options_in : (table : Table) (o : Options) → StandsIn table (rows.Options o) → row_check table (rows.Options o) ≡ Ok tt → ReadsRow table (row_json (rows.Options o)) (rows.Options o)
 options_in tables.Options o s h =
+    let d : Data = options_json o in
     let read : IsOptionsAgain o = options_again o tt (in_range (first_fault (options_faults o)) (Ok tt) h) in
+    let new : version_of d ≡ Second = ap (λ (old : Bool). if old then First else Second) read.old in
     record {
-      form = ap (λ (fault : Option FormFault). option_or (option_map told fault) (deep_fault (options_kept (options_json o)))) read.fault ∙ read.deep;
-      is = (tt, read.row);
-      good = h;
+      form =
+          ap (λ (v : Version). refusal_by v d) new
+          ∙ (ap (λ (fault : Option FormFault). option_or (option_map told fault) (deep_fault (options_kept_by Second d))) read.fault ∙ read.deep);
+      stored = rows.Options o;
+      is = (tt, subst (λ (v : Version). IsOptionsBy v d o) (sym new) read.row);
+      good =
+          ap (λ (v : Version). checked_then (first_fault (options_faults_by (longest_step v) o)) (Ok tt)) new
+          ∙ (ap (λ (check : Result (Unit {0}) RowFault). checked_then check (Ok tt)) (faults_in_seconds o) ∙ h);
+      kept = ap (λ (v : Version). rows.Options (in_seconds v o)) (sym new);
     }
 options_in table o s h = absurd s
 

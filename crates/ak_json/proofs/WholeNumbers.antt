@@ -24,14 +24,14 @@ use Rattle.ak_base.specs.declared.reviews.Review.{Review}
 use Rattle.ak_base.specs.declared.rows.Row.{Row}
 use Rattle.ak_base.specs.declared.rows.Row.TheVariants as rows
 use Rattle.ak_json.specs.Decks.{deck_cells}
-use Rattle.ak_json.specs.Groups.{options_cells, group_members, rest_object}
+use Rattle.ak_json.specs.Groups.{new_cells, rev_cells, lapse_cells, options_cells, group_members, rest_object}
 use Rattle.ak_json.specs.Keys.{key_text}
 use Rattle.ak_json.specs.Members.{Form}
 use Rattle.ak_json.specs.NoteTypes.{note_type_cells, fields_json, templates_json}
 use Rattle.ak_json.specs.Objects.{put_at, put_cells}
 use Rattle.ak_json.specs.Rests.{rest_members, object_json}
 use Rattle.ak_json.specs.Rows.{row_json}
-use Rattle.ak_json.specs.Written.{integer, bit, pair, steps_json, note_cells, card_cells, review_cells, grave_cells}
+use Rattle.ak_json.specs.Written.{integer, factor, bit, pair, steps_json, note_cells, card_cells, review_cells, grave_cells}
 use Rattle.ak_json.specs.Forms.{note_type_form, field_form, template_form, deck_form, options_form, new_form, rev_form, lapse_form}
 use Rattle.ak_json.specs.declared.keys.Place.{Place}
 use Rattle.ak_json.specs.declared.keys.Place.TheVariants as places
@@ -137,23 +137,14 @@ note_type_whole : (t : NoteType) → AreWhole (note_type_cells t)
 note_type_whole t =
     (number_whole t.id, (number_whole t.stamp, (number_whole t.usn, (refl, (bit_whole t.cloze, (number_whole t.sortf, (items_whole _ (fields_whole 0 t.fields), (items_whole _ (templates_whole 0 t.templates), tt))))))))
 
-abbrev new_cells : Options → List Data
-new_cells o = steps_json o.new_steps ∷ pair (record { day = o.grad_ivl; count = o.easy_ivl }) ∷ integer o.initial_factor ∷ integer o.new_per_day ∷ boolean o.new_bury ∷ []
-
 new_whole : (o : Options) → AreWhole (new_cells o)
 new_whole o = (items_whole _ (steps_whole o.new_steps), (pair_whole (record { day = o.grad_ivl; count = o.easy_ivl }), (number_whole o.initial_factor, (number_whole o.new_per_day, (refl, tt)))))
 
-abbrev rev_cells : Options → List Data
-rev_cells o = integer o.rev_per_day ∷ integer o.ease4 ∷ integer o.ivl_fct ∷ integer o.max_ivl ∷ integer o.hard_factor ∷ boolean o.rev_bury ∷ []
-
 rev_whole : (o : Options) → AreWhole (rev_cells o)
-rev_whole o = (number_whole o.rev_per_day, (number_whole o.ease4, (number_whole o.ivl_fct, (number_whole o.max_ivl, (number_whole o.hard_factor, (refl, tt))))))
-
-abbrev lapse_cells : Options → List Data
-lapse_cells o = steps_json o.lapse_steps ∷ integer o.mult ∷ integer o.min_int ∷ integer o.leech_fails ∷ integer o.leech_action ∷ []
+rev_whole o = (number_whole o.rev_per_day, (refl, (refl, (number_whole o.max_ivl, (refl, (refl, tt))))))
 
 lapse_whole : (o : Options) → AreWhole (lapse_cells o)
-lapse_whole o = (items_whole _ (steps_whole o.lapse_steps), (number_whole o.mult, (number_whole o.min_int, (number_whole o.leech_fails, (number_whole o.leech_action, tt)))))
+lapse_whole o = (items_whole _ (steps_whole o.lapse_steps), (refl, (number_whole o.min_int, (number_whole o.leech_fails, (number_whole o.leech_action, tt)))))
 
 options_whole : (o : Options) → AreWhole (options_cells o (rest_object o.rest.text))
 options_whole o =

@@ -4,7 +4,7 @@ use Rattle.serde_json.specs.Data.{Data, Items, no_items, item}
 use Rattle.serde_json.specs.Find.{as_str, as_bool, as_array, at}
 use Rattle.ak_base.specs.declared.decks.Count.{Count}
 use Rattle.ak_json.specs.Keys.{find}
-use Rattle.ak_json.specs.Kinds.{integer_of}
+use Rattle.ak_json.specs.Kinds.{integer_of, permille_of}
 use Rattle.ak_json.specs.Members.{Form}
 
 -- what stands in a column, counted from 0
@@ -16,6 +16,10 @@ cell_at (column ∷ columns) (suc n) d = cell_at columns n d
 -- the whole number there
 abbrev pub integer_at : Form → ℕ → Data → ℤ
 integer_at form n d = unwrap_or (option_and_then integer_of (cell_at form n d)) (pos 0)
+
+-- the thousandths there
+abbrev pub permille_at : Form → ℕ → Data → ℤ
+permille_at form n d = unwrap_or (option_and_then permille_of (cell_at form n d)) (pos 0)
 
 -- the text there
 abbrev pub text_at : Form → ℕ → Data → List ℕ

@@ -10,7 +10,7 @@ use Rattle.ak_json.specs.declared.keys.Place.{Place}
 use Rattle.ak_json.specs.declared.keys.Place.TheVariants as places
 use Rattle.ak_json.specs.declared.kinds.Kind.{Kind}
 use Rattle.ak_json.specs.declared.kinds.Kind.TheVariants as kinds
-use Rattle.ak_json.specs.Forms.{field_form, template_form, new_form, rev_form, lapse_form}
+use Rattle.ak_json.specs.Forms.{field_form, template_form, new_form, rev_form, lapse_form, old_new_form, old_rev_form, old_lapse_form}
 use Rattle.ak_json.specs.declared.form_faults.FormFault.{FormFault}
 use Rattle.ak_json.specs.declared.form_faults.FormFault.TheVariants.{WholeValue, Missing, WrongKind}
 
@@ -49,6 +49,9 @@ form_fault_inside kinds.Templates d = parts_form_fault template_form (unwrap_or 
 form_fault_inside kinds.New d = inner_form_fault new_form d
 form_fault_inside kinds.Rev d = inner_form_fault rev_form d
 form_fault_inside kinds.Lapse d = inner_form_fault lapse_form d
+form_fault_inside kinds.OldNew d = inner_form_fault old_new_form d
+form_fault_inside kinds.OldRev d = inner_form_fault old_rev_form d
+form_fault_inside kinds.OldLapse d = inner_form_fault old_lapse_form d
 form_fault_inside other d = None
 
 -- what is inside a column is told by the row's own key

@@ -131,33 +131,85 @@ options_form =
     ∷ (Key keys.Lapse, kinds.Lapse)
     ∷ []
 
--- what an option group has for new cards. `ints` are the days after the last step and after Easy.
+-- what an option group has for new cards. `ints` are the days after the last step and after Easy. `delays` is in no such object, since it
+-- marks version 1; it stands here so that no rest keeps it.
 abbrev pub new_form : Form
 new_form =
-    (Key keys.Delays, kinds.Steps)
+    (Key keys.Steps, kinds.Steps)
     ∷ (Key keys.Ints, kinds.Pair)
     ∷ (Key keys.InitialFactor, kinds.Integer)
     ∷ (Key keys.PerDay, kinds.Integer)
     ∷ (Key keys.Bury, kinds.Bool)
+    ∷ (Key keys.Delays, kinds.Ignored)
     ∷ []
 
 -- what an option group has for reviews
 abbrev pub rev_form : Form
 rev_form =
     (Key keys.PerDay, kinds.Integer)
-    ∷ (Key keys.Ease4Pm, kinds.Integer)
-    ∷ (Key keys.IvlFctPm, kinds.Integer)
+    ∷ (Key keys.Ease4, kinds.Decimal)
+    ∷ (Key keys.IvlFct, kinds.Decimal)
     ∷ (Key keys.MaxIvl, kinds.Integer)
-    ∷ (Key keys.HardFactorPm, kinds.Integer)
+    ∷ (Key keys.HardFactor, kinds.Decimal)
     ∷ (Key keys.Bury, kinds.Bool)
     ∷ []
 
 -- what an option group has for cards that were forgotten
 abbrev pub lapse_form : Form
 lapse_form =
+    (Key keys.Steps, kinds.Steps)
+    ∷ (Key keys.Mult, kinds.Decimal)
+    ∷ (Key keys.MinInt, kinds.Integer)
+    ∷ (Key keys.LeechFails, kinds.Integer)
+    ∷ (Key keys.LeechAction, kinds.Integer)
+    ∷ []
+
+-- an option group of version 1
+abbrev pub old_options_form : Form
+old_options_form =
+    (Key keys.Id, kinds.Integer)
+    ∷ (Key keys.Mod, kinds.Integer)
+    ∷ (Key keys.Usn, kinds.Integer)
+    ∷ (Key keys.Name, kinds.Text)
+    ∷ (Key keys.MaxTaken, kinds.Integer)
+    ∷ (Key keys.New, kinds.OldNew)
+    ∷ (Key keys.Rev, kinds.OldRev)
+    ∷ (Key keys.Lapse, kinds.OldLapse)
+    ∷ []
+
+-- what it has for new cards. What stands under a key of version 2 is not read, and not kept.
+abbrev pub old_new_form : Form
+old_new_form =
+    (Key keys.Delays, kinds.Steps)
+    ∷ (Key keys.Ints, kinds.Pair)
+    ∷ (Key keys.InitialFactor, kinds.Integer)
+    ∷ (Key keys.PerDay, kinds.Integer)
+    ∷ (Key keys.Bury, kinds.Bool)
+    ∷ (Key keys.Steps, kinds.Ignored)
+    ∷ []
+
+-- what it has for reviews. What stands under a key of version 2 is not read, and not kept.
+abbrev pub old_rev_form : Form
+old_rev_form =
+    (Key keys.PerDay, kinds.Integer)
+    ∷ (Key keys.Ease4Pm, kinds.Integer)
+    ∷ (Key keys.IvlFctPm, kinds.Integer)
+    ∷ (Key keys.MaxIvl, kinds.Integer)
+    ∷ (Key keys.HardFactorPm, kinds.Integer)
+    ∷ (Key keys.Bury, kinds.Bool)
+    ∷ (Key keys.Ease4, kinds.Ignored)
+    ∷ (Key keys.IvlFct, kinds.Ignored)
+    ∷ (Key keys.HardFactor, kinds.Ignored)
+    ∷ []
+
+-- what it has for cards that were forgotten. What stands under a key of version 2 is not read, and not kept.
+abbrev pub old_lapse_form : Form
+old_lapse_form =
     (Key keys.Delays, kinds.Steps)
     ∷ (Key keys.MultPm, kinds.Integer)
     ∷ (Key keys.MinInt, kinds.Integer)
     ∷ (Key keys.LeechFails, kinds.Integer)
     ∷ (Key keys.LeechAction, kinds.Integer)
+    ∷ (Key keys.Steps, kinds.Ignored)
+    ∷ (Key keys.Mult, kinds.Ignored)
     ∷ []

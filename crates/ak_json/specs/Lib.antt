@@ -1,4 +1,6 @@
 pub mod Keys
+pub mod Decimals
+pub mod Ranges
 pub mod Depths
 pub mod Kinds
 pub mod Members
@@ -13,5 +15,6 @@ pub mod Rests
 pub mod Decks
 pub mod Confs
 pub mod NoteTypes
+pub mod Versions
 pub mod Groups
 pub mod Rows

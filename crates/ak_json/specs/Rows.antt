@@ -11,11 +11,14 @@ use Rattle.ak_json.specs.Groups.{IsOptions, options_kept, options_json}
 use Rattle.ak_json.specs.NoteTypes.{IsNoteType, note_type_json}
 use Rattle.ak_json.specs.Objects.{object_form_fault}
 use Rattle.ak_json.specs.Rests.{deep_fault, deep_key}
+use Rattle.ak_json.specs.Versions.{version_of, whole_form, longest_step, in_seconds}
 use Rattle.ak_json.specs.Written.{note_json, card_json, review_json, grave_json}
 use Rattle.ak_json.specs.declared.faults.JsonFault.{JsonFault}
 use Rattle.ak_json.specs.declared.faults.JsonFault.TheVariants as faults
 use Rattle.ak_json.specs.declared.form_faults.FormFault.{FormFault}
-use Rattle.ak_json.specs.Forms.{note_form, card_form, review_form, grave_form, note_type_form, deck_form, options_form}
+use Rattle.ak_json.specs.Forms.{note_form, card_form, review_form, grave_form, note_type_form, deck_form}
+use Rattle.ak_base.specs.Columns.{first_fault}
+use Rattle.ak_base.specs.OptionGroups.{options_faults_by}
 use Rattle.ak_base.specs.Rows.{check_of}
 use Rattle.ak_base.specs.Tables.{stored_code}
 use Rattle.ak_base.specs.declared.errors.RowFault.{RowFault}
@@ -33,7 +36,7 @@ row_form_fault tables.Card d = array_form_fault card_form d
 row_form_fault tables.Review d = array_form_fault review_form d
 row_form_fault tables.NoteType d = object_form_fault note_type_form d
 row_form_fault tables.Deck d = object_form_fault deck_form d
-row_form_fault tables.Options d = object_form_fault options_form d
+row_form_fault tables.Options d = object_form_fault (whole_form (version_of d)) d
 row_form_fault tables.NoteGrave d = array_form_fault grave_form d
 row_form_fault tables.CardGrave d = array_form_fault grave_form d
 row_form_fault tables.DeckGrave d = array_form_fault grave_form d
@@ -99,17 +102,33 @@ checked_then (Err fault) later = Err fault
 abbrev pub row_check : Table → Row → Result (Unit {0}) RowFault
 row_check table row = checked_then (check_of row) (table_check table row)
 
--- the value has the form of a row of the table, and the row is the one that it stands for, in its ranges
+-- the first column of what a value stands for that is out of its range, with the steps in the unit of the value's version
+abbrev pub stored_check_of : Data → Row → Result (Unit {0}) RowFault
+stored_check_of d (rows.Options o) = first_fault (options_faults_by (longest_step (version_of d)) o)
+stored_check_of d row = check_of row
+
+-- and then the code of a grave of another table
+abbrev pub stored_check : Table → Data → Row → Result (Unit {0}) RowFault
+stored_check table d row = checked_then (stored_check_of d row) (table_check table row)
+
+-- the row, with its steps in seconds
+abbrev pub kept_row : Data → Row → Row
+kept_row d (rows.Options o) = rows.Options (in_seconds (version_of d) o)
+kept_row d row = row
+
+-- the value has the form of a row of the table, what it stands for is in its ranges, and the row is that with its steps in seconds
 pub record ReadsRow (table : Table) (d : Data) (row : Row) : Type 0 where
   pub form : form_refusal table d ≡ None
-  pub is : IsRow table d row
-  pub good : row_check table row ≡ Ok tt
+  pub stored : Row
+  pub is : IsRow table d stored
+  pub good : stored_check table d stored ≡ Ok tt
+  pub kept : row ≡ kept_row d stored
 
--- the value has the form, and the row that it stands for has a column out of its range
+-- the value has the form, and what it stands for has a column out of its range
 pub record MissesRange (table : Table) (d : Data) (fault : RowFault) (row : Row) : Type 0 where
   pub form : form_refusal table d ≡ None
   pub is : IsRow table d row
-  pub bad : row_check table row ≡ Err fault
+  pub bad : stored_check table d row ≡ Err fault
 
 -- the fault is that of the form, or of a range where the form has none, or memory was out
 abbrev pub RefusesRow : Table → Data → JsonFault → Type 0

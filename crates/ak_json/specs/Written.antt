@@ -1,5 +1,6 @@
 -- What is written for a row.
 use Rattle.std.specs.Prelude.{ℤ, pos, Bool, if◌then◌else◌, List, [], ◌∷◌, map}
+use Rattle.ak_json.specs.Decimals.{decimal_text}
 use Rattle.serde_json.specs.Data.{Data, boolean, number, unsigned, string, array, item, no_items}
 use Rattle.serde_json.specs.Find.{of_integer}
 use Rattle.serde_json.specs.View.{view, items_of}
@@ -14,6 +15,10 @@ use Rattle.ak_base.specs.declared.graves.Grave.{Grave}
 -- a whole number
 abbrev pub integer : ℤ → Data
 integer z = number (of_integer z)
+
+-- thousandths as a decimal text
+abbrev pub factor : ℤ → Data
+factor permille = string (decimal_text permille)
 
 -- 1 for true, 0 for false
 abbrev pub bit : Bool → Data
@@ -30,6 +35,7 @@ steps_json steps = array (items_of (map integer steps))
 -- what is written into a column
 abbrev pub cell_data : Cell → Data
 cell_data (cells.Integer z) = integer z
+cell_data (cells.Decimal permille) = factor permille
 cell_data (cells.Text t) = string t.now
 cell_data (cells.Bool b) = boolean b
 cell_data (cells.Bit b) = bit b

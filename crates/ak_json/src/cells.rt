@@ -1,9 +1,9 @@
 ghost use Rattle.std.specs.Prelude.{◌≡◌, IfOk, option_map};
 ghost use Rattle.serde_json.specs.View.{view, items_view};
-ghost use Rattle.ak_json.specs.Cells.{cell_at, integer_at, text_at, bool_at, part_at, count_at, integers, steps_at, inner_at};
+ghost use Rattle.ak_json.specs.Cells.{cell_at, integer_at, permille_at, text_at, bool_at, part_at, count_at, integers, steps_at, inner_at};
 
 use crate::keys::Place;
-use crate::kinds::Kind;
+use crate::kinds::{Kind, permille_of};
 use ak_base::{Count, List, Memory, Text};
 use serde_json::Value;
 use std::alloc::Global;
@@ -29,6 +29,16 @@ pub(crate) fn integer_at(form: &[(Place, Kind)], column: usize, value: &Value) -
 {
     match cell_at(form, column, value) {
         Some(found) => found.as_i64().unwrap_or(0),
+        None => 0,
+    }
+}
+
+/// The thousandths in a column of whole numbers of them or of decimal texts. They are 0 if the value has no such form.
+pub(crate) fn permille_at(form: &[(Place, Kind)], column: usize, value: &Value) -> i64
+    ensures { result ≡ permille_at form.now column (view value.now) }
+{
+    match cell_at(form, column, value) {
+        Some(found) => permille_of(found).unwrap_or(0),
         None => 0,
     }
 }

@@ -6,7 +6,7 @@ ghost use Rattle.serde_json.specs.View.{view};
 ghost use Rattle.ak_json.specs.FormFaults.{plain_form_fault, inner_form_fault, part_form_fault, parts_form_fault, form_fault_inside, column_form_fault, first_form_fault, array_form_fault};
 
 use crate::JsonFault;
-use crate::forms::{FIELD, LAPSE, NEW, REV, TEMPLATE};
+use crate::forms::{FIELD, LAPSE, NEW, OLD_LAPSE, OLD_NEW, OLD_REV, REV, TEMPLATE};
 use crate::keys::Place;
 use crate::kinds::Kind;
 use crate::members::has_deep;
@@ -124,6 +124,9 @@ fn form_fault_inside(kind: Kind, value: &Value) -> Option<FormFault>
         Kind::New => inner_form_fault(&NEW, value),
         Kind::Rev => inner_form_fault(&REV, value),
         Kind::Lapse => inner_form_fault(&LAPSE, value),
+        Kind::OldNew => inner_form_fault(&OLD_NEW, value),
+        Kind::OldRev => inner_form_fault(&OLD_REV, value),
+        Kind::OldLapse => inner_form_fault(&OLD_LAPSE, value),
         _ => None,
     }
 }

@@ -120,30 +120,78 @@ pub(crate) const OPTIONS: [(Place, Kind); 8] = [
     (Place::Key(Key::Lapse), Kind::Lapse),
 ];
 
-/// What an option group has for new cards. `ints` are the days after the last step and after Easy.
-pub(crate) const NEW: [(Place, Kind); 5] = [
+/// What an option group has for new cards. `ints` are the days after the last step and after Easy. `delays` is in no such
+/// object, since it marks version 1; it stands here so that no rest keeps it.
+pub(crate) const NEW: [(Place, Kind); 6] = [
+    (Place::Key(Key::Steps), Kind::Steps),
+    (Place::Key(Key::Ints), Kind::Pair),
+    (Place::Key(Key::InitialFactor), Kind::Integer),
+    (Place::Key(Key::PerDay), Kind::Integer),
+    (Place::Key(Key::Bury), Kind::Bool),
+    (Place::Key(Key::Delays), Kind::Ignored),
+];
+
+/// What an option group has for reviews.
+pub(crate) const REV: [(Place, Kind); 6] = [
+    (Place::Key(Key::PerDay), Kind::Integer),
+    (Place::Key(Key::Ease4), Kind::Decimal),
+    (Place::Key(Key::IvlFct), Kind::Decimal),
+    (Place::Key(Key::MaxIvl), Kind::Integer),
+    (Place::Key(Key::HardFactor), Kind::Decimal),
+    (Place::Key(Key::Bury), Kind::Bool),
+];
+
+/// What an option group has for cards that were forgotten.
+pub(crate) const LAPSE: [(Place, Kind); 5] = [
+    (Place::Key(Key::Steps), Kind::Steps),
+    (Place::Key(Key::Mult), Kind::Decimal),
+    (Place::Key(Key::MinInt), Kind::Integer),
+    (Place::Key(Key::LeechFails), Kind::Integer),
+    (Place::Key(Key::LeechAction), Kind::Integer),
+];
+
+/// An option group of version 1.
+pub(crate) const OLD_OPTIONS: [(Place, Kind); 8] = [
+    (Place::Key(Key::Id), Kind::Integer),
+    (Place::Key(Key::Mod), Kind::Integer),
+    (Place::Key(Key::Usn), Kind::Integer),
+    (Place::Key(Key::Name), Kind::Text),
+    (Place::Key(Key::MaxTaken), Kind::Integer),
+    (Place::Key(Key::New), Kind::OldNew),
+    (Place::Key(Key::Rev), Kind::OldRev),
+    (Place::Key(Key::Lapse), Kind::OldLapse),
+];
+
+/// What it has for new cards. What stands under a key of version 2 is not read, and not kept.
+pub(crate) const OLD_NEW: [(Place, Kind); 6] = [
     (Place::Key(Key::Delays), Kind::Steps),
     (Place::Key(Key::Ints), Kind::Pair),
     (Place::Key(Key::InitialFactor), Kind::Integer),
     (Place::Key(Key::PerDay), Kind::Integer),
     (Place::Key(Key::Bury), Kind::Bool),
+    (Place::Key(Key::Steps), Kind::Ignored),
 ];
 
-/// What an option group has for reviews.
-pub(crate) const REV: [(Place, Kind); 6] = [
+/// What it has for reviews. What stands under a key of version 2 is not read, and not kept.
+pub(crate) const OLD_REV: [(Place, Kind); 9] = [
     (Place::Key(Key::PerDay), Kind::Integer),
     (Place::Key(Key::Ease4Pm), Kind::Integer),
     (Place::Key(Key::IvlFctPm), Kind::Integer),
     (Place::Key(Key::MaxIvl), Kind::Integer),
     (Place::Key(Key::HardFactorPm), Kind::Integer),
     (Place::Key(Key::Bury), Kind::Bool),
+    (Place::Key(Key::Ease4), Kind::Ignored),
+    (Place::Key(Key::IvlFct), Kind::Ignored),
+    (Place::Key(Key::HardFactor), Kind::Ignored),
 ];
 
-/// What an option group has for cards that were forgotten.
-pub(crate) const LAPSE: [(Place, Kind); 5] = [
+/// What it has for cards that were forgotten. What stands under a key of version 2 is not read, and not kept.
+pub(crate) const OLD_LAPSE: [(Place, Kind); 7] = [
     (Place::Key(Key::Delays), Kind::Steps),
     (Place::Key(Key::MultPm), Kind::Integer),
     (Place::Key(Key::MinInt), Kind::Integer),
     (Place::Key(Key::LeechFails), Kind::Integer),
     (Place::Key(Key::LeechAction), Kind::Integer),
+    (Place::Key(Key::Steps), Kind::Ignored),
+    (Place::Key(Key::Mult), Kind::Ignored),
 ];

@@ -2,20 +2,22 @@ ghost use Rattle.std.specs.Prelude.{◌≡◌, None, IfOk, OnOk, IfErr};
 ghost use Rattle.serde_json.specs.Data.{object};
 ghost use Rattle.serde_json.specs.View.{view, members_view};
 ghost use Rattle.ak_json.specs.Faults.{Tells};
-ghost use Rattle.ak_json.specs.Groups.{put_group, options_kept, group_members, group_json, new_json, rev_json, lapse_json, IsOptions, options_json, rest_object};
+ghost use Rattle.ak_json.specs.Groups.{put_group, options_kept, options_kept_by, group_members, group_json, new_json, rev_cells, rev_json, lapse_json, IsOptions, IsOptionsBy, options_json, rest_object};
 ghost use Rattle.ak_json.specs.Rests.{deep_fault};
 ghost use Rattle.ak_json.specs.Cells.{text_at, steps_at, inner_at};
 ghost use Rattle.ak_json.specs.Written.{cells_data};
 ghost use Rattle.serde_json.specs.Written.{compact_text};
-ghost use Rattle.ak_json.specs.Forms.{lapse_form, new_form, options_form, rev_form};
+ghost use Rattle.ak_json.specs.Forms.{options_form};
+ghost use Rattle.ak_json.specs.Versions.{new_form_of, lapse_form_of};
 
 use crate::JsonFault;
-use crate::cells::{bool_at, inner_at, integer_at, part_at, steps_at, text_at};
+use crate::cells::{bool_at, inner_at, integer_at, part_at, permille_at, steps_at, text_at};
 use crate::forms::{LAPSE, NEW, OPTIONS, REV};
 use crate::keys::{Key, Place};
 use crate::kinds::Kind;
 use crate::objects::put_cells;
 use crate::rests::{as_rest, kept, members_of, write_object};
+use crate::versions::Version;
 use crate::written::Cell;
 use ak_base::{Count, List, Memory, OfOptions, Options, Rest, Text};
 use serde_json::{Map, Value};
@@ -30,36 +32,45 @@ struct Copied {
     rest: Rest<OfOptions>,
 }
 
-/// The option group of an object of its form.
+/// The option group of an object of its form, its steps in the unit of its version.
 pub(crate) fn options_of(alloc: Global, value: &Value) -> Result<Options, JsonFault>
     ensures ok { IfOk result (IsOptions (view value.now)) }
     ensures plain { IfOk result (λ made. deep_fault (options_kept (view value.now)) ≡ None) }
     ensures err { IfErr result (Tells (deep_fault (options_kept (view value.now)))) }
 {
-    let members = kept_of(alloc, value)?;
+    options_by(alloc, Version::of(value), value)
+}
+
+/// The option group of an object of that version.
+fn options_by(alloc: Global, version: Version, value: &Value) -> Result<Options, JsonFault>
+    ensures ok { IfOk result (IsOptionsBy version (view value.now)) }
+    ensures plain { IfOk result (λ made. deep_fault (options_kept_by version (view value.now)) ≡ None) }
+    ensures err { IfErr result (Tells (deep_fault (options_kept_by version (view value.now)))) }
+{
+    let members = kept_of(alloc, version, value)?;
     let rest = as_rest(alloc, members)?;
     let name = text_at(alloc, &OPTIONS, 3, value)?;
-    let new_steps = steps_at(alloc, &NEW, 0, inner_at(&OPTIONS, 5, value))?;
-    let lapse_steps = steps_at(alloc, &LAPSE, 0, inner_at(&OPTIONS, 7, value))?;
+    let new_steps = steps_at(alloc, version.new_form(), 0, inner_at(&OPTIONS, 5, value))?;
+    let lapse_steps = steps_at(alloc, version.lapse_form(), 0, inner_at(&OPTIONS, 7, value))?;
     let copied = Copied {
         name,
         new_steps,
         lapse_steps,
         rest,
     };
-    Ok(assembled(value, copied))
+    Ok(assembled(version, value, copied))
 }
 
 /// The unknown keys of an option group, those inside `new`, `rev` and `lapse` under these.
-fn kept_of(alloc: Global, value: &Value) -> Result<Map<String, Value>, Memory>
-    ensures { IfOk result (λ members. members_view members.entries ≡ options_kept (view value.now)) }
+fn kept_of(alloc: Global, version: Version, value: &Value) -> Result<Map<String, Value>, Memory>
+    ensures { IfOk result (λ members. members_view members.entries ≡ options_kept_by version (view value.now)) }
 {
     let mut members = kept(alloc, &OPTIONS, value)?;
-    let new = kept(alloc, &NEW, inner_at(&OPTIONS, 5, value))?;
+    let new = kept(alloc, version.new_form(), inner_at(&OPTIONS, 5, value))?;
     put_group(alloc, Key::New, new, &mut members)?;
-    let rev = kept(alloc, &REV, inner_at(&OPTIONS, 6, value))?;
+    let rev = kept(alloc, version.rev_form(), inner_at(&OPTIONS, 6, value))?;
     put_group(alloc, Key::Rev, rev, &mut members)?;
-    let lapse = kept(alloc, &LAPSE, inner_at(&OPTIONS, 7, value))?;
+    let lapse = kept(alloc, version.lapse_form(), inner_at(&OPTIONS, 7, value))?;
     put_group(alloc, Key::Lapse, lapse, &mut members)?;
     Ok(members)
 }
@@ -82,16 +93,19 @@ fn put_group(
 }
 
 /// The option group of an object of its form, with what was copied of it.
-fn assembled(value: &Value, copied: Copied) -> Options
+fn assembled(version: Version, value: &Value, copied: Copied) -> Options
     requires name { copied.name ≡ text_at options_form 3 (view value.now) }
-    requires new_steps { copied.new_steps ≡ steps_at new_form 0 (inner_at options_form 5 (view value.now)) }
-    requires lapse_steps { copied.lapse_steps ≡ steps_at lapse_form 0 (inner_at options_form 7 (view value.now)) }
-    requires rest { copied.rest.text ≡ compact_text (object (options_kept (view value.now))) }
-    ensures { IsOptions (view value.now) result }
+    requires new_steps { copied.new_steps ≡ steps_at (new_form_of version) 0 (inner_at options_form 5 (view value.now)) }
+    requires lapse_steps { copied.lapse_steps ≡ steps_at (lapse_form_of version) 0 (inner_at options_form 7 (view value.now)) }
+    requires rest { copied.rest.text ≡ compact_text (object (options_kept_by version (view value.now))) }
+    ensures { IsOptionsBy version (view value.now) result }
 {
     let new = inner_at(&OPTIONS, 5, value);
     let rev = inner_at(&OPTIONS, 6, value);
     let lapse = inner_at(&OPTIONS, 7, value);
+    let new_form = version.new_form();
+    let rev_form = version.rev_form();
+    let lapse_form = version.lapse_form();
     Options {
         id: integer_at(&OPTIONS, 0, value),
         stamp: integer_at(&OPTIONS, 1, value),
@@ -99,22 +113,22 @@ fn assembled(value: &Value, copied: Copied) -> Options
         name: copied.name,
         max_taken: integer_at(&OPTIONS, 4, value),
         new_steps: copied.new_steps,
-        grad_ivl: part_at(&NEW, 1, 0, new),
-        easy_ivl: part_at(&NEW, 1, 1, new),
-        initial_factor: integer_at(&NEW, 2, new),
-        new_per_day: integer_at(&NEW, 3, new),
-        new_bury: bool_at(&NEW, 4, new),
-        rev_per_day: integer_at(&REV, 0, rev),
-        ease4: integer_at(&REV, 1, rev),
-        ivl_fct: integer_at(&REV, 2, rev),
-        max_ivl: integer_at(&REV, 3, rev),
-        hard_factor: integer_at(&REV, 4, rev),
-        rev_bury: bool_at(&REV, 5, rev),
+        grad_ivl: part_at(new_form, 1, 0, new),
+        easy_ivl: part_at(new_form, 1, 1, new),
+        initial_factor: integer_at(new_form, 2, new),
+        new_per_day: integer_at(new_form, 3, new),
+        new_bury: bool_at(new_form, 4, new),
+        rev_per_day: integer_at(rev_form, 0, rev),
+        ease4: permille_at(rev_form, 1, rev),
+        ivl_fct: permille_at(rev_form, 2, rev),
+        max_ivl: integer_at(rev_form, 3, rev),
+        hard_factor: permille_at(rev_form, 4, rev),
+        rev_bury: bool_at(rev_form, 5, rev),
         lapse_steps: copied.lapse_steps,
-        mult: integer_at(&LAPSE, 1, lapse),
-        min_int: integer_at(&LAPSE, 2, lapse),
-        leech_fails: integer_at(&LAPSE, 3, lapse),
-        leech_action: integer_at(&LAPSE, 4, lapse),
+        mult: permille_at(lapse_form, 1, lapse),
+        min_int: integer_at(lapse_form, 2, lapse),
+        leech_fails: integer_at(lapse_form, 3, lapse),
+        leech_action: integer_at(lapse_form, 4, lapse),
         rest: copied.rest,
     }
 }
@@ -174,15 +188,21 @@ fn write_new(alloc: Global, options: &Options, kept: &Value) -> Result<Value, Me
 fn write_rev(alloc: Global, options: &Options, kept: &Value) -> Result<Value, Memory>
     ensures { IfOk result (λ value. view value ≡ rev_json options.now (view kept.now)) }
 {
-    let cells = [
+    write_group(alloc, Key::Rev, &REV, &rev_cells(options), kept)
+}
+
+/// What is written into the columns for reviews.
+fn rev_cells(options: &Options) -> [Cell<'static>; 6]
+    ensures { cells_data result ≡ rev_cells options.now }
+{
+    [
         Cell::Integer(options.rev_per_day),
-        Cell::Integer(options.ease4),
-        Cell::Integer(options.ivl_fct),
+        Cell::Decimal(options.ease4),
+        Cell::Decimal(options.ivl_fct),
         Cell::Integer(options.max_ivl),
-        Cell::Integer(options.hard_factor),
+        Cell::Decimal(options.hard_factor),
         Cell::Bool(options.rev_bury),
-    ];
-    write_group(alloc, Key::Rev, &REV, &cells, kept)
+    ]
 }
 
 /// What is written under `lapse`.
@@ -191,7 +211,7 @@ fn write_lapse(alloc: Global, options: &Options, kept: &Value) -> Result<Value, 
 {
     let cells = [
         Cell::Steps(&options.lapse_steps),
-        Cell::Integer(options.mult),
+        Cell::Decimal(options.mult),
         Cell::Integer(options.min_int),
         Cell::Integer(options.leech_fails),
         Cell::Integer(options.leech_action),

@@ -1,7 +1,8 @@
 ghost use Rattle.std.specs.Prelude.{◌≡◌};
 ghost use Rattle.serde_json.specs.View.{view, items_view};
-ghost use Rattle.ak_json.specs.Kinds.{holds, may_lack, is_within, are_integers, is_part};
+ghost use Rattle.ak_json.specs.Kinds.{holds, may_lack, is_within, are_integers, is_part, decimal_in, permille_of};
 
+use crate::decimals::read_decimal;
 use crate::depths::is_shallow;
 use serde_json::Value;
 
@@ -16,6 +17,8 @@ pub(crate) enum Kind {
     Text,
     /// True or false.
     Bool,
+    /// The text of a decimal number of at most three places.
+    Decimal,
     /// A list of whole numbers.
     Steps,
     /// A list of two whole numbers.
@@ -28,6 +31,10 @@ pub(crate) enum Kind {
     New,
     Rev,
     Lapse,
+    /// The same three in version 1.
+    OldNew,
+    OldRev,
+    OldLapse,
     /// Anything, or nothing, with no number that is not whole. It is not read.
     Ignored,
 }
@@ -52,6 +59,7 @@ impl Kind {
             Kind::Within(least, most) => is_within(least, most, value.as_i64()),
             Kind::Text => value.as_str().is_some(),
             Kind::Bool => value.as_bool().is_some(),
+            Kind::Decimal => decimal_in(value).is_some(),
             Kind::Steps => match value.as_array() {
                 Some(values) => are_integers(values.as_slice()),
                 None => false,
@@ -59,6 +67,7 @@ impl Kind {
             Kind::Pair => is_part(value, 0) && is_part(value, 1) && value.get(2).is_none(),
             Kind::Fields | Kind::Templates => value.is_array(),
             Kind::New | Kind::Rev | Kind::Lapse => value.is_object(),
+            Kind::OldNew | Kind::OldRev | Kind::OldLapse => value.is_object(),
             Kind::Ignored => is_shallow(u64::MAX, value),
         }
     }
@@ -93,5 +102,25 @@ fn is_part(value: &Value, place: usize) -> bool
     match value.get(place) {
         Some(part) => part.as_i64().is_some(),
         None => false,
+    }
+}
+
+/// The thousandths of a decimal text, if the value is one.
+fn decimal_in(value: &Value) -> Option<i64>
+    ensures { result ≡ decimal_in (view value.now) }
+{
+    match value.as_str() {
+        Some(text) => read_decimal(text),
+        None => None,
+    }
+}
+
+/// The thousandths that a value is: a whole number of them, or a decimal text.
+pub(crate) fn permille_of(value: &Value) -> Option<i64>
+    ensures { result ≡ permille_of (view value.now) }
+{
+    match value.as_i64() {
+        Some(number) => Some(number),
+        None => decimal_in(value),
     }
 }

@@ -1,16 +1,22 @@
 // Laws of the forms, as the contracts of functions that do nothing.
-ghost use Rattle.std.specs.Prelude.{◌≡◌, ◌⊎◌, false, Ok};
+ghost use Rattle.std.specs.Prelude.{◌≡◌, ◌⊎◌, ◌≤◌, ◌≤ℤ◌, ℕ, ℤ, pos, List, length, false, Ok, Some};
 ghost use Rattle.serde_json.specs.Data.{Data};
 ghost use Rattle.serde_json.specs.Written.{has_float};
 ghost use Rattle.ak_base.specs.Heads.{AreConfNumbersInRange};
 ghost use Rattle.ak_base.specs.Rows.{IsChecked, name_of};
 ghost use Rattle.ak_base.specs.declared.heads.Conf.{Conf};
 ghost use Rattle.ak_base.specs.declared.names.Table.{Table};
+ghost use Rattle.ak_base.specs.declared.option_groups.Options.{Options};
 ghost use Rattle.ak_base.specs.declared.rows.Row.{Row};
+ghost use Rattle.ak_base.specs.declared.rows.Row.TheVariants as rows;
+ghost use Rattle.ak_json.specs.Cells.{integer_at};
 ghost use Rattle.ak_json.specs.Confs.{conf_fault, conf_json, ReadsConf};
+ghost use Rattle.ak_json.specs.Decimals.{decimal_of, decimal_text};
 ghost use Rattle.ak_json.specs.Faults.{AtMostOneFault, OnlyMemory, SomeFault, Tells};
+ghost use Rattle.ak_json.specs.Forms.{options_form};
 ghost use Rattle.ak_json.specs.Kinds.{IsOfText};
 ghost use Rattle.ak_json.specs.Rows.{StandsIn, row_check, row_json, ReadsRow, RefusesRow};
+ghost use Rattle.ak_json.specs.Versions.{is_old};
 
 /// What is written of a row that passes its check is read, in its own table, as that row. So it is in any
 /// table that the row stands in, if a grave's code is that of the table.
@@ -30,8 +36,27 @@ pub fn whole_numbers_are_written()
     ensures { (row : Row) → has_float (row_json row) ≡ false }
 {}
 
+/// A row that is read is in its ranges, its steps in seconds.
+pub fn what_is_read_is_in_range()
+    ensures { (t : Table) (d : Data) (row : Row) → ReadsRow t d row → row_check t row ≡ Ok tt }
+{}
+
+/// An option group that is read, in either version, is written in version 2, and read from that as the same row. So
+/// nothing is lost where a document of version 1 is read and written; its stamp and its update sequence number stay.
+pub fn option_groups_migrate()
+    ensures again { (d : Data) (o : Options) → ReadsRow Table.Options d (rows.Options o) → ReadsRow Table.Options (row_json (rows.Options o)) (rows.Options o) }
+    ensures stamp { (d : Data) (o : Options) → ReadsRow Table.Options d (rows.Options o) → o.stamp ≡ integer_at options_form 1 d }
+    ensures usn { (d : Data) (o : Options) → ReadsRow Table.Options d (rows.Options o) → o.usn ≡ integer_at options_form 2 d }
+    ensures version { (o : Options) → is_old (row_json (rows.Options o)) ≡ false }
+{}
+
+/// A factor that is written is read again, and no other text of it is shorter.
+pub fn decimals_are_written()
+    ensures again { (z : ℤ) → pos 0 ≤ℤ z → z ≤ℤ pos 999_999_999 → decimal_of (decimal_text z) ≡ Some z }
+    ensures shortest { (text : List ℕ) (z : ℤ) → decimal_of text ≡ Some z → length (decimal_text z) ≤ length text }
+{}
+
 /// A value is read as one row at most: two rows that it is read as are equal.
-#[tactic(auto, using(crate::proofs::OneRow::one_row_read))]
 pub fn one_row_is_read()
     ensures { (t : Table) (d : Data) (a b : Row) → ReadsRow t d a → ReadsRow t d b → a ≡ b }
 {}

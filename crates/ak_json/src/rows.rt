@@ -1,16 +1,17 @@
-ghost use Rattle.std.specs.Prelude.{◌≡◌, None, IfOk, IfErr};
+ghost use Rattle.std.specs.Prelude.{◌≡◌, None, Ok, IfOk, IfErr};
 ghost use Rattle.serde_json.specs.View.{view};
 ghost use Rattle.ak_json.specs.Faults.{Tells};
-ghost use Rattle.ak_json.specs.Rows.{row_form_fault, deep_in, form_refusal, IsRow, row_check, code_check, ReadsRow, RefusesRow, row_json};
+ghost use Rattle.ak_json.specs.Rows.{row_form_fault, deep_in, form_refusal, IsRow, stored_check, stored_check_of, table_check, kept_row, code_check, ReadsRow, RefusesRow, row_json};
 
 use crate::JsonFault;
 use crate::arrays::{card_of, grave_of, note_of, review_of};
 use crate::decks::{deck_of, write_deck};
 use crate::form_faults::{FormFault, array_form_fault, refuse};
-use crate::forms::{CARD, DECK, GRAVE, NOTE, NOTE_TYPE, OPTIONS, REVIEW};
+use crate::forms::{CARD, DECK, GRAVE, NOTE, NOTE_TYPE, REVIEW};
 use crate::groups::{options_of, write_options};
 use crate::note_types::{note_type_of, write_note_type};
 use crate::objects::object_form_fault;
+use crate::versions::Version;
 use crate::written::{write_card, write_grave, write_note, write_review};
 use ak_base::{Grave, Memory, Row, RowFault, Table};
 use serde_json::Value;
@@ -19,14 +20,15 @@ use std::alloc::Global;
 /// The row of that table that a value stands for. The first column or key that is missing or of
 /// another kind is told, in the order of the columns, then the first unknown key that nests over 63
 /// deep or holds a number that is not whole, in the order of bytes, then the first column out of its
-/// range.
+/// range. A step out of its range is told in minutes if an option group is written in version 1; the
+/// row has its steps in seconds.
 pub fn read_row(alloc: Global, table: Table, value: &Value) -> Result<Row, JsonFault>
     ensures ok { IfOk result (ReadsRow table (view value.now)) }
     ensures refused { IfErr result (RefusesRow table (view value.now)) }
 {
     match form_row(alloc, table, value) {
-        Ok(row) => match check_row(table, &row) {
-            Ok(()) => Ok(row),
+        Ok(row) => match check_stored(table, value, &row) {
+            Ok(()) => Ok(kept_row(alloc, value, row)?),
             Err(fault) => Err(JsonFault::Row(fault)),
         },
         Err(fault) => Err(fault),
@@ -53,7 +55,7 @@ fn row_form_fault(table: Table, value: &Value) -> Option<FormFault>
         Table::Review => array_form_fault(&REVIEW, value),
         Table::NoteType => object_form_fault(&NOTE_TYPE, value),
         Table::Deck => object_form_fault(&DECK, value),
-        Table::Options => object_form_fault(&OPTIONS, value),
+        Table::Options => object_form_fault(Version::of(value).form(), value),
         Table::NoteGrave => array_form_fault(&GRAVE, value),
         Table::CardGrave => array_form_fault(&GRAVE, value),
         Table::DeckGrave => array_form_fault(&GRAVE, value),
@@ -81,14 +83,46 @@ fn made_of(alloc: Global, table: Table, value: &Value) -> Result<Row, JsonFault>
     }
 }
 
-/// The first column that is out of its range; then the code of a grave of another table.
-fn check_row(table: Table, row: &Row) -> Result<(), RowFault>
-    ensures { result ≡ row_check table row.now }
+/// The first column that is out of its range, with the steps in the unit of the value's version; then the
+/// code of a grave of another table.
+fn check_stored(table: Table, value: &Value, row: &Row) -> Result<(), RowFault>
+    ensures { result ≡ stored_check table (view value.now) row.now }
 {
-    row.check()?;
+    check_columns(value, row)?;
+    check_table(table, row)
+}
+
+/// The first column that is out of its range, with the steps in the unit of the value's version.
+fn check_columns(value: &Value, row: &Row) -> Result<(), RowFault>
+    ensures { result ≡ stored_check_of (view value.now) row.now }
+{
+    match row {
+        Row::Options(options) => options.check_by(Version::of(value).longest_step()),
+        _ => row.check(),
+    }
+}
+
+/// Whether a row stands in its own table of graves, if it is a grave.
+fn check_table(table: Table, row: &Row) -> Result<(), RowFault>
+    ensures { result ≡ table_check table row.now }
+{
     match row {
         Row::Grave(grave) => check_code(table, grave),
         _ => Ok(()),
+    }
+}
+
+/// The row of what a value stands for, with its steps in seconds.
+fn kept_row(alloc: Global, value: &Value, row: Row) -> Result<Row, Memory>
+    requires { stored_check_of (view value.now) row ≡ Ok tt }
+    ensures { IfOk result (λ kept. kept ≡ kept_row (view value.now) row) }
+{
+    match row {
+        Row::Options(options) => {
+            let options = Version::of(value).in_seconds(alloc, options)?;
+            Ok(Row::Options(options))
+        },
+        other => Ok(other),
     }
 }
 

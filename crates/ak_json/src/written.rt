@@ -3,6 +3,7 @@ ghost use Rattle.serde_json.specs.Data.{array};
 ghost use Rattle.serde_json.specs.View.{view, items_of};
 ghost use Rattle.ak_json.specs.Written.{cell_data, cells_data, steps_json, note_json, card_json, review_json, grave_json};
 
+use crate::decimals;
 use ak_base::{Card, Count, Grave, List, Memory, Note, Review, Text};
 use serde_json::{Value, json};
 use std::alloc::Global;
@@ -11,6 +12,8 @@ use std::alloc::Global;
 #[derive(Clone, Copy)]
 pub(crate) enum Cell<'a> {
     Integer(i64),
+    /// Thousandths, as a decimal text.
+    Decimal(i64),
     Text(&'a Text),
     Bool(bool),
     /// 1 for true, 0 for false.
@@ -130,6 +133,10 @@ impl Cell<'_> {
     {
         match self {
             Cell::Integer(number) => Ok(Value::from(number)),
+            Cell::Decimal(permille) => {
+                let text = decimals::text_of(alloc, permille)?;
+                Ok(Value::try_from_str(alloc, text.as_str())?)
+            },
             Cell::Text(text) => Ok(Value::try_from_str(alloc, text.as_str())?),
             Cell::Bool(truth) => Ok(Value::Bool(truth)),
             Cell::Bit(truth) => {

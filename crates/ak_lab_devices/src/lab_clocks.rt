@@ -4,9 +4,7 @@ ghost use Rattle.ak_io.specs.Arrivals.{IsClockMoment};
 ghost use Rattle.ak_lab_devices.specs.Devices.{are_in_time, is_clock_moment};
 
 use crate::devices::Device;
-
-/// The last moment that a clock tells, in milliseconds.
-const LAST_MOMENT: i64 = 4_294_967_294_999;
+use ak_base::LAST_CLOCK_MOMENT;
 
 /// Whether the lab's clock may stand there, and those of its devices with it.
 pub fn are_in_time(clock: i64, devices: &[Device]) -> bool
@@ -37,5 +35,5 @@ pub fn is_shifted_in_time(clock: i64, by: i64) -> bool
 fn is_clock_moment(moment: i64) -> bool
     ensures { result ≡ is_clock_moment moment }
 {
-    !(moment < 0) && !(LAST_MOMENT < moment)
+    !(moment < 0) && !(LAST_CLOCK_MOMENT < moment)
 }

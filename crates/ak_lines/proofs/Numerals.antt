@@ -13,7 +13,7 @@ use Rattle.std.specs.Str.{all_ascii_digits}
 use Rattle.std.specs.Str.Parse.{digits_value}
 use Rattle.ak_base.specs.Decimals.{is_decimal, at_most, number_of}
 use Rattle.ak_base.specs.Heads.{IsWithin}
-use Rattle.ak_base.proofs.Numerals.{decimal_read}
+use Rattle.ak_base.proofs.Numerals.{decimal_read, decimal_written}
 use Rattle.ak_lines.specs.Reading.{number_in}
 use Rattle.ak_lines.proofs.Spaces.{is_spaceless}
 
@@ -51,34 +51,6 @@ number_spaceless least most (pos n) small h =
 number_spaceless least most (negsuc n) small h = absurd (not_below least n h.low)
 
 -- ---- a number that is read is written so
-at_most_was : (most value n : ℕ) → at_most most value ≡ Some n → (value ≡ n) × (n ≤ most)
-at_most_was most value n h =
-    elim (nat_le value most) as (λ b. nat_le value most ≡ b → (if b then Some value else None) ≡ Some n → (value ≡ n) × (n ≤ most)) [
-      | true ↦ λ e g. let same = same_Some value n g in (same, grind (arith, e, same))
-      | false ↦ λ e g. grind (arith, g)
-    ] refl h
-
-are_digits : (text : List ℕ) → is_decimal text ≡ true → (all_ascii_digits text ≡ true) × (0 < length text)
-are_digits [] h = grind (arith, h)
-are_digits (digit ∷ []) h = (rw h refl, omega arith)
-are_digits (first ∷ second ∷ others) h = ((and_parts (not (first == 48)) _ h).1, omega arith)
-
-lone_zero : (text : List ℕ) → is_decimal text ≡ true → get_or text 0 0 ≡ 48 → length text ≡ 1
-lone_zero [] h e = grind (arith, h)
-lone_zero (digit ∷ []) h e = refl
-lone_zero (first ∷ second ∷ others) h e =
-    let p : (first == 48) ≡ false = not-true (first == 48) (and_parts (not (first == 48)) _ h).0 in
-    grind (arith, p, e)
-
-decimal_written : (most n : ℕ) (text : List ℕ) → most < 2 ^ 64 → number_of most text ≡ Some n → (decimal n ≡ text) × (n ≤ most)
-unfolding number_of
-decimal_written most n text small h =
-    elim (is_decimal text) as (λ b. is_decimal text ≡ b → (if b then at_most most (digits_value 10 text) else None) ≡ Some n → (decimal n ≡ text) × (n ≤ most)) [
-      | true ↦ λ e g. let was = at_most_was most (digits_value 10 text) n g in let d = are_digits text e in
-          (ap decimal (sym was.0) ∙ decimal-digits_value own text d.0 d.1 (lone_zero text e) (omega (arith, was.0, was.1, small)), was.1)
-      | false ↦ λ e g. grind (arith, g)
-    ] refl h
-
 least_was : (least n : ℕ) (z : ℤ) → (if nat_lt n least then None else Some (pos n)) ≡ Some z → (pos n ≡ z) × (least ≤ n)
 least_was least n z h =
     elim (nat_lt n least) as (λ b. nat_lt n least ≡ b → (if b then None else Some (pos n)) ≡ Some z → (pos n ≡ z) × (least ≤ n)) [

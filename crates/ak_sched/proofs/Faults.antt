@@ -66,17 +66,17 @@ pub long_high : (column length most : ℕ) → long_fault column length most ≡
 unfolding long_fault
 long_high column length most e = grind (arith, nat_tests)
 
-pub step_high : (column : ℕ) (steps : List ℤ) (i : ℕ) → bad_step column steps ≡ None → i < length steps → clamped_to_zero (get_or steps i (pos 0)) ≤ 1_000_000
+pub step_high : (column : ℕ) (steps : List ℤ) (i : ℕ) → bad_step (pos 60_000_000) column steps ≡ None → i < length steps → clamped_to_zero (get_or steps i (pos 0)) ≤ 60_000_000
 step_high column [] i e h = omega arith
 step_high column (step ∷ steps) zero e h =
-    clamped_le step 1_000_000 (code_high column step (pos 1) (pos 1_000_000) (first_none _ (bad_step column steps) e))
+    clamped_le step 60_000_000 (code_high column step (pos 1) (pos 60_000_000) (first_none _ (bad_step (pos 60_000_000) column steps) e))
 step_high column (step ∷ steps) (suc i) e h =
-    step_high column steps i (second_none (code_fault column step (pos 1) (pos 1_000_000)) _ e) (omega arith)
+    step_high column steps i (second_none (code_fault column step (pos 1) (pos 60_000_000)) _ e) (omega arith)
 
-pub steps_in_range : (column : ℕ) (steps : List ℤ) → steps_fault column steps ≡ None → AreSteps steps
+pub steps_in_range : (column : ℕ) (steps : List ℤ) → steps_fault (pos 60_000_000) column steps ≡ None → AreSteps steps
 steps_in_range column steps e =
-    let short : long_fault column (length steps) 50 ≡ None = first_none _ (bad_step column steps) e in
-    let good : bad_step column steps ≡ None = second_none (long_fault column (length steps) 50) _ e in
+    let short : long_fault column (length steps) 50 ≡ None = first_none _ (bad_step (pos 60_000_000) column steps) e in
+    let good : bad_step (pos 60_000_000) column steps ≡ None = second_none (long_fault column (length steps) 50) _ e in
     record {
       few = long_high column (length steps) 50 short;
       short = λ i h. step_high column steps i good h;

@@ -8,10 +8,10 @@ use Rattle.ak_sched.specs.declared.card_states.Kind.TheVariants.{Review}
 use Rattle.ak_sched.specs.declared.card_states.CardState.{CardState}
 use Rattle.ak_sched.specs.declared.card_states.Outcome.{Outcome}
 
--- at most 50 steps, each of at most 1,000,000 minutes
+-- at most 50 steps, each of at most 60,000,000 seconds
 pub record AreSteps (steps : List ℤ) : Type 0 where
   pub few : length steps ≤ 50
-  pub short : (i : ℕ) → i < length steps → clamped_to_zero (get_or steps i (pos 0)) ≤ 1_000_000
+  pub short : (i : ℕ) → i < length steps → clamped_to_zero (get_or steps i (pos 0)) ≤ 60_000_000
 
 -- the options' numbers
 pub record AreOptions (o : Options) : Type 0 where

@@ -3,14 +3,10 @@ use Rattle.std.specs.Prelude.{◌≡◌, ℕ, ℤ, ◌+◌, ◌-◌, ◌*◌, �
 use Rattle.std.specs.List.{sum}
 use Rattle.ak_sched.specs.Counts.{clamped_to_zero}
 
--- a step in seconds: steps are kept in minutes
-abbrev pub seconds : ℤ → ℕ
-seconds step = clamped_to_zero step * 60
-
--- the delays of the steps, in seconds. An empty list is one delay of a minute, whatever the unit of the steps is
+-- the delays of the steps, in seconds. An empty list is one delay of 60 seconds
 abbrev pub delays : List ℤ → List ℕ
 delays [] = 60 ∷ []
-delays (step ∷ steps) = map seconds (step ∷ steps)
+delays (step ∷ steps) = map clamped_to_zero (step ∷ steps)
 
 -- the delay if that many steps are left; the first one, if there are not as many steps
 abbrev pub delay_at : List ℕ → ℕ → ℕ

@@ -1,6 +1,6 @@
 ghost use Rattle.std.specs.Prelude.{◌≡◌, ◌≤◌, ◌<◌, ◌+◌, ◌*◌, length, get_or};
 ghost use Rattle.ak_sched.specs.Counts.{clamped_to_zero};
-ghost use Rattle.ak_sched.specs.Steps.{seconds, delays, delay_at, hard_delay, IsStepsToday, IsLeft};
+ghost use Rattle.ak_sched.specs.Steps.{delays, delay_at, hard_delay, IsStepsToday, IsLeft};
 ghost use Rattle.ak_sched.specs.Ranges.{AreSteps};
 
 use crate::counts::clamped_to_zero;
@@ -49,8 +49,7 @@ pub(crate) fn count_of(steps: &[i64]) -> u64
     }
 }
 
-/// The delay of the step at a place, from 0, in seconds. An empty list is one delay of 60 seconds, whatever the unit
-/// of the steps is.
+/// The delay of the step at a place, from 0, in seconds. An empty list is one delay of 60 seconds.
 fn delay_of(steps: &[i64], place: u64) -> u64
     requires steps { AreSteps steps.now }
     requires place { place < length (delays steps.now) }
@@ -60,16 +59,8 @@ fn delay_of(steps: &[i64], place: u64) -> u64
     if steps.is_empty() {
         60
     } else {
-        seconds(steps[place as usize])
+        clamped_to_zero(steps[place as usize])
     }
-}
-
-/// A step in seconds. Steps are kept in minutes.
-fn seconds(step: i64) -> u64
-    requires { clamped_to_zero step ≤ 1_000_000 }
-    ensures { result ≡ seconds step }
-{
-    clamped_to_zero(step) * 60
 }
 
 /// The delay if that many steps are left. The options may have changed since, so that there are not as many: then it

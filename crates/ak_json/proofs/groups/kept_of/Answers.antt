@@ -5,6 +5,10 @@ use Rattle.ak_json.proofs.groups.kept_of.Goals as goal
 pub returns : goal.returns
 returns c =
     put_together
+    c.args.version
+    c.new_form.result.now
+    c.rev_form.result.now
+    c.lapse_form.result.now
     (view c.args.value.now)
     (view c.inner_at.result.now)
     (view c.inner_at-2.result.now)
@@ -16,6 +20,9 @@ returns c =
     (members_view c.in_ok-new.new.entries)
     (members_view c.in_ok-rev.rev.entries)
     (members_view c.in_ok-lapse.lapse.entries)
+    c.new_form.ensures
+    c.rev_form.ensures
+    c.lapse_form.ensures
     c.in_ok-members.ensures
     c.inner_at.ensures
     c.in_ok-new.ensures

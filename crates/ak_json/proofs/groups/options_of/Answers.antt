@@ -1,6 +1,0 @@
-use Rattle.serde_json.specs.View.{view}
-use Rattle.ak_json.proofs.OptionRests.{options_ignored}
-use Rattle.ak_json.proofs.groups.options_of.Goals as goal
-
-pub as_rest-requires : goal.as_rest-requires
-as_rest-requires c = rw c.in_ok-members.ensures (options_ignored (view c.args.value.now))
