@@ -1,6 +1,6 @@
 -- The readings of a text, and the text with a part of each reading in its place. Bytes serve for characters: each sign that ends a base
 -- or an inside is one byte, which is no part of another character.
-use Rattle.std.specs.Prelude.{◌≡◌, ◌⊎◌, OnOk, Result, ℕ, zero, suc, ◌+◌, ◌-◌, Bool, true, false, not, ◌&&◌, ◌||◌, ◌==◌, if◌then◌else◌, List, [], ◌∷◌, ◌++◌, length, take, drop, codes}
+use Rattle.std.specs.Prelude.{◌≡◌, ◌⊎◌, ℕ, zero, suc, ◌+◌, ◌-◌, Bool, false, not, ◌&&◌, ◌||◌, ◌==◌, if◌then◌else◌, List, [], ◌∷◌, ◌++◌, length, take, drop, codes}
 use Rattle.std.specs.List.{list_all}
 use Rattle.std.specs.Cmp.Lexicographic.{pointwise}
 use Rattle.ak_base.specs.Cuts.{begins, has, front, behind}

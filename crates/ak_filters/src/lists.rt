@@ -21,7 +21,7 @@ pub fn drop_filter(filters: &mut Vec<Box<dyn FieldFilter>>, name: &str) -> bool
 }
 
 /// Whether the filter has that name.
-pub fn is_named(filter: &Box<dyn FieldFilter>, name: &str) -> bool
+fn is_named(filter: &Box<dyn FieldFilter>, name: &str) -> bool
     ensures { result ≡ pointwise ◌==◌ (meaning filter.now).name name.now }
 {
     filter.name() == name

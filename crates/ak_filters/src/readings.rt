@@ -41,13 +41,14 @@ pub(crate) fn show_readings(alloc: Global, part: ReadingPart, text: &str) -> Res
 /// Adds what is shown of a text without a `]` that stands before one, and of that `]`. A reading in it ends there, so
 /// it begins at the first `[` that has a base before it and an inside after it.
 fn add_segment(made: &mut String, part: ReadingPart, segment: &str) -> Result<(), Memory>
-    ensures { has (codes "]") segment.now ≡ false → OnOk result (ShowsUpTo part segment.now (string_bytes made.old) (string_bytes made.new)) }
+    requires { has (codes "]") segment.now ≡ false }
+    ensures { OnOk result (ShowsUpTo part segment.now (string_bytes made.old) (string_bytes made.new)) }
 {
     let line = last_line_length(segment);
     let mut rest = segment;
     while let Some((before, inside)) = cut(rest, "[") {
         let (kept, sign, base) = split_base(before);
-        if !base.is_empty() && is_reading_inside(inside, line) {
+        if is_reading(base, inside, line) {
             made.push_str(kept)?;
             return add_reading(made, part, &Reading { sign, base, inside });
         }
@@ -75,12 +76,13 @@ fn last_line_length(text: &str) -> usize
     length
 }
 
-/// Whether the end of a text is an inside, if so many bytes of the text stand after its last line feed.
-fn is_reading_inside(inside: &str, line: usize) -> bool
-    ensures yes { result ≡ true → (1 ≤ length inside.now) × (length inside.now ≤ line) }
-    ensures no { result ≡ false → (inside.now ≡ []) ⊎ (line < length inside.now) }
+/// Whether a base, and after its `[` the end of the text, are a reading, if so many bytes of the text stand after its last
+/// line feed.
+fn is_reading(base: &str, inside: &str, line: usize) -> bool
+    ensures yes { result ≡ true → (1 ≤ length base.now) × (1 ≤ length inside.now) × (length inside.now ≤ line) }
+    ensures no { result ≡ false → (base.now ≡ []) ⊎ (inside.now ≡ []) ⊎ (line < length inside.now) }
 {
-    if inside.is_empty() {
+    if base.is_empty() || inside.is_empty() {
         return false;
     }
     inside.len() <= line
