@@ -1,2 +1,4 @@
 pub mod Meanings
 pub mod Strips
+pub mod Readings
+pub mod Lists

@@ -2,11 +2,16 @@
 use Rattle.std.specs.Prelude.{ℕ, ◌+◌, ◌-◌, ◌^◌, ◌==◌, if◌then◌else◌, min, List, [], ◌++◌, length, codes}
 use Rattle.std.specs.Fmt.{decimal}
 use Rattle.ak_filters.specs.Strips.{stripped}
+use Rattle.ak_filters.specs.Readings.{readings_shown}
+use Rattle.ak_filters.specs.declared.readings.ReadingPart.TheVariants as parts
 
--- strips, hides behind a link of the page, or wraps in a text before and one after
+-- strips, hides behind a link of the page, shows the bases of readings, their insides or both, or wraps in a text before and one after
 pub data Form : Type 0 where
   Strip : Form
   Hint : Form
+  Kanji : Form
+  Kana : Form
+  Furigana : Form
   Wrap : List ℕ → List ℕ → Form
 
 -- the turn is how many times it was applied; at the last u64 it stays
@@ -19,6 +24,9 @@ pub record Meaning : Type 0 where
 abbrev pub formed : Form → ℕ → List ℕ → List ℕ
 formed Strip turn text = stripped text
 formed Hint turn text = if length text == 0 then [] else codes "<a class=hint id=hint" ++ (decimal turn ++ (codes ">" ++ (text ++ codes "</a>")))
+formed Kanji turn text = readings_shown parts.Base text
+formed Kana turn text = readings_shown parts.Inside text
+formed Furigana turn text = readings_shown parts.Ruby text
 formed (Wrap before after) turn text = before ++ (text ++ after)
 
 -- the text that the filter makes next of this one

@@ -1,7 +1,9 @@
-// What holds of stripped texts, apart from the program.
+// What holds of stripped texts and of readings, apart from the program.
 ghost use Rattle.std.specs.Prelude.{◌≡◌, ◌++◌, ◌∷◌, ℕ, List, true, false, codes};
 ghost use Rattle.ak_base.specs.Cuts.{has, front, behind};
+ghost use Rattle.ak_filters.specs.Readings.{readings_shown, signed_text, is_base, is_inside, IsSignAfter};
 ghost use Rattle.ak_filters.specs.Strips.{removed, spaced, stripped};
+ghost use Rattle.ak_filters.specs.declared.readings.ReadingPart.{ReadingPart};
 
 /// A stripped text has nothing more to strip.
 #[tactic(auto, using(crate::proofs::Stripped::stripped_again))]
@@ -28,4 +30,17 @@ pub fn a_space_comes()
     ensures space { (text : List ℕ) → has (codes "&nbsp;") text ≡ true →
         spaced 0 text ≡ front (codes "&nbsp;") text ++ (32 ∷ spaced 0 (behind (codes "&nbsp;") text)) }
     ensures none { (text : List ℕ) → has (codes "&nbsp;") text ≡ false → spaced 0 text ≡ text }
+{}
+
+/// A text without a `]` has no reading, and stays as it is.
+#[tactic(auto, using(crate::proofs::Reading::unended_kept))]
+pub fn text_without_readings_stays()
+    ensures { (part : ReadingPart) (text : List ℕ) → has (codes "]") text ≡ false → readings_shown part text ≡ text }
+{}
+
+/// A base and an inside after words without a `[` are shown as a reading; what comes after them is read the same way. The words
+/// end in the sign that ends the base on its left, if there are any.
+pub fn a_reading_is_shown()
+    ensures { (part : ReadingPart) (words sign base inside others : List ℕ) → IsSignAfter words sign → has (codes "[") words ≡ false → is_base base ≡ true → is_inside inside ≡ true →
+        readings_shown part ((words ++ (sign ++ base)) ++ (codes "[" ++ (inside ++ (codes "]" ++ others)))) ≡ words ++ (signed_text part sign base inside ++ readings_shown part others) }
 {}

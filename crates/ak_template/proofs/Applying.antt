@@ -1,25 +1,15 @@
 -- A filter is applied at the place where its name first stands.
-use Rattle.std.proofs.Common.{◌≡◌, ℕ, zero, suc, ◌+◌, ◌<◌, ◌≤◌, ◌==◌, true, false, cond, Result, Ok, Err, List, [], ◌∷◌, length, map, get_or, refl, ap, sym, ◌∙◌, arith}
+use Rattle.std.proofs.Common.{◌≡◌, ℕ, zero, suc, ◌<◌, ◌≤◌, ◌==◌, true, cond, Result, Ok, Err, List, [], ◌∷◌, length, map, get_or, refl, ap, sym, ◌∙◌, arith}
 use Rattle.std.proofs.Common.{IfOk, OnOk, OnErr}
 use Rattle.ak_base.specs.declared.errors.Memory.{Memory}
-use Rattle.std.specs.Prelude.{⊤}
 use Rattle.std.specs.List.{slice_set}
 use Rattle.std.specs.Cmp.Lexicographic.{pointwise}
 use Rattle.std.proofs.Math.ListN.{get_or-map}
 use Rattle.std.proofs.lemmas.List.{length-map}
 use Rattle.ak_filters.specs.Meanings.{Meaning, filtered, turned}
+use Rattle.ak_filters.proofs.Dropping.{Leads}
 use Rattle.ak_template.specs.declared.faces.PageFault.TheVariants.{NoFilter}
 use Rattle.ak_template.specs.Pages.{Page, filter_text, applied_at, behind_filter}
-
--- the filters in front of a place have other names
-abbrev pub Leads : ℕ → List ℕ → List Meaning → Type 0
-Leads place name [] = ⊤
-Leads zero name (filter ∷ filters) = ⊤
-Leads (suc place) name (filter ∷ filters) = (pointwise ◌==◌ filter.name name ≡ false) × Leads place name filters
-
-pub leads_none : (name : List ℕ) (filters : List Meaning) → Leads 0 name filters
-leads_none name [] = tt
-leads_none name (filter ∷ filters) = tt
 
 -- at the end no filter has the name
 pub none_named : (place : ℕ) (name text : List ℕ) (filters : List Meaning) → Leads place name filters → length filters ≤ place → filter_text name text filters ≡ (Err (NoFilter name), filters)
@@ -55,14 +45,6 @@ at_ok meant place text xs x y (Err fault) l i t o = tt
 pub at_err : {X : Type 0} (meant : X → Meaning) (place : ℕ) (xs : List X) (x y : X) (r : Result (List ℕ) Memory) → place < length xs → y ≡ get_or xs place y → OnErr r (meant x ≡ meant y) → OnErr r (map meant (slice_set xs place x) ≡ map meant xs)
 at_err meant place xs x y (Ok made) l i o = tt
 at_err meant place xs x y (Err fault) l i o = meanings_kept meant place xs x y l (o ∙ ap meant i)
-
-leads_suc : {X : Type 0} (meant : X → Meaning) (place : ℕ) (name : List ℕ) (xs : List X) (d : X) → Leads place name (map meant xs) → place < length xs → pointwise ◌==◌ (meant (get_or xs place d)).name name ≡ false → Leads (suc place) name (map meant xs)
-leads_suc meant place name [] d h l e = tt
-leads_suc meant zero name (x ∷ xs) d h l e = (e, leads_none name (map meant xs))
-leads_suc meant (suc place) name (x ∷ xs) d h l e = (h.0, leads_suc meant place name xs d h.1 (omega arith) e)
-
-pub leads_past : {X : Type 0} (meant : X → Meaning) (place : ℕ) (name : List ℕ) (xs : List X) (x : X) → Leads place name (map meant xs) → place < length xs → x ≡ get_or xs place x → pointwise ◌==◌ (meant x).name name ≡ false → Leads (place + 1) name (map meant xs)
-leads_past meant place name xs x h l i e = let next : place + 1 ≡ suc place = omega arith in rw next (leads_suc meant place name xs x h l (ap (λ z. pointwise ◌==◌ (meant z).name name) (sym i) ∙ e))
 
 pub first_at : {X : Type 0} (meant : X → Meaning) (place : ℕ) (name text made : List ℕ) (xs : List X) (later : List Meaning) (x : X) → Leads place name (map meant xs) → place < length xs → x ≡ get_or xs place x → pointwise ◌==◌ (meant x).name name ≡ true → ◌≡◌ {A = List ℕ × List Meaning} (made, later) (applied_at place text (map meant xs)) → ◌≡◌ {A = Page} (filter_text name text (map meant xs)) (Ok made, later)
 first_at meant place name text made xs later x h l i e a =

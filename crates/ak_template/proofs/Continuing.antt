@@ -7,12 +7,13 @@ use Rattle.std.proofs.lemmas.Bool.{or_parts}
 use Rattle.std.proofs.lemmas.Option.{same_Some}
 use Rattle.ak_base.proofs.Resting.{same_bytes}
 use Rattle.ak_base.specs.Cuts.{begins, has, front, behind}
+use Rattle.std.specs.List.{slice_split}
 use Rattle.ak_template.specs.declared.steps.Step.{Step}
 use Rattle.ak_template.specs.declared.steps.Step.TheVariants.{Words, Field, Open, Close}
 use Rattle.ak_template.specs.declared.faults.TemplateFault.{TemplateFault}
 use Rattle.ak_template.specs.declared.faults.TemplateFault.TheVariants as faults
 use Rattle.ak_template.specs.declared.builders.Opened.{Opened}
-use Rattle.ak_template.specs.Pieces.{Piece, has_tag, before_tag, inside_tag, behind_tag, without_front, without_back, joined, trimmed, named, field_tag, tag_of, words_at, pieces_in, pieces}
+use Rattle.ak_template.specs.Pieces.{Piece, has_tag, before_tag, inside_tag, behind_tag, without_front, without_back, joined, trimmed, named, field_parts, field_tag, tag_of, words_at, pieces_in, pieces}
 use Rattle.ak_template.specs.Trees.{tagged, close_inside}
 use Rattle.ak_template.specs.Grammar.{fault_number, fault_place, closes, fault_at, opened, outside, unclosed, fault_in, first_fault}
 use Rattle.ak_template.specs.Laws.{CanGoOn, IsAtFault, EndsPlainly}
@@ -106,14 +107,13 @@ opened_close sections place name all = elim (length name == 0) as (λ v. AllGood
 opened_named : (sections : List Opened) (place : ℕ) (filters : List (List ℕ)) (name : List ℕ) → AllGood sections → AllGood (opened sections (place, named (Field filters) name))
 opened_named sections place filters name all = elim (length name == 0) as (λ v. AllGood (opened sections (place, cond v None (Some (Field filters name))))) [ true ↦ all | false ↦ all ]
 
+opened_parts : (sections : List Opened) (place : ℕ) (filters parts : List (List ℕ)) → AllGood sections → AllGood (opened sections (place, field_parts filters parts))
+opened_parts sections place filters [] all = all
+opened_parts sections place filters (name ∷ []) all = opened_named sections place filters name all
+opened_parts sections place filters (filter ∷ part ∷ parts) all = elim (length filter == 0) as (λ v. AllGood (opened sections (place, cond v None (field_parts (filters ++ filter ∷ []) (part ∷ parts))))) [ true ↦ all | false ↦ opened_parts sections place (filters ++ filter ∷ []) (part ∷ parts) all ]
+
 opened_field : (sections : List Opened) (place : ℕ) (inside : List ℕ) → AllGood sections → AllGood (opened sections (place, field_tag inside))
-opened_field sections place inside all = elim (has (codes ":") inside) as (λ v. AllGood (opened sections (place, cond v (cond (length (front (codes ":") inside) == 0) None (named (Field (front (codes ":") inside ∷ [])) (behind (codes ":") inside))) (named (Field []) inside)))) [
-  | true ↦ elim (length (front (codes ":") inside) == 0) as (λ v. AllGood (opened sections (place, cond v None (named (Field (front (codes ":") inside ∷ [])) (behind (codes ":") inside))))) [
-    | true ↦ all
-    | false ↦ opened_named sections place (front (codes ":") inside ∷ []) (behind (codes ":") inside) all
-  ]
-  | false ↦ opened_named sections place [] inside all
-]
+opened_field sections place inside all = opened_parts sections place [] (slice_split (λ byte. byte == 58) inside) all
 
 back_tail : (b : ℕ) (bs ys : List ℕ) → without_back bs ≡ ys → joined b ys ≡ b ∷ bs → ys ≡ bs
 back_tail b bs [] e h = elim (b == 32) as (λ v. cond v [] (b ∷ []) ≡ b ∷ bs → [] ≡ bs) [ true ↦ λ k. grind (arith, k) | false ↦ λ k. ap (drop 1) k ] h

@@ -1,14 +1,13 @@
 -- A page turns each filter once for each shown occurrence of its name.
 use Rattle.std.proofs.Common.{◌≡◌, ℕ, ◌+◌, ◌==◌, Bool, true, false, cond, Option, Some, None, Ok, Err, List, [], ◌∷◌, ◌++◌, refl, ap, sym, subst, ◌∙◌, arith}
-use Rattle.std.specs.Prelude.{⊤, codes, is_some}
+use Rattle.std.specs.Prelude.{⊤}
 use Rattle.std.specs.Option.{option_map}
 use Rattle.std.specs.Cmp.Lexicographic.{pointwise, same_text}
 use Rattle.std.proofs.lemmas.List.Sums.{sum_by-append, sum_by-cons}
 use Rattle.ak_filters.specs.Meanings.{Meaning, filtered, turned}
 use Rattle.ak_template.specs.declared.faces.Face.{Face}
-use Rattle.ak_template.specs.Clozes.{clozed}
 use Rattle.ak_template.specs.Trees.{Tree, End, Plain, Value, Section}
-use Rattle.ak_template.specs.Pages.{Page, prefixed, followed, passed, behind_filter, filter_text, one_text, tag_text, value_text, field_value, section_page, is_shown, page, turned_by, tag_filters, section_filters, shown_filters, filter_named, occurrences}
+use Rattle.ak_template.specs.Pages.{Page, prefixed, followed, passed, behind_filter, filter_text, chain_text, looked_up, inner_text, tag_text, value_text, field_value, section_page, is_shown, page, turned_by, applied_order, tag_filters, section_filters, shown_filters, filter_named, occurrences}
 use Rattle.ak_template.proofs.Running.{turned_more}
 
 -- each filter that a name stands for was turned once for each occurrence of the name
@@ -72,12 +71,6 @@ filter_lands name text (filter ∷ filters) = elim (pointwise ◌==◌ filter.na
   | false ↦ λ e. lands_behind name filter filters (filter_text name text filters) e (filter_lands name text filters)
 ] refl
 
-one_lands : (face : Face) (name text : List ℕ) (filters : List Meaning) → Lands (cond (pointwise ◌==◌ name (codes "cloze")) [] (name ∷ [])) filters (one_text face name text filters)
-one_lands face name text filters = elim (pointwise ◌==◌ name (codes "cloze")) as (λ v. Lands (cond v [] (name ∷ [])) filters (cond {A = Page} v (Ok (clozed (is_some face.front) face.number text), filters) (filter_text name text filters))) [
-  | true ↦ turns_none filters
-  | false ↦ filter_lands name text filters
-]
-
 lands_further : (names others : List (List ℕ)) (one two : List Meaning) (p : Page) → Turns names one two → Lands others two p → Lands (names ++ others) one p
 lands_further names others one two (Ok text, later) h k = turns_both names others one two later h k
 lands_further names others one two (Err fault, later) h k = tt
@@ -86,9 +79,12 @@ passed_lands : (names others : List (List ℕ)) (filters : List Meaning) (p : Pa
 passed_lands names others filters (Ok text, later) next h k = lands_further names others filters later (next text later) h (k text later)
 passed_lands names others filters (Err fault, later) next h k = tt
 
+chain_lands : (names : List (List ℕ)) (text : List ℕ) (filters : List Meaning) → Lands (applied_order names) filters (chain_text names text filters)
+chain_lands [] text filters = turns_none filters
+chain_lands (name ∷ names) text filters = passed_lands (applied_order names) (name ∷ []) filters (chain_text names text filters) (filter_text name) (chain_lands names text filters) (filter_lands name)
+
 tag_lands : (face : Face) (names : List (List ℕ)) (text : List ℕ) (filters : List Meaning) → Lands (tag_filters names) filters (tag_text face names text filters)
-tag_lands face [] text filters = turns_none filters
-tag_lands face (name ∷ names) text filters = passed_lands (tag_filters names) (cond (pointwise ◌==◌ name (codes "cloze")) [] (name ∷ [])) filters (tag_text face names text filters) (one_text face name) (tag_lands face names text filters) (one_lands face name)
+tag_lands face names text filters = chain_lands (looked_up names) (inner_text face names text) filters
 
 value_lands : (value : Option (List ℕ)) (face : Face) (names : List (List ℕ)) (name : List ℕ) (filters : List Meaning) → Lands (tag_filters names) filters (value_text value face names name filters)
 value_lands None face names name filters = tt

@@ -15,3 +15,4 @@ pub mod Spelling
 pub mod Turning
 pub mod Walking
 pub mod Writing
+pub mod Colons

@@ -1,6 +1,5 @@
 -- A page leaves the filters as they become when some more of them are applied.
 use Rattle.std.proofs.Common.{◌≡◌, ℕ, zero, suc, ◌+◌, ◌<◌, ◌≤◌, ◌==◌, true, false, cond, Option, Some, None, Ok, Err, List, [], ◌∷◌, ◌++◌, length, drop, get_or, refl, ap, sym, subst, ◌∙◌, arith}
-use Rattle.std.specs.Prelude.{codes, is_some}
 use Rattle.std.specs.Cmp.Lexicographic.{pointwise}
 use Rattle.std.proofs.lemmas.List.{drop_more}
 use Rattle.ak_filters.specs.Meanings.{Meaning, filtered, turned}
@@ -9,8 +8,7 @@ use Rattle.ak_template.specs.declared.faces.PageFault.{PageFault}
 use Rattle.ak_template.specs.declared.faces.PageFault.TheVariants as faults
 use Rattle.ak_template.specs.declared.steps.Step.{Step}
 use Rattle.ak_template.specs.declared.steps.Step.TheVariants.{Words, Field, Open, Close}
-use Rattle.ak_template.specs.Clozes.{clozed}
-use Rattle.ak_template.specs.Pages.{Page, prefixed, followed, passed, behind_filter, filter_text, one_text, tag_text, value_text, field_text, field_value, open_page, step_page, hidden_after, walk, turned_named, turned_in_order, IsOnward}
+use Rattle.ak_template.specs.Pages.{Page, prefixed, followed, passed, behind_filter, filter_text, chain_text, looked_up, inner_text, tag_text, value_text, field_text, field_value, open_page, step_page, hidden_after, walk, turned_named, turned_in_order, IsOnward}
 use Rattle.ak_template.proofs.Turning.{turned_on}
 
 -- ---- of each page, from the filters that it begins with
@@ -41,16 +39,15 @@ filter_turns name text (filter ∷ filters) =
       | false ↦ ap (λ fs. filter ∷ fs) (filter_turns name text filters)
     ]
 
-one_onward : (face : Face) (name text : List ℕ) (filters : List Meaning) → IsOnward filters (one_text face name text filters)
-one_onward face name text filters =
-    elim (pointwise ◌==◌ name (codes "cloze")) as (λ v. IsOnward filters (cond {A = Page} v (Ok (clozed (is_some face.front) face.number text), filters) (filter_text name text filters))) [
-      | true ↦ ([], refl)
-      | false ↦ (name ∷ [], filter_turns name text filters)
-    ]
+filter_onward : (name text : List ℕ) (filters : List Meaning) → IsOnward filters (filter_text name text filters)
+filter_onward name text filters = (name ∷ [], filter_turns name text filters)
 
-tag_onward : (face : Face) (names : List (List ℕ)) (text : List ℕ) (filters : List Meaning) → IsOnward filters (tag_text face names text filters)
-tag_onward face [] text filters = ([], refl)
-tag_onward face (name ∷ names) text filters = passed_onward filters (tag_text face names text filters) (one_text face name) (tag_onward face names text filters) (one_onward face name)
+pub chain_onward : (names : List (List ℕ)) (text : List ℕ) (filters : List Meaning) → IsOnward filters (chain_text names text filters)
+chain_onward [] text filters = ([], refl)
+chain_onward (name ∷ names) text filters = passed_onward filters (chain_text names text filters) (filter_text name) (chain_onward names text filters) (filter_onward name)
+
+pub tag_onward : (face : Face) (names : List (List ℕ)) (text : List ℕ) (filters : List Meaning) → IsOnward filters (tag_text face names text filters)
+tag_onward face names text filters = chain_onward (looked_up names) (inner_text face names text) filters
 
 value_onward : (value : Option (List ℕ)) (face : Face) (names : List (List ℕ)) (name : List ℕ) (filters : List Meaning) → IsOnward filters (value_text value face names name filters)
 value_onward None face names name filters = ([], refl)
@@ -88,12 +85,12 @@ pub value_known : (face : Face) (names given : List (List ℕ)) (name value : Li
 value_known face names given name value filters later e h =
     let P : Option (List ℕ) → Type 0 = λ v. IsOnward later (value_text v face names name filters) in subst P (sym e) h
 
--- in a tag, before the next of its filters
-pub tag_stopped : (face : Face) (names : List (List ℕ)) (text : List ℕ) (fault was : PageFault) (filters later : List Meaning) (whole : Page) → tag_text face names text filters ≡ whole → fault ≡ was → (was ≡ faults.Memory → later ≡ filters) → fault ≡ faults.Memory → IsOnward later whole
-tag_stopped face names text fault was filters later whole w f kept m =
+-- in a chain, before the next of its filters
+pub chain_stopped : (names : List (List ℕ)) (text : List ℕ) (fault was : PageFault) (filters later : List Meaning) (whole : Page) → chain_text names text filters ≡ whole → fault ≡ was → (was ≡ faults.Memory → later ≡ filters) → fault ≡ faults.Memory → IsOnward later whole
+chain_stopped names text fault was filters later whole w f kept m =
     let P : List Meaning → Type 0 = λ fs. IsOnward fs whole in
     let Q : Page → Type 0 = λ p. IsOnward filters p in
-    subst P (sym (kept (sym f ∙ m))) (subst Q w (tag_onward face names text filters))
+    subst P (sym (kept (sym f ∙ m))) (subst Q w (chain_onward names text filters))
 
 -- in a step that is the tag of a field
 pub field_stopped : (face : Face) (hidden : ℕ) (step : Step) (names given : List (List ℕ)) (name called : List ℕ) (filters later : List Meaning) → hidden ≤ 0 → step ≡ Field names name → given ≡ names → called ≡ name → IsOnward later (field_text face given called filters) → IsOnward later (step_page face hidden step filters)

@@ -1,6 +1,6 @@
 -- The filters run on along a page: each of its parts applies some of them.
 use Rattle.std.proofs.Common.{◌≡◌, ℕ, zero, suc, ◌+◌, ◌-◌, ◌<◌, ◌≤◌, ◌==◌, true, false, cond, Option, Some, None, Result, Ok, Err, IfOk, IfErr, IsErrAnd, ◌⊎◌, inl, inr, List, [], ◌∷◌, length, take, take_all, drop, get_or, refl, ap, sym, ◌∙◌, arith}
-use Rattle.std.specs.Prelude.{⊤, codes, is_some}
+use Rattle.std.specs.Prelude.{⊤}
 use Rattle.std.specs.Cmp.Lexicographic.{pointwise}
 use Rattle.std.proofs.lemmas.List.{drop_more}
 use Rattle.ak_filters.specs.Meanings.{Meaning, Form, filtered, turned}
@@ -9,9 +9,8 @@ use Rattle.ak_template.specs.declared.faces.PageFault.{PageFault}
 use Rattle.ak_template.specs.declared.faces.PageFault.TheVariants as faults
 use Rattle.ak_template.specs.declared.steps.Step.{Step}
 use Rattle.ak_template.specs.declared.steps.Step.TheVariants.{Words, Field, Open, Close}
-use Rattle.ak_template.specs.Clozes.{clozed}
 use Rattle.ak_template.specs.Trees.{Tree, tree_steps}
-use Rattle.ak_template.specs.Pages.{Page, prefixed, followed, passed, behind_filter, filter_text, one_text, tag_text, value_text, field_text, field_value, open_page, step_page, hidden_after, walk, page, kinds, turned_by, TurnedSome, walk_filters}
+use Rattle.ak_template.specs.Pages.{Page, prefixed, followed, passed, behind_filter, filter_text, chain_text, looked_up, inner_text, tag_text, value_text, field_text, field_value, open_page, step_page, hidden_after, walk, page, kinds, turned_by, TurnedSome, walk_filters}
 use Rattle.ak_template.proofs.Turning.{kinds_in_order}
 use Rattle.ak_template.proofs.Walking.{prefixed_nil, prefixed_followed, walked}
 
@@ -59,19 +58,16 @@ filter_runs name text (filter ∷ filters) = elim (pointwise ◌==◌ filter.nam
   | false ↦ ((0, refl), filter_runs name text filters)
 ]
 
-one_runs : (face : Face) (name text : List ℕ) (filters : List Meaning) → RunOn filters (one_text face name text filters).1
-one_runs face name text filters = elim (pointwise ◌==◌ name (codes "cloze")) as (λ v. RunOn filters (cond {A = Page} v (Ok (clozed (is_some face.front) face.number text), filters) (filter_text name text filters)).1) [
-  | true ↦ run_nowhere filters
-  | false ↦ filter_runs name text filters
-]
-
 passed_runs : (p : Page) (next : List ℕ → List Meaning → Page) (filters : List Meaning) → RunOn filters p.1 → ((text : List ℕ) (later : List Meaning) → RunOn later (next text later).1) → RunOn filters (passed p next).1
 passed_runs (Ok text, later) next filters h n = run_further filters later (next text later).1 h (n text later)
 passed_runs (Err fault, later) next filters h n = h
 
+chain_runs : (names : List (List ℕ)) (text : List ℕ) (filters : List Meaning) → RunOn filters (chain_text names text filters).1
+chain_runs [] text filters = run_nowhere filters
+chain_runs (name ∷ names) text filters = passed_runs (chain_text names text filters) (filter_text name) filters (chain_runs names text filters) (filter_runs name)
+
 pub tag_runs : (face : Face) (names : List (List ℕ)) (text : List ℕ) (filters : List Meaning) → RunOn filters (tag_text face names text filters).1
-tag_runs face [] text filters = run_nowhere filters
-tag_runs face (name ∷ names) text filters = passed_runs (tag_text face names text filters) (one_text face name) filters (tag_runs face names text filters) (one_runs face name)
+tag_runs face names text filters = chain_runs (looked_up names) (inner_text face names text) filters
 
 value_runs : (value : Option (List ℕ)) (face : Face) (names : List (List ℕ)) (name : List ℕ) (filters : List Meaning) → RunOn filters (value_text value face names name filters).1
 value_runs None face names name filters = run_nowhere filters
@@ -106,7 +102,7 @@ walk_runs face hidden (step ∷ steps) filters =
     run_further filters (step_page face hidden step filters).1 (walk face hidden (step ∷ steps) filters).1 (step_runs face hidden step filters)
     (next_runs (step_page face hidden step filters) (walk face (hidden_after face hidden step) steps) (walk_runs face (hidden_after face hidden step) steps))
 
--- ---- the filters of a tag, from the last to the first
+-- ---- a chain of filters, from the last to the first
 
 passed_nothing : (p : Page) → passed p (λ text filters. (Ok text, filters)) ≡ p
 passed_nothing (Ok text, filters) = refl
@@ -116,33 +112,33 @@ passed_twice : (p : Page) (next last : List ℕ → List Meaning → Page) → p
 passed_twice (Ok text, filters) next last = refl
 passed_twice (Err fault, filters) next last = refl
 
-tag_last : (face : Face) (names : List (List ℕ)) (place : ℕ) (name text : List ℕ) (filters : List Meaning) → place < length names → name ≡ get_or names place name → tag_text face (take (suc place) names) text filters ≡ passed (one_text face name text filters) (tag_text face (take place names))
-tag_last face [] place name text filters l e = absurd (omega (arith, l))
-tag_last face (first ∷ names) zero name text filters l e = ap (λ n. one_text face n text filters) (sym e) ∙ sym (passed_nothing (one_text face name text filters))
-tag_last face (first ∷ names) (suc place) name text filters l e =
-    ap (λ p. passed p (one_text face first)) (tag_last face names place name text filters (omega arith) e)
-    ∙ passed_twice (one_text face name text filters) (tag_text face (take place names)) (one_text face first)
+chain_last : (names : List (List ℕ)) (place : ℕ) (name text : List ℕ) (filters : List Meaning) → place < length names → name ≡ get_or names place name → chain_text (take (suc place) names) text filters ≡ passed (filter_text name text filters) (chain_text (take place names))
+chain_last [] place name text filters l e = absurd (omega (arith, l))
+chain_last (first ∷ names) zero name text filters l e = ap (λ n. filter_text n text filters) (sym e) ∙ sym (passed_nothing (filter_text name text filters))
+chain_last (first ∷ names) (suc place) name text filters l e =
+    ap (λ p. passed p (filter_text first)) (chain_last names place name text filters (omega arith) e)
+    ∙ passed_twice (filter_text name text filters) (chain_text (take place names)) (filter_text first)
 
-pub tag_whole : (face : Face) (names : List (List ℕ)) (text value : List ℕ) (filters : List Meaning) → text ≡ value → tag_text face (take (length names) names) text filters ≡ tag_text face names value filters
-tag_whole face names text value filters e = ap (λ ns. tag_text face ns text filters) (take_all (length names) names (omega arith)) ∙ ap (λ t. tag_text face names t filters) e
+pub chain_whole : (names : List (List ℕ)) (text value : List ℕ) (filters : List Meaning) → text ≡ value → chain_text (take (length names) names) text filters ≡ chain_text names value filters
+chain_whole names text value filters e = ap (λ ns. chain_text ns text filters) (take_all (length names) names (omega arith)) ∙ ap (λ t. chain_text names t filters) e
 
--- the filter that is next applied, and what is left of the tag
-next_filter : (face : Face) (names : List (List ℕ)) (left : ℕ) (name given text passed_on : List ℕ) (filters : List Meaning) → 0 < left → left ≤ length names → name ≡ get_or names (left - 1) name → given ≡ name → passed_on ≡ text → tag_text face (take left names) text filters ≡ passed (one_text face given passed_on filters) (tag_text face (take (left - 1) names))
-next_filter face names left name given text passed_on filters l k i g t =
+-- the filter that is next applied, and what is left of the chain
+next_filter : (names : List (List ℕ)) (left : ℕ) (name given text passed_on : List ℕ) (filters : List Meaning) → 0 < left → left ≤ length names → name ≡ get_or names (left - 1) name → given ≡ name → passed_on ≡ text → chain_text (take left names) text filters ≡ passed (filter_text given passed_on filters) (chain_text (take (left - 1) names))
+next_filter names left name given text passed_on filters l k i g t =
     let next : left ≡ suc (left - 1) = omega arith in
-    ap (λ n. tag_text face (take n names) text filters) next
-    ∙ tag_last face names (left - 1) name text filters (omega arith) i
-    ∙ ap (λ n. passed (one_text face n text filters) (tag_text face (take (left - 1) names))) (sym g)
-    ∙ ap (λ n. passed (one_text face given n filters) (tag_text face (take (left - 1) names))) (sym t)
+    ap (λ n. chain_text (take n names) text filters) next
+    ∙ chain_last names (left - 1) name text filters (omega arith) i
+    ∙ ap (λ n. passed (filter_text n text filters) (chain_text (take (left - 1) names))) (sym g)
+    ∙ ap (λ n. passed (filter_text given n filters) (chain_text (take (left - 1) names))) (sym t)
 
-pub tag_goes : (face : Face) (names : List (List ℕ)) (left : ℕ) (name given text passed_on made : List ℕ) (filters later : List Meaning) (whole : Page) → 0 < left → left ≤ length names → name ≡ get_or names (left - 1) name → given ≡ name → passed_on ≡ text → tag_text face (take left names) text filters ≡ whole → one_text face given passed_on filters ≡ (Ok made, later) → tag_text face (take (left - 1) names) made later ≡ whole
-tag_goes face names left name given text passed_on made filters later whole l k i g t w o =
-    sym (ap (λ p. passed p (tag_text face (take (left - 1) names))) o) ∙ sym (next_filter face names left name given text passed_on filters l k i g t) ∙ w
+pub chain_goes : (names : List (List ℕ)) (left : ℕ) (name given text passed_on made : List ℕ) (filters later : List Meaning) (whole : Page) → 0 < left → left ≤ length names → name ≡ get_or names (left - 1) name → given ≡ name → passed_on ≡ text → chain_text (take left names) text filters ≡ whole → filter_text given passed_on filters ≡ (Ok made, later) → chain_text (take (left - 1) names) made later ≡ whole
+chain_goes names left name given text passed_on made filters later whole l k i g t w o =
+    sym (ap (λ p. passed p (chain_text (take (left - 1) names))) o) ∙ sym (next_filter names left name given text passed_on filters l k i g t) ∙ w
 
-pub tag_stops : (face : Face) (names : List (List ℕ)) (left : ℕ) (name given text passed_on : List ℕ) (fault was : PageFault) (filters later : List Meaning) (whole : Page) → 0 < left → left ≤ length names → name ≡ get_or names (left - 1) name → given ≡ name → passed_on ≡ text → tag_text face (take left names) text filters ≡ whole → fault ≡ was → (was ≡ faults.Memory) ⊎ (one_text face given passed_on filters ≡ (Err was, later)) → (fault ≡ faults.Memory) ⊎ (whole ≡ (Err fault, later))
-tag_stops face names left name given text passed_on fault was filters later whole l k i g t w f (inl m) = inl (f ∙ m)
-tag_stops face names left name given text passed_on fault was filters later whole l k i g t w f (inr o) =
-    inr (sym w ∙ next_filter face names left name given text passed_on filters l k i g t ∙ ap (λ p. passed p (tag_text face (take (left - 1) names))) o ∙ ap {B = Page} (λ e. (Err e, later)) (sym f))
+pub chain_stops : (names : List (List ℕ)) (left : ℕ) (name given text passed_on : List ℕ) (fault was : PageFault) (filters later : List Meaning) (whole : Page) → 0 < left → left ≤ length names → name ≡ get_or names (left - 1) name → given ≡ name → passed_on ≡ text → chain_text (take left names) text filters ≡ whole → fault ≡ was → (was ≡ faults.Memory) ⊎ (filter_text given passed_on filters ≡ (Err was, later)) → (fault ≡ faults.Memory) ⊎ (whole ≡ (Err fault, later))
+chain_stops names left name given text passed_on fault was filters later whole l k i g t w f (inl m) = inl (f ∙ m)
+chain_stops names left name given text passed_on fault was filters later whole l k i g t w f (inr o) =
+    inr (sym w ∙ next_filter names left name given text passed_on filters l k i g t ∙ ap (λ p. passed p (chain_text (take (left - 1) names))) o ∙ ap {B = Page} (λ e. (Err e, later)) (sym f))
 
 -- ---- the steps of a page
 

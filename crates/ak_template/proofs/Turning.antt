@@ -1,6 +1,6 @@
 -- A page applies the filters that it shows, in order.
 use Rattle.std.proofs.Common.{◌≡◌, ℕ, zero, suc, ◌<◌, ◌≤◌, ◌-◌, ◌+◌, ◌==◌, true, false, cond, Option, Some, None, Ok, Err, List, [], ◌∷◌, ◌++◌, length, take, take_all, drop, get_or, append_assoc, append-nil, refl, ap, sym, subst, ◌∙◌, arith}
-use Rattle.std.specs.Prelude.{⊤, codes, is_some}
+use Rattle.std.specs.Prelude.{⊤}
 use Rattle.std.specs.Cmp.Lexicographic.{pointwise}
 use Rattle.std.proofs.lemmas.List.{drop_more}
 use Rattle.ak_filters.specs.Meanings.{Meaning, filtered, turned}
@@ -9,9 +9,8 @@ use Rattle.ak_template.specs.declared.faces.PageFault.{PageFault}
 use Rattle.ak_template.specs.declared.faces.PageFault.TheVariants as faults
 use Rattle.ak_template.specs.declared.steps.Step.{Step}
 use Rattle.ak_template.specs.declared.steps.Step.TheVariants.{Words, Field, Open, Close}
-use Rattle.ak_template.specs.Clozes.{clozed}
 use Rattle.ak_template.specs.Trees.{Tree, End, Plain, Value, Section, tree_steps}
-use Rattle.ak_template.specs.Pages.{Page, prefixed, passed, behind_filter, filter_text, one_text, tag_text, value_text, field_text, field_value, open_page, step_page, hidden_section, hidden_after, is_shown, kinds, turned_named, turned_in_order, TurnedSome, tag_filters, step_filters, section_filters, shown_filters, walk_filters}
+use Rattle.ak_template.specs.Pages.{Page, prefixed, passed, behind_filter, filter_text, chain_text, looked_up, inner_text, tag_text, value_text, field_text, field_value, open_page, step_page, hidden_section, hidden_after, is_shown, kinds, turned_named, turned_in_order, TurnedSome, applied_order, tag_filters, step_filters, section_filters, shown_filters, walk_filters}
 
 -- ---- of the names, some first ones
 
@@ -89,25 +88,18 @@ filter_leaves name text (filter ∷ filters) = elim (pointwise ◌==◌ filter.n
   | false ↦ leaves_behind filter (turned_named name filters) (filter_text name text filters) (filter_leaves name text filters)
 ]
 
--- the filter of one name of a tag
-abbrev pub own_filter : List ℕ → List (List ℕ)
-own_filter name = cond (pointwise ◌==◌ name (codes "cloze")) [] (name ∷ [])
-
-one_leaves : (face : Face) (name text : List ℕ) (filters : List Meaning) → Leaves (turned_in_order (own_filter name) filters) (one_text face name text filters)
-one_leaves face name text filters = elim (pointwise ◌==◌ name (codes "cloze")) as (λ v. Leaves (turned_in_order (cond v [] (name ∷ [])) filters) (cond {A = Page} v (Ok (clozed (is_some face.front) face.number text), filters) (filter_text name text filters))) [
-  | true ↦ refl
-  | false ↦ filter_leaves name text filters
-]
-
 passed_leaves : (names others : List (List ℕ)) (filters : List Meaning) (p : Page) (next : List ℕ → List Meaning → Page) → Leaves (turned_in_order names filters) p → ((text : List ℕ) (later : List Meaning) → Leaves (turned_in_order others later) (next text later)) → Leaves (turned_in_order (names ++ others) filters) (passed p next)
 passed_leaves names others filters (Ok text, later) next h k =
     let P : List Meaning → Type 0 = λ end. Leaves end (next text later) in
     subst P (ap (turned_in_order others) h ∙ sym (turned_on names others filters)) (k text later)
 passed_leaves names others filters (Err fault, later) next h k = tt
 
+chain_leaves : (names : List (List ℕ)) (text : List ℕ) (filters : List Meaning) → Leaves (turned_in_order (applied_order names) filters) (chain_text names text filters)
+chain_leaves [] text filters = refl
+chain_leaves (name ∷ names) text filters = passed_leaves (applied_order names) (name ∷ []) filters (chain_text names text filters) (filter_text name) (chain_leaves names text filters) (filter_leaves name)
+
 tag_leaves : (face : Face) (names : List (List ℕ)) (text : List ℕ) (filters : List Meaning) → Leaves (turned_in_order (tag_filters names) filters) (tag_text face names text filters)
-tag_leaves face [] text filters = refl
-tag_leaves face (name ∷ names) text filters = passed_leaves (tag_filters names) (own_filter name) filters (tag_text face names text filters) (one_text face name) (tag_leaves face names text filters) (one_leaves face name)
+tag_leaves face names text filters = chain_leaves (looked_up names) (inner_text face names text) filters
 
 value_leaves : (value : Option (List ℕ)) (face : Face) (names : List (List ℕ)) (name : List ℕ) (filters : List Meaning) → Leaves (turned_in_order (tag_filters names) filters) (value_text value face names name filters)
 value_leaves None face names name filters = tt
@@ -129,23 +121,21 @@ leaves_by end p text later e h = let P : Page → Type 0 = λ q. Leaves end q in
 
 -- ---- along a tag, from its last filter to its first
 
-pub one_turns : (face : Face) (name given text made : List ℕ) (filters later : List Meaning) → given ≡ name → one_text face given text filters ≡ (Ok made, later) → later ≡ turned_in_order (own_filter name) filters
-one_turns face name given text made filters later g o = leaves_by (turned_in_order (own_filter given) filters) (one_text face given text filters) made later o (one_leaves face given text filters) ∙ ap (λ n. turned_in_order (own_filter n) filters) g
+pub one_turns : (name given text made : List ℕ) (filters later : List Meaning) → given ≡ name → filter_text given text filters ≡ (Ok made, later) → later ≡ turned_in_order (name ∷ []) filters
+one_turns name given text made filters later g o = leaves_by (turned_named given filters) (filter_text given text filters) made later o (filter_leaves given text filters) ∙ ap (λ n. turned_named n filters) g
 
-tag_last : (names : List (List ℕ)) (place : ℕ) (name : List ℕ) → place < length names → name ≡ get_or names place name → tag_filters (take (suc place) names) ≡ own_filter name ++ tag_filters (take place names)
-tag_last [] place name l e = absurd (omega (arith, l))
-tag_last (first ∷ names) zero name l e = ap own_filter (sym e) ∙ sym (append-nil (own_filter name))
-tag_last (first ∷ names) (suc place) name l e =
-    ap (λ ns. ns ++ own_filter first) (tag_last names place name (omega arith) e)
-    ∙ append_assoc (own_filter name) (tag_filters (take place names)) (own_filter first)
+order_last : (names : List (List ℕ)) (place : ℕ) (name : List ℕ) → place < length names → name ≡ get_or names place name → applied_order (take (suc place) names) ≡ name ∷ applied_order (take place names)
+order_last [] place name l e = absurd (omega (arith, l))
+order_last (first ∷ names) zero name l e = ap (λ n. n ∷ []) (sym e)
+order_last (first ∷ names) (suc place) name l e = ap (λ ns. ns ++ (first ∷ [])) (order_last names place name (omega arith) e)
 
-pub tag_next : (names : List (List ℕ)) (left : ℕ) (name : List ℕ) → 0 < left → left ≤ length names → name ≡ get_or names (left - 1) name → tag_filters (take left names) ≡ own_filter name ++ tag_filters (take (left - 1) names)
-tag_next names left name l k i =
+pub order_next : (names : List (List ℕ)) (left : ℕ) (name : List ℕ) → 0 < left → left ≤ length names → name ≡ get_or names (left - 1) name → applied_order (take left names) ≡ (name ∷ []) ++ applied_order (take (left - 1) names)
+order_next names left name l k i =
     let next : left ≡ suc (left - 1) = omega arith in
-    ap (λ n. tag_filters (take n names)) next ∙ tag_last names (left - 1) name (omega arith) i
+    ap (λ n. applied_order (take n names)) next ∙ order_last names (left - 1) name (omega arith) i
 
-pub tag_all : (names : List (List ℕ)) → tag_filters (take (length names) names) ≡ tag_filters names
-tag_all names = ap tag_filters (take_all (length names) names (omega arith))
+pub order_all : (names : List (List ℕ)) → applied_order (take (length names) names) ≡ applied_order names
+order_all names = ap applied_order (take_all (length names) names (omega arith))
 
 -- ---- along the steps
 

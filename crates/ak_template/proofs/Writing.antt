@@ -1,7 +1,9 @@
 -- A tree that some text has, written out, is the tree of what was written.
 use Rattle.std.proofs.Common.{◌≡◌, ℕ, zero, suc, ◌+◌, ◌-◌, ◌≤◌, ◌<◌, true, false, ◌&&◌, ◌||◌, ◌==◌, cond, Option, Some, None, List, [], ◌∷◌, ◌++◌, length, map, drop, append_assoc, length-append, refl, ap, sym, ◌∙◌, arith, append-nil}
 use Rattle.std.specs.Prelude.{codes}
+use Rattle.std.specs.List.{slice_split, join_with_byte}
 use Rattle.std.proofs.lemmas.List.{map-append}
+use Rattle.std.proofs.lemmas.List.Splits.{join_with_byte-slice_split}
 use Rattle.std.proofs.lemmas.Bool.{or_parts}
 use Rattle.std.proofs.Math.Bool.{and-false}
 use Rattle.std.proofs.lemmas.Option.{same_Some}
@@ -10,7 +12,7 @@ use Rattle.ak_base.specs.Cuts.{begins, has, front, behind}
 use Rattle.ak_base.proofs.Cutting.{begins_itself, begins_with}
 use Rattle.ak_template.specs.declared.steps.Step.{Step}
 use Rattle.ak_template.specs.declared.steps.Step.TheVariants.{Words, Field, Open, Close}
-use Rattle.ak_template.specs.Pieces.{Piece, has_tag, before_tag, inside_tag, behind_tag, without_front, without_back, joined, trimmed, named, field_tag, tag_of, words_at, pieces_in, words_step}
+use Rattle.ak_template.specs.Pieces.{Piece, has_tag, before_tag, inside_tag, behind_tag, without_front, without_back, joined, trimmed, named, field_parts, field_tag, tag_of, words_at, pieces_in, words_step}
 use Rattle.ak_template.specs.Trees.{Tree, End, Plain, Value, Section, tree_steps, tagged, field_inside, open_inside, close_inside, written}
 use Rattle.ak_template.specs.Grammar.{IsTemplate}
 use Rattle.ak_template.proofs.Grammars.{head_same, tail_same, somes_once}
@@ -180,14 +182,21 @@ named_is tag name step h = elim (length name == 0) as (λ v. cond v None (Some (
 sign_first : (sign : ℕ) (xs : List ℕ) → begins (sign ∷ []) xs ≡ true → sign ∷ drop 1 xs ≡ xs
 sign_first sign xs h = let found = begins_with (sign ∷ []) xs h in ap (λ ys. sign ∷ ys) (ap (drop 1) found.1) ∙ sym found.1
 
+-- a filter more stands before what is left
+one_filter_more : (filters : List (List ℕ)) (filter rest : List ℕ) → field_inside (filters ++ filter ∷ []) rest ≡ field_inside filters (filter ++ (codes ":" ++ rest))
+one_filter_more [] filter rest = refl
+one_filter_more (first ∷ filters) filter rest = ap (λ xs. first ++ (codes ":" ++ xs)) (one_filter_more filters filter rest)
+
+parts_written : (filters parts : List (List ℕ)) (step : Step) → field_parts filters parts ≡ Some step → step_text step ≡ tagged (field_inside filters (join_with_byte 58 parts))
+parts_written filters [] step h = grind (arith, h)
+parts_written filters (name ∷ []) step h = ap step_text (named_is (Field filters) name step h)
+parts_written filters (filter ∷ part ∷ parts) step h = elim (length filter == 0) as (λ v. cond v None (field_parts (filters ++ filter ∷ []) (part ∷ parts)) ≡ Some step → step_text step ≡ tagged (field_inside filters (filter ++ (58 ∷ join_with_byte 58 (part ∷ parts))))) [
+  | true ↦ λ k. grind (arith, k)
+  | false ↦ λ k. parts_written (filters ++ filter ∷ []) (part ∷ parts) step k ∙ ap tagged (one_filter_more filters filter (join_with_byte 58 (part ∷ parts)))
+] h
+
 field_written : (inside : List ℕ) (step : Step) → field_tag inside ≡ Some step → step_text step ≡ tagged inside
-field_written inside step h = elim (has (codes ":") inside) as (λ v. has (codes ":") inside ≡ v → cond v (cond (length (front (codes ":") inside) == 0) None (named (Field (front (codes ":") inside ∷ [])) (behind (codes ":") inside))) (named (Field []) inside) ≡ Some step → step_text step ≡ tagged inside) [
-  | true ↦ λ e. elim (length (front (codes ":") inside) == 0) as (λ v. cond v None (named (Field (front (codes ":") inside ∷ [])) (behind (codes ":") inside)) ≡ Some step → step_text step ≡ tagged inside) [
-    | true ↦ λ k. grind (arith, k)
-    | false ↦ λ k. ap step_text (named_is (Field (front (codes ":") inside ∷ [])) (behind (codes ":") inside) step k) ∙ ap tagged (sym (cut_whole (codes ":") inside e))
-  ]
-  | false ↦ λ e k. ap step_text (named_is (Field []) inside step k)
-] refl h
+field_written inside step h = parts_written [] (slice_split (λ byte. byte == 58) inside) step h ∙ ap tagged (join_with_byte-slice_split 58 inside)
 
 pub tag_written : (inside : List ℕ) (step : Step) → tag_of inside ≡ Some step → step_text step ≡ tagged inside
 tag_written inside step h = elim (begins (codes "#") inside) as (λ v. begins (codes "#") inside ≡ v → cond v (named (Open false) (drop 1 inside)) (cond (begins (codes "^") inside) (named (Open true) (drop 1 inside)) (cond (begins (codes "/") inside) (named Close (drop 1 inside)) (field_tag inside))) ≡ Some step → step_text step ≡ tagged inside) [

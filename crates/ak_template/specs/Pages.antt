@@ -1,5 +1,6 @@
 -- The page that a template makes of a note's fields, and whether a front shows anything.
-use Rattle.std.specs.Prelude.{◌≡◌, ◌⊎◌, IfOk, IfErr, ℕ, zero, suc, ◌==◌, Bool, false, not, ◌&&◌, ◌||◌, if◌then◌else◌, List, [], ◌∷◌, ◌++◌, map, count_by, Option, Some, None, is_some, Result, Ok, Err, codes}
+use Rattle.std.specs.Prelude.{◌≡◌, ◌⊎◌, IfOk, IfErr, ℕ, zero, suc, ◌-◌, ◌==◌, Bool, false, not, ◌&&◌, ◌||◌, if◌then◌else◌, List, [], ◌∷◌, ◌++◌, length, take, map, count_by, Option, Some, None, is_some, Result, Ok, Err, codes}
+use Rattle.std.specs.List.{slice_get}
 use Rattle.std.specs.Option.{unwrap_or}
 use Rattle.std.specs.Cmp.Lexicographic.{pointwise}
 use Rattle.ak_filters.specs.Meanings.{Meaning, Form, filtered, turned}
@@ -67,17 +68,31 @@ applied_at place text [] = ([], [])
 applied_at zero text (filter ∷ filters) = (filtered filter text, turned filter ∷ filters)
 applied_at (suc place) text (filter ∷ filters) = ((applied_at place text filters).0, filter ∷ (applied_at place text filters).1)
 
--- `cloze` is no filter of the list, but the clozes of the card's number
-abbrev pub one_text : Face → List ℕ → List ℕ → List Meaning → Page
-one_text face name text filters =
-    if pointwise ◌==◌ name (codes "cloze") then (Ok (clozed (is_some face.front) face.number text), filters)
-    else filter_text name text filters
+-- the filters of the names are applied from right to left: the last one to the text, and each other one to what the filter on its right made
+abbrev pub chain_text : List (List ℕ) → List ℕ → List Meaning → Page
+chain_text [] text filters = (Ok text, filters)
+chain_text (name ∷ names) text filters = passed (chain_text names text filters) (filter_text name)
 
--- from right to left: the filter next to the field's name is applied to its text, and each other one to what the
--- filter on its right made
+-- the filter is `cloze`
+abbrev pub is_cloze_filter : Option (List ℕ) → Bool
+is_cloze_filter None = false
+is_cloze_filter (Some filter) = pointwise ◌==◌ filter (codes "cloze")
+
+-- the last of these filters, which is right before the field's name, is `cloze`
+abbrev pub ends_in_cloze : List (List ℕ) → Bool
+ends_in_cloze names = is_cloze_filter (slice_get names (length names - 1))
+
+-- the filters of a tag that are looked up in the list. `cloze` right before the field's name is none of them
+abbrev pub looked_up : List (List ℕ) → List (List ℕ)
+looked_up names = if ends_in_cloze names then take (length names - 1) names else names
+
+-- the text that these are applied to: the field's, or with that `cloze` the clozes of the card's number in it
+abbrev pub inner_text : Face → List (List ℕ) → List ℕ → List ℕ
+inner_text face names text = if ends_in_cloze names then clozed (is_some face.front) face.number text else text
+
+-- the text of a tag with these filters, from the field's text
 abbrev pub tag_text : Face → List (List ℕ) → List ℕ → List Meaning → Page
-tag_text face [] text filters = (Ok text, filters)
-tag_text face (name ∷ names) text filters = passed (tag_text face names text filters) (one_text face name)
+tag_text face names text = chain_text (looked_up names) (inner_text face names text)
 
 -- a missing field comes before a missing filter
 abbrev pub value_text : Option (List ℕ) → Face → List (List ℕ) → List ℕ → List Meaning → Page
@@ -112,10 +127,14 @@ turned_by (suc times) filter = turned_by times (turned filter)
 
 -- ---- how often a page applies a filter
 
--- the filters of a tag, in the order in which they are applied. `cloze` is none of the list
+-- filters in the order in which they are applied: from right to left
+abbrev pub applied_order : List (List ℕ) → List (List ℕ)
+applied_order [] = []
+applied_order (name ∷ names) = applied_order names ++ (name ∷ [])
+
+-- the filters of a tag that are applied, in that order
 abbrev pub tag_filters : List (List ℕ) → List (List ℕ)
-tag_filters [] = []
-tag_filters (name ∷ names) = tag_filters names ++ (if pointwise ◌==◌ name (codes "cloze") then [] else name ∷ [])
+tag_filters names = applied_order (looked_up names)
 
 -- those of a section, by the value of its field
 abbrev pub section_filters : Option (List ℕ) → Bool → List (List ℕ) → List (List ℕ)

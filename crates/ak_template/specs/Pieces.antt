@@ -1,5 +1,6 @@
 -- The pieces that a text is cut into: plain words and tags, each with its place.
 use Rattle.std.specs.Prelude.{ℕ, zero, suc, ◌+◌, ◌-◌, ◌==◌, Bool, true, false, if◌then◌else◌, List, [], ◌∷◌, ◌++◌, length, drop, Option, Some, None, codes}
+use Rattle.std.specs.List.{slice_split}
 use Rattle.ak_base.specs.Cuts.{begins, has, front, behind}
 use Rattle.ak_template.specs.declared.steps.Step.{Step}
 use Rattle.ak_template.specs.declared.steps.Step.TheVariants.{Words, Field, Open, Close}
@@ -47,12 +48,16 @@ trimmed text = without_back (without_front text)
 abbrev pub named : (List ℕ → Step) → List ℕ → Option Step
 named tag name = if length name == 0 then None else Some (tag name)
 
--- a field's tag splits at the first colon
+-- the tag of a field, after these filters, by the parts that are left between colons: the last one is the field's name, each other one a
+-- filter. None, if a part is empty
+abbrev pub field_parts : List (List ℕ) → List (List ℕ) → Option Step
+field_parts filters [] = None
+field_parts filters (name ∷ []) = named (Field filters) name
+field_parts filters (filter ∷ part ∷ parts) = if length filter == 0 then None else field_parts (filters ++ filter ∷ []) (part ∷ parts)
+
+-- a field's tag splits at each colon
 abbrev pub field_tag : List ℕ → Option Step
-field_tag inside =
-    if has (codes ":") inside then
-    (if length (front (codes ":") inside) == 0 then None else named (Field (front (codes ":") inside ∷ [])) (behind (codes ":") inside))
-    else named (Field []) inside
+field_tag inside = field_parts [] (slice_split (λ byte. byte == 58) inside)
 
 -- the tag of an inside; none, if the inside or its name is empty
 abbrev pub tag_of : List ℕ → Option Step

@@ -27,4 +27,4 @@ pub use laws::{
 pub use pages::render;
 pub use parses::parse;
 pub use showing::shows;
-pub use steps::{Step, Template};
+pub use steps::{Step, Template, ends_in_cloze};

@@ -1,11 +1,12 @@
 // The page of a template, which is made step by step.
 ghost use Rattle.std.specs.Prelude.{◌≡◌, ◌⊎◌, ◌+◌, ◌<◌, ◌≤◌, ◌^◌, None, string_bytes, IfOk, IfErr};
-ghost use Rattle.ak_template.specs.Pages.{Makes, Refuses, Halts, HaltsAsBefore, HaltsOnWay, MakesPage, RefusesPage, HaltsOnPage, HaltsBeforeEnd, SameKinds, Adds, IsMissing, field_value, one_text, tag_text, field_text, hidden_section, step_page, hidden_after, walk, tag_filters, step_filters, walk_filters};
+ghost use Rattle.ak_template.specs.Pages.{Makes, Refuses, Halts, HaltsOnWay, MakesPage, RefusesPage, HaltsOnPage, HaltsBeforeEnd, SameKinds, Adds, IsMissing, field_value, chain_text, tag_text, field_text, hidden_section, step_page, hidden_after, walk, applied_order, tag_filters, step_filters, walk_filters};
 ghost use Rattle.ak_template.specs.declared.faces.PageFault.TheVariants as faults;
 
 use crate::clozes::show_clozes;
 use crate::faces::value_of;
 use crate::filters::apply_named;
+use crate::steps::ends_in_cloze;
 use crate::{Face, PageFault, Step, Template};
 use ak_base::Text;
 use ak_filters::{FieldFilter, is_empty_value};
@@ -142,7 +143,8 @@ fn field_text(
     }
 }
 
-/// What the filters of a tag make of a text, from the last to the first.
+/// What the filters of a tag make of a field's text. `cloze` right before the field's name is no filter of the list: it needs
+/// the card's number.
 fn tag_text(
     alloc: Global,
     face: &Face,
@@ -155,30 +157,30 @@ fn tag_text(
     ensures memory { Halts (λ b. meaning b) filters.old.items filters.new.items (tag_filters names.now) result }
     ensures onward { HaltsOnWay (λ b. meaning b) filters.old.items filters.new.items (tag_text face.now names.now value.now) result }
 {
+    if ends_in_cloze(names) {
+        let shown = show_clozes(alloc, face.front.is_some(), face.number, value)?;
+        return chain_text(alloc, filters, &names[..names.len() - 1], shown.as_str());
+    }
+    chain_text(alloc, filters, names, value)
+}
+
+/// What the filters of these names make of a text, from the last to the first.
+fn chain_text(
+    alloc: Global,
+    filters: &mut Vec<Box<dyn FieldFilter>>,
+    names: &[Text],
+    value: &str,
+) -> Result<Text, PageFault>
+    ensures ok { Makes (λ b. meaning b) filters.old.items filters.new.items (chain_text names.now value.now) result }
+    ensures fault { Refuses (λ b. meaning b) filters.old.items filters.new.items (chain_text names.now value.now) result }
+    ensures memory { Halts (λ b. meaning b) filters.old.items filters.new.items (applied_order names.now) result }
+    ensures onward { HaltsOnWay (λ b. meaning b) filters.old.items filters.new.items (chain_text names.now value.now) result }
+{
     let mut text = Text::of(alloc, value)?;
     let mut left = names.len();
     while left > 0 {
         left -= 1;
-        text = one_text(alloc, face, filters, names[left].as_str(), text.as_str())?;
+        text = apply_named(alloc, filters, names[left].as_str(), text.as_str())?;
     }
     Ok(text)
-}
-
-/// What one filter makes of a text. `cloze` is no filter of the list: it needs the card's number.
-fn one_text(
-    alloc: Global,
-    face: &Face,
-    filters: &mut Vec<Box<dyn FieldFilter>>,
-    name: &str,
-    text: &str,
-) -> Result<Text, PageFault>
-    ensures ok { Makes (λ b. meaning b) filters.old.items filters.new.items (one_text face.now name.now text.now) result }
-    ensures memory { HaltsAsBefore (λ b. meaning b) filters.old.items filters.new.items result }
-    ensures fault { Refuses (λ b. meaning b) filters.old.items filters.new.items (one_text face.now name.now text.now) result }
-{
-    if name == "cloze" {
-        let made = show_clozes(alloc, face.front.is_some(), face.number, text)?;
-        return Ok(made);
-    }
-    apply_named(alloc, filters, name, text)
 }

@@ -1,4 +1,5 @@
-ghost use Rattle.std.specs.Prelude.{◌≡◌};
+ghost use Rattle.std.specs.Prelude.{◌≡◌, ◌<◌, length, true};
+ghost use Rattle.ak_template.specs.Pages.{ends_in_cloze};
 
 use ak_base::{List, Text};
 
@@ -25,5 +26,16 @@ impl Template {
         ensures { result.now ≡ self.now.steps }
     {
         self.steps.as_slice()
+    }
+}
+
+/// Whether the last filter of a field's tag, which is right before the field's name, is `cloze`.
+pub fn ends_in_cloze(filters: &[Text]) -> bool
+    ensures is { result ≡ ends_in_cloze filters.now }
+    ensures some { result ≡ true → 0 < length filters.now }
+{
+    match filters.last() {
+        Some(filter) => filter.as_str() == "cloze",
+        None => false,
     }
 }

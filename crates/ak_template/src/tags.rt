@@ -70,26 +70,23 @@ fn close_tag(alloc: Global, name: &str) -> Result<Option<Step>, Memory>
     Ok(Some(Step::Close(name)))
 }
 
-/// The tag of a field. All up to the first colon is its filter.
+/// The tag of a field. What stands before a colon is a filter, what stands after the last one the field's name.
 fn read_field(alloc: Global, inside: &str) -> Result<Option<Step>, Memory>
     ensures { IfOk result (λ step. step ≡ field_tag inside.now) }
 {
     let mut filters = List::new(alloc);
-    match cut(inside, ":") {
-        Some((filter, name)) => {
-            if filter.is_empty() || name.is_empty() {
-                return Ok(None);
-            }
-            let filter = Text::of(alloc, filter)?;
-            filters.push(filter)?;
-            let name = Text::of(alloc, name)?;
-            return Ok(Some(Step::Field(filters, name)));
+    let mut rest = inside;
+    while let Some((filter, others)) = cut(rest, ":") {
+        if filter.is_empty() {
+            return Ok(None);
         }
-        None => {}
+        let filter = Text::of(alloc, filter)?;
+        filters.push(filter)?;
+        rest = others;
     }
-    if inside.is_empty() {
+    if rest.is_empty() {
         return Ok(None);
     }
-    let name = Text::of(alloc, inside)?;
+    let name = Text::of(alloc, rest)?;
     Ok(Some(Step::Field(filters, name)))
 }

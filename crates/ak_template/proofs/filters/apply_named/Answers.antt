@@ -1,6 +1,7 @@
 use Rattle.std.proofs.Common.{inr, rules, refl, sym, ap, ◌∙◌}
 use Rattle.ak_template.specs.Pages.{filter_text}
-use Rattle.ak_template.proofs.Applying.{leads_none, leads_past, first_at, none_at}
+use Rattle.ak_filters.proofs.Dropping.{leads_none, leads_past}
+use Rattle.ak_template.proofs.Applying.{first_at, none_at}
 use Rattle.ak_template.specs.contracts.filters.apply_named as clauses
 use Rattle.ak_template.proofs.filters.apply_named.Goals as goal
 

@@ -1,6 +1,6 @@
 use Rattle.std.proofs.Common.{◌≡◌, map}
 use Rattle.ak_template.specs.contracts.filters.apply_named as clauses
-use Rattle.ak_template.proofs.Applying.{Leads}
+use Rattle.ak_filters.proofs.Dropping.{Leads}
 use Rattle.ak_template.proofs.filters.apply_named.Given as goal
 
 -- no filter in front of the place has the name
