@@ -8,7 +8,7 @@ use Rattle.ak_base.specs.Rows.{usn_of}
 use Rattle.ak_base.specs.declared.heads.Head.{Head}
 use Rattle.ak_base.specs.declared.heads.Tag.{Tag}
 use Rattle.ak_keep.specs.Collections.{Collection, Rows}
-use Rattle.ak_merge.proofs.CommitLaws.{if_weaker}
+use Rattle.ak_merge.proofs.TakingLaws.{if_weaker}
 use Rattle.ak_merge.proofs.ExchangeLaws.{linked_same, number_own}
 use Rattle.ak_merge.proofs.Finding.{not_both}
 use Rattle.ak_merge.proofs.HeldFacts.{held-itself}
