@@ -24,7 +24,7 @@ use Rattle.std.specs.List.{AllByRecursion, Contains}
 use Rattle.std.specs.Option.{option_and_then}
 use Rattle.ak_base.specs.Contents.{same_content}
 use Rattle.ak_base.specs.Names.{name_cmp, names_total}
-use Rattle.ak_base.specs.Rows.{IsChecked, name_of, stamp_of, usn_of}
+use Rattle.ak_base.specs.Rows.{IsChecked, name_of, stamp_of, usn_of, with_usn}
 use Rattle.ak_base.specs.declared.cards.Card.{Card}
 use Rattle.ak_base.specs.declared.heads.Head.{Head}
 use Rattle.ak_base.specs.declared.names.Name.{Name}
@@ -228,10 +228,10 @@ their_edit = note_row (pos 3) (pos 10) (codes "home")
 a_tie_is_the_servers : (joined_under (standing (own_edit ∷ [])) (standing (their_edit ∷ [])) (name_in tables.Note (pos 7)) ≡ Some their_edit)
     × (received_under Device (pos 5) (standing (own_edit ∷ [])) (newest_in Device (their_edit ∷ [])) (name_in tables.Note (pos 7)) ≡ Some (note_row (pos 5) (pos 10) (codes "home")))
     × (received_under Server (pos 5) (standing (their_edit ∷ [])) (newest_in Server (own_edit ∷ [])) (name_in tables.Note (pos 7)) ≡ Some their_edit)
-a_tie_is_the_servers = (refl, (refl, refl))
+a_tie_is_the_servers = (refl, refl, refl)
 
 -- A device that holds a grave which it did not send yet keeps it as it is where the server gives it too.
-a_grave_stays_unsent : received_under Device (pos 5) (standing (grave_of (negsuc 0) (pos 8) ∷ [])) (newest_in Device (grave_of (pos 3) (pos 8) ∷ [])) (name_in tables.CardGrave (pos 8)) ≡ Some (grave_of (negsuc 0) (pos 8))
+a_grave_stays_unsent : received_under Device (pos 5) (standing (grave_of (pos 0) (pos 8) ∷ [])) (newest_in Device (with_usn (grave_of (pos 0) (pos 8)) (pos 3) ∷ [])) (name_in tables.CardGrave (pos 8)) ≡ Some (grave_of (pos 0) (pos 8))
 a_grave_stays_unsent = refl
 
 -- ---- linked

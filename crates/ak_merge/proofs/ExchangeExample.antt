@@ -1,5 +1,7 @@
 -- A worked example: an exchange in which rows, graves and tags go both ways.
-use Rattle.ak_base.specs.Contents.{same_content}
+use Rattle.ak_base.specs.Cards.{place_faults, schedule_faults, mark_faults}
+use Rattle.ak_base.specs.Columns.{id_fault, id_or_zero_fault, stamp_fault, long_fault, code_fault}
+use Rattle.ak_base.specs.Notes.{identity_faults, content_faults}
 use Rattle.ak_base.specs.Rows.{name_of, stamp_of, usn_of, with_usn}
 use Rattle.ak_base.specs.Tables.{has_stamps}
 use Rattle.ak_base.specs.declared.heads.Head.{Head}
@@ -169,9 +171,11 @@ linked any their = record {
     own_given = given (pos 3) (pos 1) (omega (arith, ints)) (omega (arith, ints))
 
 own_checked : AreChecked (get (rows_of own_rows))
+unfolding identity_faults content_faults place_faults schedule_faults mark_faults id_fault id_or_zero_fault stamp_fault long_fault code_fault
 own_checked = map_checked own_rows (refl, (refl, (refl, tt)))
 
 their_checked : AreChecked (get (rows_of their_rows))
+unfolding identity_faults content_faults place_faults schedule_faults mark_faults id_fault id_or_zero_fault stamp_fault long_fault code_fault
 their_checked = map_checked their_rows (refl, (refl, (refl, (refl, tt))))
 
 -- ---- the exchange

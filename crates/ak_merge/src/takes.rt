@@ -7,10 +7,9 @@ ghost use Rattle.ak_keep.specs.Readings.{ReadsBy};
 ghost use Rattle.ak_keep.specs.Graves.{is_dead};
 ghost use Rattle.ak_merge.specs.Takings.{without_buried, beats, beats_held, is_newer_of, with_taken, takes};
 
+use crate::sides::Side;
 use ak_base::{Name, Row};
 use ak_keep::{KeepFault, Keeper, Lookup};
-
-use crate::sides::Side;
 
 /// Whether `came` has the name of `held` and was changed later: its stamp is greater.
 pub fn newer(held: &Row, came: &Row) -> bool
@@ -22,7 +21,12 @@ pub fn newer(held: &Row, came: &Row) -> bool
 /// Takes a row that came from the other side, with this update sequence number, by the rule of a sync for the
 /// side that takes; answers whether it is held now. A grave takes its row away in any case. If it is refused, a
 /// part may be done: the keeper stays marked, and its mark is as it was.
-pub fn take_row<K: Keeper>(keeper: &mut K, row: Row, usn: i64, side: Side) -> Result<bool, KeepFault>
+pub fn take_row<K: Keeper>(
+    keeper: &mut K,
+    row: Row,
+    usn: i64,
+    side: Side,
+) -> Result<bool, KeepFault>
     requires marked { is_marked (K.keeping keeper.old) ≡ true }
     requires checked { IsChecked row }
     requires usn { IsWithin (pos 0) (pos 2_147_483_647) usn }
