@@ -352,6 +352,8 @@ parts_kept came c s t commit named low linked =
       tags = λ name. tag_kept c.head.usn s.head.usn (tag_usn c.head.tags name) (tag_usn s.head.tags name) (tag_usn t.head.tags name) (has_name came.tags name) linked.usn (linked.tags name) (commit_tag came s t commit name);
       own_single = linked.own_single;
       single = subst IsSingle now (single_received Server s.head.usn (row_under s) from linked.single);
+      later = λ same. absurd (omega (arith, ints, commit.usn, linked.usn, same));
+      settings = λ same _. absurd (omega (arith, ints, commit.usn, linked.usn, same));
     }
 
 -- a commit keeps every device linked

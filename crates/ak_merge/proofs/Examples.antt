@@ -14,7 +14,7 @@ use Rattle.ak_keep.specs.declared.keepers.Wanted.TheVariants.{Unsent, From}
 use Rattle.ak_keep.proofs.RowsByName.{same_of_tied}
 use Rattle.ak_keep.specs.Collections.{Collection, Rows, rows_of}
 use Rattle.ak_base.specs.Tables.{graves_of, has_stamps}
-use Rattle.std.specs.Prelude.{◌≡◌, ◌≤ℤ◌, ℕ, ℤ, pos, negsuc, codes, true, false, cond, if◌then◌else◌, is_some, IsTrue, IfSome, ⊤, ◌⊎◌, List, [], ◌∷◌, Option, Some, None}
+use Rattle.std.specs.Prelude.{◌≡◌, ◌≢◌, ◌≤ℤ◌, ◌<ℤ◌, ℕ, ℤ, pos, negsuc, codes, true, false, cond, if◌then◌else◌, is_some, IsTrue, IfSome, ⊤, ◌⊎◌, List, [], ◌∷◌, Option, Some, None}
 use Rattle.std.proofs.lemmas.Option.{same_Some}
 use Rattle.std.proofs.Common.{refl, sym, ap, subst, ◌∙◌, inl, inr, arith}
 use Rattle.std.proofs.Math.Path.{fun_ext}
@@ -282,10 +282,11 @@ unstamped x y name without =
       | false ↦ λ _. record { sent = tt; came = tt }
     ] refl
 
--- then a device with the one and a server with the other are linked
-note_links : (any their : Head) (u s v t : ℤ) (fields their_fields : List ℕ) → DoSuit (note_row u s fields) (note_row v t their_fields)
+-- then a device with the one and a server with the other are linked, if their moments and settings suit each other as well
+note_links : (any their : Head) (u s v t : ℤ) (fields their_fields : List ℕ) → their.moment ≤ℤ any.moment
+    → (any.moment ≡ their.moment → (any.conf ≡ their.conf) × (any.crt ≡ their.crt)) → DoSuit (note_row u s fields) (note_row v t their_fields)
     → AreLinkedParts (held_of (note_row u s fields ∷ []) any) (held_of (note_row v t their_fields ∷ []) their)
-note_links any their u s v t fields their_fields suit =
+note_links any their u s v t fields their_fields later settings suit =
     let x = note_row u s fields in
     let y = note_row v t their_fields in
     record {
@@ -314,6 +315,8 @@ note_links any their u s v t fields their_fields suit =
       tags = λ _. record { sent = tt; came = tt };
       own_single = of_maps (x ∷ []) (y ∷ []) (λ a b. IsSingle a) (λ name dead. absurd (not_both dead (no_grave u s fields name.table name.id)));
       single = of_maps (x ∷ []) (y ∷ []) (λ a b. IsSingle b) (λ name dead. absurd (not_both dead (no_grave v t their_fields name.table name.id)));
+      later = λ _. later;
+      settings = λ _. settings;
     }
 
 abbrev given_3 : Row
@@ -322,9 +325,9 @@ given_3 = note_row (pos 3) (pos 10) (codes "house")
 three : IsGiven (pos 5) (pos 3)
 three = record { low = omega (arith, ints); high = omega (arith, ints) }
 
--- After a sync the device holds the server's note with the server's number: the two are linked.
-linked_after_a_sync : (any their : Head) → AreLinked (held_of (given_3 ∷ []) any) (held_of (given_3 ∷ []) their)
-linked_after_a_sync any their = inr (note_links any their (pos 3) (pos 10) (pos 3) (pos 10) (codes "house") (codes "house") (record {
+-- After a sync the device holds the server's note with the server's number, and has its moment and settings: the two are linked.
+linked_after_a_sync : (any : Head) → AreLinked (held_of (given_3 ∷ []) any) (held_of (given_3 ∷ []) any)
+linked_after_a_sync any = inr (note_links any any (pos 3) (pos 10) (pos 3) (pos 10) (codes "house") (codes "house") (omega (arith, ints)) (λ _. (refl, refl)) (record {
   own = inr three;
   given = three;
   taken = λ _ _. inl refl;
@@ -332,8 +335,9 @@ linked_after_a_sync any their = inr (note_links any their (pos 3) (pos 10) (pos 
 }))
 
 -- The device edited the note since: its row is newer and was not sent yet, and the two are still linked.
-linked_after_an_edit : (any their : Head) → AreLinked (held_of (late ∷ []) any) (held_of (given_3 ∷ []) their)
-linked_after_an_edit any their = inr (note_links any their (negsuc 0) (pos 20) (pos 3) (pos 10) (codes "home") (codes "house") (record {
+linked_after_an_edit : (any their : Head) → their.moment <ℤ any.moment → AreLinked (held_of (late ∷ []) any) (held_of (given_3 ∷ []) their)
+linked_after_an_edit any their moved = inr (note_links any their (negsuc 0) (pos 20) (pos 3) (pos 10) (codes "home") (codes "house")
+    (omega (arith, ints, moved)) (λ at_once. absurd (omega (arith, ints, moved, at_once))) (record {
   own = inl refl;
   given = three;
   taken = λ _ _. inr (inl (record { unsent = refl; newer = omega (arith, ints) }));
@@ -348,6 +352,22 @@ not_linked_by_a_lost_row any their linked =
       | inr parts ↦
           let none : ⊥ ⊎ (⊥ ⊎ ⊥) = of_lists (given_3 ∷ []) [] (λ a b. IsKnown (pos 5) (a seven) (b seven) (grave_under b seven)) (parts.known seven refl) refl in
           elim none as (λ _. ⊥) [ inl never ↦ never | inr (inl never) ↦ never | inr (inr never) ↦ never ]
+    ]
+
+-- The server was changed after the device, and the two have one number: the device missed a commit, and they are not linked.
+not_linked_by_a_missed_commit : (any their : Head) → any.moment <ℤ their.moment → AreLinked (held_of (given_3 ∷ []) any) (held_of (given_3 ∷ []) their) → ⊥
+not_linked_by_a_missed_commit any their missed linked =
+    elim linked as (λ _. ⊥) [
+      | inl differ ↦ differ refl
+      | inr parts ↦ let least = parts.later refl in omega (arith, ints, missed, least)
+    ]
+
+-- The two have one number and one moment, and other moments of creation: they are not linked.
+not_linked_by_other_settings : (any their : Head) → any.moment ≡ their.moment → any.crt ≢ their.crt → AreLinked (held_of (given_3 ∷ []) any) (held_of (given_3 ∷ []) their) → ⊥
+not_linked_by_other_settings any their at_once other linked =
+    elim linked as (λ _. ⊥) [
+      | inl differ ↦ differ refl
+      | inr parts ↦ other (parts.settings refl at_once).1
     ]
 
 -- ---- an exchange in parts
@@ -422,7 +442,8 @@ pub map_checked : (xs : List Row) → AllByRecursion IsChecked xs → AreChecked
 map_checked xs all = of_maps xs xs (λ a b. AreChecked a) (each_standing IsChecked xs all)
 
 linked_then : (any their : Head) → AreLinkedParts (device_then any) (server_then their)
-linked_then any their = note_links (record any { moment = pos 20 }) (record their { moment = pos 10 }) (negsuc 0) (pos 20) (pos 3) (pos 10) (codes "home") (codes "house") (record {
+linked_then any their = note_links (record any { moment = pos 20 }) (record their { moment = pos 10 }) (negsuc 0) (pos 20) (pos 3) (pos 10) (codes "home") (codes "house")
+    (omega (arith, ints)) (λ at_once. absurd (omega (arith, ints, at_once))) (record {
   own = inl refl;
   given = three;
   taken = λ _ _. inr (inl (record { unsent = refl; newer = omega (arith, ints) }));

@@ -159,6 +159,8 @@ linked any their = record {
   single = of_maps own_rows their_rows (λ a b. IsSingle b)
       (under_each their_rows (λ name y. is_dead (standing their_rows) name ≡ true → y ≡ None) (λ _ _. refl)
       ((λ dead. absurd (not_both dead refl)), ((λ dead. absurd (not_both dead refl)), ((λ dead. absurd (not_both dead refl)), ((λ dead. absurd (not_both dead refl)), tt)))));
+  later = λ same. absurd (omega (arith, ints, same));
+  settings = λ same _. absurd (omega (arith, ints, same));
 }
   where
     one_given : IsGiven (pos 5) (pos 1)

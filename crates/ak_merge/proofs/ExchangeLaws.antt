@@ -330,19 +330,20 @@ single_same : (a b : RowsByName) → ((name : Name) → IsTrue (same_held (a nam
 single_same a b same single name dead =
     none_held (a name) (ap (same_held (a name)) (sym (single name (sym (same_graves a b name (graves_of name.table) same) ∙ dead))) ∙ same name)
 
-pub linked_same : (d t : Collection) → d.head.usn ≡ t.head.usn → AreNumbered IsOwn d → AreNumbered IsGiven t → ((name : Name) → IsTrue (same_held (row_under d name) (row_under t name)))
-    → ((name : List ℕ) → is_some (tag_usn d.head.tags name) ≡ is_some (tag_usn t.head.tags name)) → IsSingle (row_under t)
-    → AreLinkedParts d t
-linked_same d t usn own given same same_tags single = record {
+pub linked_same : (d t : Collection) → d.head.usn ≡ t.head.usn → d.head.moment ≡ t.head.moment → AreNumbered IsOwn d → AreNumbered IsGiven t
+    → SameContent (content_of d) (content_of t) → IsSingle (row_under t) → AreLinkedParts d t
+linked_same d t usn moment own given same single = record {
   usn = omega (arith, ints, usn);
   given = given;
   own = own;
-  taken = λ name stamps. taken_same d.head.usn (row_under d name) (grave_under (row_under d) name) (row_under t name) (same name);
-  known = λ name stamps. known_same d.head.usn (row_under d name) (row_under t name) (grave_under (row_under t) name) (same name);
-  shared = λ name none. shared_same d.head.usn (row_under d name) (row_under t name) (same name);
-  tags = λ name. tag_same d.head.usn (tag_usn d.head.tags name) (tag_usn t.head.tags name) (same_tags name);
-  own_single = single_same (row_under d) (row_under t) same single;
+  taken = λ name stamps. taken_same d.head.usn (row_under d name) (grave_under (row_under d) name) (row_under t name) (same.rows name);
+  known = λ name stamps. known_same d.head.usn (row_under d name) (row_under t name) (grave_under (row_under t) name) (same.rows name);
+  shared = λ name none. shared_same d.head.usn (row_under d name) (row_under t name) (same.rows name);
+  tags = λ name. tag_same d.head.usn (tag_usn d.head.tags name) (tag_usn t.head.tags name) (same.tags name);
+  own_single = single_same (row_under d) (row_under t) same.rows single;
   single = single;
+  later = λ _. omega (arith, ints, moment);
+  settings = λ _ _. (same.conf, same.crt);
 }
 
 -- ---- the law
@@ -425,7 +426,7 @@ device_half_links got sent c s d t e joined linked named their_named checked the
       crt = device.crt ∙ sym joined.content.crt;
     } in
     record {
-      linked = linked_same d t (e.usn ∙ sym joined.usn) (device_own got sent c s d t e linked low) joined.given same.rows same.tags joined.single;
+      linked = linked_same d t (e.usn ∙ sym joined.usn) e.moment (device_own got sent c s d t e linked low) joined.given same joined.single;
       same = same;
       device = device;
       server = joined.content;

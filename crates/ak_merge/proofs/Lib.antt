@@ -31,4 +31,5 @@ pub mod TagLists
 pub mod Sweeps
 pub mod ContentLaws
 pub mod FirstLinks
+pub mod EqualHeads
 pub mod EditBuildingLaws

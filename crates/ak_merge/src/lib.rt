@@ -39,8 +39,8 @@ pub use exchange_laws::{
     server_rows_join,
 };
 pub use first_links::{
-    copies_are_linked, fresh_schemas_link, openings_are_lawful, uploads_are_lawful,
-    uploads_keep_links,
+    copies_are_linked, equal_heads_are_equal_contents, fresh_schemas_link, openings_are_lawful,
+    uploads_are_lawful, uploads_keep_links,
 };
 pub use join_laws::{join_commutes, join_once, last_settings_stand, taking_joins};
 pub use laws::{
