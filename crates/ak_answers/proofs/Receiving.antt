@@ -11,6 +11,7 @@ use Rattle.ak_keep.specs.Marks.{WithMark}
 use Rattle.ak_merge.specs.Commits.{Received, with_received}
 use Rattle.ak_parts.specs.Takes.{with_all_taken}
 use Rattle.ak_answers.specs.Answers.{held_with}
+use Rattle.ak_merge.specs.declared.sides.Side.TheVariants.{Server}
 
 -- ---- rows
 -- only these rows
@@ -18,33 +19,33 @@ abbrev pub only_rows : List Row → Received
 only_rows rows = record { rows = rows; tags = []; settings = None }
 
 rows_held : (head : Head) (rows : List Row) (h : Holding) → h.head ≡ Some head
-    → with_all_taken head.usn rows h ≡ held_with (only_rows rows) h
+    → with_all_taken Server head.usn rows h ≡ held_with (only_rows rows) h
 rows_held head rows h is =
-    ap (λ (o : Option Head). with_all_taken head.usn rows (record { rows = h.rows; head = o })) is
+    ap (λ (o : Option Head). with_all_taken Server head.usn rows (record { rows = h.rows; head = o })) is
     ∙ sym (ap (λ (o : Option Head). held_with (only_rows rows) (record { rows = h.rows; head = o })) is)
 
 rows_told : (head : Head) (rows : List Row) (t : Option (WithMark Holding)) → IfSome t (λ w. w.current.head ≡ Some head)
-    → option_map (marks.changed (with_all_taken head.usn rows)) t ≡ option_map (marks.changed (held_with (only_rows rows))) t
+    → option_map (marks.changed (with_all_taken Server head.usn rows)) t ≡ option_map (marks.changed (held_with (only_rows rows))) t
 rows_told head rows None is = refl
 rows_told head rows (Some w) is = ap (λ (h : Holding). Some (record { current = h; mark = w.mark })) (rows_held head rows w.current is)
 
 -- rows that were taken with the number of the head are what came
 pub rows_received : (head : Head) (rows : List Row) (k new : Keeping) → WhereTold k (λ h. h.head ≡ Some head)
-    → new ≡ changed (with_all_taken head.usn rows) k → new ≡ changed (held_with (only_rows rows)) k
+    → new ≡ changed (with_all_taken Server head.usn rows) k → new ≡ changed (held_with (only_rows rows)) k
 rows_received head rows k new is taken =
     taken ∙ ap (λ (t : Option (WithMark Holding)). record { headed = k.headed; told = t }) (rows_told head rows k.told is)
 
 -- ---- changes
 head_held : (came : Received) (head made : Head) (h : Holding) → h.head ≡ Some head
     → made ≡ (with_received came (record { rows = h.rows; head = head })).head
-    → with_head made (with_all_taken head.usn came.rows h) ≡ held_with came h
+    → with_head made (with_all_taken Server head.usn came.rows h) ≡ held_with came h
 head_held came head made h is so =
-    ap (λ (m : Head). with_head m (with_all_taken head.usn came.rows h)) so
+    ap (λ (m : Head). with_head m (with_all_taken Server head.usn came.rows h)) so
     ∙ sym (ap (λ (o : Option Head). held_with came (record { rows = h.rows; head = o })) is)
 
 head_told : (came : Received) (head made : Head) (t : Option (WithMark Holding)) → IfSome t (λ w. w.current.head ≡ Some head)
     → ((h : Holding) → made ≡ (with_received came (record { rows = h.rows; head = head })).head)
-    → option_map (marks.changed (with_head made)) (option_map (marks.changed (with_all_taken head.usn came.rows)) t)
+    → option_map (marks.changed (with_head made)) (option_map (marks.changed (with_all_taken Server head.usn came.rows)) t)
     ≡ option_map (marks.changed (held_with came)) t
 head_told came head made None is so = refl
 head_told came head made (Some w) is so =
@@ -54,13 +55,13 @@ head_told came head made (Some w) is so =
 pub changes_received : (came : Received) (head made : Head) (k k1 k2 : Keeping)
     → k.headed.current ≡ true → WhereTold k (λ h. h.head ≡ Some head)
     → ((h : Holding) → made ≡ (with_received came (record { rows = h.rows; head = head })).head)
-    → k1 ≡ changed (with_all_taken head.usn came.rows) k → k2 ≡ head_set made k1
+    → k1 ≡ changed (with_all_taken Server head.usn came.rows) k → k2 ≡ head_set made k1
     → k2 ≡ changed (held_with came) k
 changes_received came head made k k1 k2 held is so one two =
     two
     ∙ ap (head_set made) one
     ∙ ap (λ (b : Bool). record {
       headed = record { current = b; mark = k.headed.mark };
-      told = option_map (marks.changed (with_head made)) (option_map (marks.changed (with_all_taken head.usn came.rows)) k.told);
+      told = option_map (marks.changed (with_head made)) (option_map (marks.changed (with_all_taken Server head.usn came.rows)) k.told);
     }) (sym held)
     ∙ ap (λ (t : Option (WithMark Holding)). record { headed = k.headed; told = t }) (head_told came head made k.told is so)

@@ -19,7 +19,7 @@ use crate::wholes::whole_of;
 use ak_base::{Conf, Head, Memory, Name};
 use ak_keep::{KeepFault, Keeper, Wanted};
 use ak_machine::Session;
-use ak_merge::take_tags;
+use ak_merge::{Side, take_tags};
 use ak_messages::{Ask, Changes, Chunk, Give, GraveIds, Newer};
 use ak_parts::{
     Changed, changed_of, chunk_of, grave_ids, next_rows, take_changed_rows, take_chunk_rows,
@@ -122,7 +122,7 @@ fn apply_graves<K: Keeper>(keeper: &mut K, ids: &GraveIds, head: &Head) -> Resul
     ensures committed { back (K.keeping keeper.new) ≡ back (K.keeping keeper.old) }
     ensures cause { KeepCause (K.health keeper.old) (K.health keeper.new) result }
 {
-    take_given_graves(keeper, ids, head.usn)
+    take_given_graves(keeper, ids, head.usn, Side::Server)
 }
 
 /// Gives the server's changes as they were before it takes those that came.
@@ -195,7 +195,7 @@ fn take_changes<K: Keeper>(keeper: &mut K, came: &Changes, head: Head) -> Result
     ensures stays { IsMarkedAt (back (K.keeping keeper.old)) (K.keeping keeper.new) }
     ensures cause { KeepCause (K.health keeper.old) (K.health keeper.new) result }
 {
-    take_changed_rows(keeper, came, head.usn)?;
+    take_changed_rows(keeper, came, head.usn, Side::Server)?;
     let head = head_with(head, came)?;
     keeper.set_head(head)
 }
@@ -265,5 +265,5 @@ fn apply_chunk<K: Keeper>(keeper: &mut K, chunk: &Chunk, head: &Head) -> Result<
     ensures committed { back (K.keeping keeper.new) ≡ back (K.keeping keeper.old) }
     ensures cause { KeepCause (K.health keeper.old) (K.health keeper.new) result }
 {
-    take_chunk_rows(keeper, chunk, head.usn)
+    take_chunk_rows(keeper, chunk, head.usn, Side::Server)
 }

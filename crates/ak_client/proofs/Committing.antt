@@ -24,6 +24,7 @@ use Rattle.ak_protocol.specs.Logs.{Log}
 use Rattle.ak_session.specs.Plans.{Asker, planned_check}
 use Rattle.ak_session.specs.Replies.{all_replied}
 use Rattle.ak_session.specs.Sessions.{MaySync}
+use Rattle.ak_merge.specs.declared.sides.Side.TheVariants.{Device}
 
 -- what a keeper holds once these rows are held and this head got its moments
 held_then : (moment schema usn : ℤ) (after : Holding) (head : Head) → after.head ≡ Some head
@@ -111,7 +112,7 @@ module _ (c s : Collection) (account : AccountState) (who : Asker) (told : Optio
       (sym whole)
       (exchanged c s granted.after may settles.0.rows moment (sym granted.moment_is)
       (λ name. settles.2.rows name
-      ∙ ap (λ (asked : List Ask). option_map (settled s.head.usn) (get (all_taken s.head.usn (all_replied s asked).rows c.rows) name)) whole)
+      ∙ ap (λ (asked : List Ask). option_map (settled s.head.usn) (get (all_taken Device s.head.usn (all_replied s asked).rows c.rows) name)) whole)
       joined)
 
   pub ended : IsEnded c s account who told now

@@ -81,7 +81,7 @@ module _ (who : Asker) (c s : Collection) (account : AccountState) (asks : List 
       sym (append_assoc at.before (request ∷ at.after) rest.0) ∙ ap (λ (l : List Request). l ++ rest.0) at.place ∙ rest.1 in
       let last = finish_is_last who c s at.before request (at.after ++ rest.0) place commits in
       server_half_joins (given_by_sync c s) (sent_by_sync c s) c s (closed s at.before request now)
-      (syncs_exchange c s at.before request now so last.1 last.0) so.linked apart so.named so.committed.named so.committed.head.usn.low
+      (syncs_exchange c s at.before request now so last.1 last.0) so.linked so.named so.committed.named so.committed.head.usn.low
 
   -- the session committed nothing, or once
   pub at_most_once : (log : Log) → IsUnderWay who.host.digits who.session.0 asked s account log

@@ -18,6 +18,7 @@ use Rattle.ak_session.proofs.SyncLaws.{device_sends, server_gives, tags_given}
 use Rattle.ak_session.specs.Plans.{given_by_sync, planned_check, sent_by_sync}
 use Rattle.ak_session.specs.Replies.{all_replied}
 use Rattle.ak_session.specs.Sessions.{MaySync}
+use Rattle.ak_merge.specs.declared.sides.Side.TheVariants.{Device}
 
 -- the head of a device's collection once what came was received and settled, at a moment
 abbrev pub ended_head : ℤ → ℤ → Received → Head → Head
@@ -44,10 +45,10 @@ module _ (c s t : Collection) (may : MaySync c s) (after : Rows) (moment : ℤ) 
   abbrev pub ended : Collection
   ended = record { rows = after; head = ended_head s.head.usn moment came c.head }
 
-  same_taken : (name : Name) → get (all_taken s.head.usn came.rows c.rows) name ≡ get (all_taken s.head.usn given.rows c.rows) name
+  same_taken : (name : Name) → get (all_taken Device s.head.usn came.rows c.rows) name ≡ get (all_taken Device s.head.usn given.rows c.rows) name
   same_taken name = ap (λ (rows : Rows). get rows name) (same_rows c s (planned_check c s) (asks.Finish ∷ []) s.head.usn c.rows may refl)
 
-  pub device_half : ((name : Name) → get after name ≡ option_map (settled s.head.usn) (get (all_taken s.head.usn came.rows c.rows) name))
+  pub device_half : ((name : Name) → get after name ≡ option_map (settled s.head.usn) (get (all_taken Device s.head.usn came.rows c.rows) name))
       → IsDeviceHalf given (sent_by_sync c s) c s ended t
   device_half each = record {
     sends = (device_sends c s may).each;
@@ -64,7 +65,7 @@ module _ (c s t : Collection) (may : MaySync c s) (after : Rows) (moment : ℤ) 
   }
 
   -- once the server committed the join, both hold it and are linked
-  pub exchanged : ((name : Name) → get after name ≡ option_map (settled s.head.usn) (get (all_taken s.head.usn came.rows c.rows) name))
+  pub exchanged : ((name : Name) → get after name ≡ option_map (settled s.head.usn) (get (all_taken Device s.head.usn came.rows c.rows) name))
       → HoldsJoin c s t → AreExchanged c s ended t
   exchanged each joined =
-      device_half_links given (sent_by_sync c s) c s ended t (device_half each) joined may.linked may.named may.committed.named may.committed.head.usn.low
+      device_half_links given (sent_by_sync c s) c s ended t (device_half each) joined may.linked may.named may.committed.named may.checked may.committed.checked may.committed.head.usn.low

@@ -78,7 +78,6 @@ module _ (who : Asker) (c s : Collection) (account : AccountState) (old mid : Lo
     checked = λ name row at. all_gets (λ (entry : Name × Row). IsChecked entry.1) c.rows name row formed.checked at;
     head = formed.head;
     committed = committed_at_meta;
-    apart = apart;
   }
 
 -- what a keeper that tells a collection is known to hold is well formed

@@ -16,10 +16,9 @@ ghost use Rattle.ak_protocol.specs.Logs.{Event, Log, IsTimely, with_growth};
 ghost use Rattle.ak_protocol.specs.Syncs.{IsUnused};
 ghost use Rattle.ak_session.specs.Plans.{Asker};
 
-/// If the reply to a finish was lost, the server holds the join and the device is as before. It is apart from the server then. Its
-/// next finished sync, if nobody changed either side meanwhile, leaves both with that same join: what was joined is joined once.
+/// If the reply to a finish was lost, the server holds the join and the device is as before. Its next
+/// finished sync, if nobody changed either side meanwhile, leaves both with that same join: what was joined is joined once.
 pub fn lost_finishes_heal()
-    ensures apart { (c s t : Collection) → HoldsJoin c s t → AreApart (row_under c) (row_under t) }
     ensures device { (c s t d u : Collection) → HoldsJoin c s t → AreExchanged c t d u
         → SameContent (content_of d) (join c s) }
     ensures server { (c s t d u : Collection) → HoldsJoin c s t → AreExchanged c t d u

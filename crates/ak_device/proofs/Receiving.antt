@@ -22,6 +22,7 @@ use Rattle.ak_merge.specs.Takings.{all_taken}
 use Rattle.ak_merge.proofs.TagLaws.{tags_stay_in_range, tags_stay_ordered}
 use Rattle.ak_parts.specs.Takes.{MayBeTaken, with_all_taken}
 use Rattle.ak_session.specs.Asks.{and_then, nothing}
+use Rattle.ak_merge.specs.declared.sides.Side.TheVariants.{Device}
 
 -- only these rows
 abbrev pub only_rows : List Row → Received
@@ -32,9 +33,9 @@ head_stays : (usn : ℤ) (rows : List Row) (head : Option Head) → head ≡ opt
 head_stays usn rows None = refl
 head_stays usn rows (Some head) = refl
 
-pub rows_received : (usn : ℤ) (rows : List Row) (h : Holding) → with_all_taken usn rows h ≡ received usn (only_rows rows) h
+pub rows_received : (usn : ℤ) (rows : List Row) (h : Holding) → with_all_taken Device usn rows h ≡ received usn (only_rows rows) h
 rows_received usn rows h =
-    ap (λ (o : Option Head). record { rows = (with_all_taken usn rows h).rows; head = o }) (head_stays usn rows h.head)
+    ap (λ (o : Option Head). record { rows = (with_all_taken Device usn rows h).rows; head = o }) (head_stays usn rows h.head)
 
 -- what is made of all that may be held is made of what is told
 told_same : (f g : Holding → Holding) → ((h : Holding) → f h ≡ g h) → (t : Option (WithMark Holding))
@@ -47,19 +48,19 @@ changed_same f g same k =
     ap (λ (t : Option (WithMark Holding)). record { headed = k.headed; told = t }) (told_same f g same k.told)
 
 -- rows that were taken are what came
-pub rows_came : (usn : ℤ) (rows : List Row) (k : Keeping) → changed (with_all_taken usn rows) k ≡ changed (received usn (only_rows rows)) k
-rows_came usn rows k = changed_same (with_all_taken usn rows) (received usn (only_rows rows)) (rows_received usn rows) k
+pub rows_came : (usn : ℤ) (rows : List Row) (k : Keeping) → changed (with_all_taken Device usn rows) k ≡ changed (received usn (only_rows rows)) k
+rows_came usn rows k = changed_same (with_all_taken Device usn rows) (received usn (only_rows rows)) (rows_received usn rows) k
 
 -- ---- rows and a head
 head_received : (usn : ℤ) (came : Received) (head made : Head) (h : Holding) → h.head ≡ Some head → made ≡ head_with usn came head
-    → with_head made (with_all_taken usn came.rows h) ≡ received usn came h
+    → with_head made (with_all_taken Device usn came.rows h) ≡ received usn came h
 head_received usn came head made h is so =
-    ap (λ (o : Option Head). record { rows = (with_all_taken usn came.rows h).rows; head = o })
+    ap (λ (o : Option Head). record { rows = (with_all_taken Device usn came.rows h).rows; head = o })
     (ap (λ (m : Head). Some m) so ∙ sym (ap (λ (o : Option Head). option_map (head_with usn came) o) is))
 
 head_told : (usn : ℤ) (came : Received) (head made : Head) (t : Option (WithMark Holding)) → IfSome t (λ w. w.current.head ≡ Some head)
     → made ≡ head_with usn came head
-    → option_map (marks.changed (with_head made)) (option_map (marks.changed (with_all_taken usn came.rows)) t)
+    → option_map (marks.changed (with_head made)) (option_map (marks.changed (with_all_taken Device usn came.rows)) t)
     ≡ option_map (marks.changed (received usn came)) t
 head_told usn came head made None is so = refl
 head_told usn came head made (Some w) is so =
@@ -68,13 +69,13 @@ head_told usn came head made (Some w) is so =
 -- rows that were taken, and then a head that was set, are what came
 pub changes_came : (usn : ℤ) (came : Received) (head made : Head) (k0 k1 k2 : Keeping)
     → k0.headed.current ≡ true → WhereTold k0 (λ h. h.head ≡ Some head) → made ≡ head_with usn came head
-    → k1 ≡ changed (with_all_taken usn came.rows) k0 → k2 ≡ head_set made k1 → k2 ≡ changed (received usn came) k0
+    → k1 ≡ changed (with_all_taken Device usn came.rows) k0 → k2 ≡ head_set made k1 → k2 ≡ changed (received usn came) k0
 changes_came usn came head made k0 k1 k2 held is so one two =
     two
     ∙ ap (head_set made) one
     ∙ ap (λ (b : Bool). record {
       headed = record { current = b; mark = k0.headed.mark };
-      told = option_map (marks.changed (with_head made)) (option_map (marks.changed (with_all_taken usn came.rows)) k0.told);
+      told = option_map (marks.changed (with_head made)) (option_map (marks.changed (with_all_taken Device usn came.rows)) k0.told);
     }) (sym held)
     ∙ ap (λ (t : Option (WithMark Holding)). record { headed = k0.headed; told = t }) (head_told usn came head made k0.told is so)
 
@@ -129,8 +130,8 @@ option_twice usn first more (Some head) = ap (λ (h : Head). Some h) (head_twice
 pub received_twice : (usn : ℤ) (first more : Received) (h : Holding) → received usn (and_then first more) h ≡ received usn more (received usn first h)
 received_twice usn first more h =
     ap (λ (rows : Rows). record { rows = rows; head = option_map (head_with usn (and_then first more)) h.head })
-    (parts_add_up usn first.rows more.rows h.rows)
-    ∙ ap (λ (head : Option Head). record { rows = all_taken usn more.rows (all_taken usn first.rows h.rows); head = head })
+    (parts_add_up Device usn first.rows more.rows h.rows)
+    ∙ ap (λ (head : Option Head). record { rows = all_taken Device usn more.rows (all_taken Device usn first.rows h.rows); head = head })
     (option_twice usn first more h.head)
 
 changed_twice : (f g : Holding → Holding) (t : Option (WithMark Holding))

@@ -1,17 +1,18 @@
 -- What a device settles: each row that was not sent yet, whatever its place in the list of them.
-use Rattle.std.specs.Cmp.{eq_by_cmp_equiv}
+use Rattle.std.specs.Cmp.{eq_by_cmp_equiv, signed_Decides}
 use Rattle.std.specs.FinMap.{get, insert, get-insert}
 use Rattle.std.specs.List.{AllByRecursion, Contains, list_any}
 use Rattle.std.specs.Option.{option_map, option_and_then}
-use Rattle.std.specs.Prelude.{◌≡◌, ℕ, zero, suc, ℤ, pos, Bool, true, false, ◌||◌, IsTrue, IfSome, if◌then◌else◌, List, [], ◌∷◌, ◌++◌, Option, Some, None}
+use Rattle.std.specs.Prelude.{◌≡◌, ◌≢◌, ℕ, zero, suc, ℤ, pos, negsuc, Bool, true, false, ◌||◌, IsTrue, IfSome, if◌then◌else◌, List, [], ◌∷◌, ◌++◌, Option, Some, None}
 use Rattle.std.proofs.Common.{refl, sym, ap, subst, ◌∙◌, arith}
 use Rattle.std.proofs.lemmas.List.Elements.{recursion_from_All}
+use Rattle.std.proofs.lemmas.Int.{ints}
 use Rattle.std.proofs.lemmas.Option.{none-some}
 use Rattle.ak_base.proofs.RowFacts.{name_of-with_usn}
 use Rattle.ak_base.specs.Heads.{IsHeadInRange, IsWithin}
 use Rattle.ak_base.specs.Limits.{last_head_usn}
 use Rattle.ak_base.specs.Names.{name_cmp, names_total}
-use Rattle.ak_base.specs.Rows.{IsChecked, name_of, with_usn}
+use Rattle.ak_base.specs.Rows.{IsChecked, name_of, usn_of, with_usn}
 use Rattle.ak_base.specs.declared.heads.Head.{Head}
 use Rattle.ak_base.specs.declared.names.Name.{Name}
 use Rattle.ak_base.specs.declared.names.Table.{Table}
@@ -36,6 +37,7 @@ use Rattle.ak_merge.specs.Holdings.{AreNamed, AreChecked}
 use Rattle.ak_session.proofs.Wanted.{IsFront, Stands, all_of_three, gives_all, three_stand, three_weaker}
 use Rattle.ak_session.proofs.Ranges.{all_append, not_both}
 use Rattle.ak_session.specs.Slices.{wanted_changes, wanted_graves, wanted_in_chunks, wanted_of}
+use Rattle.ak_merge.specs.declared.sides.Side.TheVariants.{Device}
 
 -- ---- puts, one after the other
 abbrev pub put_each : ℤ → List Row → Rows → Rows
@@ -177,8 +179,9 @@ module _ (usn : ℤ) (held : Rows) (rows : List Row) (named : AreNamed (get held
       by false none = left_alone name none (get held name) refl
 
 -- ---- the list of them
-no_rows_front : (usn : ℤ) (held : Rows) → AreNamed (get held) → AreChecked (get held) → IsFront usn held [] []
-no_rows_front usn held named checked = record { rest = []; is = refl; named = named; checked = checked }
+-- where nothing comes no side and no number makes a difference
+no_rows_front : (held : Rows) → AreNamed (get held) → AreChecked (get held) → IsFront Device (pos 0) held [] []
+no_rows_front held named checked = record { rest = []; is = refl; named = named; checked = checked }
 
 stand : (held : Rows) → AreNamed (get held) → AreChecked (get held) → (one two three : Table)
     → AllByRecursion (λ (row : Row). (get held (name_of row) ≡ Some row) × IsTrue (is_wanted Unsent row)) (wanted_of one two three Unsent held)
@@ -189,17 +192,20 @@ stand held named checked one two three =
     (λ row is. (is.stands, is.wanted)) (λ row is. (is.stands, is.wanted)) (λ row is. (is.stands, is.wanted))
     (wanted_of one two three Unsent held) (three_stand one two three Unsent held named checked))
 
-pub unsent_are_sent : (usn : ℤ) (held : Rows) → AreNamed (get held) → AreChecked (get held)
+pub unsent_are_sent : (held : Rows) → AreNamed (get held) → AreChecked (get held)
     → IsSent (unsent_rows held) (wanted_under Unsent (get held)) (get held)
-unsent_are_sent usn held named checked =
-    let front = no_rows_front usn held named checked in
+unsent_are_sent held named checked =
+    let front = no_rows_front held named checked in
     let P : Row → Type 0 = λ row. (get held (name_of row) ≡ Some row) × IsTrue (is_wanted Unsent row) in
-    gives_all usn Unsent held [] [] [] [] named front front front
+    gives_all Device (pos 0) Unsent held [] [] [] [] named differs front front front
     (all_append P (wanted_graves Unsent held) (wanted_changes Unsent held ++ wanted_in_chunks Unsent held)
     (stand held named checked tables.NoteGrave tables.CardGrave tables.DeckGrave)
     (all_append P (wanted_changes Unsent held) (wanted_in_chunks Unsent held)
     (stand held named checked tables.NoteType tables.Deck tables.Options)
     (stand held named checked tables.Review tables.Card tables.Note)))
+  where
+    differs : (name : Name) (row : Row) → get held name ≡ Some row → IsTrue (is_wanted Unsent row) → usn_of row ≢ pos 0
+    differs name row _ unsent same = let one : usn_of row ≡ negsuc 0 = (signed_Decides (usn_of row) (negsuc 0)).0 unsent in omega (arith, ints, one, same)
 
 -- ---- the keeper
 -- rows that were put with the number, and then a head whose tags are settled
@@ -227,7 +233,7 @@ settles usn head made rows k0 k1 k2 known held is list so one two = record {
             let named : AreNamed (get w.current.rows) = λ other row at. named-get w.current.rows other row c.named at in
             let checked : AreChecked (get w.current.rows) = λ other row at. all_gets (λ (entry : Name × Row). IsChecked entry.1) w.current.rows other row c.checked at in
             all_settled usn w.current.rows rows named
-            (subst (λ (l : List Row). IsSent l (wanted_under Unsent (get w.current.rows)) (get w.current.rows)) (sym b) (unsent_are_sent usn w.current.rows named checked)) name;
+            (subst (λ (l : List Row). IsSent l (wanted_under Unsent (get w.current.rows)) (get w.current.rows)) (sym b) (unsent_are_sent w.current.rows named checked)) name;
         head = ap (λ (h : Head). Some h) so ∙ sym (ap (option_map (λ (h : Head). record h { tags = settled_tags usn h.tags })) a);
       },
     )

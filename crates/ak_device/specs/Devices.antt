@@ -22,6 +22,7 @@ use Rattle.ak_messages.specs.declared.requests.Chunk.{Chunk}
 use Rattle.ak_parts.specs.Chunks.{IsSlice, ahead_of}
 use Rattle.ak_session.specs.Messages.{changes_of, chunk_of}
 use Rattle.ak_session.specs.Slices.{wanted_changes}
+use Rattle.ak_merge.specs.declared.sides.Side.TheVariants.{Device}
 
 -- ---- what comes to a device
 -- a head once this came: each tag that was not held has the server's number, and settings that came stand
@@ -32,7 +33,7 @@ head_with usn came head =
 
 -- what a device holds once this came: each row, one after the other, is taken with the server's number
 abbrev pub received : ℤ → Received → Holding → Holding
-received usn came h = record { rows = all_taken usn came.rows h.rows; head = option_map (head_with usn came) h.head }
+received usn came h = record { rows = all_taken Device usn came.rows h.rows; head = option_map (head_with usn came) h.head }
 
 -- ---- what a device sends
 -- the settings of a head that was changed after this moment

@@ -14,7 +14,7 @@ ghost use Rattle.ak_session.specs.Replies.{replied};
 
 use ak_base::{Conf, Head, Memory};
 use ak_keep::{KeepFault, Keeper};
-use ak_merge::take_tags;
+use ak_merge::{Side, take_tags};
 use ak_messages::{Changes, Chunk, GraveIds, Newer};
 use ak_parts::{head_of, take_changed_rows, take_chunk_rows, take_given_graves};
 
@@ -29,7 +29,7 @@ pub fn take_graves<K: Keeper>(keeper: &mut K, ids: &GraveIds, usn: i64) -> Resul
     ensures stays { IsMarkedAt (back (K.keeping keeper.old)) (K.keeping keeper.new) }
     ensures cause { KeepCause (K.health keeper.old) (K.health keeper.new) result }
 {
-    take_given_graves(keeper, ids, usn)
+    take_given_graves(keeper, ids, usn, Side::Device)
 }
 
 /// Takes the changes that the server gave: rows, then tags and settings.
@@ -45,7 +45,7 @@ pub fn take_changes<K: Keeper>(keeper: &mut K, came: &Changes, usn: i64) -> Resu
     ensures cause { KeepCause (K.health keeper.old) (K.health keeper.new) result }
 {
     let head = head_of(keeper)?;
-    take_changed_rows(keeper, came, usn)?;
+    take_changed_rows(keeper, came, usn, Side::Device)?;
     let head = head_with(head, came, usn)?;
     keeper.set_head(head)
 }
@@ -61,7 +61,7 @@ pub fn take_chunk<K: Keeper>(keeper: &mut K, chunk: &Chunk, usn: i64) -> Result<
     ensures stays { IsMarkedAt (back (K.keeping keeper.old)) (K.keeping keeper.new) }
     ensures cause { KeepCause (K.health keeper.old) (K.health keeper.new) result }
 {
-    take_chunk_rows(keeper, chunk, usn)
+    take_chunk_rows(keeper, chunk, usn, Side::Device)
 }
 
 /// The head once the tags and settings that came are taken.

@@ -62,6 +62,7 @@ use Rattle.ak_wires.specs.declared.asks.Unanswered.TheVariants as unanswered
 use Rattle.ak_wires.specs.declared.wires.Said.{Said}
 use Rattle.ak_wires.specs.declared.wires.WireEnd.{WireEnd}
 use Rattle.ak_wires.specs.declared.wires.WireEnd.TheVariants as ends
+use Rattle.ak_merge.specs.declared.sides.Side.TheVariants.{Device}
 
 -- a part with its request, as it was called
 pub record IsAsked {G : Type 0} (was now : Talk) (ask : Ask) (part : Give → Option G) (given : Result G Unanswered) : Type 0 where
@@ -642,13 +643,13 @@ div_more m n le =
 
 -- what came with the server's number adds no grave that is still to be sent
 fewer_graves : (usn : ℤ) (came : List Row) (held : Rows) → pos 0 ≤ℤ usn
-    → length (wanted_graves Unsent (all_taken usn came held)) ≤ length (wanted_graves Unsent held)
+    → length (wanted_graves Unsent (all_taken Device usn came held)) ≤ length (wanted_graves Unsent held)
 fewer_graves usn came held low =
-    let notes = unsent_never_grow tables.NoteGrave usn came held low in
-    let cards = unsent_never_grow tables.CardGrave usn came held low in
-    let decks = unsent_never_grow tables.DeckGrave usn came held low in
+    let notes = unsent_never_grow tables.NoteGrave Device usn came held low in
+    let cards = unsent_never_grow tables.CardGrave Device usn came held low in
+    let decks = unsent_never_grow tables.DeckGrave Device usn came held low in
     let before = three (wanted_past tables.NoteGrave Unsent (pos 0) held) (wanted_past tables.CardGrave Unsent (pos 0) held) (wanted_past tables.DeckGrave Unsent (pos 0) held) in
-    let after = three (wanted_past tables.NoteGrave Unsent (pos 0) (all_taken usn came held)) (wanted_past tables.CardGrave Unsent (pos 0) (all_taken usn came held)) (wanted_past tables.DeckGrave Unsent (pos 0) (all_taken usn came held)) in
+    let after = three (wanted_past tables.NoteGrave Unsent (pos 0) (all_taken Device usn came held)) (wanted_past tables.CardGrave Unsent (pos 0) (all_taken Device usn came held)) (wanted_past tables.DeckGrave Unsent (pos 0) (all_taken Device usn came held)) in
     omega (arith, notes, cards, decks, before, after)
   where
     three : (a b d : List Row) → length (a ++ (b ++ d)) ≡ length a + (length b + length d)
@@ -662,7 +663,7 @@ requests_before usn k0 k1 graves low took most = by k0.told (subst (λ (k : Keep
         → IfSome t (λ w. graves ≤ div_ceil (length (wanted_graves Unsent w.current.rows)) 250)
     by None is = tt
     by (Some w) is =
-        let fewer = div_more (length (wanted_graves Unsent (all_taken usn took.0.rows w.current.rows))) (length (wanted_graves Unsent w.current.rows))
+        let fewer = div_more (length (wanted_graves Unsent (all_taken Device usn took.0.rows w.current.rows))) (length (wanted_graves Unsent w.current.rows))
         (fewer_graves usn took.0.rows w.current.rows low) in
         omega (arith, is, fewer)
 

@@ -1,5 +1,5 @@
 -- What a server's commit keeps.
-use Rattle.ak_base.specs.Rows.{IsChecked, name_of, stamp_of, usn_of, with_usn}
+use Rattle.ak_base.specs.Rows.{IsChecked, buried_of, name_of, stamp_of, usn_of, with_usn}
 use Rattle.ak_base.specs.Limits.{last_usn, last_head_usn, last_stamp}
 use Rattle.ak_keep.specs.Collections.{Collection, Rows, is_settled}
 use Rattle.ak_base.specs.Tables.{graves_of, has_stamps}
@@ -33,7 +33,10 @@ use Rattle.ak_merge.proofs.JoinLaws.{no_graves}
 use Rattle.ak_merge.specs.Links.{IsGiven, AreNumbered, IsHeldLike, IsNewerFrom, IsThere, HasTaken, IsKnown, IsShared, IsTagShared, AreLinkedParts, AreLinked}
 use Rattle.ak_base.proofs.RowFacts.{name_of-with_usn, stamp_of-with_usn, usn_of-with_usn}
 use Rattle.ak_base.proofs.SameRows.{like_stamp}
-use Rattle.ak_merge.proofs.TakingLaws.{received, received_by, received_under, grave_in, newest_in, all_taken_at, each_newest}
+use Rattle.ak_merge.proofs.TakingLaws.{received, received_by, received_under, grave_in, graves_alike, if_weaker, newest_in, newest_named, all_taken_at, each_newest}
+use Rattle.ak_merge.specs.Takings.{beats}
+use Rattle.ak_merge.specs.declared.sides.Side.{Side}
+use Rattle.ak_merge.specs.declared.sides.Side.TheVariants.{Device, Server}
 
 -- ---- what holds of what is there
 pub when_some : (P : Row → Type 0) (o : Option Row) → ((row : Row) → o ≡ Some row → P row) → IfSome o P
@@ -43,76 +46,65 @@ when_some P (Some x) all = all x refl
 pub of_some : (P : Row → Type 0) (o : Option Row) (row : Row) → IfSome o P → o ≡ Some row → P row
 of_some P o row holds is = subst (λ (x : Option Row). IfSome x P) is holds
 
-pub if_weaker : (P Q : Row → Type 0) → ((row : Row) → P row → Q row) → (o : Option Row) → IfSome o P → IfSome o Q
-if_weaker P Q weaker None holds = tt
-if_weaker P Q weaker (Some x) holds = weaker x holds
+each_received : (P : Row → Type 0) (side : Side) (usn : ℤ) (x y : Option Row) → IfSome x P → IfSome y (λ (row : Row). P (with_usn row usn)) → IfSome (received side usn x y) P
+each_received P side usn None None one other = tt
+each_received P side usn None (Some y) one other = other
+each_received P side usn (Some x) None one other = one
+each_received P side usn (Some x) (Some y) one other = elim (beats side x y) as (λ s. IfSome (if s then Some (with_usn y usn) else Some x) P) [ true ↦ other | false ↦ one ]
 
-each_received : (P : Row → Type 0) (usn : ℤ) (x y : Option Row) → IfSome x P → IfSome y (λ (row : Row). P (with_usn row usn)) → IfSome (received usn x y) P
-each_received P usn None None one other = tt
-each_received P usn None (Some y) one other = other
-each_received P usn (Some x) None one other = one
-each_received P usn (Some x) (Some y) one other = elim (int_lt (stamp_of x) (stamp_of y)) as (λ s. IfSome (if s then Some (with_usn y usn) else Some x) P) [ true ↦ other | false ↦ one ]
-
-pub each_by : (P : Row → Type 0) (usn : ℤ) (x g y h : Option Row) → IfSome x P → IfSome y (λ (row : Row). P (with_usn row usn)) → IfSome (received_by usn x g y h) P
-each_by P usn x g y (Some h) one other = tt
-each_by P usn x (Some g) y None one other = one
-each_by P usn x None y None one other = each_received P usn x y one other
-
--- what a list has of a name bears it
-pub newest_named : (came : List Row) (name : Name) → IfSome (newest_in came name) (λ (row : Row). name_of row ≡ name)
-newest_named came name = if_weaker (λ row. ⊤ × (name_of row ≡ name)) (λ row. name_of row ≡ name) (λ row h. h.1) (newest_in came name) (each_newest (λ row. ⊤) came name (trivial came))
-  where
-    trivial : (came : List Row) → AllByRecursion (λ row. ⊤) came
-    trivial came = recursion_from_All (λ row. ⊤) came (λ k d within. tt)
+pub each_by : (P : Row → Type 0) (side : Side) (usn : ℤ) (x g y h : Option Row) → IfSome x P → IfSome y (λ (row : Row). P (with_usn row usn)) → IfSome (received_by side usn x g y h) P
+each_by P side usn x g y (Some h) one other = tt
+each_by P side usn x (Some g) y None one other = one
+each_by P side usn x None y None one other = each_received P side usn x y one other
 
 -- ---- single
 -- what a grave's name has once rows were taken
-pub grave_received : (usn : ℤ) (at from : RowsByName) (name : Name) (graves : Option Table) → graves_of name.table ≡ graves
-    → grave_in (received_under usn at from) name graves ≡ received usn (grave_in at name graves) (grave_in from name graves)
-grave_received usn at from name None is = refl
-grave_received usn at from name (Some graves) is =
+pub grave_received : (side : Side) (usn : ℤ) (at from : RowsByName) (name : Name) (graves : Option Table) → graves_of name.table ≡ graves
+    → grave_in (received_under side usn at from) name graves ≡ received side usn (grave_in at name graves) (grave_in from name graves)
+grave_received side usn at from name None is = refl
+grave_received side usn at from name (Some graves) is =
     let grave : Name = record { table = graves; id = name.id } in
-    ap (λ o. received_by usn (at grave) (grave_in at grave o) (from grave) (grave_in from grave o)) (no_graves name.table graves is)
+    ap (λ o. received_by side usn (at grave) (grave_in at grave o) (from grave) (grave_in from grave o)) (no_graves name.table graves is)
 
-single_cell : (usn : ℤ) (x g y k : Option Row) → (is_some g ≡ true → x ≡ None) → is_some (received usn g k) ≡ true → received_by usn x g y k ≡ None
-single_cell usn x g y (Some k) single dead = refl
-single_cell usn x (Some g) y None single dead = single refl
-single_cell usn x None y None single dead = grind (arith, dead)
+single_cell : (side : Side) (usn : ℤ) (x g y k : Option Row) → (is_some g ≡ true → x ≡ None) → is_some (received side usn g k) ≡ true → received_by side usn x g y k ≡ None
+single_cell side usn x g y (Some k) single dead = refl
+single_cell side usn x (Some g) y None single dead = single refl
+single_cell side usn x None y None single dead = grind (arith, dead)
 
-pub single_received : (usn : ℤ) (at from : RowsByName) → IsSingle at → IsSingle (received_under usn at from)
-single_received usn at from single name dead =
-    single_cell usn (at name) (grave_under at name) (from name) (grave_under from name) (single name) (ap is_some (sym (grave_received usn at from name (graves_of name.table) refl)) ∙ dead)
+pub single_received : (side : Side) (usn : ℤ) (at from : RowsByName) → IsSingle at → IsSingle (received_under side usn at from)
+single_received side usn at from single name dead =
+    single_cell side usn (at name) (grave_under at name) (from name) (grave_under from name) (single name) (ap is_some (sym (grave_received side usn at from name (graves_of name.table) refl)) ∙ dead)
 
 -- ---- a commit
 pub commit_under : (came : Received) (s t : Collection) → IsCommitOf came s t
-    → row_under t ≡ received_under s.head.usn (row_under s) (newest_in came.rows)
-commit_under came s t commit = fun_ext (λ name. ap (λ (rows : Rows). get rows name) commit.rows ∙ all_taken_at s.head.usn came.rows s.rows name)
+    → row_under t ≡ received_under Server s.head.usn (row_under s) (newest_in Server came.rows)
+commit_under came s t commit = fun_ext (λ name. ap (λ (rows : Rows). get rows name) commit.rows ∙ all_taken_at Server s.head.usn came.rows s.rows name)
 
 -- the number of each tag
 pub commit_tag : (came : Received) (s t : Collection) → IsCommitOf came s t → (name : List ℕ)
     → tag_usn t.head.tags name ≡ option_or (tag_usn s.head.tags name) (if has_name came.tags name then Some s.head.usn else None)
 commit_tag came s t commit name = ap (λ (tags : List Tag). tag_usn tags name) commit.tags ∙ tags_are_united s.head.usn came.tags s.head.tags name
 
-pub named_received : (usn : ℤ) (at from : RowsByName) → AreNamed at → ((name : Name) → IfSome (from name) (λ (row : Row). name_of row ≡ name)) → AreNamed (received_under usn at from)
-named_received usn at from named came name row is =
-    of_some (λ (x : Row). name_of x ≡ name) (received_under usn at from name) row
-    (each_by (λ (x : Row). name_of x ≡ name) usn (at name) (grave_under at name) (from name) (grave_under from name)
+pub named_received : (side : Side) (usn : ℤ) (at from : RowsByName) → AreNamed at → ((name : Name) → IfSome (from name) (λ (row : Row). name_of row ≡ name)) → AreNamed (received_under side usn at from)
+named_received side usn at from named came name row is =
+    of_some (λ (x : Row). name_of x ≡ name) (received_under side usn at from name) row
+    (each_by (λ (x : Row). name_of x ≡ name) side usn (at name) (grave_under at name) (from name) (grave_under from name)
     (when_some (λ (x : Row). name_of x ≡ name) (at name) (named name))
     (if_weaker (λ (x : Row). name_of x ≡ name) (λ (x : Row). name_of (with_usn x usn) ≡ name) (λ x h. name_of-with_usn x usn ∙ h) (from name) (came name)))
     is
 
-pub checked_received : (usn : ℤ) (at from : RowsByName) → AreChecked at → ((name : Name) → IfSome (from name) (λ (row : Row). IsChecked (with_usn row usn)))
-    → AreChecked (received_under usn at from)
-checked_received usn at from checked came name row is =
-    of_some IsChecked (received_under usn at from name) row
-    (each_by IsChecked usn (at name) (grave_under at name) (from name) (grave_under from name) (when_some IsChecked (at name) (checked name)) (came name))
+pub checked_received : (side : Side) (usn : ℤ) (at from : RowsByName) → AreChecked at → ((name : Name) → IfSome (from name) (λ (row : Row). IsChecked (with_usn row usn)))
+    → AreChecked (received_under side usn at from)
+checked_received side usn at from checked came name row is =
+    of_some IsChecked (received_under side usn at from name) row
+    (each_by IsChecked side usn (at name) (grave_under at name) (from name) (grave_under from name) (when_some IsChecked (at name) (checked name)) (came name))
     is
 
 -- what a list of rows in their ranges has of a name is in them under a number that is in range
-pub newest_checked : (usn : ℤ) (came : List Row) → IsWithin (pos 0) last_usn usn → All IsChecked came → (name : Name) → IfSome (newest_in came name) (λ (row : Row). IsChecked (with_usn row usn))
-newest_checked usn came within fits name =
-    if_weaker (λ row. IsChecked row × (name_of row ≡ name)) (λ row. IsChecked (with_usn row usn)) (λ row h. checked_with_usn row usn within.low within.high h.0) (newest_in came name)
-    (each_newest IsChecked came name (recursion_from_All IsChecked came fits))
+pub newest_checked : (side : Side) (usn : ℤ) (came : List Row) → IsWithin (pos 0) last_usn usn → All IsChecked came → (name : Name) → IfSome (newest_in side came name) (λ (row : Row). IsChecked (with_usn row usn))
+newest_checked side usn came within fits name =
+    if_weaker (λ row. IsChecked row × (name_of row ≡ name)) (λ row. IsChecked (with_usn row usn)) (λ row h. checked_with_usn row usn within.low within.high h.0) (newest_in side came name)
+    (each_newest side IsChecked came name (recursion_from_All IsChecked came fits))
 
 -- a number of a head is in the range of rows
 pub number_within : (usn : ℤ) → pos 0 ≤ℤ usn → usn ≤ℤ last_head_usn → IsWithin (pos 0) last_usn usn
@@ -129,9 +121,9 @@ all_some P all None = tt
 all_some P all (Some x) = all x
 
 given_received : (usn more : ℤ) (at from : RowsByName) → more ≡ usn +ℤ pos 1 → pos 0 ≤ℤ usn → (name : Name) → IfSome (at name) (λ (row : Row). IsGiven usn (usn_of row))
-    → IfSome (received_under usn at from name) (λ (row : Row). IsGiven more (usn_of row))
+    → IfSome (received_under Server usn at from name) (λ (row : Row). IsGiven more (usn_of row))
 given_received usn more at from is low name given =
-    each_by (λ (row : Row). IsGiven more (usn_of row)) usn (at name) (grave_under at name) (from name) (grave_under from name)
+    each_by (λ (row : Row). IsGiven more (usn_of row)) Server usn (at name) (grave_under at name) (from name) (grave_under from name)
     (if_weaker (λ (row : Row). IsGiven usn (usn_of row)) (λ (row : Row). IsGiven more (usn_of row)) (λ row h. given_more usn more is (usn_of row) h) (at name) given)
     (all_some (λ (row : Row). IsGiven more (usn_of (with_usn row usn))) (λ row. given_now usn more is low (usn_of (with_usn row usn)) (usn_of-with_usn row usn)) (from name))
 
@@ -145,7 +137,7 @@ pub commit_given : (came : Received) (s t : Collection) → IsCommitOf came s t 
     → AreNumbered IsGiven t
 commit_given came s t commit low given = record {
   rows = λ name. subst (λ (at : RowsByName). IfSome (at name) (λ (row : Row). IsGiven t.head.usn (usn_of row))) (sym (commit_under came s t commit))
-      (given_received s.head.usn t.head.usn (row_under s) (newest_in came.rows) commit.usn low name (given.rows name));
+      (given_received s.head.usn t.head.usn (row_under s) (newest_in Server came.rows) commit.usn low name (given.rows name));
   tags = λ name. tags_given s.head.usn t.head.usn (has_name came.tags name) (tag_usn s.head.tags name) (tag_usn t.head.tags name) commit.usn low (given.tags name) (commit_tag came s t commit name);
 }
 
@@ -179,17 +171,17 @@ pub commits_stay_lawful : (came : Received) (s t : Collection) → IsCommitOf ca
 commits_stay_lawful came s t commit fits kept =
     let now = sym (commit_under came s t commit) in
     record {
-      named = subst AreNamed now (named_received s.head.usn (row_under s) (newest_in came.rows) kept.named (newest_named came.rows));
-      checked = subst AreChecked now (checked_received s.head.usn (row_under s) (newest_in came.rows) kept.checked
-          (newest_checked s.head.usn came.rows (number_within s.head.usn kept.head.usn.low kept.head.usn.high) fits.rows));
-      single = subst IsSingle now (single_received s.head.usn (row_under s) (newest_in came.rows) kept.single);
+      named = subst AreNamed now (named_received Server s.head.usn (row_under s) (newest_in Server came.rows) kept.named (newest_named Server came.rows));
+      checked = subst AreChecked now (checked_received Server s.head.usn (row_under s) (newest_in Server came.rows) kept.checked
+          (newest_checked Server s.head.usn came.rows (number_within s.head.usn kept.head.usn.low kept.head.usn.high) fits.rows));
+      single = subst IsSingle now (single_received Server s.head.usn (row_under s) (newest_in Server came.rows) kept.single);
       given = commit_given came s t commit kept.head.usn.low kept.given;
       head = head_in_range came s t commit fits kept.head;
     }
 
 -- ---- a commit keeps links
 -- what a device has taken of a server's row it still has
-taken_kept : (least usn : ℤ) (x g y h r k : Option Row) → least ≤ℤ usn → HasTaken least x g y → HasTaken least x g (received_by usn y h r k)
+taken_kept : (least usn : ℤ) (x g y h r k : Option Row) → least ≤ℤ usn → HasTaken least x g y → HasTaken least x g (received_by Server usn y h r k)
 taken_kept least usn x g y h r (Some k) up taken = tt
 taken_kept least usn x g y (Some h) r None up taken = taken
 taken_kept least usn x g None None None None up taken = tt
@@ -220,7 +212,7 @@ only_grave : (least : ℤ) (x h : Row) → Accounts least x None (Some h) → le
 only_grave least x h accounts = elim accounts [ inl none ↦ absurd none | inr (inl none) ↦ absurd none | inr (inr from) ↦ from ]
 
 known_cell : (least usn : ℤ) (x : Row) (y h r k : Option Row) → least ≤ℤ usn → (is_some h ≡ true → y ≡ None) → Accounts least x y h
-    → Accounts least x (received_by usn y h r k) (received usn h k)
+    → Accounts least x (received_by Server usn y h r k) (received Server usn h k)
 known_cell least usn x y None r (Some k) up single accounts = inr (inr (omega (arith, ints, up, usn_of-with_usn k usn)))
 known_cell least usn x y (Some h) r (Some k) up single accounts =
     let grave : least ≤ℤ usn_of h = only_grave least x h (subst (λ (o : Option Row). Accounts least x o (Some h)) (single refl) accounts) in
@@ -275,13 +267,31 @@ pub unstamped : (name : Name) (o : Option Row) → has_stamps name.table ≡ fal
     → IfSome o (λ (row : Row). stamp_of row ≡ pos 0)
 unstamped name o none named = if_weaker (λ (row : Row). name_of row ≡ name) (λ (row : Row). stamp_of row ≡ pos 0) (λ row is. no_stamps row (ap (λ (n : Name). has_stamps n.table) is ∙ none)) o named
 
--- of reviews and graves what is held stays
-pub stays_unstamped : (usn : ℤ) (y : Row) (r : Option Row) → stamp_of y ≡ pos 0 → IfSome r (λ (row : Row). stamp_of row ≡ pos 0) → received usn (Some y) r ≡ Some y
+-- of reviews and graves what a server holds stays
+pub stays_unstamped : (usn : ℤ) (y : Row) (r : Option Row) → stamp_of y ≡ pos 0 → IfSome r (λ (row : Row). stamp_of row ≡ pos 0) → received Server usn (Some y) r ≡ Some y
 stays_unstamped usn y None one other = refl
 stays_unstamped usn y (Some r) one other = let not_newer : int_lt (stamp_of y) (stamp_of r) ≡ false = grind (arith, ints, one, other) in rw not_newer refl
 
+grave_stamp : (row : Row) → is_some (buried_of row) ≡ true → stamp_of row ≡ pos 0
+grave_stamp (rows.Note n) grave = grind (arith, grave)
+grave_stamp (rows.Card c) grave = grind (arith, grave)
+grave_stamp (rows.Review r) grave = refl
+grave_stamp (rows.NoteType t) grave = grind (arith, grave)
+grave_stamp (rows.Deck d) grave = grind (arith, grave)
+grave_stamp (rows.Options o) grave = grind (arith, grave)
+grave_stamp (rows.Grave g) grave = refl
+
+no_grave_beats : (side : Side) (y r : Row) → is_some (buried_of y) ≡ true → is_some (buried_of r) ≡ true → beats side y r ≡ false
+no_grave_beats Server y r one other = let mine = grave_stamp y one in let theirs = grave_stamp r other in grind (arith, ints, mine, theirs)
+no_grave_beats Device y r one other = rw other refl
+
+-- of graves what is held stays on either side
+pub grave_stays : (side : Side) (usn : ℤ) (y : Row) (r : Option Row) → is_some (buried_of y) ≡ true → IfSome r (λ (row : Row). name_of row ≡ name_of y) → received side usn (Some y) r ≡ Some y
+grave_stays side usn y None grave same = refl
+grave_stays side usn y (Some r) grave same = let no : beats side y r ≡ false = no_grave_beats side y r grave (graves_alike r y same ∙ grave) in rw no refl
+
 shared_kept : (least usn : ℤ) (x y r : Option Row) → least ≤ℤ usn → IfSome y (λ (row : Row). stamp_of row ≡ pos 0) → IfSome r (λ (row : Row). stamp_of row ≡ pos 0)
-    → IsShared least x y → IsShared least x (received usn y r)
+    → IsShared least x y → IsShared least x (received Server usn y r)
 shared_kept least usn x None None up one other shared = shared
 shared_kept least usn x None (Some r) up one other shared = record {
   sent = if_weaker (λ (row : Row). IsTrue (is_settled row) → ⊥) (λ (row : Row). IsTrue (is_settled row) → IsHeldLike row (Some (with_usn r usn))) (λ row never sent. absurd (never sent)) x shared.sent;
@@ -305,30 +315,30 @@ grave_named : (at : RowsByName) (name : Name) (graves : Table) → AreNamed at
 grave_named at name graves named = when_some (λ (row : Row). name_of row ≡ record { table = graves; id = name.id }) (at (record { table = graves; id = name.id })) (named (record { table = graves; id = name.id }))
 
 known_received : (least usn : ℤ) (x : Option Row) (at from : RowsByName) (name : Name) → least ≤ℤ usn → IsSingle at → IsKnown least x (at name) (grave_under at name)
-    → IsKnown least x (received_under usn at from name) (grave_under (received_under usn at from) name)
+    → IsKnown least x (received_under Server usn at from name) (grave_under (received_under Server usn at from) name)
 known_received least usn None at from name up single known = tt
 known_received least usn (Some x) at from name up single known = λ sent.
-    subst (λ (h : Option Row). Accounts least x (received_under usn at from name) h) (sym (grave_received usn at from name (graves_of name.table) refl))
+    subst (λ (h : Option Row). Accounts least x (received_under Server usn at from name) h) (sym (grave_received Server usn at from name (graves_of name.table) refl))
     (known_cell least usn x (at name) (grave_under at name) (from name) (grave_under from name) up (single name) (known sent))
 
 shared_received : (least usn : ℤ) (x : Option Row) (at from : RowsByName) (name : Name) → least ≤ℤ usn → has_stamps name.table ≡ false → AreNamed at
-    → IfSome (from name) (λ (row : Row). name_of row ≡ name) → IsShared least x (at name) → IsShared least x (received_under usn at from name)
+    → IfSome (from name) (λ (row : Row). name_of row ≡ name) → IsShared least x (at name) → IsShared least x (received_under Server usn at from name)
 shared_received least usn x at from name up none named came shared =
     let no_grave : graves_of name.table ≡ None = ungraved name.table none in
-    subst (λ (o : Option Table). IsShared least x (received_by usn (at name) (grave_in at name o) (from name) (grave_in from name o))) (sym no_grave)
+    subst (λ (o : Option Table). IsShared least x (received_by Server usn (at name) (grave_in at name o) (from name) (grave_in from name o))) (sym no_grave)
     (subst (IsShared least x) (received_alone usn (at name) (from name))
     (shared_kept least usn x (at name) (from name) up
     (unstamped name (at name) none (when_some (λ (row : Row). name_of row ≡ name) (at name) (named name)))
     (unstamped name (from name) none came) shared))
   where
-    received_alone : (usn : ℤ) (x y : Option Row) → received usn x y ≡ received_by usn x None y None
+    received_alone : (usn : ℤ) (x y : Option Row) → received Server usn x y ≡ received_by Server usn x None y None
     received_alone usn x y = refl
 
 parts_kept : (came : Received) (c s t : Collection) → IsCommitOf came s t → AreNamed (row_under s) → pos 0 ≤ℤ s.head.usn
     → AreLinkedParts c s → AreLinkedParts c t
 parts_kept came c s t commit named low linked =
     let now = sym (commit_under came s t commit) in
-    let from : RowsByName = newest_in came.rows in
+    let from : RowsByName = newest_in Server came.rows in
     record {
       usn = omega (arith, ints, commit.usn, linked.usn);
       given = commit_given came s t commit low linked.given;
@@ -338,10 +348,12 @@ parts_kept came c s t commit named low linked =
       known = λ name stamps. subst (λ (at : RowsByName). IsKnown c.head.usn (row_under c name) (at name) (grave_under at name)) now
           (known_received c.head.usn s.head.usn (row_under c name) (row_under s) from name linked.usn linked.single (linked.known name stamps));
       shared = λ name none. subst (λ (at : RowsByName). IsShared c.head.usn (row_under c name) (at name)) now
-          (shared_received c.head.usn s.head.usn (row_under c name) (row_under s) from name linked.usn none named (newest_named came.rows name) (linked.shared name none));
+          (shared_received c.head.usn s.head.usn (row_under c name) (row_under s) from name linked.usn none named (newest_named Server came.rows name) (linked.shared name none));
       tags = λ name. tag_kept c.head.usn s.head.usn (tag_usn c.head.tags name) (tag_usn s.head.tags name) (tag_usn t.head.tags name) (has_name came.tags name) linked.usn (linked.tags name) (commit_tag came s t commit name);
       own_single = linked.own_single;
-      single = subst IsSingle now (single_received s.head.usn (row_under s) from linked.single);
+      single = subst IsSingle now (single_received Server s.head.usn (row_under s) from linked.single);
+      later = λ same. absurd (omega (arith, ints, commit.usn, linked.usn, same));
+      settings = λ same _. absurd (omega (arith, ints, commit.usn, linked.usn, same));
     }
 
 -- a commit keeps every device linked
@@ -357,9 +369,9 @@ number_stays least usn None y true up is own = subst (λ (o : Option ℤ). IfSom
 number_stays least usn None y false up is own = subst (λ (o : Option ℤ). IfSome o (λ number. least ≤ℤ number)) (sym is) tt
 
 -- what holds of the rows that the server has, and of each with a number of at least so much, holds of those that it has then
-row_stays : (P : Row → Type 0) (usn : ℤ) (at from : RowsByName) (name : Name) → ((row : Row) → usn_of row ≡ usn → P row) → IfSome (at name) P → IfSome (received_under usn at from name) P
+row_stays : (P : Row → Type 0) (usn : ℤ) (at from : RowsByName) (name : Name) → ((row : Row) → usn_of row ≡ usn → P row) → IfSome (at name) P → IfSome (received_under Server usn at from name) P
 row_stays P usn at from name fits own =
-    each_by P usn (at name) (grave_under at name) (from name) (grave_under from name) own
+    each_by P Server usn (at name) (grave_under at name) (from name) (grave_under from name) own
     (all_some (λ row. P (with_usn row usn)) (λ row. fits (with_usn row usn) (usn_of-with_usn row usn)) (from name))
 
 fit_parts : (came : Received) (u : ℤ) (step : Reversal) (s t : Collection) → IsCommitOf came s t → StepFitsParts u step s → StepFitsParts u step t
@@ -368,10 +380,10 @@ fit_parts came u step s t commit fits =
     record {
       usn = omega (arith, ints, commit.usn, fits.usn);
       added = λ name is. subst (λ (at : RowsByName). IfSome (at name) (λ row. u ≤ℤ usn_of row)) now
-          (row_stays (λ row. u ≤ℤ usn_of row) s.head.usn (row_under s) (newest_in came.rows) name (λ row is. omega (arith, ints, is, fits.usn)) (fits.added name is));
+          (row_stays (λ row. u ≤ℤ usn_of row) s.head.usn (row_under s) (newest_in Server came.rows) name (λ row is. omega (arith, ints, is, fits.usn)) (fits.added name is));
       tags = λ name lacks. number_stays u s.head.usn (tag_usn s.head.tags name) (tag_usn t.head.tags name) (has_name came.tags name) fits.usn (commit_tag came s t commit name) (fits.tags name lacks);
       older = λ name before is. subst (λ (at : RowsByName). IfSome (at name) (λ row. usn_of row <ℤ u → stamp_of row ≤ℤ stamp_of before)) now
-          (row_stays (λ row. usn_of row <ℤ u → stamp_of row ≤ℤ stamp_of before) s.head.usn (row_under s) (newest_in came.rows) name
+          (row_stays (λ row. usn_of row <ℤ u → stamp_of row ≤ℤ stamp_of before) s.head.usn (row_under s) (newest_in Server came.rows) name
           (λ row is below. absurd (omega (arith, ints, is, fits.usn, below))) (fits.older name before is));
     }
 

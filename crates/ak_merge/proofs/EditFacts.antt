@@ -11,6 +11,7 @@ use Rattle.std.proofs.Common.{inl, inr, refl, sym, ap, subst, ◌∙◌, arith}
 use Rattle.std.proofs.Math.Path.{fun_ext}
 use Rattle.std.proofs.lemmas.Int.{ints, clamps}
 use Rattle.std.specs.Ordering.{int_eq}
+use Rattle.ak_base.specs.declared.heads.Head.{Head}
 use Rattle.ak_base.specs.declared.names.Name.{Name}
 use Rattle.ak_base.specs.declared.names.Table.{Table}
 use Rattle.ak_base.specs.declared.rows.Row.{Row}
@@ -91,7 +92,7 @@ pub edited_fields : (stamp : ℤ) (row : Row) → IsTrue (same_but_stamp_and_usn
 edited_fields stamp row = same_fields-turned (edited stamp row) row (same_fields-edited row stamp (negsuc 0))
 
 -- ---- numbers
-advanced_over : (now old : ℤ) → old <ℤ advanced now old
+pub advanced_over : (now old : ℤ) → old <ℤ advanced now old
 advanced_over now old = omega (arith, ints, clamps)
 
 advanced_least : (now old : ℤ) → now ≤ℤ advanced now old
@@ -110,7 +111,7 @@ pub least_advanced : (least now old : ℤ) → least <ℤ now → least <ℤ adv
 least_advanced least now old below = omega (arith, ints, advanced_least now old)
 
 -- ---- linked, over what stands under the names and the tags of a device
--- the five parts, where these rows and tags stand with this update sequence number on the device
+-- the first five parts, where these rows and tags stand with this update sequence number on the device
 pub record LinkedParts (u : ℤ) (at : RowsByName) (number_of : List ℕ → Option ℤ) (s : Collection) : Type 0 where
   pub usn : u ≤ℤ s.head.usn
   pub given : AreNumbered IsGiven s
@@ -137,8 +138,23 @@ parts_of c s l = record {
   single = l.single;
 }
 
-from_parts : (c s : Collection) → LinkedParts c.head.usn (row_under c) (tag_usn c.head.tags) s → AreLinkedParts c s
-from_parts c s l = record {
+-- the sixth part, of a device's head c and a server's head s
+pub record LinkedHeads (c s : Head) : Type 0 where
+  pub later : c.usn ≡ s.usn → s.moment ≤ℤ c.moment
+  pub settings : c.usn ≡ s.usn → c.moment ≡ s.moment → (c.conf ≡ s.conf) × (c.crt ≡ s.crt)
+
+pub heads_of : (c s : Collection) → AreLinkedParts c s → LinkedHeads c.head s.head
+heads_of c s l = record { later = l.later; settings = l.settings }
+
+-- a device that was changed once more was changed after the server, if the two numbers are equal
+pub heads_changed : (c after s : Head) → after.usn ≡ c.usn → c.moment <ℤ after.moment → LinkedHeads c s → LinkedHeads after s
+heads_changed c after s usn moved l = record {
+  later = λ same. let least = l.later (sym usn ∙ same) in omega (arith, ints, moved, least);
+  settings = λ same at_once. let least = l.later (sym usn ∙ same) in absurd (omega (arith, ints, moved, least, at_once));
+}
+
+from_parts : (c s : Collection) → LinkedHeads c.head s.head → LinkedParts c.head.usn (row_under c) (tag_usn c.head.tags) s → AreLinkedParts c s
+from_parts c s heads l = record {
   usn = l.usn;
   given = l.given;
   own = record { rows = l.numbers; tags = l.tag_numbers };
@@ -148,13 +164,15 @@ from_parts c s l = record {
   tags = l.tags;
   own_single = l.own_single;
   single = l.single;
+  later = heads.later;
+  settings = heads.settings;
 }
 
 -- a collection in which these rows and tags stand is linked
 pub linked_of : (u : ℤ) (at : RowsByName) (number_of : List ℕ → Option ℤ) (c s : Collection) → c.head.usn ≡ u → ((name : Name) → row_under c name ≡ at name)
-    → ((name : List ℕ) → tag_usn c.head.tags name ≡ number_of name) → LinkedParts u at number_of s → AreLinkedParts c s
-linked_of u at number_of c s usn rows tags l =
-    from_parts c s
+    → ((name : List ℕ) → tag_usn c.head.tags name ≡ number_of name) → LinkedHeads c.head s.head → LinkedParts u at number_of s → AreLinkedParts c s
+linked_of u at number_of c s usn rows tags heads l =
+    from_parts c s heads
     (subst (λ (v : ℤ). LinkedParts v (row_under c) (tag_usn c.head.tags) s) (sym usn)
     (subst (λ (f : RowsByName). LinkedParts u f (tag_usn c.head.tags) s) (sym (fun_ext rows))
     (subst (λ (f : List ℕ → Option ℤ). LinkedParts u at f s) (sym (fun_ext tags)) l)))

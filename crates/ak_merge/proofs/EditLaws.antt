@@ -3,7 +3,7 @@ use Rattle.ak_keep.specs.Graves.{RowsByName, grave_under, is_dead}
 use Rattle.ak_merge.specs.Holdings.{name_in, AreNamed, row_under, IsSingle, tag_usn}
 use Rattle.ak_keep.specs.Collections.{Collection}
 use Rattle.ak_base.specs.Tables.{has_stamps}
-use Rattle.std.specs.Prelude.{◌≡◌, ℕ, ℤ, Bool, true, false, IsTrue, List, Option, Some, None, IfSome, is_some}
+use Rattle.std.specs.Prelude.{◌≡◌, ℕ, ℤ, ◌<ℤ◌, Bool, true, false, IsTrue, List, Option, Some, None, IfSome, is_some}
 use Rattle.std.proofs.lemmas.Option.{same_Some}
 use Rattle.std.proofs.Common.{cond, inl, inr, refl, sym, ap, subst, ◌∙◌}
 use Rattle.std.proofs.Math.Path.{fun_ext}
@@ -12,7 +12,7 @@ use Rattle.ak_base.specs.declared.names.Name.{Name}
 use Rattle.ak_base.specs.declared.names.Table.{Table}
 use Rattle.ak_base.specs.declared.names.Table.TheVariants as tables
 use Rattle.ak_base.specs.declared.rows.Row.{Row}
-use Rattle.ak_merge.proofs.EditFacts.{false_true, true_false, LinkedParts, parts_of, linked_of}
+use Rattle.ak_merge.proofs.EditFacts.{false_true, true_false, advanced_over, LinkedParts, LinkedHeads, parts_of, heads_of, heads_changed, linked_of}
 use Rattle.ak_merge.specs.Tags.{has_name}
 use Rattle.ak_base.specs.declared.heads.Tag.{Tag}
 use Rattle.ak_merge.specs.Links.{IsOwn, IsShared, AreLinked}
@@ -172,12 +172,21 @@ module _ (second : ℤ) (c : Collection) (edit : Edit) (admits : Admits c edit) 
 pub schema_kept : (at : ℤ) (c after : Collection) (edit : Edit) → edit.schema ≡ false → IsEdited at c edit after → after.head.schema ≡ c.head.schema
 schema_kept at c after edit same is_edited = is_edited.schema ∙ ap (λ (t : Bool). cond t (advanced at c.head.schema) c.head.schema) same
 
+-- an edit changes nothing, or the device is then changed later
+edited_heads : (at : ℤ) (c after s : Collection) (edit : Edit) → IsEdited at c edit after → LinkedHeads c.head s.head → LinkedHeads after.head s.head
+edited_heads at c after s edit is_edited heads =
+    elim is_edited.moved [
+      | inl same ↦ subst (λ (d : Collection). LinkedHeads d.head s.head) (sym same) heads
+      | inr moved ↦ heads_changed c.head after.head s.head is_edited.usn (subst (λ (moment : ℤ). c.head.moment <ℤ moment) (sym moved.1) (advanced_over at c.head.moment)) heads
+    ]
+
 -- an edit that leaves the schema keeps linked with every collection of a server
 pub edits_keep_links : (at : ℤ) (c after s : Collection) (edit : Edit) → Admits c edit → edit.schema ≡ false → IsEdited at c edit after → AreLinked c s → AreLinked after s
 edits_keep_links at c after s edit admits same is_edited (inl differ) = inl (λ equal. differ (sym (schema_kept at c after edit same is_edited) ∙ equal))
 edits_keep_links at c after s edit admits same is_edited (inr parts) =
     inr (linked_of c.head.usn (edited_under (second_of at) (row_under c) edit.rows) (λ tag. edited_tag (tag_usn c.head.tags tag) (has_name edit.tags tag)) after s
-    is_edited.usn is_edited.rows (λ tag. ap (λ (tags : List Tag). tag_usn tags tag) is_edited.tags ∙ tag_edited edit.tags c.head.tags tag) (edited_parts (second_of at) c edit admits same s (parts_of c s parts)))
+    is_edited.usn is_edited.rows (λ tag. ap (λ (tags : List Tag). tag_usn tags tag) is_edited.tags ∙ tag_edited edit.tags c.head.tags tag)
+    (edited_heads at c after s edit is_edited (heads_of c s parts)) (edited_parts (second_of at) c edit admits same s (parts_of c s parts)))
 
 -- after an edit that changes the schema the schema moments differ, where the one that it gives is not the server's
 pub schema_edits_part : (at : ℤ) (c after s : Collection) (edit : Edit) → edit.schema ≡ true → IsEdited at c edit after → GivesFreshSchema at c s → AreLinked after s

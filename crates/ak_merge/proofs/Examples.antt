@@ -1,10 +1,11 @@
 -- Worked examples: what the definitions say of small collections.
 use Rattle.ak_keep.specs.Graves.{RowsByName, grave_under}
-use Rattle.ak_merge.specs.Holdings.{name_in, row_under, AreNamed, IsSingle, same_held}
+use Rattle.ak_merge.specs.Holdings.{name_in, row_under, AreNamed, AreChecked, IsSingle, same_held}
 use Rattle.std.proofs.lemmas.List.Elements.{All-from_recursion}
 use Rattle.ak_merge.specs.Commits.{Received}
 use Rattle.ak_merge.specs.Exchanges.{wanted_under, IsSent, IsServerHalf, HoldsJoin}
 use Rattle.ak_merge.specs.Takings.{all_taken}
+use Rattle.ak_merge.specs.declared.sides.Side.TheVariants.{Device, Server}
 use Rattle.ak_merge.proofs.CommitLaws.{commits_keep_links}
 use Rattle.ak_merge.proofs.ExchangeLaws.{server_half_joins}
 use Rattle.ak_merge.proofs.ExchangeCells.{only_wanted}
@@ -13,7 +14,7 @@ use Rattle.ak_keep.specs.declared.keepers.Wanted.TheVariants.{Unsent, From}
 use Rattle.ak_keep.proofs.RowsByName.{same_of_tied}
 use Rattle.ak_keep.specs.Collections.{Collection, Rows, rows_of}
 use Rattle.ak_base.specs.Tables.{graves_of, has_stamps}
-use Rattle.std.specs.Prelude.{◌≡◌, ◌≤ℤ◌, ℕ, ℤ, pos, negsuc, codes, true, false, cond, if◌then◌else◌, is_some, IsTrue, IfSome, ⊤, ◌⊎◌, List, [], ◌∷◌, Option, Some, None}
+use Rattle.std.specs.Prelude.{◌≡◌, ◌≢◌, ◌≤ℤ◌, ◌<ℤ◌, ℕ, ℤ, pos, negsuc, codes, true, false, cond, if◌then◌else◌, is_some, IsTrue, IfSome, ⊤, ◌⊎◌, List, [], ◌∷◌, Option, Some, None}
 use Rattle.std.proofs.lemmas.Option.{same_Some}
 use Rattle.std.proofs.Common.{refl, sym, ap, subst, ◌∙◌, inl, inr, arith}
 use Rattle.std.proofs.Math.Path.{fun_ext}
@@ -23,7 +24,7 @@ use Rattle.std.specs.List.{AllByRecursion, Contains}
 use Rattle.std.specs.Option.{option_and_then}
 use Rattle.ak_base.specs.Contents.{same_content}
 use Rattle.ak_base.specs.Names.{name_cmp, names_total}
-use Rattle.ak_base.specs.Rows.{name_of, stamp_of, usn_of}
+use Rattle.ak_base.specs.Rows.{IsChecked, name_of, stamp_of, usn_of, with_usn}
 use Rattle.ak_base.specs.declared.cards.Card.{Card}
 use Rattle.ak_base.specs.declared.heads.Head.{Head}
 use Rattle.ak_base.specs.declared.names.Name.{Name}
@@ -215,6 +216,24 @@ the_same_edit_is_apart name x y has held _ =
     let other : same_content y early ≡ true = each_standing (λ row. same_content row early ≡ true) (note_row (pos 3) (pos 10) (codes "house") ∷ []) (refl, tt) name y held in
     same-through x early y one (same-turned y early other)
 
+-- ---- ties
+-- the device's edit of a second, and the server's, whose number is 3
+abbrev own_edit : Row
+own_edit = note_row (negsuc 0) (pos 10) (codes "house")
+
+abbrev their_edit : Row
+their_edit = note_row (pos 3) (pos 10) (codes "home")
+
+-- Of two edits of one second the server's stands: in the join, on the device that takes it, and on the server that takes the device's.
+a_tie_is_the_servers : (joined_under (standing (own_edit ∷ [])) (standing (their_edit ∷ [])) (name_in tables.Note (pos 7)) ≡ Some their_edit)
+    × (received_under Device (pos 5) (standing (own_edit ∷ [])) (newest_in Device (their_edit ∷ [])) (name_in tables.Note (pos 7)) ≡ Some (note_row (pos 5) (pos 10) (codes "home")))
+    × (received_under Server (pos 5) (standing (their_edit ∷ [])) (newest_in Server (own_edit ∷ [])) (name_in tables.Note (pos 7)) ≡ Some their_edit)
+a_tie_is_the_servers = (refl, refl, refl)
+
+-- A device that holds a grave which it did not send yet keeps it as it is where the server gives it too.
+a_grave_stays_unsent : received_under Device (pos 5) (standing (grave_of (pos 0) (pos 8) ∷ [])) (newest_in Device (with_usn (grave_of (pos 0) (pos 8)) (pos 3) ∷ [])) (name_in tables.CardGrave (pos 8)) ≡ Some (grave_of (pos 0) (pos 8))
+a_grave_stays_unsent = refl
+
 -- ---- linked
 -- a collection of these rows whose number is 5, with one schema moment and no tags
 abbrev held_of : List Row → Head → Collection
@@ -263,10 +282,11 @@ unstamped x y name without =
       | false ↦ λ _. record { sent = tt; came = tt }
     ] refl
 
--- then a device with the one and a server with the other are linked
-note_links : (any their : Head) (u s v t : ℤ) (fields their_fields : List ℕ) → DoSuit (note_row u s fields) (note_row v t their_fields)
+-- then a device with the one and a server with the other are linked, if their moments and settings suit each other as well
+note_links : (any their : Head) (u s v t : ℤ) (fields their_fields : List ℕ) → their.moment ≤ℤ any.moment
+    → (any.moment ≡ their.moment → (any.conf ≡ their.conf) × (any.crt ≡ their.crt)) → DoSuit (note_row u s fields) (note_row v t their_fields)
     → AreLinkedParts (held_of (note_row u s fields ∷ []) any) (held_of (note_row v t their_fields ∷ []) their)
-note_links any their u s v t fields their_fields suit =
+note_links any their u s v t fields their_fields later settings suit =
     let x = note_row u s fields in
     let y = note_row v t their_fields in
     record {
@@ -295,6 +315,8 @@ note_links any their u s v t fields their_fields suit =
       tags = λ _. record { sent = tt; came = tt };
       own_single = of_maps (x ∷ []) (y ∷ []) (λ a b. IsSingle a) (λ name dead. absurd (not_both dead (no_grave u s fields name.table name.id)));
       single = of_maps (x ∷ []) (y ∷ []) (λ a b. IsSingle b) (λ name dead. absurd (not_both dead (no_grave v t their_fields name.table name.id)));
+      later = λ _. later;
+      settings = λ _. settings;
     }
 
 abbrev given_3 : Row
@@ -303,9 +325,9 @@ given_3 = note_row (pos 3) (pos 10) (codes "house")
 three : IsGiven (pos 5) (pos 3)
 three = record { low = omega (arith, ints); high = omega (arith, ints) }
 
--- After a sync the device holds the server's note with the server's number: the two are linked.
-linked_after_a_sync : (any their : Head) → AreLinked (held_of (given_3 ∷ []) any) (held_of (given_3 ∷ []) their)
-linked_after_a_sync any their = inr (note_links any their (pos 3) (pos 10) (pos 3) (pos 10) (codes "house") (codes "house") (record {
+-- After a sync the device holds the server's note with the server's number, and has its moment and settings: the two are linked.
+linked_after_a_sync : (any : Head) → AreLinked (held_of (given_3 ∷ []) any) (held_of (given_3 ∷ []) any)
+linked_after_a_sync any = inr (note_links any any (pos 3) (pos 10) (pos 3) (pos 10) (codes "house") (codes "house") (omega (arith, ints)) (λ _. (refl, refl)) (record {
   own = inr three;
   given = three;
   taken = λ _ _. inl refl;
@@ -313,8 +335,9 @@ linked_after_a_sync any their = inr (note_links any their (pos 3) (pos 10) (pos 
 }))
 
 -- The device edited the note since: its row is newer and was not sent yet, and the two are still linked.
-linked_after_an_edit : (any their : Head) → AreLinked (held_of (late ∷ []) any) (held_of (given_3 ∷ []) their)
-linked_after_an_edit any their = inr (note_links any their (negsuc 0) (pos 20) (pos 3) (pos 10) (codes "home") (codes "house") (record {
+linked_after_an_edit : (any their : Head) → their.moment <ℤ any.moment → AreLinked (held_of (late ∷ []) any) (held_of (given_3 ∷ []) their)
+linked_after_an_edit any their moved = inr (note_links any their (negsuc 0) (pos 20) (pos 3) (pos 10) (codes "home") (codes "house")
+    (omega (arith, ints, moved)) (λ at_once. absurd (omega (arith, ints, moved, at_once))) (record {
   own = inl refl;
   given = three;
   taken = λ _ _. inr (inl (record { unsent = refl; newer = omega (arith, ints) }));
@@ -331,6 +354,22 @@ not_linked_by_a_lost_row any their linked =
           elim none as (λ _. ⊥) [ inl never ↦ never | inr (inl never) ↦ never | inr (inr never) ↦ never ]
     ]
 
+-- The server was changed after the device, and the two have one number: the device missed a commit, and they are not linked.
+not_linked_by_a_missed_commit : (any their : Head) → any.moment <ℤ their.moment → AreLinked (held_of (given_3 ∷ []) any) (held_of (given_3 ∷ []) their) → ⊥
+not_linked_by_a_missed_commit any their missed linked =
+    elim linked as (λ _. ⊥) [
+      | inl differ ↦ differ refl
+      | inr parts ↦ let least = parts.later refl in omega (arith, ints, missed, least)
+    ]
+
+-- The two have one number and one moment, and other moments of creation: they are not linked.
+not_linked_by_other_settings : (any their : Head) → any.moment ≡ their.moment → any.crt ≢ their.crt → AreLinked (held_of (given_3 ∷ []) any) (held_of (given_3 ∷ []) their) → ⊥
+not_linked_by_other_settings any their at_once other linked =
+    elim linked as (λ _. ⊥) [
+      | inl differ ↦ differ refl
+      | inr parts ↦ other (parts.settings refl at_once).1
+    ]
+
 -- ---- an exchange in parts
 abbrev their_card : Row
 their_card = rows.Card (record (card_of_it (pos 8) (pos 10) (pos 0)) { usn = pos 3 })
@@ -345,15 +384,15 @@ device_rows = grave_of (pos 0) (pos 8) ∷ review_of_8 ∷ late ∷ []
 
 -- what the server holds once it took the graves first, and then two chunks
 abbrev in_parts : Rows
-in_parts = all_taken (pos 5) (late ∷ []) (all_taken (pos 5) (review_of_8 ∷ []) (all_taken (pos 5) (grave_of (pos 0) (pos 8) ∷ []) (rows_of server_rows)))
+in_parts = all_taken Server (pos 5) (late ∷ []) (all_taken Server (pos 5) (review_of_8 ∷ []) (all_taken Server (pos 5) (grave_of (pos 0) (pos 8) ∷ []) (rows_of server_rows)))
 
-parts_stand : (name : Name) → get in_parts name ≡ received_under (pos 5) (standing server_rows) (newest_in device_rows) name
-parts_stand name = all_taken_at (pos 5) device_rows (rows_of server_rows) name ∙ ap (λ (at : RowsByName). received_under (pos 5) at (newest_in device_rows) name) (all_stand server_rows)
+parts_stand : (name : Name) → get in_parts name ≡ received_under Server (pos 5) (standing server_rows) (newest_in Server device_rows) name
+parts_stand name = all_taken_at Server (pos 5) device_rows (rows_of server_rows) name ∙ ap (λ (at : RowsByName). received_under Server (pos 5) at (newest_in Server device_rows) name) (all_stand server_rows)
 
 abbrev IsJoinedAt : Name → Type 0
 IsJoinedAt name = IsTrue (same_held (get in_parts name) (joined_under (standing device_rows) (standing server_rows) name))
 
-joined_at : (name : Name) → IsTrue (same_held (received_under (pos 5) (standing server_rows) (newest_in device_rows) name) (joined_under (standing device_rows) (standing server_rows) name)) → IsJoinedAt name
+joined_at : (name : Name) → IsTrue (same_held (received_under Server (pos 5) (standing server_rows) (newest_in Server device_rows) name) (joined_under (standing device_rows) (standing server_rows) name)) → IsJoinedAt name
 joined_at name is = ap (λ o. same_held o (joined_under (standing device_rows) (standing server_rows) name)) (parts_stand name) ∙ is
 
 -- Taken in parts, what the device sent gives the join: the edited note, no card, the card's grave and the review.
@@ -378,7 +417,7 @@ server_then their = held_of (given_3 ∷ []) (record their { moment = pos 10 })
 
 abbrev server_now : Head → Head → Collection
 server_now any their = record {
-  rows = all_taken (pos 5) (late ∷ []) (rows_of (given_3 ∷ []));
+  rows = all_taken Server (pos 5) (late ∷ []) (rows_of (given_3 ∷ []));
   head = record their { moment = pos 30; usn = pos 6; schema = pos 1; tags = []; conf = any.conf; crt = any.crt };
 }
 
@@ -399,21 +438,19 @@ standing_named (x ∷ xs) name row is =
 pub map_named : (xs : List Row) → AreNamed (get (rows_of xs))
 map_named xs = of_maps xs xs (λ a b. AreNamed a) (standing_named xs)
 
-apart_by_stamps : AreApart (get (rows_of (late ∷ []))) (get (rows_of (given_3 ∷ [])))
-apart_by_stamps = of_maps (late ∷ []) (given_3 ∷ []) AreApart (λ name x y has held same.
-    let one : stamp_of x ≡ pos 20 = each_standing (λ row. stamp_of row ≡ pos 20) (late ∷ []) (refl, tt) name x has in
-    let other : stamp_of y ≡ pos 10 = each_standing (λ row. stamp_of row ≡ pos 10) (given_3 ∷ []) (refl, tt) name y held in
-    absurd (omega (arith, ints, one, other, same)))
+pub map_checked : (xs : List Row) → AllByRecursion IsChecked xs → AreChecked (get (rows_of xs))
+map_checked xs all = of_maps xs xs (λ a b. AreChecked a) (each_standing IsChecked xs all)
 
 linked_then : (any their : Head) → AreLinkedParts (device_then any) (server_then their)
-linked_then any their = note_links (record any { moment = pos 20 }) (record their { moment = pos 10 }) (negsuc 0) (pos 20) (pos 3) (pos 10) (codes "home") (codes "house") (record {
+linked_then any their = note_links (record any { moment = pos 20 }) (record their { moment = pos 10 }) (negsuc 0) (pos 20) (pos 3) (pos 10) (codes "home") (codes "house")
+    (omega (arith, ints)) (λ at_once. absurd (omega (arith, ints, at_once))) (record {
   own = inl refl;
   given = three;
   taken = λ _ _. inr (inl (record { unsent = refl; newer = omega (arith, ints) }));
   known = λ _ settled. absurd (not_both settled refl);
 })
 
-sent_then : (any : Head) → IsSent (late ∷ []) (wanted_under Unsent (row_under (device_then any))) (get (all_taken (pos 5) [] (device_then any).rows))
+sent_then : (any : Head) → IsSent (late ∷ []) (wanted_under Unsent (row_under (device_then any))) (get (all_taken Device (pos 5) [] (device_then any).rows))
 sent_then any = record {
   each = All-from_recursion (λ row. wanted_under Unsent (row_under (device_then any)) (name_of row) ≡ Some row) (late ∷ []) (ap (only_wanted Unsent) (rows_stand (late ∷ []) seven), tt);
   whole = λ name row is _. subst (λ (r : Row). Contains (late ∷ []) r) (only_late name row (ap (only_wanted Unsent) (sym (rows_stand (late ∷ []) name)) ∙ is)) (0, omega arith, refl);
@@ -441,7 +478,7 @@ a_lost_reply_leaves_the_servers_half : (any their : Head) → HoldsJoin (device_
 a_lost_reply_leaves_the_servers_half any their =
     let half = server_half any their in
     let low : pos 0 ≤ℤ pos 5 = omega (arith, ints) in (
-      server_half_joins nothing_came (note_sent any) (device_then any) (server_then their) (server_now any their) half (linked_then any their) apart_by_stamps
+      server_half_joins nothing_came (note_sent any) (device_then any) (server_then their) (server_now any their) half (linked_then any their)
           (map_named (late ∷ [])) (map_named (given_3 ∷ [])) low,
       commits_keep_links (note_sent any) (device_then any) (server_then their) (server_now any their) half.commits (map_named (given_3 ∷ [])) low (inr (linked_then any their)),
     )

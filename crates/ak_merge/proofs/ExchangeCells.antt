@@ -1,12 +1,12 @@
 -- What an exchange leaves under one name, on both sides.
-use Rattle.std.specs.Prelude.{◌≡◌, ℤ, ◌<ℤ◌, Bool, true, false, not, ◌||◌, if◌then◌else◌, int_lt, IsTrue, IfSome, List, Option, Some, None, is_some}
+use Rattle.std.specs.Prelude.{◌≡◌, ℤ, ◌<ℤ◌, Bool, true, false, not, ◌&&◌, ◌||◌, if◌then◌else◌, int_lt, IsTrue, IfSome, List, Option, Some, None, is_some}
 use Rattle.std.proofs.lemmas.Option.{none-some, same_Some}
 use Rattle.std.proofs.Common.{refl, sym, ap, subst, ◌∙◌, inl, inr, arith}
 use Rattle.std.proofs.lemmas.Int.{ints}
 use Rattle.std.proofs.lemmas.List.Elements.{recursion_from_All}
 use Rattle.std.specs.Option.{option_and_then}
 use Rattle.ak_base.specs.Contents.{same_content}
-use Rattle.ak_base.specs.Rows.{name_of, stamp_of, usn_of, with_usn}
+use Rattle.ak_base.specs.Rows.{buried_of, name_of, stamp_of, usn_of, with_usn}
 use Rattle.ak_base.specs.declared.names.Name.{Name}
 use Rattle.ak_base.specs.declared.rows.Row.{Row}
 use Rattle.ak_keep.specs.Collections.{is_pending, is_settled, is_wanted}
@@ -19,8 +19,11 @@ use Rattle.ak_merge.specs.Joins.{newest}
 use Rattle.ak_merge.specs.Links.{HasTaken, IsKnown}
 use Rattle.ak_base.proofs.RowFacts.{same-with_usn, same-itself, same-turned}
 use Rattle.ak_base.proofs.SameRows.{like_stamp}
-use Rattle.ak_merge.proofs.TakingLaws.{received, received_by, newest_in, each_newest, has_newest}
-use Rattle.ak_merge.proofs.CommitLaws.{if_weaker}
+use Rattle.ak_merge.proofs.TakingJoins.{AreOneGrave, device_newest, server_newest}
+use Rattle.ak_merge.proofs.TakingLaws.{received, received_by, if_weaker, newest_in, each_newest, has_newest}
+use Rattle.ak_merge.specs.Takings.{beats}
+use Rattle.ak_merge.specs.declared.sides.Side.{Side}
+use Rattle.ak_merge.specs.declared.sides.Side.TheVariants.{Device, Server}
 
 -- ---- an exchange: what came and what was sent
 -- of what is wanted at one name
@@ -45,20 +48,20 @@ wanted_named want at named name row is =
     ] refl is
 
 -- what a list has of a name stands there, if all of it does
-pub sent_each : (sent : List Row) (at : RowsByName) (name : Name) → AreOf at sent → IfSome (newest_in sent name) (λ (row : Row). at name ≡ Some row)
-sent_each sent at name each =
-    if_weaker (λ (row : Row). (at (name_of row) ≡ Some row) × (name_of row ≡ name)) (λ (row : Row). at name ≡ Some row) (λ row h. ap at (sym h.1) ∙ h.0) (newest_in sent name)
-    (each_newest (λ (row : Row). at (name_of row) ≡ Some row) sent name (recursion_from_All (λ (row : Row). at (name_of row) ≡ Some row) sent each))
+pub sent_each : (side : Side) (sent : List Row) (at : RowsByName) (name : Name) → AreOf at sent → IfSome (newest_in side sent name) (λ (row : Row). at name ≡ Some row)
+sent_each side sent at name each =
+    if_weaker (λ (row : Row). (at (name_of row) ≡ Some row) × (name_of row ≡ name)) (λ (row : Row). at name ≡ Some row) (λ row h. ap at (sym h.1) ∙ h.0) (newest_in side sent name)
+    (each_newest side (λ (row : Row). at (name_of row) ≡ Some row) sent name (recursion_from_All (λ (row : Row). at (name_of row) ≡ Some row) sent each))
 
 -- what is wanted and stays was sent
-pub sent_whole : (sent : List Row) (at after : RowsByName) (name : Name) (row : Row) → IsSent sent at after → AreNamed at → at name ≡ Some row → after name ≡ Some row
-    → newest_in sent name ≡ Some row
-sent_whole sent at after name row gave named is stays =
-    let some : is_some (newest_in sent name) ≡ true = ap (λ (n : Name). is_some (newest_in sent n)) (sym (named name row is)) ∙ has_newest sent row (gave.whole name row is stays) in
-    elim (newest_in sent name) as (λ o. is_some o ≡ true → IfSome o (λ (x : Row). at name ≡ Some x) → o ≡ Some row) [
+pub sent_whole : (side : Side) (sent : List Row) (at after : RowsByName) (name : Name) (row : Row) → IsSent sent at after → AreNamed at → at name ≡ Some row → after name ≡ Some row
+    → newest_in side sent name ≡ Some row
+sent_whole side sent at after name row gave named is stays =
+    let some : is_some (newest_in side sent name) ≡ true = ap (λ (n : Name). is_some (newest_in side sent n)) (sym (named name row is)) ∙ has_newest side sent row (gave.whole name row is stays) in
+    elim (newest_in side sent name) as (λ o. is_some o ≡ true → IfSome o (λ (x : Row). at name ≡ Some x) → o ≡ Some row) [
       | None ↦ λ some each. grind (arith, some)
       | Some x ↦ λ some each. sym each ∙ is
-    ] some (sent_each sent at name gave.each)
+    ] some (sent_each side sent at name gave.each)
 
 -- ---- an exchange: at one name
 -- what the server's half rests on at one name: x and g are the device's row and grave, y and h the server's, w and k what of them came to
@@ -67,10 +70,9 @@ pub record ServerMeets (least usn : ℤ) (x g y h w k p q : Option Row) : Type 0
   pub known : IsKnown least x y h
   pub single : is_some h ≡ true → y ≡ None
   pub grave_sent : IfSome g (λ row. IsTrue (is_settled row) → is_some h ≡ true)
-  pub apart : (a b : Row) → x ≡ Some a → y ≡ Some b → stamp_of a ≡ stamp_of b → IsTrue (same_content a b)
   pub came : IfSome w (λ row. only_wanted (From least) y ≡ Some row)
   pub sent : IfSome p (λ row. only_wanted Unsent x ≡ Some row)
-  pub sent_all : (row : Row) → only_wanted Unsent x ≡ Some row → received_by usn x g w k ≡ Some row → p ≡ Some row
+  pub sent_all : (row : Row) → only_wanted Unsent x ≡ Some row → received_by Device usn x g w k ≡ Some row → p ≡ Some row
   pub graves_came : IfSome k (λ row. is_some h ≡ true)
   pub graves_sent : IfSome q (λ row. is_some g ≡ true)
   pub graves_sent_all : IfSome g (λ row. IsTrue (is_pending row) → is_some q ≡ true)
@@ -79,9 +81,10 @@ pub record ServerMeets (least usn : ℤ) (x g y h w k p q : Option Row) : Type 0
 pub record DeviceMeets (least usn : ℤ) (x g y h w k p q : Option Row) : Type 0 where
   pub taken : HasTaken least x g y
   pub own_single : is_some g ≡ true → x ≡ None
+  pub one : AreOneGrave x y
   pub grave_came : IfSome h (λ row. usn_of row <ℤ least → is_some g ≡ true)
   pub came : IfSome w (λ row. only_wanted (From least) y ≡ Some row)
-  pub came_all : (row : Row) → only_wanted (From least) y ≡ Some row → received_by usn y h p q ≡ Some row → w ≡ Some row
+  pub came_all : (row : Row) → only_wanted (From least) y ≡ Some row → received_by Server usn y h p q ≡ Some row → w ≡ Some row
   pub sent : IfSome p (λ row. only_wanted Unsent x ≡ Some row)
   pub graves_came : IfSome k (λ row. is_some h ≡ true)
   pub graves_came_all : IfSome h (λ row. IsTrue (is_wanted (From least) row) → is_some k ≡ true)
@@ -93,10 +96,10 @@ joined_of x g y h = if is_some g || is_some h then None else newest x y
 
 -- what each holds then is what stands in the join
 abbrev pub DeviceAgrees : ℤ → Option Row → Option Row → Option Row → Option Row → Option Row → Option Row → Type 0
-DeviceAgrees usn x g y h w k = IsTrue (same_held (received_by usn x g w k) (joined_of x g y h))
+DeviceAgrees usn x g y h w k = IsTrue (same_held (received_by Device usn x g w k) (joined_of x g y h))
 
 abbrev pub ServerAgrees : ℤ → Option Row → Option Row → Option Row → Option Row → Option Row → Option Row → Type 0
-ServerAgrees usn x g y h p q = IsTrue (same_held (received_by usn y h p q) (joined_of x g y h))
+ServerAgrees usn x g y h p q = IsTrue (same_held (received_by Server usn y h p q) (joined_of x g y h))
 
 pending_or_settled : (row : Row) (P : Type 0) → (IsTrue (is_pending row) → P) → (IsTrue (is_settled row) → P) → P
 pending_or_settled row P one other = elim (is_pending row) as (λ b. is_pending row ≡ b → P) [ true ↦ λ is. one is | false ↦ λ is. other (ap not is) ] refl
@@ -117,7 +120,7 @@ device_buried least usn x None y h w None p q m = absurd (wanted_or_below least 
 
 -- the device alone has one
 device_bury : (least usn : ℤ) (x : Option Row) (g : Row) (y w k p q : Option Row) → DeviceMeets least usn x (Some g) y None w k p q
-    → IsTrue (same_held (received_by usn x (Some g) w k) None)
+    → IsTrue (same_held (received_by Device usn x (Some g) w k) None)
 device_bury least usn x g y w (Some k) p q m = refl
 device_bury least usn x g y w None p q m = ap (λ o. same_held o None) (m.own_single refl)
 
@@ -130,7 +133,7 @@ server_buried least usn x (Some g) y h w k p None m = ap (λ o. same_held o None
 
 -- the device alone has one
 server_bury : (least usn : ℤ) (x : Option Row) (g : Row) (y w k p q : Option Row) → ServerMeets least usn x (Some g) y None w k p q
-    → IsTrue (same_held (received_by usn y None p q) None)
+    → IsTrue (same_held (received_by Server usn y None p q) None)
 server_bury least usn x g y w k p (Some q) m = refl
 server_bury least usn x g y w k p None m = absurd (pending_or_settled g ⊥ (λ pending. nothing (m.graves_sent_all pending)) (λ sent. nothing (m.grave_sent sent)))
 
@@ -139,18 +142,17 @@ server_bury least usn x g y w k p None m = absurd (pending_or_settled g ⊥ (λ 
 like_sent : (usn : ℤ) (x r : Row) → x ≡ r → IsTrue (same_content (with_usn r usn) x)
 like_sent usn x r is = subst (λ (z : Row). IsTrue (same_content (with_usn r usn) z)) (sym is) (same-with_usn r usn)
 
--- a row that is not newer leaves what is held
-older_came : (usn : ℤ) (x y : Row) (w : Option Row) → int_lt (stamp_of x) (stamp_of y) ≡ false → IfSome w (λ row. y ≡ row) → received usn (Some x) w ≡ Some x
-older_came usn x y None not_newer is = refl
-older_came usn x y (Some w) not_newer is = let same : int_lt (stamp_of x) (stamp_of w) ≡ false = ap (λ (r : Row). int_lt (stamp_of x) (stamp_of r)) (sym is) ∙ not_newer in rw same refl
+-- a row that takes no place leaves what is held
+unbeaten : (side : Side) (usn : ℤ) (x y : Row) (w : Option Row) → beats side x y ≡ false → IfSome w (λ row. y ≡ row) → received side usn (Some x) w ≡ Some x
+unbeaten side usn x y None stays is = refl
+unbeaten side usn x y (Some w) stays is = let same : beats side x w ≡ false = ap (beats side x) (sym is) ∙ stays in rw same refl
+
+-- an older one takes no place on a device
+older_stays_out : (x y : Row) → int_lt (stamp_of y) (stamp_of x) ≡ true → beats Device x y ≡ false
+older_stays_out x y older = elim (is_some (buried_of y)) as (λ b. (not b && not (int_lt (stamp_of y) (stamp_of x))) ≡ false) [ true ↦ refl | false ↦ ap not older ]
 
 came_is : (want : Wanted) (y : Row) (w : Option Row) → IfSome w (λ row. only_wanted want (Some y) ≡ Some row) → IfSome w (λ row. y ≡ row)
 came_is want y w came = if_weaker (λ row. only_wanted want (Some y) ≡ Some row) (λ row. y ≡ row) (λ row is. (only_is want y row is).0) w came
-
--- the newest of two, by the test that tells it
-newest_by : (s : Bool) (x y : Row) (z : Option Row) → int_lt (stamp_of x) (stamp_of y) ≡ s → IsTrue (same_held z (if s then Some y else Some x))
-    → IsTrue (same_held z (newest (Some x) (Some y)))
-newest_by s x y z is same = subst (λ b. IsTrue (same_held z (if b then Some y else Some x))) (sym is) same
 
 -- ---- the device, where neither has a grave
 device_neither : (least usn : ℤ) (w p : Option Row) → DeviceMeets least usn None None None None w None p None → DeviceAgrees usn None None None None w None
@@ -168,31 +170,24 @@ device_keeps : (least usn : ℤ) (x : Row) (w p : Option Row) → DeviceMeets le
 device_keeps least usn x (Some w) p m = absurd (none-some w m.came)
 device_keeps least usn x None p m = same-itself x
 
--- the server's is newer
-device_takes : (least usn : ℤ) (x y : Row) (w p : Option Row) → int_lt (stamp_of x) (stamp_of y) ≡ true → received usn (Some y) p ≡ Some y
-    → DeviceMeets least usn (Some x) None (Some y) None w None p None
-    → IsTrue (same_held (received usn (Some x) w) (Some y))
-device_takes least usn x y (Some w) p newer stays m =
-    let is = (only_is (From least) y w m.came).0 in
-    let same : int_lt (stamp_of x) (stamp_of w) ≡ true = ap (λ (r : Row). int_lt (stamp_of x) (stamp_of r)) (sym is) ∙ newer in
-    rw same (like_sent usn y w is)
-device_takes least usn x y None p newer stays m = absurd (wanted_or_below least y ⊥
-    (λ wanted. none-some y (m.came_all y (is_only (From least) y wanted) stays))
+-- where nothing came of the server's row, the device has one like it, or a newer one
+device_has : (least usn : ℤ) (x y : Row) (p : Option Row) → int_lt (stamp_of y) (stamp_of x) ≡ false → DeviceMeets least usn (Some x) None (Some y) None None None p None → IsTrue (same_content x y)
+device_has least usn x y p not_newer m = wanted_or_below least y (IsTrue (same_content x y))
+    (λ wanted. absurd (none-some y (m.came_all y (is_only (From least) y wanted) (unbeaten Server usn y x p not_newer (came_is Unsent x p m.sent)))))
     (λ below. elim (m.taken below) [
-      | inl like ↦ let one = like_stamp y x like in absurd (omega (arith, ints, one, newer))
-      | inr (inl held) ↦ absurd (omega (arith, ints, held.newer, newer))
+      | inl like ↦ same-turned y x like
+      | inr (inl held) ↦ absurd (omega (arith, ints, held.newer, not_newer))
       | inr (inr none) ↦ absurd none
-    ]))
+    ])
 
 device_both : (least usn : ℤ) (x y : Row) (w p : Option Row) → DeviceMeets least usn (Some x) None (Some y) None w None p None
     → DeviceAgrees usn (Some x) None (Some y) None w None
-device_both least usn x y w p m =
-    elim (int_lt (stamp_of x) (stamp_of y)) as (λ s. int_lt (stamp_of x) (stamp_of y) ≡ s → DeviceAgrees usn (Some x) None (Some y) None w None) [
-      | true ↦ λ newer.
-          let not_newer : int_lt (stamp_of y) (stamp_of x) ≡ false = grind (arith, ints, newer) in
-          newest_by true x y (received usn (Some x) w) newer (device_takes least usn x y w p newer (older_came usn y x p not_newer (came_is Unsent x p m.sent)) m)
-      | false ↦ λ not_newer.
-          newest_by false x y (received usn (Some x) w) not_newer (ap (λ o. same_held o (Some x)) (older_came usn x y w not_newer (came_is (From least) y w m.came)) ∙ same-itself x)
+device_both least usn x y (Some r) p m =
+    subst (λ (z : Row). IsTrue (same_held (received Device usn (Some x) (Some z)) (newest (Some x) (Some y)))) (only_is (From least) y r m.came).0 (device_newest usn (Some x) (Some y) m.one)
+device_both least usn x y None p m =
+    elim (int_lt (stamp_of y) (stamp_of x)) as (λ s. int_lt (stamp_of y) (stamp_of x) ≡ s → IsTrue (same_held (Some x) (if s then Some x else Some y))) [
+      | true ↦ λ _. same-itself x
+      | false ↦ λ not_newer. device_has least usn x y p not_newer m
     ] refl
 
 -- ---- the server, where neither has a grave
@@ -211,40 +206,24 @@ server_gets least usn x None None m = absurd (pending_or_settled x ⊥
     (λ pending. none-some x (m.sent_all x (is_only Unsent x pending) refl))
     (λ settled. elim (m.known settled) [ inl none ↦ absurd none | inr (inl none) ↦ absurd none | inr (inr none) ↦ absurd none ]))
 
--- the server's is not newer
-server_takes : (least usn : ℤ) (x y : Row) (w p : Option Row) → int_lt (stamp_of x) (stamp_of y) ≡ false → received usn (Some x) w ≡ Some x
-    → ServerMeets least usn (Some x) None (Some y) None w None p None
-    → IsTrue (same_held (received usn (Some y) p) (Some x))
-server_takes least usn x y w p not_newer stays m = pending_or_settled x (IsTrue (same_held (received usn (Some y) p) (Some x)))
-    (λ pending. subst (λ (o : Option Row). IsTrue (same_held (received usn (Some y) o) (Some x))) (sym (m.sent_all x (is_only Unsent x pending) stays))
-    (elim (int_lt (stamp_of y) (stamp_of x)) as (λ s. int_lt (stamp_of y) (stamp_of x) ≡ s → IsTrue (same_held (if s then Some (with_usn x usn) else Some y) (Some x))) [
-      | true ↦ λ less. same-with_usn x usn
-      | false ↦ λ less. same-turned x y (m.apart x y refl refl (omega (arith, ints, less, not_newer)))
-    ] refl))
-    (λ settled. server_keeps least usn x y w p not_newer settled m)
-  where
-    not_sent : (x : Row) (p : Option Row) → IsTrue (is_settled x) → IfSome p (λ row. only_wanted Unsent (Some x) ≡ Some row) → p ≡ None
-    not_sent x None settled sent = refl
-    not_sent x (Some p) settled sent = let pending : is_pending x ≡ true = (only_is Unsent x p sent).1 in grind (arith, pending, settled)
-
-    server_keeps : (least usn : ℤ) (x y : Row) (w p : Option Row) → int_lt (stamp_of x) (stamp_of y) ≡ false → IsTrue (is_settled x)
-        → ServerMeets least usn (Some x) None (Some y) None w None p None → IsTrue (same_held (received usn (Some y) p) (Some x))
-    server_keeps least usn x y w p not_newer settled m = subst (λ (o : Option Row). IsTrue (same_held (received usn (Some y) o) (Some x))) (sym (not_sent x p settled m.sent))
-        (elim (m.known settled) [
-          | inl like ↦ same-turned x y like
-          | inr (inl held) ↦ absurd (omega (arith, ints, held.newer, not_newer))
-          | inr (inr none) ↦ absurd none
-        ])
+-- what was not sent of the device's row is not newer than the server's
+server_has : (least usn : ℤ) (x y : Row) (w : Option Row) → int_lt (stamp_of y) (stamp_of x) ≡ true → ServerMeets least usn (Some x) None (Some y) None w None None None → ⊥
+server_has least usn x y w newer m = pending_or_settled x ⊥
+    (λ pending. none-some x (m.sent_all x (is_only Unsent x pending) (unbeaten Device usn x y w (older_stays_out x y newer) (came_is (From least) y w m.came))))
+    (λ settled. elim (m.known settled) [
+      | inl like ↦ let one = like_stamp x y like in omega (arith, ints, one, newer)
+      | inr (inl held) ↦ omega (arith, ints, held.newer, newer)
+      | inr (inr none) ↦ none
+    ])
 
 server_both : (least usn : ℤ) (x y : Row) (w p : Option Row) → ServerMeets least usn (Some x) None (Some y) None w None p None
     → ServerAgrees usn (Some x) None (Some y) None p None
-server_both least usn x y w p m =
-    elim (int_lt (stamp_of x) (stamp_of y)) as (λ s. int_lt (stamp_of x) (stamp_of y) ≡ s → ServerAgrees usn (Some x) None (Some y) None p None) [
-      | true ↦ λ newer.
-          let not_newer : int_lt (stamp_of y) (stamp_of x) ≡ false = grind (arith, ints, newer) in
-          newest_by true x y (received usn (Some y) p) newer (ap (λ o. same_held o (Some y)) (older_came usn y x p not_newer (came_is Unsent x p m.sent)) ∙ same-itself y)
-      | false ↦ λ not_newer.
-          newest_by false x y (received usn (Some y) p) not_newer (server_takes least usn x y w p not_newer (older_came usn x y w not_newer (came_is (From least) y w m.came)) m)
+server_both least usn x y w (Some r) m =
+    subst (λ (z : Row). IsTrue (same_held (received Server usn (Some y) (Some z)) (newest (Some x) (Some y)))) (only_is Unsent x r m.sent).0 (server_newest usn (Some x) (Some y))
+server_both least usn x y w None m =
+    elim (int_lt (stamp_of y) (stamp_of x)) as (λ s. int_lt (stamp_of y) (stamp_of x) ≡ s → IsTrue (same_held (Some y) (if s then Some x else Some y))) [
+      | true ↦ λ newer. absurd (server_has least usn x y w newer m)
+      | false ↦ λ _. same-itself y
     ] refl
 
 -- ---- all cases

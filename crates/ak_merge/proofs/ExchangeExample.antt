@@ -1,5 +1,7 @@
 -- A worked example: an exchange in which rows, graves and tags go both ways.
-use Rattle.ak_base.specs.Contents.{same_content}
+use Rattle.ak_base.specs.Cards.{place_faults, schedule_faults, mark_faults}
+use Rattle.ak_base.specs.Columns.{id_fault, id_or_zero_fault, stamp_fault, long_fault, code_fault}
+use Rattle.ak_base.specs.Notes.{identity_faults, content_faults}
 use Rattle.ak_base.specs.Rows.{name_of, stamp_of, usn_of, with_usn}
 use Rattle.ak_base.specs.Tables.{has_stamps}
 use Rattle.ak_base.specs.declared.heads.Head.{Head}
@@ -12,7 +14,7 @@ use Rattle.ak_base.specs.Names.{names_total}
 use Rattle.ak_keep.proofs.RowsByName.{same_of_tied}
 use Rattle.ak_keep.specs.Collections.{Collection, Rows, is_pending, is_settled, rows_of}
 use Rattle.ak_keep.specs.declared.keepers.Wanted.TheVariants.{Unsent, From}
-use Rattle.ak_merge.proofs.Examples.{all_stand, card_of_it, map_named, note_row, note_with, of_maps, rows_stand, standing}
+use Rattle.ak_merge.proofs.Examples.{all_stand, card_of_it, map_checked, map_named, note_row, note_with, of_maps, rows_stand, standing}
 use Rattle.ak_merge.proofs.ExchangeCells.{only_wanted}
 use Rattle.ak_merge.proofs.ExchangeLaws.{exchange_links}
 use Rattle.ak_merge.proofs.Finding.{not_both}
@@ -21,11 +23,12 @@ use Rattle.ak_merge.proofs.TakingLaws.{all_taken_at, is_name, newest_in, receive
 use Rattle.ak_merge.specs.Commits.{Received}
 use Rattle.ak_merge.specs.Exchanges.{is_tag_from, is_unsent_tag, wanted_under, IsSent, IsExchange, AreExchanged, settled, settled_tags}
 use Rattle.ak_keep.specs.Graves.{RowsByName, grave_under, is_dead}
-use Rattle.ak_merge.specs.Holdings.{name_in, row_under, has_tag, IsSingle}
-use Rattle.ak_merge.specs.Joins.{AreApart, joined_under}
+use Rattle.ak_merge.specs.Holdings.{name_in, row_under, has_tag, AreChecked, IsSingle}
+use Rattle.ak_merge.specs.Joins.{joined_under}
 use Rattle.ak_merge.specs.Links.{AreLinkedParts, HasTaken, IsGiven, IsHeldLike, IsKnown, IsOwn}
 use Rattle.ak_merge.specs.Tags.{tags_taken}
 use Rattle.ak_merge.specs.Takings.{all_taken}
+use Rattle.ak_merge.specs.declared.sides.Side.TheVariants.{Device, Server}
 use Rattle.std.proofs.lemmas.List.Elements.{All-from_recursion}
 use Rattle.std.proofs.lemmas.Option.{none-some, same_Some}
 use Rattle.std.specs.Cmp.Lexicographic.{pointwise}
@@ -85,13 +88,13 @@ sent any = record { rows = edited_note (negsuc 0) ∷ grave_row (negsuc 0) (pos 
 -- the server commits at 30
 abbrev server_then : Head → Head → Collection
 server_then any their = record {
-  rows = all_taken (pos 5) (sent any).rows (rows_of their_rows);
+  rows = all_taken Server (pos 5) (sent any).rows (rows_of their_rows);
   head = record their { usn = pos 6; schema = pos 1; moment = pos 30; tags = tags_taken (pos 5) (sent any).tags (their_tag ∷ []); conf = any.conf; crt = any.crt };
 }
 
 -- the device takes what came, and settles what it sent
 abbrev took : Rows
-took = all_taken (pos 5) got.rows (rows_of own_rows)
+took = all_taken Device (pos 5) got.rows (rows_of own_rows)
 
 abbrev seven : Name
 seven = name_in tables.Note (pos 7)
@@ -156,6 +159,8 @@ linked any their = record {
   single = of_maps own_rows their_rows (λ a b. IsSingle b)
       (under_each their_rows (λ name y. is_dead (standing their_rows) name ≡ true → y ≡ None) (λ _ _. refl)
       ((λ dead. absurd (not_both dead refl)), ((λ dead. absurd (not_both dead refl)), ((λ dead. absurd (not_both dead refl)), ((λ dead. absurd (not_both dead refl)), tt)))));
+  later = λ same. absurd (omega (arith, ints, same));
+  settings = λ same _. absurd (omega (arith, ints, same));
 }
   where
     one_given : IsGiven (pos 5) (pos 1)
@@ -167,15 +172,13 @@ linked any their = record {
     own_given : IsGiven (pos 3) (pos 1)
     own_given = given (pos 3) (pos 1) (omega (arith, ints)) (omega (arith, ints))
 
-sides_apart : AreApart (get (rows_of own_rows)) (get (rows_of their_rows))
-sides_apart = of_maps own_rows their_rows AreApart (λ name x y has held same.
-    under_each own_rows (λ name o. o ≡ Some x → standing their_rows name ≡ Some y → IsTrue (same_content x y)) (λ _ none. absurd (none-some x none)) (
-      (λ one other.
-          let early : stamp_of y ≡ pos 10 = ap stamp_of (sym (same_Some old_note y other)) in
-          let late : stamp_of x ≡ pos 20 = ap stamp_of (sym (same_Some (edited_note (negsuc 0)) x one)) in
-          absurd (omega (arith, ints, early, late, same))),
-      ((λ _ other. absurd (none-some y other)), ((λ _ other. absurd (none-some y other)), tt)),
-    ) name has held)
+own_checked : AreChecked (get (rows_of own_rows))
+unfolding identity_faults content_faults place_faults schedule_faults mark_faults id_fault id_or_zero_fault stamp_fault long_fault code_fault
+own_checked = map_checked own_rows (refl, (refl, (refl, tt)))
+
+their_checked : AreChecked (get (rows_of their_rows))
+unfolding identity_faults content_faults place_faults schedule_faults mark_faults id_fault id_or_zero_fault stamp_fault long_fault code_fault
+their_checked = map_checked their_rows (refl, (refl, (refl, (refl, tt))))
 
 -- ---- the exchange
 first_of : (x : Row) (xs : List Row) → Contains (x ∷ xs) x
@@ -192,7 +195,7 @@ device_sends any = record {
       under_each own_rows (λ name o. only_wanted Unsent o ≡ Some row → Contains (sent any).rows row) (λ _ none. absurd (none-some row none)) ((λ one. subst (Contains (sent any).rows) (same_Some (edited_note (negsuc 0)) row one) (first_of (edited_note (negsuc 0)) (grave_row (negsuc 0) (pos 11) ∷ []))), ((λ none. absurd (none-some row none)), ((λ one. subst (Contains (sent any).rows) (same_Some (grave_row (negsuc 0) (pos 11)) row one) (second_of (edited_note (negsuc 0)) (grave_row (negsuc 0) (pos 11)) [])), tt))) name (ap (only_wanted Unsent) (sym (rows_stand own_rows name)) ∙ is);
 }
 
-server_sends : (any their : Head) → IsSent got.rows (wanted_under (From (pos 3)) (row_under (server their))) (get (all_taken (pos 5) (sent any).rows (rows_of their_rows)))
+server_sends : (any their : Head) → IsSent got.rows (wanted_under (From (pos 3)) (row_under (server their))) (get (all_taken Server (pos 5) (sent any).rows (rows_of their_rows)))
 server_sends any their = record {
   each = All-from_recursion (λ row. wanted_under (From (pos 3)) (row_under (server their)) (name_of row) ≡ Some row) got.rows
       (ap (only_wanted (From (pos 3))) (rows_stand their_rows (name_in tables.CardGrave (pos 8))), (ap (only_wanted (From (pos 3))) (rows_stand their_rows (name_in tables.Note (pos 9))), tt));
@@ -200,15 +203,15 @@ server_sends any their = record {
       under_each their_rows (λ name o. only_wanted (From (pos 3)) o ≡ Some row → Contains got.rows row) (λ _ none. absurd (none-some row none)) ((λ none. absurd (none-some row none)), ((λ none. absurd (none-some row none)), ((λ one. subst (Contains got.rows) (same_Some (grave_row (pos 4) (pos 8)) row one) (first_of (grave_row (pos 4) (pos 8)) (new_note (pos 4) ∷ []))), ((λ one. subst (Contains got.rows) (same_Some (new_note (pos 4)) row one) (second_of (grave_row (pos 4) (pos 8)) (new_note (pos 4)) [])), tt)))) name (ap (only_wanted (From (pos 3))) (sym (rows_stand their_rows name)) ∙ is);
 }
 
-took_at : (name : Name) → get took name ≡ received_under (pos 5) (standing own_rows) (newest_in got.rows) name
-took_at name = all_taken_at (pos 5) got.rows (rows_of own_rows) name ∙ ap (λ (at : RowsByName). received_under (pos 5) at (newest_in got.rows) name) (all_stand own_rows)
+took_at : (name : Name) → get took name ≡ received_under Device (pos 5) (standing own_rows) (newest_in Device got.rows) name
+took_at name = all_taken_at Device (pos 5) got.rows (rows_of own_rows) name ∙ ap (λ (at : RowsByName). received_under Device (pos 5) at (newest_in Device got.rows) name) (all_stand own_rows)
 
 -- what is not sent yet under other names than the two is settled already
 others_settled : (name : Name) → is_name name seven ≡ false → is_name name grave_11 ≡ false → (o : Option Row) → get took name ≡ o → o ≡ option_map (settled (pos 5)) o
 others_settled name not_seven not_grave None is = refl
 others_settled name not_seven not_grave (Some row) is =
     elim (is_pending row) as (λ b. is_pending row ≡ b → Some row ≡ Some (settled (pos 5) row)) [
-      | true ↦ λ pending. absurd (under_each own_rows (λ name o. is_name name seven ≡ false → is_name name grave_11 ≡ false → o ≡ Some row → ⊥) (λ _ _ _ none. none-some row none) ((λ other _ _. not_both refl other), ((λ _ _ held. not_both pending (ap is_pending (sym (same_Some (card_row (pos 1) (pos 8)) row held)))), ((λ _ other _. not_both refl other), tt))) name not_seven not_grave (sym (rows_stand own_rows name) ∙ pending_was_held (pos 5) got.rows (rows_of own_rows) name row (omega (arith, ints)) is pending))
+      | true ↦ λ pending. absurd (under_each own_rows (λ name o. is_name name seven ≡ false → is_name name grave_11 ≡ false → o ≡ Some row → ⊥) (λ _ _ _ none. none-some row none) ((λ other _ _. not_both refl other), ((λ _ _ held. not_both pending (ap is_pending (sym (same_Some (card_row (pos 1) (pos 8)) row held)))), ((λ _ other _. not_both refl other), tt))) name not_seven not_grave (sym (rows_stand own_rows name) ∙ pending_was_held Device (pos 5) got.rows (rows_of own_rows) name row (omega (arith, ints)) is pending))
       | false ↦ λ sent. ap (λ b. Some (if b then with_usn row (pos 5) else row)) (sym sent)
     ] refl
 
@@ -253,7 +256,7 @@ exchange any their = record {
 -- Graves, rows and tags went both ways: the two are linked again and hold the join, each.
 an_exchange_both_ways_links : (any their : Head) → AreExchanged (device any) (server their) (device_then any) (server_then any their)
 an_exchange_both_ways_links any their =
-    exchange_links got (sent any) (device any) (server their) (device_then any) (server_then any their) (exchange any their) (linked any their) sides_apart (map_named own_rows) (map_named their_rows) (omega (arith, ints))
+    exchange_links got (sent any) (device any) (server their) (device_then any) (server_then any their) (exchange any their) (linked any their) (map_named own_rows) (map_named their_rows) own_checked their_checked (omega (arith, ints))
 
 abbrev joined : RowsByName
 joined = joined_under (standing own_rows) (standing their_rows)

@@ -1,6 +1,6 @@
 -- What an exchange of a device with a server leaves: the join on both sides, linked.
 use Rattle.ak_keep.specs.Collections.{Collection, is_pending, is_settled, is_wanted, Rows}
-use Rattle.ak_base.specs.Tables.{graves_of, has_stamps}
+use Rattle.ak_base.specs.Tables.{graves_of, buried_in, has_stamps}
 use Rattle.std.specs.Prelude.{◌≡◌, ℤ, pos, negsuc, ◌+ℤ◌, ◌≤ℤ◌, ◌<ℤ◌, Bool, true, false, not, ◌||◌, if◌then◌else◌, int_lt, IsTrue, IfSome, ℕ, ◌==◌, find, List, [], ◌∷◌, Option, Some, None, is_some}
 use Rattle.std.proofs.lemmas.Option.{none-some}
 use Rattle.std.proofs.Common.{refl, sym, ap, subst, ◌∙◌, inl, inr, arith}
@@ -9,8 +9,9 @@ use Rattle.std.proofs.lemmas.Int.{ints}
 use Rattle.std.specs.Cmp.{signed_Decides}
 use Rattle.std.specs.Option.{option_map, option_or, unwrap_or}
 use Rattle.std.specs.Ordering.{int_eq}
+use Rattle.ak_base.proofs.Burials.{graves_exactly}
 use Rattle.ak_base.specs.Contents.{same_content}
-use Rattle.ak_base.specs.Rows.{name_of, stamp_of, usn_of, with_usn}
+use Rattle.ak_base.specs.Rows.{buried_of, name_of, usn_of, with_usn}
 use Rattle.ak_base.specs.declared.names.Name.{Name}
 use Rattle.ak_base.specs.declared.names.Table.{Table}
 use Rattle.ak_base.specs.declared.rows.Row.{Row}
@@ -20,19 +21,22 @@ use Rattle.ak_merge.specs.Commits.{Settings, Received, settings_of}
 use Rattle.ak_merge.specs.Exchanges.{tags_from, wanted_under, AreOf, IsSent, is_unsent_tag, is_tag_from, settled, settled_number, settled_tags, IsServerHalf, IsDeviceHalf, HoldsJoin, IsExchange, AreExchanged}
 use Rattle.ak_merge.specs.Tags.{tags_taken}
 use Rattle.ak_merge.specs.Takings.{IsListOf, all_taken}
+use Rattle.ak_merge.specs.declared.sides.Side.{Side}
+use Rattle.ak_merge.specs.declared.sides.Side.TheVariants.{Device, Server}
 use Rattle.ak_merge.proofs.TagLaws.{tags_are_united}
 use Rattle.ak_base.specs.declared.heads.Head.{Head}
 use Rattle.ak_base.specs.declared.heads.Tag.{Tag}
 use Rattle.std.specs.FinMap.{get}
 use Rattle.std.specs.Cmp.Lexicographic.{pointwise}
 use Rattle.ak_keep.specs.Graves.{RowsByName, grave_under}
-use Rattle.ak_merge.specs.Holdings.{row_under, AreNamed, IsSingle, tag_usn, content_of, same_held, SameContent}
-use Rattle.ak_merge.specs.Joins.{AreApart, joined_under, newest_head, join}
+use Rattle.ak_merge.specs.Holdings.{row_under, AreNamed, AreChecked, IsSingle, tag_usn, content_of, same_held, SameContent}
+use Rattle.ak_merge.specs.Joins.{joined_under, newest_head, join}
 use Rattle.ak_merge.specs.Links.{IsGiven, IsOwn, AreNumbered, IsHeldLike, HasTaken, IsKnown, IsShared, IsTagShared, AreLinkedParts}
 use Rattle.ak_base.proofs.RowFacts.{name_of-with_usn, usn_of-with_usn, same-with_usn, same-itself, same-turned, same-through}
 use Rattle.ak_merge.proofs.HeldFacts.{held-alike, held-turned, held-through}
-use Rattle.ak_merge.proofs.TakingLaws.{received, received_under, grave_in, newest_in, all_taken_at}
-use Rattle.ak_merge.proofs.CommitLaws.{of_some, named_received, when_some, if_weaker, each_by, all_some, newest_named, grave_received, single_received, commit_under, commit_tag, given_more, given_now, commit_given, no_stamps, unstamped_graves, unstamped, stays_unstamped}
+use Rattle.ak_merge.proofs.TakingJoins.{one_grave}
+use Rattle.ak_merge.proofs.TakingLaws.{received, received_under, grave_by_table, grave_in, if_weaker, newest_in, newest_named, all_taken_at}
+use Rattle.ak_merge.proofs.CommitLaws.{of_some, named_received, when_some, each_by, all_some, grave_received, grave_stays, single_received, commit_under, commit_tag, given_more, given_now, commit_given, unstamped_graves}
 use Rattle.ak_merge.proofs.ExchangeCells.{only_wanted, is_only, wanted_named, sent_each, sent_whole, ServerMeets, DeviceMeets, server_agrees, device_agrees}
 
 -- ---- an exchange: under each name
@@ -41,27 +45,28 @@ only_some want None row is = absurd (none-some row is)
 only_some want (Some x) row is = refl
 
 -- a grave that was sent is held
-sent_graves : (want : Wanted) (sent : List Row) (at : RowsByName) (name : Name) (graves : Option Table) → AreOf (wanted_under want at) sent
-    → IfSome (grave_in (newest_in sent) name graves) (λ row. is_some (grave_in at name graves) ≡ true)
-sent_graves want sent at name None each = tt
-sent_graves want sent at name (Some graves) each =
+sent_graves : (side : Side) (want : Wanted) (sent : List Row) (at : RowsByName) (name : Name) (graves : Option Table) → AreOf (wanted_under want at) sent
+    → IfSome (grave_in (newest_in side sent) name graves) (λ row. is_some (grave_in at name graves) ≡ true)
+sent_graves side want sent at name None each = tt
+sent_graves side want sent at name (Some graves) each =
     let grave : Name = record { table = graves; id = name.id } in
-    if_weaker (λ row. wanted_under want at grave ≡ Some row) (λ row. is_some (at grave) ≡ true) (λ row is. only_some want (at grave) row is) (newest_in sent grave) (sent_each sent (wanted_under want at) grave each)
+    if_weaker (λ row. wanted_under want at grave ≡ Some row) (λ row. is_some (at grave) ≡ true) (λ row is. only_some want (at grave) row is) (newest_in side sent grave) (sent_each side sent (wanted_under want at) grave each)
 
--- each grave that is wanted was sent, since graves stay
-all_graves : (want : Wanted) (usn : ℤ) (sent : List Row) (at from : RowsByName) (name : Name) (graves : Option Table) → graves_of name.table ≡ graves
-    → IsSent sent (wanted_under want at) (received_under usn at from) → AreNamed at → ((name : Name) → IfSome (from name) (λ row. name_of row ≡ name))
-    → IfSome (grave_in at name graves) (λ row. IsTrue (is_wanted want row) → is_some (grave_in (newest_in sent) name graves) ≡ true)
-all_graves want usn sent at from name None is gave named bears = tt
-all_graves want usn sent at from name (Some graves) is gave named bears =
+-- each grave that is wanted was sent to the other side, since graves stay
+all_graves : (side other : Side) (want : Wanted) (usn : ℤ) (sent : List Row) (at from : RowsByName) (name : Name) (graves : Option Table) → graves_of name.table ≡ graves
+    → IsSent sent (wanted_under want at) (received_under side usn at from) → AreNamed at → ((name : Name) → IfSome (from name) (λ row. name_of row ≡ name))
+    → IfSome (grave_in at name graves) (λ row. IsTrue (is_wanted want row) → is_some (grave_in (newest_in other sent) name graves) ≡ true)
+all_graves side other want usn sent at from name None is gave named bears = tt
+all_graves side other want usn sent at from name (Some graves) is gave named bears =
     let grave : Name = record { table = graves; id = name.id } in
-    let none : has_stamps graves ≡ false = unstamped_graves name.table graves is in
-    when_some (λ row. IsTrue (is_wanted want row) → is_some (newest_in sent grave) ≡ true) (at grave) (λ row held meets.
+    when_some (λ row. IsTrue (is_wanted want row) → is_some (newest_in other sent grave) ≡ true) (at grave) (λ row held meets.
     let wanted : wanted_under want at grave ≡ Some row = ap (only_wanted want) held ∙ is_only want row meets in
-    let stamp : stamp_of row ≡ pos 0 = no_stamps row (ap (λ (n : Name). has_stamps n.table) (named grave row held) ∙ none) in
-    let stays : received_under usn at from grave ≡ Some row =
-    grave_received usn at from name (Some graves) is ∙ ap (λ o. received usn o (from grave)) held ∙ stays_unstamped usn row (from grave) stamp (unstamped grave (from grave) none (bears grave)) in
-    ap is_some (sent_whole sent (wanted_under want at) (received_under usn at from) grave row gave (wanted_named want at named) wanted stays))
+    let own : name_of row ≡ grave = named grave row held in
+    let buries : is_some (buried_of row) ≡ true = grave_by_table row ∙ ap (λ (n : Name). is_some (buried_in n.table)) own ∙ ap is_some ((graves_exactly name.table graves).0 is) in
+    let stays : received_under side usn at from grave ≡ Some row =
+    grave_received side usn at from name (Some graves) is ∙ ap (λ o. received side usn o (from grave)) held
+    ∙ grave_stays side usn row (from grave) buries (if_weaker (λ r. name_of r ≡ grave) (λ r. name_of r ≡ name_of row) (λ r bears. bears ∙ sym own) (from grave) (bears grave)) in
+    ap is_some (sent_whole other sent (wanted_under want at) (received_under side usn at from) grave row gave (wanted_named want at named) wanted stays))
 
 like_held : (x : Row) (o : Option Row) → IsHeldLike x o → is_some o ≡ true
 like_held x None like = absurd like
@@ -108,55 +113,60 @@ known_each c s name linked =
       | false ↦ λ is. shared_known c.head.usn (row_under c name) (row_under s name) (grave_under (row_under s) name) (linked.shared name is)
     ] refl
 
-server_meets : (usn : ℤ) (got sent : List Row) (c s : Collection) (name : Name) → AreLinkedParts c s → AreApart (row_under c) (row_under s) → AreNamed (row_under c)
-    → AreOf (wanted_under (From c.head.usn) (row_under s)) got → IsSent sent (wanted_under Unsent (row_under c)) (received_under usn (row_under c) (newest_in got))
+server_meets : (usn : ℤ) (got sent : List Row) (c s : Collection) (name : Name) → AreLinkedParts c s → AreNamed (row_under c)
+    → AreOf (wanted_under (From c.head.usn) (row_under s)) got → IsSent sent (wanted_under Unsent (row_under c)) (received_under Device usn (row_under c) (newest_in Device got))
     → ServerMeets c.head.usn usn (row_under c name) (grave_under (row_under c) name) (row_under s name) (grave_under (row_under s) name)
-    (newest_in got name) (grave_under (newest_in got) name) (newest_in sent name) (grave_under (newest_in sent) name)
-server_meets usn got sent c s name linked apart named gives sends = record {
-  known = known_each c s name linked;
-  single = linked.single name;
-  grave_sent = graves_shared c s name (graves_of name.table) refl linked;
-  apart = apart name;
-  came = sent_each got (wanted_under (From c.head.usn) (row_under s)) name gives;
-  sent = sent_each sent (wanted_under Unsent (row_under c)) name sends.each;
-  sent_all = λ row is stays. sent_whole sent (wanted_under Unsent (row_under c)) (received_under usn (row_under c) (newest_in got)) name row sends (wanted_named Unsent (row_under c) named) is stays;
-  graves_came = sent_graves (From c.head.usn) got (row_under s) name (graves_of name.table) gives;
-  graves_sent = sent_graves Unsent sent (row_under c) name (graves_of name.table) sends.each;
-  graves_sent_all = all_graves Unsent usn sent (row_under c) (newest_in got) name (graves_of name.table) refl sends named (newest_named got);
-}
+    (newest_in Device got name) (grave_under (newest_in Device got) name) (newest_in Server sent name) (grave_under (newest_in Server sent) name)
+server_meets usn got sent c s name linked named gives sends =
+    let after : RowsByName = received_under Device usn (row_under c) (newest_in Device got) in
+    record {
+      known = known_each c s name linked;
+      single = linked.single name;
+      grave_sent = graves_shared c s name (graves_of name.table) refl linked;
+      came = sent_each Device got (wanted_under (From c.head.usn) (row_under s)) name gives;
+      sent = sent_each Server sent (wanted_under Unsent (row_under c)) name sends.each;
+      sent_all = λ row is stays. sent_whole Server sent (wanted_under Unsent (row_under c)) after name row sends (wanted_named Unsent (row_under c) named) is stays;
+      graves_came = sent_graves Device (From c.head.usn) got (row_under s) name (graves_of name.table) gives;
+      graves_sent = sent_graves Server Unsent sent (row_under c) name (graves_of name.table) sends.each;
+      graves_sent_all = all_graves Device Server Unsent usn sent (row_under c) (newest_in Device got) name (graves_of name.table) refl sends named (newest_named Device got);
+    }
 
-device_meets : (usn : ℤ) (got sent : List Row) (c s : Collection) (name : Name) → AreLinkedParts c s → AreNamed (row_under s)
-    → AreOf (wanted_under Unsent (row_under c)) sent → IsSent got (wanted_under (From c.head.usn) (row_under s)) (received_under usn (row_under s) (newest_in sent))
+device_meets : (usn : ℤ) (got sent : List Row) (c s : Collection) (name : Name) → AreLinkedParts c s → AreNamed (row_under c) → AreNamed (row_under s) → AreChecked (row_under c) → AreChecked (row_under s)
+    → AreOf (wanted_under Unsent (row_under c)) sent → IsSent got (wanted_under (From c.head.usn) (row_under s)) (received_under Server usn (row_under s) (newest_in Server sent))
     → DeviceMeets c.head.usn usn (row_under c name) (grave_under (row_under c) name) (row_under s name) (grave_under (row_under s) name)
-    (newest_in got name) (grave_under (newest_in got) name) (newest_in sent name) (grave_under (newest_in sent) name)
-device_meets usn got sent c s name linked named sends gives = record {
-  taken = taken_each c s name linked;
-  own_single = linked.own_single name;
-  grave_came = graves_taken c s name (graves_of name.table) refl linked;
-  came = sent_each got (wanted_under (From c.head.usn) (row_under s)) name gives.each;
-  came_all = λ row is stays. sent_whole got (wanted_under (From c.head.usn) (row_under s)) (received_under usn (row_under s) (newest_in sent)) name row gives (wanted_named (From c.head.usn) (row_under s) named) is stays;
-  sent = sent_each sent (wanted_under Unsent (row_under c)) name sends;
-  graves_came = sent_graves (From c.head.usn) got (row_under s) name (graves_of name.table) gives.each;
-  graves_came_all = all_graves (From c.head.usn) usn got (row_under s) (newest_in sent) name (graves_of name.table) refl gives named (newest_named sent);
-  graves_sent = sent_graves Unsent sent (row_under c) name (graves_of name.table) sends;
-}
+    (newest_in Device got name) (grave_under (newest_in Device got) name) (newest_in Server sent name) (grave_under (newest_in Server sent) name)
+device_meets usn got sent c s name linked named their_named checked their_checked sends gives =
+    let after : RowsByName = received_under Server usn (row_under s) (newest_in Server sent) in
+    record {
+      taken = taken_each c s name linked;
+      own_single = linked.own_single name;
+      one = one_grave (row_under c) (row_under s) name named their_named checked their_checked;
+      grave_came = graves_taken c s name (graves_of name.table) refl linked;
+      came = sent_each Device got (wanted_under (From c.head.usn) (row_under s)) name gives.each;
+      came_all = λ row is stays. sent_whole Device got (wanted_under (From c.head.usn) (row_under s)) after name row gives (wanted_named (From c.head.usn) (row_under s) their_named) is stays;
+      sent = sent_each Server sent (wanted_under Unsent (row_under c)) name sends;
+      graves_came = sent_graves Device (From c.head.usn) got (row_under s) name (graves_of name.table) gives.each;
+      graves_came_all = all_graves Server Device (From c.head.usn) usn got (row_under s) (newest_in Server sent) name (graves_of name.table) refl gives their_named (newest_named Server sent);
+      graves_sent = sent_graves Server Unsent sent (row_under c) name (graves_of name.table) sends;
+    }
 
 -- ---- the rows of one side
 -- what the server holds under each name once it took what the device sent is the join's
-pub server_rows_join : (usn : ℤ) (got sent : List Row) (c s : Collection) → AreLinkedParts c s → AreApart (row_under c) (row_under s) → AreNamed (row_under c)
-    → AreOf (wanted_under (From c.head.usn) (row_under s)) got → IsSent sent (wanted_under Unsent (row_under c)) (get (all_taken usn got c.rows))
-    → (name : Name) → IsTrue (same_held (get (all_taken usn sent s.rows) name) (joined_under (row_under c) (row_under s) name))
-server_rows_join usn got sent c s linked apart named gives sends name =
-    ap (λ o. same_held o (joined_under (row_under c) (row_under s) name)) (all_taken_at usn sent s.rows name)
-    ∙ server_agrees c.head.usn usn _ _ _ _ _ _ _ _ (server_meets usn got sent c s name linked apart named gives (subst (IsSent sent (wanted_under Unsent (row_under c))) (fun_ext (all_taken_at usn got c.rows)) sends))
+pub server_rows_join : (usn : ℤ) (got sent : List Row) (c s : Collection) → AreLinkedParts c s → AreNamed (row_under c)
+    → AreOf (wanted_under (From c.head.usn) (row_under s)) got → IsSent sent (wanted_under Unsent (row_under c)) (get (all_taken Device usn got c.rows))
+    → (name : Name) → IsTrue (same_held (get (all_taken Server usn sent s.rows) name) (joined_under (row_under c) (row_under s) name))
+server_rows_join usn got sent c s linked named gives sends name =
+    ap (λ o. same_held o (joined_under (row_under c) (row_under s) name)) (all_taken_at Server usn sent s.rows name)
+    ∙ server_agrees c.head.usn usn _ _ _ _ _ _ _ _ (server_meets usn got sent c s name linked named gives (subst (IsSent sent (wanted_under Unsent (row_under c))) (fun_ext (all_taken_at Device usn got c.rows)) sends))
 
 -- and so is what the device holds once it took what came
-pub device_rows_join : (usn : ℤ) (got sent : List Row) (c s : Collection) → AreLinkedParts c s → AreNamed (row_under s)
-    → AreOf (wanted_under Unsent (row_under c)) sent → IsSent got (wanted_under (From c.head.usn) (row_under s)) (get (all_taken usn sent s.rows))
-    → (name : Name) → IsTrue (same_held (get (all_taken usn got c.rows) name) (joined_under (row_under c) (row_under s) name))
-device_rows_join usn got sent c s linked named sends gives name =
-    ap (λ o. same_held o (joined_under (row_under c) (row_under s) name)) (all_taken_at usn got c.rows name)
-    ∙ device_agrees c.head.usn usn _ _ _ _ _ _ _ _ (device_meets usn got sent c s name linked named sends (subst (IsSent got (wanted_under (From c.head.usn) (row_under s))) (fun_ext (all_taken_at usn sent s.rows)) gives))
+pub device_rows_join : (usn : ℤ) (got sent : List Row) (c s : Collection) → AreLinkedParts c s → AreNamed (row_under c) → AreNamed (row_under s) → AreChecked (row_under c) → AreChecked (row_under s)
+    → AreOf (wanted_under Unsent (row_under c)) sent → IsSent got (wanted_under (From c.head.usn) (row_under s)) (get (all_taken Server usn sent s.rows))
+    → (name : Name) → IsTrue (same_held (get (all_taken Device usn got c.rows) name) (joined_under (row_under c) (row_under s) name))
+device_rows_join usn got sent c s linked named their_named checked their_checked sends gives name =
+    ap (λ o. same_held o (joined_under (row_under c) (row_under s) name)) (all_taken_at Device usn got c.rows name)
+    ∙ device_agrees c.head.usn usn _ _ _ _ _ _ _ _
+    (device_meets usn got sent c s name linked named their_named checked their_checked sends (subst (IsSent got (wanted_under (From c.head.usn) (row_under s))) (fun_ext (all_taken_at Server usn sent s.rows)) gives))
 
 -- ---- an exchange: the rows of both
 settled_like : (usn : ℤ) (x : Row) → IsTrue (same_content (settled usn x) x)
@@ -168,17 +178,17 @@ settled_held usn (Some x) None same = same
 settled_held usn (Some x) (Some y) same = same-through (settled usn x) x y (settled_like usn x) same
 
 -- and it still is once it is settled
-pub settled_rows_join : (usn : ℤ) (got sent : List Row) (c s : Collection) (now : RowsByName) → AreLinkedParts c s → AreNamed (row_under s)
-    → AreOf (wanted_under Unsent (row_under c)) sent → IsSent got (wanted_under (From c.head.usn) (row_under s)) (get (all_taken usn sent s.rows))
-    → ((name : Name) → now name ≡ option_map (settled usn) (get (all_taken usn got c.rows) name))
+pub settled_rows_join : (usn : ℤ) (got sent : List Row) (c s : Collection) (now : RowsByName) → AreLinkedParts c s → AreNamed (row_under c) → AreNamed (row_under s) → AreChecked (row_under c) → AreChecked (row_under s)
+    → AreOf (wanted_under Unsent (row_under c)) sent → IsSent got (wanted_under (From c.head.usn) (row_under s)) (get (all_taken Server usn sent s.rows))
+    → ((name : Name) → now name ≡ option_map (settled usn) (get (all_taken Device usn got c.rows) name))
     → (name : Name) → IsTrue (same_held (now name) (joined_under (row_under c) (row_under s) name))
-settled_rows_join usn got sent c s now linked named sends gives settles name =
+settled_rows_join usn got sent c s now linked named their_named checked their_checked sends gives settles name =
     ap (λ o. same_held o (joined_under (row_under c) (row_under s) name)) (settles name)
-    ∙ settled_held usn (get (all_taken usn got c.rows) name) (joined_under (row_under c) (row_under s) name) (device_rows_join usn got sent c s linked named sends gives name)
+    ∙ settled_held usn (get (all_taken Device usn got c.rows) name) (joined_under (row_under c) (row_under s) name) (device_rows_join usn got sent c s linked named their_named checked their_checked sends gives name)
 
 device_under : (got sent : Received) (c s d t : Collection) (name : Name) → IsDeviceHalf got sent c s d t
-    → row_under d name ≡ option_map (settled s.head.usn) (received_under s.head.usn (row_under c) (newest_in got.rows) name)
-device_under got sent c s d t name e = e.rows name ∙ ap (option_map (settled s.head.usn)) (all_taken_at s.head.usn got.rows c.rows name)
+    → row_under d name ≡ option_map (settled s.head.usn) (received_under Device s.head.usn (row_under c) (newest_in Device got.rows) name)
+device_under got sent c s d t name e = e.rows name ∙ ap (option_map (settled s.head.usn)) (all_taken_at Device s.head.usn got.rows c.rows name)
 
 -- ---- an exchange: the tags of both
 device_tag : (least usn : ℤ) (x y after : Option ℤ) → IsTagShared least x y
@@ -236,10 +246,10 @@ mapped_some f P None holds = tt
 mapped_some f P (Some x) holds = holds
 
 device_rows_given : (least usn more : ℤ) (at from : RowsByName) (name : Name) → more ≡ usn +ℤ pos 1 → pos 0 ≤ℤ usn → least ≤ℤ usn
-    → IfSome (at name) (λ row. IsOwn least (usn_of row)) → IfSome (option_map (settled usn) (received_under usn at from name)) (λ row. IsGiven more (usn_of row))
+    → IfSome (at name) (λ row. IsOwn least (usn_of row)) → IfSome (option_map (settled usn) (received_under Device usn at from name)) (λ row. IsGiven more (usn_of row))
 device_rows_given least usn more at from name is low up own =
-    mapped_some (settled usn) (λ row. IsGiven more (usn_of row)) (received_under usn at from name)
-    (each_by (λ row. IsGiven more (usn_of (settled usn row))) usn (at name) (grave_under at name) (from name) (grave_under from name)
+    mapped_some (settled usn) (λ row. IsGiven more (usn_of row)) (received_under Device usn at from name)
+    (each_by (λ row. IsGiven more (usn_of (settled usn row))) Device usn (at name) (grave_under at name) (from name) (grave_under from name)
     (if_weaker (λ row. IsOwn least (usn_of row)) (λ row. IsGiven more (usn_of (settled usn row)))
     (λ row h. subst (IsGiven more) (sym (settled_usn usn row)) (settled_given usn more (usn_of row) is low (own_more least usn (usn_of row) up h))) (at name) own)
     (all_some (λ row. IsGiven more (usn_of (settled usn (with_usn row usn))))
@@ -277,7 +287,7 @@ device_own : (got sent : Received) (c s d t : Collection) → IsDeviceHalf got s
 device_own got sent c s d t e linked low = record {
   rows = λ name. if_weaker (λ row. IsGiven d.head.usn (usn_of row)) (λ row. IsOwn d.head.usn (usn_of row)) (λ row h. inr h) (row_under d name)
       (subst (λ (o : Option Row). IfSome o (λ row. IsGiven d.head.usn (usn_of row))) (sym (device_under got sent c s d t name e))
-      (device_rows_given c.head.usn s.head.usn d.head.usn (row_under c) (newest_in got.rows) name e.usn low linked.usn (linked.own.rows name)));
+      (device_rows_given c.head.usn s.head.usn d.head.usn (row_under c) (newest_in Device got.rows) name e.usn low linked.usn (linked.own.rows name)));
   tags = λ name. number_own d.head.usn (tag_usn d.head.tags name)
       (device_tag_given c.head.usn s.head.usn d.head.usn (tags_from c.head.usn s.head.tags name) (tag_usn c.head.tags name) (tag_usn d.head.tags name)
       e.usn low linked.usn (linked.own.tags name) (device_tags got sent c s d t name e));
@@ -320,19 +330,20 @@ single_same : (a b : RowsByName) → ((name : Name) → IsTrue (same_held (a nam
 single_same a b same single name dead =
     none_held (a name) (ap (same_held (a name)) (sym (single name (sym (same_graves a b name (graves_of name.table) same) ∙ dead))) ∙ same name)
 
-pub linked_same : (d t : Collection) → d.head.usn ≡ t.head.usn → AreNumbered IsOwn d → AreNumbered IsGiven t → ((name : Name) → IsTrue (same_held (row_under d name) (row_under t name)))
-    → ((name : List ℕ) → is_some (tag_usn d.head.tags name) ≡ is_some (tag_usn t.head.tags name)) → IsSingle (row_under t)
-    → AreLinkedParts d t
-linked_same d t usn own given same same_tags single = record {
+pub linked_same : (d t : Collection) → d.head.usn ≡ t.head.usn → d.head.moment ≡ t.head.moment → AreNumbered IsOwn d → AreNumbered IsGiven t
+    → SameContent (content_of d) (content_of t) → IsSingle (row_under t) → AreLinkedParts d t
+linked_same d t usn moment own given same single = record {
   usn = omega (arith, ints, usn);
   given = given;
   own = own;
-  taken = λ name stamps. taken_same d.head.usn (row_under d name) (grave_under (row_under d) name) (row_under t name) (same name);
-  known = λ name stamps. known_same d.head.usn (row_under d name) (row_under t name) (grave_under (row_under t) name) (same name);
-  shared = λ name none. shared_same d.head.usn (row_under d name) (row_under t name) (same name);
-  tags = λ name. tag_same d.head.usn (tag_usn d.head.tags name) (tag_usn t.head.tags name) (same_tags name);
-  own_single = single_same (row_under d) (row_under t) same single;
+  taken = λ name stamps. taken_same d.head.usn (row_under d name) (grave_under (row_under d) name) (row_under t name) (same.rows name);
+  known = λ name stamps. known_same d.head.usn (row_under d name) (row_under t name) (grave_under (row_under t) name) (same.rows name);
+  shared = λ name none. shared_same d.head.usn (row_under d name) (row_under t name) (same.rows name);
+  tags = λ name. tag_same d.head.usn (tag_usn d.head.tags name) (tag_usn t.head.tags name) (same.tags name);
+  own_single = single_same (row_under d) (row_under t) same.rows single;
   single = single;
+  later = λ _. omega (arith, ints, moment);
+  settings = λ _ _. (same.conf, same.crt);
 }
 
 -- ---- the law
@@ -343,9 +354,9 @@ device_named : (got sent : Received) (c s d t : Collection) → IsDeviceHalf got
 device_named got sent c s d t e named name row is =
     of_some (λ x. name_of x ≡ name) (row_under d name) row
     (subst (λ (o : Option Row). IfSome o (λ x. name_of x ≡ name)) (sym (device_under got sent c s d t name e))
-    (mapped_some (settled s.head.usn) (λ x. name_of x ≡ name) (received_under s.head.usn (row_under c) (newest_in got.rows) name)
-    (when_some (λ x. name_of (settled s.head.usn x) ≡ name) (received_under s.head.usn (row_under c) (newest_in got.rows) name)
-    (λ x held. name_of-settled s.head.usn x ∙ named_received s.head.usn (row_under c) (newest_in got.rows) named (newest_named got.rows) name x held))))
+    (mapped_some (settled s.head.usn) (λ x. name_of x ≡ name) (received_under Device s.head.usn (row_under c) (newest_in Device got.rows) name)
+    (when_some (λ x. name_of (settled s.head.usn x) ≡ name) (received_under Device s.head.usn (row_under c) (newest_in Device got.rows) name)
+    (λ x held. name_of-settled s.head.usn x ∙ named_received Device s.head.usn (row_under c) (newest_in Device got.rows) named (newest_named Device got.rows) name x held))))
     is
 
 -- what lists all that is wanted is sent
@@ -371,33 +382,33 @@ device_settings got sent c s d t e =
 
 -- ---- the halves
 -- a server that took what the device sent, and was committed, holds the join
-pub server_half_joins : (got sent : Received) (c s t : Collection) → IsServerHalf got sent c s t → AreLinkedParts c s → AreApart (row_under c) (row_under s)
+pub server_half_joins : (got sent : Received) (c s t : Collection) → IsServerHalf got sent c s t → AreLinkedParts c s
     → AreNamed (row_under c) → AreNamed (row_under s) → pos 0 ≤ℤ s.head.usn → HoldsJoin c s t
-server_half_joins got sent c s t e linked apart named their_named low =
+server_half_joins got sent c s t e linked named their_named low =
     let now = sym (commit_under sent s t e.commits) in
     record {
       content = record {
         rows = λ name. ap (λ (rows : Rows). same_held (get rows name) (joined_under (row_under c) (row_under s) name)) e.commits.rows
-            ∙ server_rows_join s.head.usn got.rows sent.rows c s linked apart named e.gives e.sends name;
+            ∙ server_rows_join s.head.usn got.rows sent.rows c s linked named e.gives e.sends name;
         tags = λ name. server_tag c.head.usn s.head.usn (tag_usn c.head.tags name) (tag_usn s.head.tags name) (tag_usn t.head.tags name) (linked.tags name)
             (commit_tag sent s t e.commits name ∙ ap (λ b. option_or (tag_usn s.head.tags name) (if b then Some s.head.usn else None)) (e.tags name));
         conf = ap (λ (settings : Settings). settings.conf) (server_settings got sent c s t e);
         crt = ap (λ (settings : Settings). settings.crt) (server_settings got sent c s t e);
       };
       given = commit_given sent s t e.commits low linked.given;
-      single = subst IsSingle now (single_received s.head.usn (row_under s) (newest_in sent.rows) linked.single);
-      named = subst AreNamed now (named_received s.head.usn (row_under s) (newest_in sent.rows) their_named (newest_named sent.rows));
+      single = subst IsSingle now (single_received Server s.head.usn (row_under s) (newest_in Server sent.rows) linked.single);
+      named = subst AreNamed now (named_received Server s.head.usn (row_under s) (newest_in Server sent.rows) their_named (newest_named Server sent.rows));
       usn = e.commits.usn;
       past_device = e.moment;
       past_server = e.commits.moment;
     }
 
 -- a device that took what the server gave, and settled what it sent, has the content of the join
-pub device_half_joins : (got sent : Received) (c s d t : Collection) → IsDeviceHalf got sent c s d t → AreLinkedParts c s → AreNamed (row_under s) → SameContent (content_of d) (join c s)
-device_half_joins got sent c s d t e linked their_named = record {
+pub device_half_joins : (got sent : Received) (c s d t : Collection) → IsDeviceHalf got sent c s d t → AreLinkedParts c s → AreNamed (row_under c) → AreNamed (row_under s) → AreChecked (row_under c) → AreChecked (row_under s) → SameContent (content_of d) (join c s)
+device_half_joins got sent c s d t e linked named their_named checked their_checked = record {
   rows = λ name. ap (λ o. same_held o (joined_under (row_under c) (row_under s) name)) (e.rows name)
-      ∙ settled_held s.head.usn (get (all_taken s.head.usn got.rows c.rows) name) (joined_under (row_under c) (row_under s) name)
-      (device_rows_join s.head.usn got.rows sent.rows c s linked their_named e.sends e.gives name);
+      ∙ settled_held s.head.usn (get (all_taken Device s.head.usn got.rows c.rows) name) (joined_under (row_under c) (row_under s) name)
+      (device_rows_join s.head.usn got.rows sent.rows c s linked named their_named checked their_checked e.sends e.gives name);
   tags = λ name. device_tag c.head.usn s.head.usn (tag_usn c.head.tags name) (tag_usn s.head.tags name) (tag_usn d.head.tags name) (linked.tags name) (device_tags got sent c s d t name e);
   conf = ap (λ (settings : Settings). settings.conf) (device_settings got sent c s d t e);
   crt = ap (λ (settings : Settings). settings.crt) (device_settings got sent c s d t e);
@@ -405,9 +416,9 @@ device_half_joins got sent c s d t e linked their_named = record {
 
 -- then it is linked with a server that holds the join
 pub device_half_links : (got sent : Received) (c s d t : Collection) → IsDeviceHalf got sent c s d t → HoldsJoin c s t → AreLinkedParts c s
-    → AreNamed (row_under c) → AreNamed (row_under s) → pos 0 ≤ℤ s.head.usn → AreExchanged c s d t
-device_half_links got sent c s d t e joined linked named their_named low =
-    let device = device_half_joins got sent c s d t e linked their_named in
+    → AreNamed (row_under c) → AreNamed (row_under s) → AreChecked (row_under c) → AreChecked (row_under s) → pos 0 ≤ℤ s.head.usn → AreExchanged c s d t
+device_half_links got sent c s d t e joined linked named their_named checked their_checked low =
+    let device = device_half_joins got sent c s d t e linked named their_named checked their_checked in
     let same : SameContent (content_of d) (content_of t) = record {
       rows = λ name. held-through (row_under d name) (joined_under (row_under c) (row_under s) name) (row_under t name) (device.rows name) (held-turned (row_under t name) (joined_under (row_under c) (row_under s) name) (joined.content.rows name));
       tags = λ name. device.tags name ∙ sym (joined.content.tags name);
@@ -415,7 +426,7 @@ device_half_links got sent c s d t e joined linked named their_named low =
       crt = device.crt ∙ sym joined.content.crt;
     } in
     record {
-      linked = linked_same d t (e.usn ∙ sym joined.usn) (device_own got sent c s d t e linked low) joined.given same.rows same.tags joined.single;
+      linked = linked_same d t (e.usn ∙ sym joined.usn) e.moment (device_own got sent c s d t e linked low) joined.given same joined.single;
       same = same;
       device = device;
       server = joined.content;
@@ -427,7 +438,7 @@ device_half_links got sent c s d t e joined linked named their_named low =
     }
 
 -- an exchange links the two again, and leaves both with the join
-pub exchange_links : (got sent : Received) (c s d t : Collection) → IsExchange got sent c s d t → AreLinkedParts c s → AreApart (row_under c) (row_under s) → AreNamed (row_under c)
-    → AreNamed (row_under s) → pos 0 ≤ℤ s.head.usn → AreExchanged c s d t
-exchange_links got sent c s d t e linked apart named their_named low =
-    device_half_links got sent c s d t e.device (server_half_joins got sent c s t e.server linked apart named their_named low) linked named their_named low
+pub exchange_links : (got sent : Received) (c s d t : Collection) → IsExchange got sent c s d t → AreLinkedParts c s → AreNamed (row_under c)
+    → AreNamed (row_under s) → AreChecked (row_under c) → AreChecked (row_under s) → pos 0 ≤ℤ s.head.usn → AreExchanged c s d t
+exchange_links got sent c s d t e linked named their_named checked their_checked low =
+    device_half_links got sent c s d t e.device (server_half_joins got sent c s t e.server linked named their_named low) linked named their_named checked their_checked low

@@ -1,5 +1,5 @@
 -- How a device and a server come to be linked.
-use Rattle.std.specs.Prelude.{◌≡◌, ◌≢◌, ℤ, pos, IsTrue, List, Option, Some, None, IfSome, is_some}
+use Rattle.std.specs.Prelude.{◌≡◌, ◌≢◌, ℤ, pos, IsTrue, List, Option, Some, None, IfSome}
 use Rattle.std.proofs.Common.{sym, ap, subst, inl, inr, arith}
 use Rattle.std.proofs.lemmas.Int.{ints}
 use Rattle.std.specs.FinMap.{get}
@@ -8,7 +8,7 @@ use Rattle.ak_base.specs.Rows.{usn_of}
 use Rattle.ak_base.specs.declared.heads.Head.{Head}
 use Rattle.ak_base.specs.declared.heads.Tag.{Tag}
 use Rattle.ak_keep.specs.Collections.{Collection, Rows}
-use Rattle.ak_merge.proofs.CommitLaws.{if_weaker}
+use Rattle.ak_merge.proofs.TakingLaws.{if_weaker}
 use Rattle.ak_merge.proofs.ExchangeLaws.{linked_same, number_own}
 use Rattle.ak_merge.proofs.Finding.{not_both}
 use Rattle.ak_merge.proofs.HeldFacts.{held-itself}
@@ -31,14 +31,7 @@ copy_own s c copy given = record {
       (subst (λ (tags : List Tag). IfSome (tag_usn tags name) (IsOwn s.head.usn)) (sym (copy_tags s c copy)) (number_own s.head.usn (tag_usn s.head.tags name) (given.tags name)));
 }
 
--- a copy of a committed collection is linked with it
-pub copies_are_linked : (s c : Collection) → IsCommitted s → IsCopyOf s c → AreLinkedParts c s
-copies_are_linked s c kept copy =
-    linked_same c s (copy_usn s c copy) (copy_own s c copy kept.given) kept.given
-    (λ name. subst (λ (held : Rows). IsTrue (same_held (get held name) (row_under s name))) (sym copy.rows) (held-itself (row_under s name)))
-    (λ name. ap (λ (tags : List Tag). is_some (tag_usn tags name)) (copy_tags s c copy)) kept.single
-
--- and has its content
+-- a copy of a collection has its content
 pub copies_have_content : (s c : Collection) → IsCopyOf s c → SameContent (content_of c) (content_of s)
 copies_have_content s c copy = record {
   rows = λ name. subst (λ (held : Rows). IsTrue (same_held (get held name) (row_under s name))) (sym copy.rows) (held-itself (row_under s name));
@@ -46,6 +39,12 @@ copies_have_content s c copy = record {
   conf = ap (λ (head : Head). head.conf) copy.head;
   crt = ap (λ (head : Head). head.crt) copy.head;
 }
+
+-- a copy of a committed collection is linked with it
+pub copies_are_linked : (s c : Collection) → IsCommitted s → IsCopyOf s c → AreLinkedParts c s
+copies_are_linked s c kept copy =
+    linked_same c s (copy_usn s c copy) (ap (λ (head : Head). head.moment) copy.head) (copy_own s c copy kept.given) kept.given
+    (copies_have_content s c copy) kept.single
 
 -- a fresh schema moment links
 pub fresh_schemas_link : (c s : Collection) → c.head.schema ≢ s.head.schema → AreLinked c s

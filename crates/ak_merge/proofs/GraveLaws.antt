@@ -2,7 +2,10 @@
 use Rattle.ak_base.proofs.Burials.{codes_exactly, graves_exactly, graves_of-buried_table}
 use Rattle.ak_base.specs.Columns.{code_fault}
 use Rattle.ak_base.specs.Graves.{buried_table, grave_faults, grave_table}
-use Rattle.ak_base.specs.Rows.{IsChecked, name_of, with_usn}
+use Rattle.ak_base.proofs.RowFacts.{same-with_usn}
+use Rattle.ak_base.specs.Contents.{same_content}
+use Rattle.ak_base.specs.Rows.{IsChecked, buried_of, name_of, with_usn}
+use Rattle.ak_base.specs.declared.names.Name.{Name}
 use Rattle.ak_base.specs.Tables.{graves_of, grave_code, of_grave_code}
 use Rattle.ak_base.specs.declared.names.Table.{Table}
 use Rattle.ak_base.specs.declared.names.Table.TheVariants as tables
@@ -12,11 +15,11 @@ use Rattle.ak_base.specs.declared.rows.Row.TheVariants as rows
 use Rattle.ak_base.specs.declared.errors.RowFault.TheVariants.{BadCode}
 use Rattle.ak_merge.proofs.CheckedRows.{faultless_of}
 use Rattle.ak_merge.proofs.Finding.{not_none}
-use Rattle.ak_merge.proofs.TakingLaws.{no_table}
-use Rattle.std.specs.Prelude.{◌≡◌, ℤ, pos, Bool, true, false, ◌||◌, int_lt, if◌then◌else◌, Some, None}
+use Rattle.ak_merge.proofs.TakingLaws.{no_table, graves_alike}
+use Rattle.std.specs.Prelude.{◌≡◌, ℤ, pos, Bool, true, false, ◌||◌, int_lt, if◌then◌else◌, IsTrue, is_some, Some, None}
 use Rattle.std.specs.Option.{unwrap_or}
 use Rattle.std.specs.Ordering.{int_eq}
-use Rattle.std.proofs.Common.{refl, sym, ap, ◌∙◌, arith}
+use Rattle.std.proofs.Common.{refl, sym, ap, subst, ◌∙◌, arith}
 use Rattle.std.proofs.lemmas.Int.{ints}
 use Rattle.std.proofs.lemmas.Option.{same_Some}
 
@@ -55,3 +58,31 @@ graves_are_made_anew (rows.Deck d) usn kind table checked leaves code = absurd (
 graves_are_made_anew (rows.Options o) usn kind table checked leaves code = absurd (no_table table tables.Options tables.Options leaves refl refl)
 graves_are_made_anew (rows.Grave g) usn kind table checked leaves code =
     ap (λ (k : ℤ). rows.Grave (record { usn = usn; oid = g.oid; kind = k })) (kind_of g kind table checked leaves code)
+
+-- two graves of one name, both in their ranges, are one but for their numbers
+pub graves_are_one : (x y : Row) → IsChecked x → IsChecked y → name_of x ≡ name_of y → is_some (buried_of y) ≡ true → IsTrue (same_content x y)
+graves_are_one x y checked their_checked same grave = both x y checked their_checked same (graves_alike x y same ∙ grave) grave
+  where
+    one_kind : (g h : Grave) → IsChecked (rows.Grave g) → IsChecked (rows.Grave h) → name_of (rows.Grave g) ≡ name_of (rows.Grave h) → g.kind ≡ h.kind
+    one_kind g h checked their_checked same =
+        kind_of g h.kind (buried_table h.kind) checked (graves_of-buried_table h.kind ∙ ap (λ (n : Name). Some n.table) (sym same))
+        ((codes_exactly (buried_table h.kind) h.kind).1 (coded h.kind (faultless_of (grave_faults h) their_checked).1.1.0))
+
+    both : (x y : Row) → IsChecked x → IsChecked y → name_of x ≡ name_of y → is_some (buried_of x) ≡ true → is_some (buried_of y) ≡ true → IsTrue (same_content x y)
+    both (rows.Grave g) (rows.Grave h) checked their_checked same one other =
+        let kinds : g.kind ≡ h.kind = one_kind g h checked their_checked same in
+        let ids : g.oid ≡ h.oid = ap (λ (n : Name). n.id) same in
+        let is : rows.Grave g ≡ with_usn (rows.Grave h) g.usn = λ i. rows.Grave (record { usn = g.usn; oid = ids i; kind = kinds i }) in
+        subst (λ (row : Row). IsTrue (same_content row (rows.Grave h))) (sym is) (same-with_usn (rows.Grave h) g.usn)
+    both (rows.Note n) y checked their_checked same one other = absurd (grind (arith, one))
+    both (rows.Card c) y checked their_checked same one other = absurd (grind (arith, one))
+    both (rows.Review r) y checked their_checked same one other = absurd (grind (arith, one))
+    both (rows.NoteType t) y checked their_checked same one other = absurd (grind (arith, one))
+    both (rows.Deck d) y checked their_checked same one other = absurd (grind (arith, one))
+    both (rows.Options o) y checked their_checked same one other = absurd (grind (arith, one))
+    both (rows.Grave g) (rows.Note n) checked their_checked same one other = absurd (grind (arith, other))
+    both (rows.Grave g) (rows.Card c) checked their_checked same one other = absurd (grind (arith, other))
+    both (rows.Grave g) (rows.Review r) checked their_checked same one other = absurd (grind (arith, other))
+    both (rows.Grave g) (rows.NoteType t) checked their_checked same one other = absurd (grind (arith, other))
+    both (rows.Grave g) (rows.Deck d) checked their_checked same one other = absurd (grind (arith, other))
+    both (rows.Grave g) (rows.Options o) checked their_checked same one other = absurd (grind (arith, other))

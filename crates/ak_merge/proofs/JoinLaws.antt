@@ -1,7 +1,7 @@
 -- The join's two laws: which side comes first makes no difference, and joining once is enough.
 use Rattle.ak_keep.specs.Collections.{Collection}
 use Rattle.ak_base.specs.Tables.{graves_of}
-use Rattle.std.specs.Prelude.{◌≡◌, ◌≢◌, Bool, true, false, ◌||◌, ◌<ℤ◌, int_lt, if◌then◌else◌, IsTrue, Option, Some, None, is_some}
+use Rattle.std.specs.Prelude.{◌≡◌, ◌≢◌, Bool, true, false, ◌||◌, ◌<ℤ◌, ◌≤ℤ◌, int_lt, if◌then◌else◌, IsTrue, Option, Some, None, is_some}
 use Rattle.std.proofs.Common.{refl, sym, ap, ◌∙◌, arith}
 use Rattle.std.proofs.lemmas.Int.{ints}
 use Rattle.std.specs.Option.{option_and_then}
@@ -29,14 +29,14 @@ or-turned false false = refl
 -- of two rows each is the newest whichever comes first, but for equal stamps
 newest_rows : (x y : Row) → (stamp_of x ≡ stamp_of y → IsTrue (same_content x y)) → IsTrue (same_held (newest (Some x) (Some y)) (newest (Some y) (Some x)))
 newest_rows x y apart =
-    elim (int_lt (stamp_of x) (stamp_of y)) as (λ s. int_lt (stamp_of x) (stamp_of y) ≡ s → IsTrue (same_held (if s then Some y else Some x) (newest (Some y) (Some x)))) [
+    elim (int_lt (stamp_of y) (stamp_of x)) as (λ s. int_lt (stamp_of y) (stamp_of x) ≡ s → IsTrue (same_held (if s then Some x else Some y) (newest (Some y) (Some x)))) [
       | true ↦ λ less.
-          let not_more : int_lt (stamp_of y) (stamp_of x) ≡ false = grind (arith, ints, less) in
-          rw not_more (same-itself y)
+          let not_more : int_lt (stamp_of x) (stamp_of y) ≡ false = grind (arith, ints, less) in
+          rw not_more (same-itself x)
       | false ↦ λ less.
-          elim (int_lt (stamp_of y) (stamp_of x)) as (λ t. int_lt (stamp_of y) (stamp_of x) ≡ t → IsTrue (same_held (Some x) (if t then Some x else Some y))) [
-            | true ↦ λ more. same-itself x
-            | false ↦ λ more. apart (omega (arith, ints, less, more))
+          elim (int_lt (stamp_of x) (stamp_of y)) as (λ t. int_lt (stamp_of x) (stamp_of y) ≡ t → IsTrue (same_held (Some y) (if t then Some y else Some x))) [
+            | true ↦ λ more. same-itself y
+            | false ↦ λ more. same-turned x y (apart (omega (arith, ints, less, more)))
           ] refl
     ] refl
 
@@ -79,7 +79,7 @@ newest_held : (x y : Option Row) → is_some (newest x y) ≡ (is_some x || is_s
 newest_held None None = refl
 newest_held None (Some y) = refl
 newest_held (Some x) None = refl
-newest_held (Some x) (Some y) = elim (int_lt (stamp_of x) (stamp_of y)) as (λ s. is_some (if s then Some y else Some x) ≡ true) [ true ↦ refl | false ↦ refl ]
+newest_held (Some x) (Some y) = elim (int_lt (stamp_of y) (stamp_of x)) as (λ s. is_some (if s then Some x else Some y) ≡ true) [ true ↦ refl | false ↦ refl ]
 
 -- graves leave no graves
 pub no_graves : (table graves : Table) → graves_of table ≡ Some graves → graves_of graves ≡ None
@@ -115,19 +115,21 @@ newest_once None y z same = held-itself z
 newest_once (Some x) None None same = grind (arith, same)
 newest_once (Some x) None (Some z) same =
     let one_stamp = like_stamp z x same in
-    let not_less : int_lt (stamp_of x) (stamp_of z) ≡ false = grind (arith, ints, one_stamp) in
-    rw not_less (same-turned z x same)
+    let not_more : int_lt (stamp_of z) (stamp_of x) ≡ false = grind (arith, ints, one_stamp) in
+    rw not_more (same-itself z)
 newest_once (Some x) (Some y) None same =
-    elim (int_lt (stamp_of x) (stamp_of y)) as (λ s. IsTrue (same_held None (if s then Some y else Some x)) → IsTrue (same_held (Some x) None)) [ true ↦ λ h. h | false ↦ λ h. h ] same
+    elim (int_lt (stamp_of y) (stamp_of x)) as (λ s. IsTrue (same_held None (if s then Some x else Some y)) → IsTrue (same_held (Some x) None)) [ true ↦ λ h. h | false ↦ λ h. h ] same
 newest_once (Some x) (Some y) (Some z) same =
-    elim (int_lt (stamp_of x) (stamp_of z)) as (λ t. int_lt (stamp_of x) (stamp_of z) ≡ t → IsTrue (same_held (if t then Some z else Some x) (Some z))) [
-      | true ↦ λ less. same-itself z
-      | false ↦ λ not_less.
-          elim (int_lt (stamp_of x) (stamp_of y)) as (λ s. int_lt (stamp_of x) (stamp_of y) ≡ s → IsTrue (same_held (Some z) (if s then Some y else Some x)) → IsTrue (same_content x z)) [
-            | true ↦ λ less same. let one_stamp = like_stamp z y same in absurd (omega (arith, ints, less, not_less, one_stamp))
-            | false ↦ λ less same. same-turned z x same
-          ] refl same
-    ] refl
+    let one_stamp : int_lt (stamp_of z) (stamp_of x) ≡ false = of_newest same in
+    rw one_stamp (same-itself z)
+  where
+    -- a row like the newest of x and y is not older than x
+    of_newest : IsTrue (same_held (Some z) (newest (Some x) (Some y))) → int_lt (stamp_of z) (stamp_of x) ≡ false
+    of_newest =
+        elim (int_lt (stamp_of y) (stamp_of x)) as (λ s. int_lt (stamp_of y) (stamp_of x) ≡ s → IsTrue (same_held (Some z) (if s then Some x else Some y)) → int_lt (stamp_of z) (stamp_of x) ≡ false) [
+          | true ↦ λ less same. let one_stamp = like_stamp z x same in grind (arith, ints, one_stamp)
+          | false ↦ λ less same. let one_stamp = like_stamp z y same in grind (arith, ints, less, one_stamp)
+        ] refl
 
 once_at : (d e : Bool) (x y z : Option Row) → IsTrue (same_held z (if d || e then None else newest x y))
     → IsTrue (same_held (if d || (d || e) then None else newest x z) z)
@@ -153,3 +155,16 @@ join_once a b j joins later =
       conf = ap (λ (head : Head). head.conf) head;
       crt = ap (λ (head : Head). head.crt) head;
     }
+
+-- ---- settings
+first_head : (a b : Head) → b.moment <ℤ a.moment → newest_head a b ≡ a
+first_head a b later = let is : int_lt b.moment a.moment ≡ true = grind (arith, ints, later) in rw is refl
+
+second_head : (a b : Head) → a.moment ≤ℤ b.moment → newest_head a b ≡ b
+second_head a b later = let is : int_lt b.moment a.moment ≡ false = grind (arith, ints, later) in rw is refl
+
+pub first_settings_stand : (a b : Collection) → b.head.moment <ℤ a.head.moment → ((join a b).conf ≡ a.head.conf) × ((join a b).crt ≡ a.head.crt)
+first_settings_stand a b later = (ap (λ (head : Head). head.conf) (first_head a.head b.head later), ap (λ (head : Head). head.crt) (first_head a.head b.head later))
+
+pub second_settings_stand : (a b : Collection) → a.head.moment ≤ℤ b.head.moment → ((join a b).conf ≡ b.head.conf) × ((join a b).crt ≡ b.head.crt)
+second_settings_stand a b later = (ap (λ (head : Head). head.conf) (second_head a.head b.head later), ap (λ (head : Head). head.crt) (second_head a.head b.head later))

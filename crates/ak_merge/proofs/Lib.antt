@@ -4,6 +4,7 @@ pub mod Taking
 pub mod HeldFacts
 pub mod JoinLaws
 pub mod TakingLaws
+pub mod TakingJoins
 pub mod CommitLaws
 pub mod ExchangeCells
 pub mod ExchangeLaws
@@ -26,9 +27,9 @@ pub mod GraveLaws
 pub mod Settling
 pub mod WantedCounts
 pub mod Transfers
-pub mod LaterSyncs
 pub mod TagLists
 pub mod Sweeps
 pub mod ContentLaws
 pub mod FirstLinks
+pub mod EqualHeads
 pub mod EditBuildingLaws

@@ -1,15 +1,16 @@
 -- Rows that are taken part by part, and what a list of wanted rows has.
-use Rattle.std.specs.Prelude.{◌≡◌, ◌↔◌, ℕ, zero, suc, ℤ, pos, negsuc, ◌≤ℤ◌, true, false, not, ◌&&◌, ◌==◌, if◌then◌else◌, int_lt, IsTrue, List, [], ◌∷◌, ◌++◌, map, filter, Option, Some, None}
+use Rattle.std.specs.Prelude.{◌≡◌, ◌≢◌, ◌↔◌, ℕ, zero, suc, ℤ, pos, negsuc, ◌≤ℤ◌, true, false, not, ◌&&◌, ◌==◌, if◌then◌else◌, int_lt, IsTrue, List, [], ◌∷◌, ◌++◌, map, filter, Option, Some, None, is_some}
 use Rattle.std.proofs.Common.{refl, sym, ap, subst, ◌∙◌, arith}
 use Rattle.std.proofs.lemmas.Int.{ints}
 use Rattle.std.proofs.lemmas.List.Elements.{All-contains, All-from_recursion}
 use Rattle.std.proofs.lemmas.Option.{none-some, same_Some}
 use Rattle.std.specs.Cmp.{first_so, signed_Decides, unsigned_Decides}
-use Rattle.std.specs.FinMap.{get, insert, entries}
+use Rattle.std.specs.FinMap.{get, insert, remove, entries}
 use Rattle.std.specs.List.{AllByRecursion, Contains}
+use Rattle.std.specs.Option.{option_map_or}
 use Rattle.ak_base.proofs.RowFacts.{name_of-with_usn, stamp_of-with_usn, usn_of-with_usn}
 use Rattle.ak_base.specs.Names.{table_place}
-use Rattle.ak_base.specs.Rows.{name_of, stamp_of, usn_of, with_usn, IsChecked}
+use Rattle.ak_base.specs.Rows.{buried_of, name_of, stamp_of, usn_of, with_usn, IsChecked}
 use Rattle.ak_base.specs.declared.names.Name.{Name}
 use Rattle.ak_base.specs.declared.names.Table.{Table}
 use Rattle.ak_base.specs.declared.names.Table.TheVariants as tables
@@ -18,34 +19,42 @@ use Rattle.ak_base.specs.declared.rows.Row.TheVariants as rows
 use Rattle.ak_keep.specs.Collections.{Rows, is_past, is_pending, is_wanted, wanted_past}
 use Rattle.ak_keep.specs.declared.keepers.Wanted.{Wanted}
 use Rattle.ak_keep.proofs.RowsByName.{all_gets, entries_found}
-use Rattle.ak_merge.proofs.CommitLaws.{each_by, grave_received, of_some, when_some, all_some}
+use Rattle.ak_merge.proofs.CommitLaws.{each_by, of_some, when_some, all_some}
 use Rattle.ak_merge.proofs.Finding.{id_over_zero}
 use Rattle.ak_merge.proofs.TagLaws.{weaker_all}
-use Rattle.ak_merge.proofs.TakingLaws.{received, received_by, received_under, newest_in, all_taken_at, grave_in}
+use Rattle.ak_merge.proofs.TakingLaws.{received_under, newest_in, all_taken_at}
 use Rattle.ak_keep.specs.Graves.{RowsByName, grave_under, is_dead}
 use Rattle.ak_merge.specs.Holdings.{AreNamed, AreChecked}
 use Rattle.ak_base.specs.Tables.{graves_of}
 use Rattle.ak_merge.specs.Exchanges.{StandsWanted}
-use Rattle.ak_merge.specs.Takings.{is_newer, takes, buried, taken, all_taken}
+use Rattle.ak_merge.specs.Takings.{beats_held, takes, buried, taken, all_taken}
+use Rattle.ak_merge.specs.declared.sides.Side.{Side}
+use Rattle.ak_merge.specs.declared.sides.Side.TheVariants.{Device, Server}
 
 -- ---- numbers
-newer_numberless : (o : Option Row) (row : Row) (other : ℤ) → is_newer o (with_usn row other) ≡ is_newer o row
-newer_numberless None row other = refl
-newer_numberless (Some held) row other = ap (int_lt (stamp_of held)) (stamp_of-with_usn row other)
+buried_of-with_usn : (row : Row) (other : ℤ) → buried_of (with_usn row other) ≡ buried_of row
+buried_of-with_usn (rows.Note n) other = refl
+buried_of-with_usn (rows.Card c) other = refl
+buried_of-with_usn (rows.Review r) other = refl
+buried_of-with_usn (rows.NoteType t) other = refl
+buried_of-with_usn (rows.Deck d) other = refl
+buried_of-with_usn (rows.Options o) other = refl
+buried_of-with_usn (rows.Grave g) other = refl
 
-takes_numberless : (at : RowsByName) (row : Row) (other : ℤ) → takes at (with_usn row other) ≡ takes at row
-takes_numberless at row other =
-    ap (λ (n : Name). not (is_dead at n) && is_newer (at n) (with_usn row other)) (name_of-with_usn row other)
-    ∙ ap (λ b. not (is_dead at (name_of row)) && b) (newer_numberless (at (name_of row)) row other)
+newer_numberless : (side : Side) (o : Option Row) (row : Row) (other : ℤ) → beats_held side o (with_usn row other) ≡ beats_held side o row
+newer_numberless side None row other = refl
+newer_numberless Server (Some held) row other = ap (int_lt (stamp_of held)) (stamp_of-with_usn row other)
+newer_numberless Device (Some held) row other =
+    ap (λ (n : Option Name). not (is_some n) && not (int_lt (stamp_of (with_usn row other)) (stamp_of held))) (buried_of-with_usn row other)
+    ∙ ap (λ s. not (is_some (buried_of row)) && not (int_lt s (stamp_of held))) (stamp_of-with_usn row other)
+
+takes_numberless : (side : Side) (at : RowsByName) (row : Row) (other : ℤ) → takes side at (with_usn row other) ≡ takes side at row
+takes_numberless side at row other =
+    ap (λ (n : Name). not (is_dead at n) && beats_held side (at n) (with_usn row other)) (name_of-with_usn row other)
+    ∙ ap (λ b. not (is_dead at (name_of row)) && b) (newer_numberless side (at (name_of row)) row other)
 
 buried_numberless : (row : Row) (other : ℤ) (held : Rows) → buried (with_usn row other) held ≡ buried row held
-buried_numberless (rows.Note n) other held = refl
-buried_numberless (rows.Card c) other held = refl
-buried_numberless (rows.Review r) other held = refl
-buried_numberless (rows.NoteType t) other held = refl
-buried_numberless (rows.Deck d) other held = refl
-buried_numberless (rows.Options o) other held = refl
-buried_numberless (rows.Grave g) other held = refl
+buried_numberless row other held = ap (λ (n : Option Name). option_map_or (λ (name : Name). remove held name) n held) (buried_of-with_usn row other)
 
 pub numbered_again : (row : Row) (other usn : ℤ) → with_usn (with_usn row other) usn ≡ with_usn row usn
 numbered_again (rows.Note n) other usn = refl
@@ -56,106 +65,54 @@ numbered_again (rows.Deck d) other usn = refl
 numbered_again (rows.Options o) other usn = refl
 numbered_again (rows.Grave g) other usn = refl
 
-one_numberless : (usn other : ℤ) (row : Row) (held : Rows) → taken usn (with_usn row other) held ≡ taken usn row held
-one_numberless usn other row held =
-    ap (λ b. if b then insert (buried (with_usn row other) held) (name_of (with_usn row other)) (with_usn (with_usn row other) usn) else buried (with_usn row other) held) (takes_numberless (get held) row other)
-    ∙ ap (λ (r : Rows). if takes (get held) row then insert r (name_of (with_usn row other)) (with_usn (with_usn row other) usn) else r) (buried_numberless row other held)
-    ∙ ap (λ (n : Name). if takes (get held) row then insert (buried row held) n (with_usn (with_usn row other) usn) else buried row held) (name_of-with_usn row other)
-    ∙ ap (λ (r : Row). if takes (get held) row then insert (buried row held) (name_of row) r else buried row held) (numbered_again row other usn)
+one_numberless : (side : Side) (usn other : ℤ) (row : Row) (held : Rows) → taken side usn (with_usn row other) held ≡ taken side usn row held
+one_numberless side usn other row held =
+    ap (λ b. if b then insert (buried (with_usn row other) held) (name_of (with_usn row other)) (with_usn (with_usn row other) usn) else buried (with_usn row other) held) (takes_numberless side (get held) row other)
+    ∙ ap (λ (r : Rows). if takes side (get held) row then insert r (name_of (with_usn row other)) (with_usn (with_usn row other) usn) else r) (buried_numberless row other held)
+    ∙ ap (λ (n : Name). if takes side (get held) row then insert (buried row held) n (with_usn (with_usn row other) usn) else buried row held) (name_of-with_usn row other)
+    ∙ ap (λ (r : Row). if takes side (get held) row then insert (buried row held) (name_of row) r else buried row held) (numbered_again row other usn)
 
 -- the number of a row that comes makes no difference
-pub numbers_make_no_difference : (usn : ℤ) (number : Row → ℤ) (came : List Row) (held : Rows) → all_taken usn (map (λ row. with_usn row (number row)) came) held ≡ all_taken usn came held
-numbers_make_no_difference usn number [] held = refl
-numbers_make_no_difference usn number (row ∷ more) held =
-    ap (all_taken usn (map (λ row. with_usn row (number row)) more)) (one_numberless usn (number row) row held)
-    ∙ numbers_make_no_difference usn number more (taken usn row held)
+pub numbers_make_no_difference : (side : Side) (usn : ℤ) (number : Row → ℤ) (came : List Row) (held : Rows) → all_taken side usn (map (λ row. with_usn row (number row)) came) held ≡ all_taken side usn came held
+numbers_make_no_difference side usn number [] held = refl
+numbers_make_no_difference side usn number (row ∷ more) held =
+    ap (all_taken side usn (map (λ row. with_usn row (number row)) more)) (one_numberless side usn (number row) row held)
+    ∙ numbers_make_no_difference side usn number more (taken side usn row held)
 
 -- nor do the numbers of two lists that are the same but for these
-pub same_but_numbers : (usn : ℤ) (one other : List Row) (held : Rows) → map (λ row. with_usn row (pos 0)) one ≡ map (λ row. with_usn row (pos 0)) other
-    → all_taken usn one held ≡ all_taken usn other held
-same_but_numbers usn one other held same =
-    sym (numbers_make_no_difference usn (λ row. pos 0) one held) ∙ ap (λ (came : List Row). all_taken usn came held) same ∙ numbers_make_no_difference usn (λ row. pos 0) other held
+pub same_but_numbers : (side : Side) (usn : ℤ) (one other : List Row) (held : Rows) → map (λ row. with_usn row (pos 0)) one ≡ map (λ row. with_usn row (pos 0)) other
+    → all_taken side usn one held ≡ all_taken side usn other held
+same_but_numbers side usn one other held same =
+    sym (numbers_make_no_difference side usn (λ row. pos 0) one held) ∙ ap (λ (came : List Row). all_taken side usn came held) same ∙ numbers_make_no_difference side usn (λ row. pos 0) other held
 
 -- ---- parts
 -- to take all is to take the rest after the front
-pub parts_add_up : (usn : ℤ) (front rest : List Row) (held : Rows) → all_taken usn (front ++ rest) held ≡ all_taken usn rest (all_taken usn front held)
-parts_add_up usn [] rest held = refl
-parts_add_up usn (row ∷ more) rest held = parts_add_up usn more rest (taken usn row held)
+pub parts_add_up : (side : Side) (usn : ℤ) (front rest : List Row) (held : Rows) → all_taken side usn (front ++ rest) held ≡ all_taken side usn rest (all_taken side usn front held)
+parts_add_up side usn [] rest held = refl
+parts_add_up side usn (row ∷ more) rest held = parts_add_up side usn more rest (taken side usn row held)
 
--- a row of a lesser stamp never comes back
-not_back : (usn : ℤ) (x r : Row) (w k : Option Row) → int_lt (stamp_of x) (stamp_of r) ≡ true → received_by usn (Some (with_usn r usn)) None w k ≡ Some x → ⊥
-not_back usn x r w (Some k) newer is = none-some x is
-not_back usn x r None None newer is =
-    let one : stamp_of (with_usn r usn) ≡ stamp_of x = ap stamp_of (same_Some _ _ is) in
-    let two = stamp_of-with_usn r usn in
-    grind (arith, ints, one, two, newer)
-not_back usn x r (Some v) None newer is =
-    elim (int_lt (stamp_of (with_usn r usn)) (stamp_of v)) as (λ s. int_lt (stamp_of (with_usn r usn)) (stamp_of v) ≡ s → (if s then Some (with_usn v usn) else Some (with_usn r usn)) ≡ Some x → ⊥) [
-      | true ↦ λ more is.
-          let one : stamp_of (with_usn v usn) ≡ stamp_of x = ap stamp_of (same_Some _ _ is) in
-          let two = stamp_of-with_usn v usn in
-          let three = stamp_of-with_usn r usn in
-          let up : int_lt (stamp_of r) (stamp_of v) ≡ true = ap (λ s. int_lt s (stamp_of v)) (sym three) ∙ more in
-          grind (arith, ints, one, two, newer, up)
-      | false ↦ λ more is.
-          let one : stamp_of (with_usn r usn) ≡ stamp_of x = ap stamp_of (same_Some _ _ is) in
-          let two = stamp_of-with_usn r usn in
-          grind (arith, ints, one, two, newer)
-    ] refl is
+-- a row that comes never stands with another number than the one that is taken with
+stood_before : (side : Side) (usn : ℤ) (came : List Row) (held : Rows) (name : Name) (row : Row) → usn_of row ≢ usn → get (all_taken side usn came held) name ≡ Some row → get held name ≡ Some row
+stood_before side usn came held name row differ is =
+    let P : Row → Type 0 = λ x. usn_of x ≢ usn → get held name ≡ Some x in
+    of_some P (received_under side usn (get held) (newest_in side came) name) row
+    (each_by P side usn (get held name) (grave_under (get held) name) (newest_in side came name) (grave_under (newest_in side came) name)
+    (when_some P (get held name) (λ x there _. there))
+    (all_some (λ x. P (with_usn x usn)) (λ x other. absurd (other (usn_of-with_usn x usn))) (newest_in side came name)))
+    (sym (all_taken_at side usn came held name) ∙ is) differ
 
-buried_for_good : (usn : ℤ) (x : Row) (g : Option Row) (k : Row) (w : Option Row) → received_by usn None (received usn g (Some k)) w None ≡ Some x → ⊥
-buried_for_good usn x None k w is = none-some x is
-buried_for_good usn x (Some g) k w is =
-    none-some x (sym (elim (int_lt (stamp_of g) (stamp_of k)) as (λ s. received_by usn None (if s then Some (with_usn k usn) else Some g) w None ≡ None) [ true ↦ refl | false ↦ refl ]) ∙ is)
-
-stood_cell : (usn : ℤ) (x : Row) (g w k v l : Option Row) → received_by usn (received_by usn (Some x) g w k) (received usn g k) v l ≡ Some x → received_by usn (Some x) g w k ≡ Some x
-stood_cell usn x g w (Some k) v (Some l) is = absurd (none-some x is)
-stood_cell usn x g w (Some k) v None is = absurd (buried_for_good usn x g k v is)
-stood_cell usn x (Some g) w None v l is = refl
-stood_cell usn x None None None v l is = refl
-stood_cell usn x None (Some r) None v l is =
-    elim (int_lt (stamp_of x) (stamp_of r)) as (λ s. int_lt (stamp_of x) (stamp_of r) ≡ s → received_by usn (if s then Some (with_usn r usn) else Some x) None v l ≡ Some x → (if s then Some (with_usn r usn) else Some x) ≡ Some x) [
-      | true ↦ λ newer is. absurd (not_back usn x r v l newer is)
-      | false ↦ λ _ _. refl
-    ] refl is
-
--- a row that stood before and stands in the end stood after the front
-pub rows_stand_between : (usn : ℤ) (front rest : List Row) (held : Rows) (name : Name) (row : Row) → get held name ≡ Some row → get (all_taken usn (front ++ rest) held) name ≡ Some row
-    → get (all_taken usn front held) name ≡ Some row
-rows_stand_between usn front rest held name row before after =
-    let at : RowsByName = get held in
-    let from : RowsByName = newest_in front in
-    let last : RowsByName = newest_in rest in
-    let cell : received_by usn (received_by usn (at name) (grave_under at name) (from name) (grave_under from name)) (received usn (grave_under at name) (grave_under from name)) (last name) (grave_under last name) ≡ Some row =
-    sym (ap (λ x. received_by usn x (grave_under (get (all_taken usn front held)) name) (last name) (grave_under last name)) (all_taken_at usn front held name)
-    ∙ ap (λ g. received_by usn (received_under usn at from name) g (last name) (grave_under last name)) (graves_after (graves_of name.table) refl))
-    ∙ sym (all_taken_at usn rest (all_taken usn front held) name) ∙ ap (λ (rows : Rows). get rows name) (sym (parts_add_up usn front rest held)) ∙ after in
-    all_taken_at usn front held name
-    ∙ ap (λ x. received_by usn x (grave_under at name) (from name) (grave_under from name)) before
-    ∙ stood_cell usn row (grave_under at name) (from name) (grave_under from name) (last name) (grave_under last name)
-    (subst (λ (x : Option Row). received_by usn (received_by usn x (grave_under at name) (from name) (grave_under from name)) (received usn (grave_under at name) (grave_under from name)) (last name) (grave_under last name) ≡ Some row) before cell)
-  where
-    graves_after : (graves : Option Table) → graves_of name.table ≡ graves
-        → grave_in (get (all_taken usn front held)) name graves ≡ received usn (grave_in (get held) name graves) (grave_in (newest_in front) name graves)
-    graves_after None is = refl
-    graves_after (Some graves) is = all_taken_at usn front held (record { table = graves; id = name.id }) ∙ grave_received usn (get held) (newest_in front) name (Some graves) is
+-- so such a row that stands in the end stood after the front
+pub rows_stand_between : (side : Side) (usn : ℤ) (front rest : List Row) (held : Rows) (name : Name) (row : Row) → usn_of row ≢ usn → get (all_taken side usn (front ++ rest) held) name ≡ Some row
+    → get (all_taken side usn front held) name ≡ Some row
+rows_stand_between side usn front rest held name row differ after =
+    stood_before side usn rest (all_taken side usn front held) name row differ (ap (λ (rows : Rows). get rows name) (sym (parts_add_up side usn front rest held)) ∙ after)
 
 -- what is pending after rows came was pending before
-pub pending_was_held : (usn : ℤ) (came : List Row) (held : Rows) (name : Name) (row : Row) → pos 0 ≤ℤ usn → get (all_taken usn came held) name ≡ Some row → IsTrue (is_pending row)
+pub pending_was_held : (side : Side) (usn : ℤ) (came : List Row) (held : Rows) (name : Name) (row : Row) → pos 0 ≤ℤ usn → get (all_taken side usn came held) name ≡ Some row → IsTrue (is_pending row)
     → get held name ≡ Some row
-pending_was_held usn came held name row low is =
-    let P : Row → Type 0 = λ x. IsTrue (is_pending x) → get held name ≡ Some x in
-    of_some P (received_under usn (get held) (newest_in came) name) row
-    (each_by P usn (get held name) (grave_under (get held) name) (newest_in came name) (grave_under (newest_in came) name)
-    (when_some P (get held name) (λ x held_there _. held_there))
-    (all_some (λ x. P (with_usn x usn)) (λ x pending. absurd (not_pending x pending)) (newest_in came name)))
-    (sym (all_taken_at usn came held name) ∙ is)
-  where
-    not_pending : (x : Row) → IsTrue (is_pending (with_usn x usn)) → ⊥
-    not_pending x pending =
-        let one : usn_of (with_usn x usn) ≡ negsuc 0 = (signed_Decides (usn_of (with_usn x usn)) (negsuc 0)).0 pending in
-        let two = usn_of-with_usn x usn in
-        omega (arith, ints, one, two, low)
+pending_was_held side usn came held name row low is pending =
+    let unsent : usn_of row ≡ negsuc 0 = (signed_Decides (usn_of row) (negsuc 0)).0 pending in
+    stood_before side usn came held name row (λ same. omega (arith, ints, unsent, same, low)) is
 
 -- ---- the wanted rows of a table
 here : (x : Row) (xs : List Row) → Contains (x ∷ xs) x

@@ -1,40 +1,41 @@
 -- What stays lawful while rows come part by part, and that what was sent may be settled before the rest comes.
-use Rattle.ak_base.proofs.RowFacts.{stamp_of-with_usn, usn_of-with_usn}
+use Rattle.ak_base.proofs.RowFacts.{usn_of-with_usn}
 use Rattle.ak_base.specs.Heads.{IsWithin}
 use Rattle.ak_base.specs.Limits.{last_usn}
-use Rattle.ak_base.specs.Rows.{IsChecked, stamp_of, usn_of, with_usn}
+use Rattle.ak_base.specs.Rows.{IsChecked, usn_of, with_usn}
 use Rattle.ak_base.specs.declared.names.Name.{Name}
 use Rattle.ak_base.specs.declared.names.Table.{Table}
 use Rattle.ak_base.specs.declared.rows.Row.{Row}
 use Rattle.ak_base.specs.Tables.{graves_of}
 use Rattle.ak_keep.specs.Collections.{Rows, is_pending}
-use Rattle.ak_merge.proofs.CommitLaws.{checked_received, named_received, newest_checked, newest_named, single_received}
+use Rattle.ak_merge.proofs.CommitLaws.{checked_received, named_received, newest_checked, single_received}
 use Rattle.ak_merge.proofs.PartLaws.{numbered_again, pending_was_held}
-use Rattle.ak_merge.proofs.TakingLaws.{received, received_by, grave_in, newest_in, all_taken_at}
+use Rattle.ak_merge.proofs.TakingLaws.{received, received_by, beats_numberless, grave_in, newest_in, newest_named, all_taken_at}
 use Rattle.ak_merge.specs.Exchanges.{settled, IsPartSettled}
 use Rattle.ak_keep.specs.Graves.{RowsByName, grave_under}
 use Rattle.ak_merge.specs.Holdings.{AreNamed, AreChecked, IsSingle}
-use Rattle.ak_merge.specs.Takings.{all_taken}
+use Rattle.ak_merge.specs.Takings.{beats, all_taken}
+use Rattle.ak_merge.specs.declared.sides.Side.{Side}
 use Rattle.std.specs.Cmp.{signed_Decides}
 use Rattle.std.specs.FinMap.{get}
 use Rattle.std.specs.List.{All}
 use Rattle.std.specs.Option.{option_map}
-use Rattle.std.specs.Prelude.{◌≡◌, ℤ, pos, negsuc, ◌≤ℤ◌, true, false, int_lt, if◌then◌else◌, IsTrue, T, List, Option, Some, None, ◌⊎◌}
+use Rattle.std.specs.Prelude.{◌≡◌, ℤ, pos, negsuc, ◌≤ℤ◌, true, false, if◌then◌else◌, IsTrue, T, List, Option, Some, None, ◌⊎◌}
 use Rattle.std.proofs.Common.{refl, sym, ap, subst, ◌∙◌, inl, inr, arith}
 use Rattle.std.proofs.Math.Path.{fun_ext}
 use Rattle.std.proofs.lemmas.Int.{ints}
 use Rattle.std.proofs.lemmas.Option.{none-some, same_Some}
 
 -- ---- lawful
-pub taken_named : (usn : ℤ) (came : List Row) (held : Rows) → AreNamed (get held) → AreNamed (get (all_taken usn came held))
-taken_named usn came held named = subst AreNamed (sym (fun_ext (all_taken_at usn came held))) (named_received usn (get held) (newest_in came) named (newest_named came))
+pub taken_named : (side : Side) (usn : ℤ) (came : List Row) (held : Rows) → AreNamed (get held) → AreNamed (get (all_taken side usn came held))
+taken_named side usn came held named = subst AreNamed (sym (fun_ext (all_taken_at side usn came held))) (named_received side usn (get held) (newest_in side came) named (newest_named side came))
 
-pub taken_checked : (usn : ℤ) (came : List Row) (held : Rows) → All IsChecked came → IsWithin (pos 0) last_usn usn → AreChecked (get held) → AreChecked (get (all_taken usn came held))
-taken_checked usn came held fits within checked =
-    subst AreChecked (sym (fun_ext (all_taken_at usn came held))) (checked_received usn (get held) (newest_in came) checked (newest_checked usn came within fits))
+pub taken_checked : (side : Side) (usn : ℤ) (came : List Row) (held : Rows) → All IsChecked came → IsWithin (pos 0) last_usn usn → AreChecked (get held) → AreChecked (get (all_taken side usn came held))
+taken_checked side usn came held fits within checked =
+    subst AreChecked (sym (fun_ext (all_taken_at side usn came held))) (checked_received side usn (get held) (newest_in side came) checked (newest_checked side usn came within fits))
 
-pub taken_single : (usn : ℤ) (came : List Row) (held : Rows) → IsSingle (get held) → IsSingle (get (all_taken usn came held))
-taken_single usn came held single = subst IsSingle (sym (fun_ext (all_taken_at usn came held))) (single_received usn (get held) (newest_in came) single)
+pub taken_single : (side : Side) (usn : ℤ) (came : List Row) (held : Rows) → IsSingle (get held) → IsSingle (get (all_taken side usn came held))
+taken_single side usn came held single = subst IsSingle (sym (fun_ext (all_taken_at side usn came held))) (single_received side usn (get held) (newest_in side came) single)
 
 -- ---- settled first
 -- this, or the same settled
@@ -48,43 +49,43 @@ settled_twice usn row =
       | false ↦ λ is. ap (λ b. if b then with_usn row usn else row) is
     ] refl
 
-settled_stamp : (usn : ℤ) (row : Row) → stamp_of (settled usn row) ≡ stamp_of row
-settled_stamp usn row = elim (is_pending row) as (λ b. stamp_of (if b then with_usn row usn else row) ≡ stamp_of row) [ true ↦ stamp_of-with_usn row usn | false ↦ refl ]
+beats_settled : (side : Side) (usn : ℤ) (x y : Row) → beats side (settled usn x) y ≡ beats side x y
+beats_settled side usn x y = elim (is_pending x) as (λ b. beats side (if b then with_usn x usn else x) y ≡ beats side x y) [ true ↦ beats_numberless side x y usn | false ↦ refl ]
 
 again : (usn : ℤ) (x : Option Row) → option_map (settled usn) (option_map (settled usn) x) ≡ option_map (settled usn) x
 again usn None = refl
 again usn (Some x) = ap (λ (r : Row). Some r) (settled_twice usn x)
 
-received_settled : (usn : ℤ) (x y : Option Row) → option_map (settled usn) (received usn (option_map (settled usn) x) y) ≡ option_map (settled usn) (received usn x y)
-received_settled usn None y = refl
-received_settled usn (Some x) None = again usn (Some x)
-received_settled usn (Some x) (Some y) =
-    ap (λ s. option_map (settled usn) (if int_lt s (stamp_of y) then Some (with_usn y usn) else Some (settled usn x))) (settled_stamp usn x)
-    ∙ elim (int_lt (stamp_of x) (stamp_of y)) as (λ s. option_map (settled usn) (if s then Some (with_usn y usn) else Some (settled usn x)) ≡ option_map (settled usn) (if s then Some (with_usn y usn) else Some x)) [
+received_settled : (side : Side) (usn : ℤ) (x y : Option Row) → option_map (settled usn) (received side usn (option_map (settled usn) x) y) ≡ option_map (settled usn) (received side usn x y)
+received_settled side usn None y = refl
+received_settled side usn (Some x) None = again usn (Some x)
+received_settled side usn (Some x) (Some y) =
+    ap (λ s. option_map (settled usn) (if s then Some (with_usn y usn) else Some (settled usn x))) (beats_settled side usn x y)
+    ∙ elim (beats side x y) as (λ s. option_map (settled usn) (if s then Some (with_usn y usn) else Some (settled usn x)) ≡ option_map (settled usn) (if s then Some (with_usn y usn) else Some x)) [
       | true ↦ refl
       | false ↦ again usn (Some x)
     ]
 
-row_settled : (usn : ℤ) (x g y h : Option Row) → option_map (settled usn) (received_by usn (option_map (settled usn) x) g y h) ≡ option_map (settled usn) (received_by usn x g y h)
-row_settled usn x g y (Some h) = refl
-row_settled usn x (Some g) y None = again usn x
-row_settled usn x None y None = received_settled usn x y
+row_settled : (side : Side) (usn : ℤ) (x g y h : Option Row) → option_map (settled usn) (received_by side usn (option_map (settled usn) x) g y h) ≡ option_map (settled usn) (received_by side usn x g y h)
+row_settled side usn x g y (Some h) = refl
+row_settled side usn x (Some g) y None = again usn x
+row_settled side usn x None y None = received_settled side usn x y
 
-grave_settled : (usn : ℤ) (x g y h : Option Row) → received_by usn x (option_map (settled usn) g) y h ≡ received_by usn x g y h
-grave_settled usn x g y (Some h) = refl
-grave_settled usn x (Some g) y None = refl
-grave_settled usn x None y None = refl
+grave_settled : (side : Side) (usn : ℤ) (x g y h : Option Row) → received_by side usn x (option_map (settled usn) g) y h ≡ received_by side usn x g y h
+grave_settled side usn x g y (Some h) = refl
+grave_settled side usn x (Some g) y None = refl
+grave_settled side usn x None y None = refl
 
-settled_cell : (usn : ℤ) (x early g early_grave y h : Option Row) → MaySettled usn x early → MaySettled usn g early_grave
-    → option_map (settled usn) (received_by usn early early_grave y h) ≡ option_map (settled usn) (received_by usn x g y h)
-settled_cell usn x early g early_grave y h row grave =
+settled_cell : (side : Side) (usn : ℤ) (x early g early_grave y h : Option Row) → MaySettled usn x early → MaySettled usn g early_grave
+    → option_map (settled usn) (received_by side usn early early_grave y h) ≡ option_map (settled usn) (received_by side usn x g y h)
+settled_cell side usn x early g early_grave y h row grave =
     elim grave [
-      | inl is ↦ ap (λ e. option_map (settled usn) (received_by usn early e y h)) is
-      | inr is ↦ ap (λ e. option_map (settled usn) (received_by usn early e y h)) is ∙ ap (option_map (settled usn)) (grave_settled usn early g y h)
+      | inl is ↦ ap (λ e. option_map (settled usn) (received_by side usn early e y h)) is
+      | inr is ↦ ap (λ e. option_map (settled usn) (received_by side usn early e y h)) is ∙ ap (option_map (settled usn)) (grave_settled side usn early g y h)
     ]
     ∙ elim row [
-      | inl is ↦ ap (λ e. option_map (settled usn) (received_by usn e g y h)) is
-      | inr is ↦ ap (λ e. option_map (settled usn) (received_by usn e g y h)) is ∙ row_settled usn x g y h
+      | inl is ↦ ap (λ e. option_map (settled usn) (received_by side usn e g y h)) is
+      | inr is ↦ ap (λ e. option_map (settled usn) (received_by side usn e g y h)) is ∙ row_settled side usn x g y h
     ]
 
 graves_early : (usn : ℤ) (at early : RowsByName) (name : Name) (graves : Option Table) → IsPartSettled usn at early → MaySettled usn (grave_in at name graves) (grave_in early name graves)
@@ -92,13 +93,13 @@ graves_early usn at early name None part = inl refl
 graves_early usn at early name (Some graves) part = part (record { table = graves; id = name.id })
 
 -- what is settled in the end is the same
-pub settled_first : (usn : ℤ) (came : List Row) (held early : Rows) → IsPartSettled usn (get held) (get early)
-    → (name : Name) → option_map (settled usn) (get (all_taken usn came early) name) ≡ option_map (settled usn) (get (all_taken usn came held) name)
-settled_first usn came held early part name =
-    ap (option_map (settled usn)) (all_taken_at usn came early name)
-    ∙ settled_cell usn (get held name) (get early name) (grave_under (get held) name) (grave_under (get early) name) (newest_in came name) (grave_under (newest_in came) name)
+pub settled_first : (side : Side) (usn : ℤ) (came : List Row) (held early : Rows) → IsPartSettled usn (get held) (get early)
+    → (name : Name) → option_map (settled usn) (get (all_taken side usn came early) name) ≡ option_map (settled usn) (get (all_taken side usn came held) name)
+settled_first side usn came held early part name =
+    ap (option_map (settled usn)) (all_taken_at side usn came early name)
+    ∙ settled_cell side usn (get held name) (get early name) (grave_under (get held) name) (grave_under (get early) name) (newest_in side came name) (grave_under (newest_in side came) name)
     (part name) (graves_early usn (get held) (get early) name (graves_of name.table) part)
-    ∙ sym (ap (option_map (settled usn)) (all_taken_at usn came held name))
+    ∙ sym (ap (option_map (settled usn)) (all_taken_at side usn came held name))
 
 settled_no_more : (usn : ℤ) (x row : Row) → pos 0 ≤ℤ usn → settled usn x ≡ row → IsTrue (is_pending row) → ⊥
 settled_no_more usn x row low is pending =
@@ -117,7 +118,7 @@ early_held usn None early row low (inr same) is pending = absurd (none-some row 
 early_held usn (Some x) early row low (inr same) is pending = absurd (settled_no_more usn x row low (same_Some (settled usn x) row (sym same ∙ is)) pending)
 
 -- what is left to settle was held and not sent yet
-pub pending_left : (usn : ℤ) (came : List Row) (held early : Rows) (name : Name) (row : Row) → pos 0 ≤ℤ usn → IsPartSettled usn (get held) (get early)
-    → get (all_taken usn came early) name ≡ Some row → IsTrue (is_pending row) → get held name ≡ Some row
-pending_left usn came held early name row low part is pending =
-    early_held usn (get held name) (get early name) row low (part name) (pending_was_held usn came early name row low is pending) pending
+pub pending_left : (side : Side) (usn : ℤ) (came : List Row) (held early : Rows) (name : Name) (row : Row) → pos 0 ≤ℤ usn → IsPartSettled usn (get held) (get early)
+    → get (all_taken side usn came early) name ≡ Some row → IsTrue (is_pending row) → get held name ≡ Some row
+pending_left side usn came held early name row low part is pending =
+    early_held usn (get held name) (get early name) row low (part name) (pending_was_held side usn came early name row low is pending) pending

@@ -14,6 +14,7 @@ use Rattle.ak_keep.specs.Collections.{Holding, with_row, without}
 use Rattle.ak_keep.specs.Keepers.{Keeping, WhereTold, changed}
 use Rattle.ak_base.proofs.RowFacts.{name_of-with_usn}
 use Rattle.ak_keep.specs.Graves.{RowsByName, is_dead}
+use Rattle.ak_merge.specs.declared.sides.Side.{Side}
 use Rattle.ak_merge.specs.Takings.{buried, without_buried, with_taken, takes}
 
 dead_in : (at : RowsByName) (graves : Option Table) (name : Name) → option_map_or (λ (n : Name). is_some (at n)) (option_map (λ (graves : Table). record { table = graves; id = name.id }) graves) false ≡ is_some (option_and_then (λ (graves : Table). at (record { table = graves; id = name.id })) graves)
@@ -37,21 +38,21 @@ unburied k row none = ap (λ told. record { headed = k.headed; told = told }) (s
 pub buried_here : (k : Keeping) (row : Row) (name : Name) → Some name ≡ buried_of row → changed (without name) k ≡ changed (without_buried row) k
 buried_here k row name is = told_anew k _ _ (ap (λ (n : Option Name). option_map (λ (w : WithMark Holding). record { current = record w.current { rows = option_map_or (λ (name : Name). remove w.current.rows name) n w.current.rows }; mark = w.mark }) k.told) is)
 
-over : (row : Row) (usn : ℤ) (told : Option (WithMark Holding)) → IfSome told (λ w. false ≡ takes (get w.current.rows) row)
-    → option_map (marks.changed (without_buried row)) told ≡ option_map (marks.changed (with_taken usn row)) told
-over row usn None is = refl
-over row usn (Some w) is =
+over : (side : Side) (row : Row) (usn : ℤ) (told : Option (WithMark Holding)) → IfSome told (λ w. false ≡ takes side (get w.current.rows) row)
+    → option_map (marks.changed (without_buried row)) told ≡ option_map (marks.changed (with_taken side usn row)) told
+over side row usn None is = refl
+over side row usn (Some w) is =
     ap (λ b. Some (record { current = record w.current { rows = cond b (insert (buried row w.current.rows) (name_of row) (with_usn row usn)) (buried row w.current.rows) }; mark = w.mark })) is
 
-pub passed_over : (k : Keeping) (row : Row) (usn : ℤ) → WhereTold k (λ h. false ≡ takes (get h.rows) row) → changed (without_buried row) k ≡ changed (with_taken usn row) k
-passed_over k row usn is = told_anew k _ _ (over row usn k.told is)
+pub passed_over : (side : Side) (k : Keeping) (row : Row) (usn : ℤ) → WhereTold k (λ h. false ≡ takes side (get h.rows) row) → changed (without_buried row) k ≡ changed (with_taken side usn row) k
+passed_over side k row usn is = told_anew k _ _ (over side row usn k.told is)
 
-stored : (row : Row) (usn : ℤ) (told : Option (WithMark Holding)) → IfSome told (λ w. true ≡ takes (get w.current.rows) row)
-    → option_map (marks.changed (with_row (with_usn row usn))) (option_map (marks.changed (without_buried row)) told) ≡ option_map (marks.changed (with_taken usn row)) told
-stored row usn None is = refl
-stored row usn (Some w) is =
+stored : (side : Side) (row : Row) (usn : ℤ) (told : Option (WithMark Holding)) → IfSome told (λ w. true ≡ takes side (get w.current.rows) row)
+    → option_map (marks.changed (with_row (with_usn row usn))) (option_map (marks.changed (without_buried row)) told) ≡ option_map (marks.changed (with_taken side usn row)) told
+stored side row usn None is = refl
+stored side row usn (Some w) is =
     ap (λ (name : Name). Some (record { current = record w.current { rows = insert (buried row w.current.rows) name (with_usn row usn) }; mark = w.mark })) (name_of-with_usn row usn)
     ∙ ap (λ b. Some (record { current = record w.current { rows = cond b (insert (buried row w.current.rows) (name_of row) (with_usn row usn)) (buried row w.current.rows) }; mark = w.mark })) is
 
-pub put_there : (k : Keeping) (row : Row) (usn : ℤ) → WhereTold k (λ h. true ≡ takes (get h.rows) row) → changed (with_row (with_usn row usn)) (changed (without_buried row) k) ≡ changed (with_taken usn row) k
-put_there k row usn is = ap (λ told. record { headed = k.headed; told = told }) (stored row usn k.told is)
+pub put_there : (side : Side) (k : Keeping) (row : Row) (usn : ℤ) → WhereTold k (λ h. true ≡ takes side (get h.rows) row) → changed (with_row (with_usn row usn)) (changed (without_buried row) k) ≡ changed (with_taken side usn row) k
+put_there side k row usn is = ap (λ told. record { headed = k.headed; told = told }) (stored side row usn k.told is)

@@ -4,7 +4,7 @@ use Rattle.ak_base.specs.Tables.{graves_of, buried_in}
 use Rattle.ak_keep.proofs.RowsByName.{same_of_tied}
 use Rattle.ak_base.specs.Graves.{buried_table, grave_table}
 use Rattle.ak_base.specs.Rows.{buried_of, name_of, stamp_of, with_usn}
-use Rattle.std.specs.Prelude.{◌≡◌, ℕ, zero, suc, ◌<◌, ℤ, Bool, true, false, not, ◌||◌, ◌&&◌, if◌then◌else◌, int_lt, IsTrue, IfSome, length, List, [], ◌∷◌, Option, Some, None, is_some}
+use Rattle.std.specs.Prelude.{◌≡◌, ℕ, zero, suc, ◌<◌, ℤ, Bool, true, false, not, ◌||◌, ◌&&◌, if◌then◌else◌, int_lt, IsTrue, IfSome, length, List, [], ◌∷◌, Option, Some, None, is_some, ⊤}
 use Rattle.std.proofs.Common.{refl, sym, ap, subst, ◌∙◌, arith}
 use Rattle.std.proofs.Math.Path.{fun_ext}
 use Rattle.std.proofs.lemmas.Int.{ints}
@@ -25,40 +25,48 @@ use Rattle.ak_keep.specs.Collections.{Rows}
 use Rattle.ak_keep.specs.Graves.{RowsByName, grave_under, is_dead}
 use Rattle.ak_merge.specs.Holdings.{AreNamed, IsSingle, same_held}
 use Rattle.ak_merge.proofs.JoinLaws.{no_graves}
-use Rattle.ak_merge.specs.Joins.{newest, joined_under}
 use Rattle.ak_base.proofs.RowFacts.{stamp_of-with_usn, same-with_usn, same-itself}
-use Rattle.ak_merge.specs.Takings.{IsListOf, is_newer, takes, buried, taken, all_taken}
+use Rattle.ak_merge.specs.Takings.{IsListOf, beats, beats_held, takes, buried, taken, all_taken}
+use Rattle.ak_merge.specs.declared.sides.Side.{Side}
+use Rattle.ak_merge.specs.declared.sides.Side.TheVariants.{Device, Server}
 
 -- ---- what stands under a name after taking
 -- the row that came where it is newer or none was held, with this update sequence number; else the one that is held
-abbrev pub received : ℤ → Option Row → Option Row → Option Row
-received usn None None = None
-received usn None (Some came) = Some (with_usn came usn)
-received usn (Some held) None = Some held
-received usn (Some held) (Some came) = if int_lt (stamp_of held) (stamp_of came) then Some (with_usn came usn) else Some held
+abbrev pub received : Side → ℤ → Option Row → Option Row → Option Row
+received side usn None None = None
+received side usn None (Some came) = Some (with_usn came usn)
+received side usn (Some held) None = Some held
+received side usn (Some held) (Some came) = if beats side held came then Some (with_usn came usn) else Some held
 
 -- the same under a name whose grave may be held or come: a grave that came leaves nothing, and one that is held lets nothing in
-abbrev pub received_by : ℤ → Option Row → Option Row → Option Row → Option Row → Option Row
-received_by usn held grave came (Some grave_came) = None
-received_by usn held (Some grave) came None = held
-received_by usn held None came None = received usn held came
+abbrev pub received_by : Side → ℤ → Option Row → Option Row → Option Row → Option Row → Option Row
+received_by side usn held grave came (Some grave_came) = None
+received_by side usn held (Some grave) came None = held
+received_by side usn held None came None = received side usn held came
 
 -- what stands under each name once this was taken
-abbrev pub received_under : ℤ → RowsByName → RowsByName → RowsByName
-received_under usn at from name = received_by usn (at name) (grave_under at name) (from name) (grave_under from name)
+abbrev pub received_under : Side → ℤ → RowsByName → RowsByName → RowsByName
+received_under side usn at from name = received_by side usn (at name) (grave_under at name) (from name) (grave_under from name)
 
 -- whether two names are one
 abbrev pub is_name : Name → Name → Bool
 is_name = eq_by_cmp name_cmp
 
--- what stands under each name, behind this row: of two that are as new it comes first
-abbrev pub led_by : Row → RowsByName → RowsByName
-led_by row from name = newest (if is_name name (name_of row) then Some row else None) (from name)
+-- of two rows that come one after the other the one that a side ends with: the second if it takes the place of the first
+abbrev pub stronger : Side → Option Row → Option Row → Option Row
+stronger side None y = y
+stronger side (Some x) None = Some x
+stronger side (Some x) (Some y) = if beats side x y then Some y else Some x
 
--- under each name the newest of the rows that a list has of it, and of those that are as new the first
-abbrev pub newest_in : List Row → RowsByName
-newest_in [] name = None
-newest_in (row ∷ more) name = led_by row (newest_in more) name
+-- what stands under each name, behind this row
+abbrev pub led_by : Side → Row → RowsByName → RowsByName
+led_by side row from name = stronger side (if is_name name (name_of row) then Some row else None) (from name)
+
+-- under each name the row of a list that a side ends with. It is the newest that the list has of the name: of those that are as new
+-- the first for a server, and for a device the last
+abbrev pub newest_in : Side → List Row → RowsByName
+newest_in side [] name = None
+newest_in side (row ∷ more) name = led_by side row (newest_in side more) name
 
 -- ---- names and the graves of names
 name-itself : (name : Name) → is_name name name ≡ true
@@ -167,9 +175,9 @@ its_grave (rows.Grave g) name graves is same =
 
 -- ---- one row
 -- what stands under each name once this row was taken
-abbrev stepped : ℤ → Row → RowsByName → RowsByName
-stepped usn row at name =
-    if is_name name (name_of row) then (if takes at row then Some (with_usn row usn) else if buries row name then None else at name)
+abbrev stepped : Side → ℤ → Row → RowsByName → RowsByName
+stepped side usn row at name =
+    if is_name name (name_of row) then (if takes side at row then Some (with_usn row usn) else if buries row name then None else at name)
     else if buries row name then None else at name
 
 buried_at : (row : Row) (held : Rows) (name : Name) → get (buried row held) name ≡ (if buries row name then None else get held name)
@@ -183,9 +191,9 @@ either_same : (s : Bool) (x : Option Row) → x ≡ (if s then x else x)
 either_same true x = refl
 either_same false x = refl
 
-taken_at : (usn : ℤ) (row : Row) (held : Rows) (name : Name) → get (taken usn row held) name ≡ stepped usn row (get held) name
-taken_at usn row held name =
-    elim (takes (get held) row) as (λ b. get (if b then insert (buried row held) (name_of row) (with_usn row usn) else buried row held) name
+taken_at : (side : Side) (usn : ℤ) (row : Row) (held : Rows) (name : Name) → get (taken side usn row held) name ≡ stepped side usn row (get held) name
+taken_at side usn row held name =
+    elim (takes side (get held) row) as (λ b. get (if b then insert (buried row held) (name_of row) (with_usn row usn) else buried row held) name
     ≡ (if is_name name (name_of row) then (if b then Some (with_usn row usn) else if buries row name then None else get held name) else if buries row name then None else get held name)) [
       | true ↦ get-insert names_total (buried row held) (name_of row) (with_usn row usn) name ∙ ap (λ o. if is_name name (name_of row) then Some (with_usn row usn) else o) (buried_at row held name)
       | false ↦ buried_at row held name ∙ either_same (is_name name (name_of row)) (if buries row name then None else get held name)
@@ -195,21 +203,21 @@ taken_at usn row held name =
 abbrev pub grave_in : RowsByName → Name → Option Table → Option Row
 grave_in at name graves = option_and_then (λ (table : Table). at (record { table = table; id = name.id })) graves
 
-stepped_own : (usn : ℤ) (row : Row) (at : RowsByName) → stepped usn row at (name_of row) ≡ (if takes at row then Some (with_usn row usn) else at (name_of row))
-stepped_own usn row at = rw (name-itself (name_of row), own_clear row) refl
+stepped_own : (side : Side) (usn : ℤ) (row : Row) (at : RowsByName) → stepped side usn row at (name_of row) ≡ (if takes side at row then Some (with_usn row usn) else at (name_of row))
+stepped_own side usn row at = rw (name-itself (name_of row), own_clear row) refl
 
-stepped_other : (usn : ℤ) (row : Row) (at : RowsByName) (name : Name) → is_name name (name_of row) ≡ false → stepped usn row at name ≡ (if buries row name then None else at name)
-stepped_other usn row at name apart = rw apart refl
+stepped_other : (side : Side) (usn : ℤ) (row : Row) (at : RowsByName) (name : Name) → is_name name (name_of row) ≡ false → stepped side usn row at name ≡ (if buries row name then None else at name)
+stepped_other side usn row at name apart = rw apart refl
 
-led_own : (row : Row) (from : RowsByName) → led_by row from (name_of row) ≡ newest (Some row) (from (name_of row))
-led_own row from = rw (name-itself (name_of row)) refl
+led_own : (side : Side) (row : Row) (from : RowsByName) → led_by side row from (name_of row) ≡ stronger side (Some row) (from (name_of row))
+led_own side row from = rw (name-itself (name_of row)) refl
 
-newest_none : (x : Option Row) → newest None x ≡ x
-newest_none None = refl
-newest_none (Some x) = refl
+stronger_none : (side : Side) (x : Option Row) → stronger side None x ≡ x
+stronger_none side None = refl
+stronger_none side (Some x) = refl
 
-led_other : (row : Row) (from : RowsByName) (name : Name) → is_name name (name_of row) ≡ false → led_by row from name ≡ from name
-led_other row from name apart = rw apart (newest_none (from name))
+led_other : (side : Side) (row : Row) (from : RowsByName) (name : Name) → is_name name (name_of row) ≡ false → led_by side row from name ≡ from name
+led_other side row from name apart = rw apart (stronger_none side (from name))
 
 -- a row is no grave of its own name
 own_grave : (row : Row) (graves : Table) → graves_of (name_of row).table ≡ Some graves → is_name (record { table = graves; id = (name_of row).id }) (name_of row) ≡ false
@@ -219,146 +227,30 @@ own_grave row graves is = other_name _ (name_of row) (λ same.
     grind (arith, none, one, is))
 
 -- taking a row leaves the grave that does not stand under its name
-grave_kept : (usn : ℤ) (row : Row) (at : RowsByName) (name : Name) (graves : Table) → graves_of name.table ≡ Some graves
+grave_kept : (side : Side) (usn : ℤ) (row : Row) (at : RowsByName) (name : Name) (graves : Table) → graves_of name.table ≡ Some graves
     → is_name (record { table = graves; id = name.id }) (name_of row) ≡ false
-    → stepped usn row at (record { table = graves; id = name.id }) ≡ at (record { table = graves; id = name.id })
-grave_kept usn row at name graves is apart = stepped_other usn row at _ apart ∙ ap (λ b. if b then None else at (record { table = graves; id = name.id })) (graves_clear row name graves is)
+    → stepped side usn row at (record { table = graves; id = name.id }) ≡ at (record { table = graves; id = name.id })
+grave_kept side usn row at name graves is apart = stepped_other side usn row at _ apart ∙ ap (λ b. if b then None else at (record { table = graves; id = name.id })) (graves_clear row name graves is)
 
-own_grave_kept : (usn : ℤ) (row : Row) (at : RowsByName) → grave_under (stepped usn row at) (name_of row) ≡ grave_under at (name_of row)
-own_grave_kept usn row at =
-    elim (graves_of (name_of row).table) as (λ o. graves_of (name_of row).table ≡ o → grave_in (stepped usn row at) (name_of row) o ≡ grave_in at (name_of row) o) [
+own_grave_kept : (side : Side) (usn : ℤ) (row : Row) (at : RowsByName) → grave_under (stepped side usn row at) (name_of row) ≡ grave_under at (name_of row)
+own_grave_kept side usn row at =
+    elim (graves_of (name_of row).table) as (λ o. graves_of (name_of row).table ≡ o → grave_in (stepped side usn row at) (name_of row) o ≡ grave_in at (name_of row) o) [
       | None ↦ λ is. refl
-      | Some graves ↦ λ is. grave_kept usn row at (name_of row) graves is (own_grave row graves is)
+      | Some graves ↦ λ is. grave_kept side usn row at (name_of row) graves is (own_grave row graves is)
     ] refl
 
-own_grave_led : (row : Row) (from : RowsByName) → grave_under (led_by row from) (name_of row) ≡ grave_under from (name_of row)
-own_grave_led row from =
-    elim (graves_of (name_of row).table) as (λ o. graves_of (name_of row).table ≡ o → grave_in (led_by row from) (name_of row) o ≡ grave_in from (name_of row) o) [
+own_grave_led : (side : Side) (row : Row) (from : RowsByName) → grave_under (led_by side row from) (name_of row) ≡ grave_under from (name_of row)
+own_grave_led side row from =
+    elim (graves_of (name_of row).table) as (λ o. graves_of (name_of row).table ≡ o → grave_in (led_by side row from) (name_of row) o ≡ grave_in from (name_of row) o) [
       | None ↦ λ is. refl
-      | Some graves ↦ λ is. led_other row from _ (own_grave row graves is)
+      | Some graves ↦ λ is. led_other side row from _ (own_grave row graves is)
     ] refl
-
--- ---- one row, at a name and its grave
-received_first : (usn : ℤ) (row : Row) (x y : Option Row) → received usn (if is_newer x row then Some (with_usn row usn) else x) y ≡ received usn x (newest (Some row) y)
-received_first usn row None None = refl
-received_first usn row None (Some y) =
-    ap (λ stamp. if int_lt stamp (stamp_of y) then Some (with_usn y usn) else Some (with_usn row usn)) (stamp_of-with_usn row usn)
-    ∙ elim (int_lt (stamp_of row) (stamp_of y)) as (λ s. (if s then Some (with_usn y usn) else Some (with_usn row usn)) ≡ received usn None (if s then Some y else Some row)) [ true ↦ refl | false ↦ refl ]
-received_first usn row (Some x) None =
-    elim (int_lt (stamp_of x) (stamp_of row)) as (λ s. received usn (if s then Some (with_usn row usn) else Some x) None ≡ (if s then Some (with_usn row usn) else Some x)) [ true ↦ refl | false ↦ refl ]
-received_first usn row (Some x) (Some y) =
-    elim (int_lt (stamp_of x) (stamp_of row)) as (λ s. int_lt (stamp_of x) (stamp_of row) ≡ s
-    → received usn (if s then Some (with_usn row usn) else Some x) (Some y) ≡ received usn (Some x) (newest (Some row) (Some y))) [
-      | true ↦ λ is.
-          ap (λ stamp. if int_lt stamp (stamp_of y) then Some (with_usn y usn) else Some (with_usn row usn)) (stamp_of-with_usn row usn)
-          ∙ elim (int_lt (stamp_of row) (stamp_of y)) as (λ t. int_lt (stamp_of row) (stamp_of y) ≡ t
-          → (if t then Some (with_usn y usn) else Some (with_usn row usn)) ≡ received usn (Some x) (if t then Some y else Some row)) [
-            | true ↦ λ more. let through : int_lt (stamp_of x) (stamp_of y) ≡ true = grind (arith, ints, is, more) in rw through refl
-            | false ↦ λ more. rw is refl
-          ] refl
-      | false ↦ λ is.
-          elim (int_lt (stamp_of row) (stamp_of y)) as (λ t. int_lt (stamp_of row) (stamp_of y) ≡ t → received usn (Some x) (Some y) ≡ received usn (Some x) (if t then Some y else Some row)) [
-            | true ↦ λ more. refl
-            | false ↦ λ more. let through : int_lt (stamp_of x) (stamp_of y) ≡ false = grind (arith, ints, is, more) in rw (through, is) refl
-          ] refl
-    ] refl
-
-own_cell : (usn : ℤ) (row : Row) (x g y h : Option Row)
-    → received_by usn (if not (is_some g) && is_newer x row then Some (with_usn row usn) else x) g y h ≡ received_by usn x g (newest (Some row) y) h
-own_cell usn row x g y (Some h) = refl
-own_cell usn row x (Some g) y None = refl
-own_cell usn row x None y None = received_first usn row x y
-
-own_step : (usn : ℤ) (row : Row) (at from : RowsByName) → received_under usn (stepped usn row at) from (name_of row) ≡ received_under usn at (led_by row from) (name_of row)
-own_step usn row at from =
-    ap (λ x. received_by usn x (grave_under (stepped usn row at) (name_of row)) (from (name_of row)) (grave_under from (name_of row))) (stepped_own usn row at)
-    ∙ ap (λ g. received_by usn (if takes at row then Some (with_usn row usn) else at (name_of row)) g (from (name_of row)) (grave_under from (name_of row))) (own_grave_kept usn row at)
-    ∙ own_cell usn row (at (name_of row)) (grave_under at (name_of row)) (from (name_of row)) (grave_under from (name_of row))
-    ∙ sym (ap (λ y. received_by usn (at (name_of row)) (grave_under at (name_of row)) y (grave_under (led_by row from) (name_of row))) (led_own row from)
-    ∙ ap (λ h. received_by usn (at (name_of row)) (grave_under at (name_of row)) (newest (Some row) (from (name_of row))) h) (own_grave_led row from))
-
--- where the grave came, nothing stays
-grave_cell : (usn : ℤ) (row : Row) (x g y h : Option Row)
-    → received_by usn None (if is_newer g row then Some (with_usn row usn) else g) y h ≡ received_by usn x g y (newest (Some row) h)
-grave_cell usn row x g y None = nothing g
-  where
-    nothing : (g : Option Row) → received_by usn None (if is_newer g row then Some (with_usn row usn) else g) y None ≡ None
-    nothing None = refl
-    nothing (Some g) = elim (int_lt (stamp_of g) (stamp_of row)) as (λ s. received_by usn None (if s then Some (with_usn row usn) else Some g) y None ≡ None) [ true ↦ refl | false ↦ refl ]
-grave_cell usn row x g y (Some h) = elim (int_lt (stamp_of row) (stamp_of h)) as (λ s. None ≡ received_by usn x g y (if s then Some h else Some row)) [ true ↦ refl | false ↦ refl ]
-
--- a grave is taken where none is held
-takes_grave : (at : RowsByName) (row : Row) (name : Name) (graves : Table) → graves_of name.table ≡ Some graves → record { table = graves; id = name.id } ≡ name_of row
-    → takes at row ≡ is_newer (at (record { table = graves; id = name.id })) row
-takes_grave at row name graves is same =
-    let undead : is_dead at (record { table = graves; id = name.id }) ≡ false = ap (λ o. is_some (option_and_then (λ (table : Table). at (record { table = table; id = name.id })) o)) (no_graves name.table graves is) in
-    ap (λ n. not (is_dead at n) && is_newer (at n) row) (sym same) ∙ ap (λ b. not b && is_newer (at (record { table = graves; id = name.id })) row) undead
-
-grave_step : (usn : ℤ) (row : Row) (at from : RowsByName) (name : Name) (graves : Table) → is_name name (name_of row) ≡ false → graves_of name.table ≡ Some graves
-    → record { table = graves; id = name.id } ≡ name_of row
-    → received_by usn (stepped usn row at name) (grave_in (stepped usn row at) name (Some graves)) (from name) (grave_in from name (Some graves))
-    ≡ received_by usn (at name) (grave_in at name (Some graves)) (led_by row from name) (grave_in (led_by row from) name (Some graves))
-grave_step usn row at from name graves apart is same =
-    let grave : Name = record { table = graves; id = name.id } in
-    let gone : stepped usn row at name ≡ None = stepped_other usn row at name apart ∙ ap (λ b. if b then None else at name) (its_grave row name graves is same) in
-    let stands : stepped usn row at grave ≡ (if is_newer (at grave) row then Some (with_usn row usn) else at grave) =
-    ap (stepped usn row at) same ∙ stepped_own usn row at ∙ ap (λ n. if takes at row then Some (with_usn row usn) else at n) (sym same)
-    ∙ ap (λ b. if b then Some (with_usn row usn) else at grave) (takes_grave at row name graves is same) in
-    let led : led_by row from grave ≡ newest (Some row) (from grave) = ap (led_by row from) same ∙ led_own row from ∙ ap (λ n. newest (Some row) (from n)) (sym same) in
-    ap (λ x. received_by usn x (stepped usn row at grave) (from name) (from grave)) gone
-    ∙ ap (λ g. received_by usn None g (from name) (from grave)) stands
-    ∙ grave_cell usn row (at name) (at grave) (from name) (from grave)
-    ∙ sym (ap (λ y. received_by usn (at name) (at grave) y (led_by row from grave)) (led_other row from name apart) ∙ ap (λ h. received_by usn (at name) (at grave) (from name) h) led)
-
--- a row of another name, and no grave of this one
-other_step : (usn : ℤ) (row : Row) (at from : RowsByName) (name : Name) (graves : Option Table) → is_name name (name_of row) ≡ false → graves_of name.table ≡ graves
-    → received_by usn (stepped usn row at name) (grave_in (stepped usn row at) name graves) (from name) (grave_in from name graves)
-    ≡ received_by usn (at name) (grave_in at name graves) (led_by row from name) (grave_in (led_by row from) name graves)
-other_step usn row at from name None apart is =
-    ap (λ x. received_by usn x None (from name) None) (stepped_other usn row at name apart ∙ ap (λ b. if b then None else at name) (never_buried row name is))
-    ∙ ap (λ y. received_by usn (at name) None y None) (sym (led_other row from name apart))
-other_step usn row at from name (Some graves) apart is =
-    let grave : Name = record { table = graves; id = name.id } in
-    elim (is_name grave (name_of row)) as (λ b. is_name grave (name_of row) ≡ b → received_by usn (stepped usn row at name) (stepped usn row at grave) (from name) (from grave)
-    ≡ received_by usn (at name) (at grave) (led_by row from name) (led_by row from grave)) [
-      | true ↦ λ same. grave_step usn row at from name graves apart is (same_of_tied grave (name_of row) same)
-      | false ↦ λ not_same.
-          ap (λ x. received_by usn x (stepped usn row at grave) (from name) (from grave)) (stepped_other usn row at name apart ∙ ap (λ b. if b then None else at name) (not_its_grave row name graves is not_same))
-          ∙ ap (λ g. received_by usn (at name) g (from name) (from grave)) (grave_kept usn row at name graves is not_same)
-          ∙ sym (ap (λ y. received_by usn (at name) (at grave) y (led_by row from grave)) (led_other row from name apart) ∙ ap (λ h. received_by usn (at name) (at grave) (from name) h) (led_other row from grave not_same))
-    ] refl
-
-one_step : (usn : ℤ) (row : Row) (at from : RowsByName) (name : Name) → received_under usn (stepped usn row at) from name ≡ received_under usn at (led_by row from) name
-one_step usn row at from name =
-    elim (is_name name (name_of row)) as (λ b. is_name name (name_of row) ≡ b → received_under usn (stepped usn row at) from name ≡ received_under usn at (led_by row from) name) [
-      | true ↦ λ same. subst (λ (n : Name). received_under usn (stepped usn row at) from n ≡ received_under usn at (led_by row from) n) (sym (same_of_tied name (name_of row) same)) (own_step usn row at from)
-      | false ↦ λ apart. other_step usn row at from name (graves_of name.table) apart refl
-    ] refl
-
--- ---- a list of rows
-nothing_came : (usn : ℤ) (x g : Option Row) → x ≡ received_by usn x g None None
-nothing_came usn x (Some g) = refl
-nothing_came usn None None = refl
-nothing_came usn (Some x) None = refl
-
-no_grave_came : (name : Name) (graves : Option Table) → None ≡ grave_in (newest_in []) name graves
-no_grave_came name None = refl
-no_grave_came name (Some graves) = refl
-
--- what stands under a name once rows were taken, in whatever order they came
-pub all_taken_at : (usn : ℤ) (came : List Row) (held : Rows) (name : Name) → get (all_taken usn came held) name ≡ received_under usn (get held) (newest_in came) name
-all_taken_at usn [] held name = nothing_came usn (get held name) (grave_under (get held) name) ∙ ap (received_by usn (get held name) (grave_under (get held) name) None) (no_grave_came name (graves_of name.table))
-all_taken_at usn (row ∷ more) held name =
-    all_taken_at usn more (taken usn row held) name
-    ∙ ap (λ (at : RowsByName). received_under usn at (newest_in more) name) (fun_ext (taken_at usn row held))
-    ∙ one_step usn row (get held) (newest_in more) name
 
 -- ---- what a list has of a name
--- what holds of whatever is there
-either_newest : (P : Row → Type 0) (x y : Option Row) → IfSome x P → IfSome y P → IfSome (newest x y) P
-either_newest P None y one other = other
-either_newest P (Some x) None one other = one
-either_newest P (Some x) (Some y) one other = elim (int_lt (stamp_of x) (stamp_of y)) as (λ s. IfSome (if s then Some y else Some x) P) [ true ↦ other | false ↦ one ]
+either_stronger : (side : Side) (P : Row → Type 0) (x y : Option Row) → IfSome x P → IfSome y P → IfSome (stronger side x y) P
+either_stronger side P None y one other = other
+either_stronger side P (Some x) None one other = one
+either_stronger side P (Some x) (Some y) one other = elim (beats side x y) as (λ s. IfSome (if s then Some y else Some x) P) [ true ↦ other | false ↦ one ]
 
 led_first : (P : Row → Type 0) (name : Name) (row : Row) → P row → IfSome (if is_name name (name_of row) then Some row else None) (λ (r : Row). P r × (name_of r ≡ name))
 led_first P name row holds =
@@ -368,70 +260,216 @@ led_first P name row holds =
     ] refl
 
 -- what a list has of a name bears it, and is one of its rows
-pub each_newest : (P : Row → Type 0) (came : List Row) (name : Name) → AllByRecursion P came → IfSome (newest_in came name) (λ (row : Row). P row × (name_of row ≡ name))
-each_newest P [] name each = tt
-each_newest P (row ∷ more) name each =
-    either_newest (λ (r : Row). P r × (name_of r ≡ name)) (if is_name name (name_of row) then Some row else None) (newest_in more name) (led_first P name row each.0) (each_newest P more name each.1)
+pub each_newest : (side : Side) (P : Row → Type 0) (came : List Row) (name : Name) → AllByRecursion P came → IfSome (newest_in side came name) (λ (row : Row). P row × (name_of row ≡ name))
+each_newest side P [] name each = tt
+each_newest side P (row ∷ more) name each =
+    either_stronger side (λ (r : Row). P r × (name_of r ≡ name)) (if is_name name (name_of row) then Some row else None) (newest_in side more name) (led_first P name row each.0) (each_newest side P more name each.1)
 
-some_newest : (x y : Option Row) → is_some y ≡ true → is_some (newest x y) ≡ true
-some_newest None y some = ap is_some (newest_none y) ∙ some
-some_newest (Some x) None some = refl
-some_newest (Some x) (Some y) some = elim (int_lt (stamp_of x) (stamp_of y)) as (λ s. is_some (if s then Some y else Some x) ≡ true) [ true ↦ refl | false ↦ refl ]
+-- what holds of whatever is there
+pub if_weaker : (P Q : Row → Type 0) → ((row : Row) → P row → Q row) → (o : Option Row) → IfSome o P → IfSome o Q
+if_weaker P Q weaker None holds = tt
+if_weaker P Q weaker (Some x) holds = weaker x holds
 
-first_newest : (row : Row) (y : Option Row) → is_some (newest (Some row) y) ≡ true
-first_newest row None = refl
-first_newest row (Some y) = some_newest (Some row) (Some y) refl
+-- what a list has of a name bears it
+pub newest_named : (side : Side) (came : List Row) (name : Name) → IfSome (newest_in side came name) (λ (row : Row). name_of row ≡ name)
+newest_named side came name = if_weaker (λ row. ⊤ × (name_of row ≡ name)) (λ row. name_of row ≡ name) (λ row h. h.1) (newest_in side came name) (each_newest side (λ row. ⊤) came name (trivial came))
+  where
+    trivial : (came : List Row) → AllByRecursion (λ row. ⊤) came
+    trivial came = recursion_from_All (λ row. ⊤) came (λ k d within. tt)
 
-has_at : (came : List Row) (row : Row) (k : ℕ) → k < length came → slice_index_or came k row ≡ row → is_some (newest_in came (name_of row)) ≡ true
-has_at [] row k within is = absurd (omega arith)
-has_at (first ∷ more) row zero within is = ap (λ (r : Row). is_some (newest_in (first ∷ more) (name_of r))) (sym is) ∙ ap is_some (led_own first (newest_in more)) ∙ first_newest first (newest_in more (name_of first))
-has_at (first ∷ more) row (suc k) within is = some_newest (if is_name (name_of row) (name_of first) then Some first else None) (newest_in more (name_of row)) (has_at more row k (omega arith) is)
+-- ---- which of two stands
+-- a row is a grave exactly if it stands in a table of graves
+pub grave_by_table : (row : Row) → is_some (buried_of row) ≡ is_some (buried_in (name_of row).table)
+grave_by_table (rows.Note n) = refl
+grave_by_table (rows.Card c) = refl
+grave_by_table (rows.Review r) = refl
+grave_by_table (rows.NoteType t) = refl
+grave_by_table (rows.Deck d) = refl
+grave_by_table (rows.Options o) = refl
+grave_by_table (rows.Grave g) = sym (ap is_some (buried_in-grave_table g.kind))
+
+pub graves_alike : (one other : Row) → name_of one ≡ name_of other → is_some (buried_of one) ≡ is_some (buried_of other)
+graves_alike one other same = grave_by_table one ∙ ap (λ (n : Name). is_some (buried_in n.table)) same ∙ sym (grave_by_table other)
+
+-- the number of a row makes no difference
+pub beats_numberless : (side : Side) (x y : Row) (other : ℤ) → beats side (with_usn x other) y ≡ beats side x y
+beats_numberless Server x y other = ap (λ s. int_lt s (stamp_of y)) (stamp_of-with_usn x other)
+beats_numberless Device x y other = ap (λ s. not (is_some (buried_of y)) && not (int_lt (stamp_of y) s)) (stamp_of-with_usn x other)
+
+-- what takes the place of a row that took another's takes that place too
+beats_through : (side : Side) (x r y : Row) → beats side x r ≡ true → beats side r y ≡ true → beats side x y ≡ true
+beats_through Server x r y one two = grind (arith, ints, one, two)
+beats_through Device x r y one two = through (is_some (buried_of r)) (is_some (buried_of y)) one two
+  where
+    through : (s t : Bool) → (not s && not (int_lt (stamp_of r) (stamp_of x))) ≡ true → (not t && not (int_lt (stamp_of y) (stamp_of r))) ≡ true → (not t && not (int_lt (stamp_of y) (stamp_of x))) ≡ true
+    through true t one two = grind (arith, one)
+    through false true one two = two
+    through false false one two = grind (arith, ints, one, two)
+
+-- and what does not, of two of one name, does not
+unbeaten_through : (side : Side) (x r y : Row) → name_of r ≡ name_of y → beats side x r ≡ false → beats side r y ≡ false → beats side x y ≡ false
+unbeaten_through Server x r y same one two = grind (arith, ints, one, two)
+unbeaten_through Device x r y same one two = through (is_some (buried_of r)) (is_some (buried_of y)) (graves_alike r y same) one two
+  where
+    through : (s t : Bool) → s ≡ t → (not s && not (int_lt (stamp_of r) (stamp_of x))) ≡ false → (not t && not (int_lt (stamp_of y) (stamp_of r))) ≡ false → (not t && not (int_lt (stamp_of y) (stamp_of x))) ≡ false
+    through s true is one two = refl
+    through true false is one two = grind (arith, is)
+    through false false is one two = grind (arith, ints, one, two)
+
+-- ---- one row, at a name and its grave
+received_first : (side : Side) (usn : ℤ) (row : Row) (x y : Option Row) → IfSome y (λ other. name_of other ≡ name_of row)
+    → received side usn (if beats_held side x row then Some (with_usn row usn) else x) y ≡ received side usn x (stronger side (Some row) y)
+received_first side usn row None None named = refl
+received_first side usn row None (Some y) named =
+    ap (λ b. if b then Some (with_usn y usn) else Some (with_usn row usn)) (beats_numberless side row y usn)
+    ∙ elim (beats side row y) as (λ s. (if s then Some (with_usn y usn) else Some (with_usn row usn)) ≡ received side usn None (if s then Some y else Some row)) [ true ↦ refl | false ↦ refl ]
+received_first side usn row (Some x) None named =
+    elim (beats side x row) as (λ s. received side usn (if s then Some (with_usn row usn) else Some x) None ≡ (if s then Some (with_usn row usn) else Some x)) [ true ↦ refl | false ↦ refl ]
+received_first side usn row (Some x) (Some y) named =
+    elim (beats side x row) as (λ s. beats side x row ≡ s
+    → received side usn (if s then Some (with_usn row usn) else Some x) (Some y) ≡ received side usn (Some x) (stronger side (Some row) (Some y))) [
+      | true ↦ λ is.
+          ap (λ b. if b then Some (with_usn y usn) else Some (with_usn row usn)) (beats_numberless side row y usn)
+          ∙ elim (beats side row y) as (λ t. beats side row y ≡ t
+          → (if t then Some (with_usn y usn) else Some (with_usn row usn)) ≡ received side usn (Some x) (if t then Some y else Some row)) [
+            | true ↦ λ more. let through : beats side x y ≡ true = beats_through side x row y is more in rw through refl
+            | false ↦ λ more. rw is refl
+          ] refl
+      | false ↦ λ is.
+          elim (beats side row y) as (λ t. beats side row y ≡ t → received side usn (Some x) (Some y) ≡ received side usn (Some x) (if t then Some y else Some row)) [
+            | true ↦ λ more. refl
+            | false ↦ λ more. let through : beats side x y ≡ false = unbeaten_through side x row y (sym named) is more in rw (through, is) refl
+          ] refl
+    ] refl
+
+own_cell : (side : Side) (usn : ℤ) (row : Row) (x g y h : Option Row) → IfSome y (λ other. name_of other ≡ name_of row)
+    → received_by side usn (if not (is_some g) && beats_held side x row then Some (with_usn row usn) else x) g y h ≡ received_by side usn x g (stronger side (Some row) y) h
+own_cell side usn row x g y (Some h) named = refl
+own_cell side usn row x (Some g) y None named = refl
+own_cell side usn row x None y None named = received_first side usn row x y named
+
+own_step : (side : Side) (usn : ℤ) (row : Row) (at from : RowsByName) → IfSome (from (name_of row)) (λ other. name_of other ≡ name_of row)
+    → received_under side usn (stepped side usn row at) from (name_of row) ≡ received_under side usn at (led_by side row from) (name_of row)
+own_step side usn row at from named =
+    ap (λ x. received_by side usn x (grave_under (stepped side usn row at) (name_of row)) (from (name_of row)) (grave_under from (name_of row))) (stepped_own side usn row at)
+    ∙ ap (λ g. received_by side usn (if takes side at row then Some (with_usn row usn) else at (name_of row)) g (from (name_of row)) (grave_under from (name_of row))) (own_grave_kept side usn row at)
+    ∙ own_cell side usn row (at (name_of row)) (grave_under at (name_of row)) (from (name_of row)) (grave_under from (name_of row)) named
+    ∙ sym (ap (λ y. received_by side usn (at (name_of row)) (grave_under at (name_of row)) y (grave_under (led_by side row from) (name_of row))) (led_own side row from)
+    ∙ ap (λ h. received_by side usn (at (name_of row)) (grave_under at (name_of row)) (stronger side (Some row) (from (name_of row))) h) (own_grave_led side row from))
+
+-- where the grave came, nothing stays
+grave_cell : (side : Side) (usn : ℤ) (row : Row) (x g y h : Option Row)
+    → received_by side usn None (if beats_held side g row then Some (with_usn row usn) else g) y h ≡ received_by side usn x g y (stronger side (Some row) h)
+grave_cell side usn row x g y None = nothing g
+  where
+    nothing : (g : Option Row) → received_by side usn None (if beats_held side g row then Some (with_usn row usn) else g) y None ≡ None
+    nothing None = refl
+    nothing (Some g) = elim (beats side g row) as (λ s. received_by side usn None (if s then Some (with_usn row usn) else Some g) y None ≡ None) [ true ↦ refl | false ↦ refl ]
+grave_cell side usn row x g y (Some h) = elim (beats side row h) as (λ s. None ≡ received_by side usn x g y (if s then Some h else Some row)) [ true ↦ refl | false ↦ refl ]
+
+-- a grave is taken where none is held
+takes_grave : (side : Side) (at : RowsByName) (row : Row) (name : Name) (graves : Table) → graves_of name.table ≡ Some graves → record { table = graves; id = name.id } ≡ name_of row
+    → takes side at row ≡ beats_held side (at (record { table = graves; id = name.id })) row
+takes_grave side at row name graves is same =
+    let undead : is_dead at (record { table = graves; id = name.id }) ≡ false = ap (λ o. is_some (option_and_then (λ (table : Table). at (record { table = table; id = name.id })) o)) (no_graves name.table graves is) in
+    ap (λ n. not (is_dead at n) && beats_held side (at n) row) (sym same) ∙ ap (λ b. not b && beats_held side (at (record { table = graves; id = name.id })) row) undead
+
+grave_step : (side : Side) (usn : ℤ) (row : Row) (at from : RowsByName) (name : Name) (graves : Table) → is_name name (name_of row) ≡ false → graves_of name.table ≡ Some graves
+    → record { table = graves; id = name.id } ≡ name_of row
+    → received_by side usn (stepped side usn row at name) (grave_in (stepped side usn row at) name (Some graves)) (from name) (grave_in from name (Some graves))
+    ≡ received_by side usn (at name) (grave_in at name (Some graves)) (led_by side row from name) (grave_in (led_by side row from) name (Some graves))
+grave_step side usn row at from name graves apart is same =
+    let grave : Name = record { table = graves; id = name.id } in
+    let gone : stepped side usn row at name ≡ None = stepped_other side usn row at name apart ∙ ap (λ b. if b then None else at name) (its_grave row name graves is same) in
+    let stands : stepped side usn row at grave ≡ (if beats_held side (at grave) row then Some (with_usn row usn) else at grave) =
+    ap (stepped side usn row at) same ∙ stepped_own side usn row at ∙ ap (λ n. if takes side at row then Some (with_usn row usn) else at n) (sym same)
+    ∙ ap (λ b. if b then Some (with_usn row usn) else at grave) (takes_grave side at row name graves is same) in
+    let led : led_by side row from grave ≡ stronger side (Some row) (from grave) = ap (led_by side row from) same ∙ led_own side row from ∙ ap (λ n. stronger side (Some row) (from n)) (sym same) in
+    ap (λ x. received_by side usn x (stepped side usn row at grave) (from name) (from grave)) gone
+    ∙ ap (λ g. received_by side usn None g (from name) (from grave)) stands
+    ∙ grave_cell side usn row (at name) (at grave) (from name) (from grave)
+    ∙ sym (ap (λ y. received_by side usn (at name) (at grave) y (led_by side row from grave)) (led_other side row from name apart) ∙ ap (λ h. received_by side usn (at name) (at grave) (from name) h) led)
+
+-- a row of another name, and no grave of this one
+other_step : (side : Side) (usn : ℤ) (row : Row) (at from : RowsByName) (name : Name) (graves : Option Table) → is_name name (name_of row) ≡ false → graves_of name.table ≡ graves
+    → received_by side usn (stepped side usn row at name) (grave_in (stepped side usn row at) name graves) (from name) (grave_in from name graves)
+    ≡ received_by side usn (at name) (grave_in at name graves) (led_by side row from name) (grave_in (led_by side row from) name graves)
+other_step side usn row at from name None apart is =
+    ap (λ x. received_by side usn x None (from name) None) (stepped_other side usn row at name apart ∙ ap (λ b. if b then None else at name) (never_buried row name is))
+    ∙ ap (λ y. received_by side usn (at name) None y None) (sym (led_other side row from name apart))
+other_step side usn row at from name (Some graves) apart is =
+    let grave : Name = record { table = graves; id = name.id } in
+    elim (is_name grave (name_of row)) as (λ b. is_name grave (name_of row) ≡ b → received_by side usn (stepped side usn row at name) (stepped side usn row at grave) (from name) (from grave)
+    ≡ received_by side usn (at name) (at grave) (led_by side row from name) (led_by side row from grave)) [
+      | true ↦ λ same. grave_step side usn row at from name graves apart is (same_of_tied grave (name_of row) same)
+      | false ↦ λ not_same.
+          ap (λ x. received_by side usn x (stepped side usn row at grave) (from name) (from grave)) (stepped_other side usn row at name apart ∙ ap (λ b. if b then None else at name) (not_its_grave row name graves is not_same))
+          ∙ ap (λ g. received_by side usn (at name) g (from name) (from grave)) (grave_kept side usn row at name graves is not_same)
+          ∙ sym (ap (λ y. received_by side usn (at name) (at grave) y (led_by side row from grave)) (led_other side row from name apart) ∙ ap (λ h. received_by side usn (at name) (at grave) (from name) h) (led_other side row from grave not_same))
+    ] refl
+
+one_step : (side : Side) (usn : ℤ) (row : Row) (at from : RowsByName) (name : Name) → IfSome (from (name_of row)) (λ other. name_of other ≡ name_of row)
+    → received_under side usn (stepped side usn row at) from name ≡ received_under side usn at (led_by side row from) name
+one_step side usn row at from name named =
+    elim (is_name name (name_of row)) as (λ b. is_name name (name_of row) ≡ b → received_under side usn (stepped side usn row at) from name ≡ received_under side usn at (led_by side row from) name) [
+      | true ↦ λ same. subst (λ (n : Name). received_under side usn (stepped side usn row at) from n ≡ received_under side usn at (led_by side row from) n) (sym (same_of_tied name (name_of row) same)) (own_step side usn row at from named)
+      | false ↦ λ apart. other_step side usn row at from name (graves_of name.table) apart refl
+    ] refl
+
+-- ---- a list of rows
+nothing_came : (side : Side) (usn : ℤ) (x g : Option Row) → x ≡ received_by side usn x g None None
+nothing_came side usn x (Some g) = refl
+nothing_came side usn None None = refl
+nothing_came side usn (Some x) None = refl
+
+no_grave_came : (side : Side) (name : Name) (graves : Option Table) → None ≡ grave_in (newest_in side []) name graves
+no_grave_came side name None = refl
+no_grave_came side name (Some graves) = refl
+
+-- what stands under a name once rows were taken, in whatever order they came
+pub all_taken_at : (side : Side) (usn : ℤ) (came : List Row) (held : Rows) (name : Name) → get (all_taken side usn came held) name ≡ received_under side usn (get held) (newest_in side came) name
+all_taken_at side usn [] held name = nothing_came side usn (get held name) (grave_under (get held) name) ∙ ap (received_by side usn (get held name) (grave_under (get held) name) None) (no_grave_came side name (graves_of name.table))
+all_taken_at side usn (row ∷ more) held name =
+    all_taken_at side usn more (taken side usn row held) name
+    ∙ ap (λ (at : RowsByName). received_under side usn at (newest_in side more) name) (fun_ext (taken_at side usn row held))
+    ∙ one_step side usn row (get held) (newest_in side more) name (newest_named side more (name_of row))
+
+-- ---- what a list has of a name
+some_stronger : (side : Side) (x y : Option Row) → is_some y ≡ true → is_some (stronger side x y) ≡ true
+some_stronger side None y some = ap is_some (stronger_none side y) ∙ some
+some_stronger side (Some x) None some = refl
+some_stronger side (Some x) (Some y) some = elim (beats side x y) as (λ s. is_some (if s then Some y else Some x) ≡ true) [ true ↦ refl | false ↦ refl ]
+
+first_stronger : (side : Side) (row : Row) (y : Option Row) → is_some (stronger side (Some row) y) ≡ true
+first_stronger side row None = refl
+first_stronger side row (Some y) = some_stronger side (Some row) (Some y) refl
+
+has_at : (side : Side) (came : List Row) (row : Row) (k : ℕ) → k < length came → slice_index_or came k row ≡ row → is_some (newest_in side came (name_of row)) ≡ true
+has_at side [] row k within is = absurd (omega arith)
+has_at side (first ∷ more) row zero within is = ap (λ (r : Row). is_some (newest_in side (first ∷ more) (name_of r))) (sym is) ∙ ap is_some (led_own side first (newest_in side more)) ∙ first_stronger side first (newest_in side more (name_of first))
+has_at side (first ∷ more) row (suc k) within is = some_stronger side (if is_name (name_of row) (name_of first) then Some first else None) (newest_in side more (name_of row)) (has_at side more row k (omega arith) is)
 
 -- a list has something of the name of each of its rows
-pub has_newest : (came : List Row) (row : Row) → Contains came row → is_some (newest_in came (name_of row)) ≡ true
-has_newest came row contains = has_at came row contains.0 contains.1 contains.2
+pub has_newest : (side : Side) (came : List Row) (row : Row) → Contains came row → is_some (newest_in side came (name_of row)) ≡ true
+has_newest side came row contains = has_at side came row contains.0 contains.1 contains.2
 
 -- the rows that stand somewhere, listed, are what stands there
-pub newest_listed : (came : List Row) (from : RowsByName) (name : Name) → IsListOf came from → AreNamed from → newest_in came name ≡ from name
-newest_listed came from name listed named =
-    elim (newest_in came name) as (λ o. newest_in came name ≡ o → o ≡ from name) [
+pub newest_listed : (side : Side) (came : List Row) (from : RowsByName) (name : Name) → IsListOf came from → AreNamed from → newest_in side came name ≡ from name
+newest_listed side came from name listed named =
+    elim (newest_in side came name) as (λ o. newest_in side came name ≡ o → o ≡ from name) [
       | None ↦ λ none. elim (from name) as (λ y. from name ≡ y → None ≡ y) [
         | None ↦ λ is. refl
         | Some y ↦ λ is.
-            let some : is_some (newest_in came (name_of y)) ≡ true = has_newest came y (listed.whole name y is) in
+            let some : is_some (newest_in side came (name_of y)) ≡ true = has_newest side came y (listed.whole name y is) in
             let bears : name_of y ≡ name = named name y is in
-            let wrong : is_some (newest_in came name) ≡ true = ap (λ (n : Name). is_some (newest_in came n)) (sym bears) ∙ some in
+            let wrong : is_some (newest_in side came name) ≡ true = ap (λ (n : Name). is_some (newest_in side came n)) (sym bears) ∙ some in
             grind (arith, none, wrong)
       ] refl
       | Some y ↦ λ is.
           let stands = subst (λ (o : Option Row). IfSome o (λ (row : Row). (from (name_of row) ≡ Some row) × (name_of row ≡ name))) is
-          (each_newest (λ (row : Row). from (name_of row) ≡ Some row) came name (recursion_from_All (λ (row : Row). from (name_of row) ≡ Some row) came listed.each)) in
+          (each_newest side (λ (row : Row). from (name_of row) ≡ Some row) came name (recursion_from_All (λ (row : Row). from (name_of row) ≡ Some row) came listed.each)) in
           sym (ap from (sym stands.1) ∙ stands.0)
     ] refl
 
-pub listed_newest : (came : List Row) (from : RowsByName) → IsListOf came from → AreNamed from → newest_in came ≡ from
-listed_newest came from listed named = fun_ext (λ name. newest_listed came from name listed named)
-
--- ---- taking all gives the join
-received_newest : (usn : ℤ) (x y : Option Row) → IsTrue (same_held (received usn x y) (newest x y))
-received_newest usn None None = refl
-received_newest usn None (Some y) = same-with_usn y usn
-received_newest usn (Some x) None = same-itself x
-received_newest usn (Some x) (Some y) =
-    elim (int_lt (stamp_of x) (stamp_of y)) as (λ s. IsTrue (same_held (if s then Some (with_usn y usn) else Some x) (if s then Some y else Some x))) [ true ↦ same-with_usn y usn | false ↦ same-itself x ]
-
-joined_cell : (usn : ℤ) (x g y h : Option Row) → (is_some g ≡ true → x ≡ None)
-    → IsTrue (same_held (received_by usn x g y h) (if is_some g || is_some h then None else newest x y))
-joined_cell usn x None y None single = received_newest usn x y
-joined_cell usn x None y (Some h) single = refl
-joined_cell usn x (Some g) y None single = ap (λ o. same_held o None) (single refl)
-joined_cell usn x (Some g) y (Some h) single = refl
-
-pub received_joins : (usn : ℤ) (at from : RowsByName) (name : Name) → IsSingle at → IsTrue (same_held (received_under usn at from name) (joined_under at from name))
-received_joins usn at from name single = joined_cell usn (at name) (grave_under at name) (from name) (grave_under from name) (single name)
-
-pub taking_joins : (usn : ℤ) (came : List Row) (a b : Rows) → IsListOf came (get b) → AreNamed (get b) → IsSingle (get a) → (name : Name)
-    → IsTrue (same_held (get (all_taken usn came a) name) (joined_under (get a) (get b) name))
-taking_joins usn came a b listed named single name =
-    ap (λ o. same_held o (joined_under (get a) (get b) name)) (all_taken_at usn came a name ∙ ap (λ (from : RowsByName). received_under usn (get a) from name) (listed_newest came (get b) listed named))
-    ∙ received_joins usn (get a) (get b) name single
+pub listed_newest : (side : Side) (came : List Row) (from : RowsByName) → IsListOf came from → AreNamed from → newest_in side came ≡ from
+listed_newest side came from listed named = fun_ext (λ name. newest_listed side came from name listed named)

@@ -15,7 +15,7 @@ use Rattle.ak_base.specs.declared.names.Name.{Name}
 use Rattle.ak_base.specs.declared.names.Table.{Table}
 use Rattle.ak_base.specs.declared.names.Table.TheVariants as tables
 use Rattle.ak_base.specs.declared.rows.Row.{Row}
-use Rattle.ak_merge.proofs.EditFacts.{edited_name, edited_fields, own_fields, true_false, none_held, held_none, edited_usn, edited_pending, edited_unsettled, edited_stamp, advanced_past, least_advanced, LinkedParts, parts_of, linked_of}
+use Rattle.ak_merge.proofs.EditFacts.{edited_name, edited_fields, own_fields, true_false, none_held, held_none, edited_usn, edited_pending, edited_unsettled, edited_stamp, advanced_past, advanced_over, least_advanced, LinkedParts, parts_of, heads_of, heads_changed, linked_of}
 use Rattle.ak_merge.specs.Links.{IsOwn, IsNewerUnsent, HasTaken, IsKnown, IsShared, IsTagShared, AreLinked}
 use Rattle.ak_merge.specs.Edits.{Edit, changes_row, goes, grave_left, edited_row, edited, advanced, second_of, Reversal, IsEdited, reversal_of, edited_under}
 use Rattle.ak_merge.specs.Undoing.{undone_row, undone_stamp, IsUndone, same_fields, IsBack, StepFitsParts, StepFits, adds_grave, IsTagKept, StepSuits, put_back, StepsSuit}
@@ -137,6 +137,7 @@ undos_keep_links at c after s step steps undone suits (inr fits) (inr parts) =
     (λ name. undone_held (second_of at) (step.rows name) (row_under c name)) (suits_single steps (put_back step (row_under c)) step.tags suits.2) in
     inr (linked_of c.head.usn (λ name. undone_row (second_of at) (step.rows name) (row_under c name)) (tag_usn step.tags) after s undone.usn undone.rows
     (λ tag. ap (λ (tags : List Tag). tag_usn tags tag) undone.tags)
+    (heads_changed c.head after.head s.head undone.usn (subst (λ (moment : ℤ). c.head.moment <ℤ moment) (sym undone.moment) (advanced_over at c.head.moment)) (heads_of c s parts))
     (undone_parts (second_of at) c step suits.1 s single fits (parts_of c s parts)))
 
 -- a step that fits still does after further edits and undos

@@ -10,6 +10,7 @@ use Rattle.ak_keep.specs.Collections.{Rows, is_past, is_pending, is_wanted, want
 use Rattle.ak_keep.specs.declared.keepers.Wanted.{Wanted}
 use Rattle.ak_keep.specs.declared.keepers.Wanted.TheVariants.{Unsent}
 use Rattle.ak_merge.proofs.PartLaws.{same_place}
+use Rattle.ak_merge.specs.declared.sides.Side.{Side}
 use Rattle.ak_merge.specs.Takings.{buried, takes, taken, all_taken}
 use Rattle.std.proofs.lemmas.List.Elements.{recursion_from_All}
 use Rattle.std.specs.Cmp.{eq_by_cmp_equiv, signed_Decides}
@@ -113,20 +114,20 @@ buried_fewer table want row held =
           (kept_fewer table want (λ (x : Name). not (eq_by_cmp name_cmp name x)) (entries held))
     ]
 
-taken_fewer : (table : Table) (want : Wanted) (usn : ℤ) (row : Row) (held : Rows) → counts table want (name_of row, with_usn row usn) ≡ false → count_of table want (taken usn row held) ≤ count_of table want held
-taken_fewer table want usn row held none =
+taken_fewer : (table : Table) (want : Wanted) (side : Side) (usn : ℤ) (row : Row) (held : Rows) → counts table want (name_of row, with_usn row usn) ≡ false → count_of table want (taken side usn row held) ≤ count_of table want held
+taken_fewer table want side usn row held none =
     let rest = buried_fewer table want row held in
-    elim (takes (get held) row) as (λ b. count_of table want (if b then insert (buried row held) (name_of row) (with_usn row usn) else buried row held) ≤ count_of table want held) [
+    elim (takes side (get held) row) as (λ b. count_of table want (if b then insert (buried row held) (name_of row) (with_usn row usn) else buried row held) ≤ count_of table want held) [
       | true ↦ let one = insert_fewer table want (name_of row) (with_usn row usn) (buried row held) none in omega (arith, one, rest)
       | false ↦ rest
     ]
 
-all_fewer : (table : Table) (want : Wanted) (usn : ℤ) (came : List Row) (held : Rows) → AllByRecursion (λ (row : Row). counts table want (name_of row, with_usn row usn) ≡ false) came
-    → count_of table want (all_taken usn came held) ≤ count_of table want held
-all_fewer table want usn [] held none = omega arith
-all_fewer table want usn (row ∷ more) held none =
-    let one = taken_fewer table want usn row held none.0 in
-    let rest = all_fewer table want usn more (taken usn row held) none.1 in
+all_fewer : (table : Table) (want : Wanted) (side : Side) (usn : ℤ) (came : List Row) (held : Rows) → AllByRecursion (λ (row : Row). counts table want (name_of row, with_usn row usn) ≡ false) came
+    → count_of table want (all_taken side usn came held) ≤ count_of table want held
+all_fewer table want side usn [] held none = omega arith
+all_fewer table want side usn (row ∷ more) held none =
+    let one = taken_fewer table want side usn row held none.0 in
+    let rest = all_fewer table want side usn more (taken side usn row held) none.1 in
     omega (arith, one, rest)
 
 of_counts : (table : Table) (want : Wanted) (after before : Rows) → count_of table want after ≤ count_of table want before
@@ -156,9 +157,9 @@ none_unsent table usn [] low = tt
 none_unsent table usn (row ∷ more) low = (and_false (is_past table (pos 0) (name_of row)) (is_pending (with_usn row usn)) (never_pending usn row low), none_unsent table usn more low)
 
 -- what was not sent yet never grows
-pub unsent_never_grow : (table : Table) (usn : ℤ) (came : List Row) (held : Rows) → pos 0 ≤ℤ usn
-    → length (wanted_past table Unsent (pos 0) (all_taken usn came held)) ≤ length (wanted_past table Unsent (pos 0) held)
-unsent_never_grow table usn came held low = of_counts table Unsent (all_taken usn came held) held (all_fewer table Unsent usn came held (none_unsent table usn came low))
+pub unsent_never_grow : (table : Table) (side : Side) (usn : ℤ) (came : List Row) (held : Rows) → pos 0 ≤ℤ usn
+    → length (wanted_past table Unsent (pos 0) (all_taken side usn came held)) ≤ length (wanted_past table Unsent (pos 0) held)
+unsent_never_grow table side usn came held low = of_counts table Unsent (all_taken side usn came held) held (all_fewer table Unsent side usn came held (none_unsent table usn came low))
 
 other_table : (table : Table) (want : Wanted) (row : Row) (usn : ℤ) → (name_of row).table ≢ table → counts table want (name_of row, with_usn row usn) ≡ false
 other_table table want row usn differ =
@@ -173,7 +174,7 @@ none_of_table table want usn [] differ = tt
 none_of_table table want usn (row ∷ more) differ = (other_table table want row usn differ.0, none_of_table table want usn more differ.1)
 
 -- what is wanted of a table never grows by rows of other tables
-pub others_add_none : (table : Table) (want : Wanted) (usn : ℤ) (came : List Row) (held : Rows) → All (λ row. (name_of row).table ≢ table) came
-    → length (wanted_past table want (pos 0) (all_taken usn came held)) ≤ length (wanted_past table want (pos 0) held)
-others_add_none table want usn came held differ =
-    of_counts table want (all_taken usn came held) held (all_fewer table want usn came held (none_of_table table want usn came (recursion_from_All (λ row. (name_of row).table ≢ table) came differ)))
+pub others_add_none : (table : Table) (want : Wanted) (side : Side) (usn : ℤ) (came : List Row) (held : Rows) → All (λ row. (name_of row).table ≢ table) came
+    → length (wanted_past table want (pos 0) (all_taken side usn came held)) ≤ length (wanted_past table want (pos 0) held)
+others_add_none table want side usn came held differ =
+    of_counts table want (all_taken side usn came held) held (all_fewer table want side usn came held (none_of_table table want usn came (recursion_from_All (λ row. (name_of row).table ≢ table) came differ)))

@@ -15,6 +15,7 @@ use Rattle.ak_merge.specs.Holdings.{row_under, AreNamed, AreChecked, IsSingle, t
 use Rattle.ak_merge.specs.Links.{IsGiven, AreNumbered}
 use Rattle.ak_merge.specs.Tags.{IsTagName, tags_taken}
 use Rattle.ak_merge.specs.Takings.{all_taken}
+use Rattle.ak_merge.specs.declared.sides.Side.TheVariants.{Server}
 
 -- ---- what comes
 -- the settings of a collection and its moment of creation, which go together
@@ -32,13 +33,13 @@ pub record Received : Type 0 where
   pub tags : List (List ℕ)
   pub settings : Option Settings
 
--- a collection once this came: each row, one after the other, is taken with the head's number, each tag that was not held is held
+-- a server's collection once this came: each row, one after the other, is taken with the head's number, each tag that was not held is held
 -- with that number, and the settings are those that came, if some came
 abbrev pub with_received : Received → Collection → Collection
 with_received came c =
     let settings = unwrap_or came.settings (settings_of c.head) in
     record {
-      rows = all_taken c.head.usn came.rows c.rows;
+      rows = all_taken Server c.head.usn came.rows c.rows;
       head = record c.head { tags = tags_taken c.head.usn came.tags c.head.tags; conf = settings.conf; crt = settings.crt };
     }
 

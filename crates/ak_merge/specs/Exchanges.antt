@@ -20,6 +20,7 @@ use Rattle.ak_merge.specs.Joins.{join}
 use Rattle.ak_merge.specs.Links.{IsGiven, AreNumbered, AreLinkedParts}
 use Rattle.ak_merge.specs.Tags.{has_name, tags_taken}
 use Rattle.ak_merge.specs.Takings.{all_taken}
+use Rattle.ak_merge.specs.declared.sides.Side.TheVariants.{Device, Server}
 
 -- ---- what is given
 -- what stands under each name of the rows that are wanted
@@ -102,7 +103,7 @@ pub record IsServerHalf (got sent : Received) (c s t : Collection) : Type 0 wher
   -- what came to the device are rows of the server's with at least the device's number
   pub gives : AreOf (wanted_under (From c.head.usn) (row_under s)) got.rows
   -- the device gives its rows and its tags that were not sent yet, and its settings if it was changed last
-  pub sends : IsSent sent.rows (wanted_under Unsent (row_under c)) (get (all_taken s.head.usn got.rows c.rows))
+  pub sends : IsSent sent.rows (wanted_under Unsent (row_under c)) (get (all_taken Device s.head.usn got.rows c.rows))
   pub tags : (name : List ℕ) → has_name sent.tags name ≡ unsent_tags c.head.tags name
   pub settings : sent.settings ≡ settings_sent c.head s.head
   -- the server commits them, at a moment that is also over the device's
@@ -114,11 +115,11 @@ pub record IsDeviceHalf (got sent : Received) (c s d t : Collection) : Type 0 wh
   -- what was sent to the server are rows of the device's that were not sent yet
   pub sends : AreOf (wanted_under Unsent (row_under c)) sent.rows
   -- the server gives its rows and its tags with at least the device's number, and its settings unless the device was changed last
-  pub gives : IsSent got.rows (wanted_under (From c.head.usn) (row_under s)) (get (all_taken s.head.usn sent.rows s.rows))
+  pub gives : IsSent got.rows (wanted_under (From c.head.usn) (row_under s)) (get (all_taken Server s.head.usn sent.rows s.rows))
   pub tags_given : (name : List ℕ) → has_name got.tags name ≡ tags_from c.head.usn s.head.tags name
   pub gives_settings : got.settings ≡ settings_given c.head s.head
   -- the device takes them with the server's number, and gives that number to each row and tag that was not sent yet
-  pub rows : (name : Name) → row_under d name ≡ option_map (settled s.head.usn) (get (all_taken s.head.usn got.rows c.rows) name)
+  pub rows : (name : Name) → row_under d name ≡ option_map (settled s.head.usn) (get (all_taken Device s.head.usn got.rows c.rows) name)
   pub tags : d.head.tags ≡ settled_tags s.head.usn (tags_taken s.head.usn got.tags c.head.tags)
   pub settings : settings_of d.head ≡ unwrap_or got.settings (settings_of c.head)
   -- its number is the server's plus 1, and its moment and that of its last sync are the moment that the server committed at

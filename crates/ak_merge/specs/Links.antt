@@ -24,6 +24,10 @@ pub record AreNumbered (Fits : ℤ → ℤ → Type 0) (c : Collection) : Type 0
   pub rows : (name : Name) → IfSome (row_under c name) (λ row. Fits c.head.usn (usn_of row))
   pub tags : (name : List ℕ) → IfSome (tag_usn c.head.tags name) (Fits c.head.usn)
 
+-- no row and no tag is still to be sent
+abbrev pub IsAllSent : Collection → Type 0
+IsAllSent c = AreNumbered (λ usn number. number ≢ negsuc 0) c
+
 -- ---- the cells: what stands under one name, and the grave of that name
 -- an equal row is there, update sequence numbers aside
 abbrev pub IsHeldLike : Row → Option Row → Type 0
@@ -67,7 +71,7 @@ pub record IsTagShared (usn : ℤ) (x y : Option ℤ) : Type 0 where
   pub came : IfSome y (λ number. number <ℤ usn → IsTrue (is_some x))
 
 -- ---- linked
--- the five parts, for a device's collection c and a server's committed collection s of one schema moment
+-- the six parts, for a device's collection c and a server's committed collection s of one schema moment
 pub record AreLinkedParts (c s : Collection) : Type 0 where
   -- 1. The device's number is at most the server's. Each number in the server's is from 0 to below its own; each in the device's
   -- is -1, or from 0 to below its own.
@@ -87,7 +91,11 @@ pub record AreLinkedParts (c s : Collection) : Type 0 where
   -- 5. In neither does a row stand beside its own grave.
   pub own_single : IsSingle (row_under c)
   pub single : IsSingle (row_under s)
+  -- 6. If the two numbers are equal, the device was changed no earlier than the server. If the two were then changed at one moment,
+  -- they have one conf and one crt.
+  pub later : c.head.usn ≡ s.head.usn → s.head.moment ≤ℤ c.head.moment
+  pub settings : c.head.usn ≡ s.head.usn → c.head.moment ≡ s.head.moment → (c.head.conf ≡ s.head.conf) × (c.head.crt ≡ s.head.crt)
 
--- the schema moments differ, or all five parts hold
+-- the schema moments differ, or all six parts hold
 abbrev pub AreLinked : Collection → Collection → Type 0
 AreLinked c s = (c.head.schema ≢ s.head.schema) ⊎ AreLinkedParts c s

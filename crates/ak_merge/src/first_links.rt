@@ -1,11 +1,11 @@
-// How a device and a server come to be linked.
-ghost use Rattle.std.specs.Prelude.{◌≢◌, ◌≤ℤ◌, ◌⊎◌};
+// How a device and a server come to be linked, and when that means that they have one content.
+ghost use Rattle.std.specs.Prelude.{◌≡◌, ◌≢◌, ◌≤ℤ◌, ◌⊎◌};
 ghost use Rattle.ak_base.specs.Heads.{IsHeadInRange};
 ghost use Rattle.ak_keep.specs.Collections.{Collection};
 ghost use Rattle.ak_merge.specs.Commits.{IsCommitted, IsCopyOf, IsOpening, IsUploadOf, IsWholeInRange, Whole};
 ghost use Rattle.ak_merge.specs.Edits.{Reversal};
 ghost use Rattle.ak_merge.specs.Holdings.{row_under, AreNamed, AreChecked, content_of, SameContent};
-ghost use Rattle.ak_merge.specs.Links.{AreLinkedParts, AreLinked};
+ghost use Rattle.ak_merge.specs.Links.{AreLinkedParts, AreLinked, IsAllSent};
 ghost use Rattle.ak_merge.specs.Undoing.{StepFits};
 
 /// What a download leaves is linked with the committed collection, and has its content.
@@ -35,4 +35,11 @@ pub fn uploads_keep_links()
 /// A device is linked with every collection that has another schema moment than its own.
 pub fn fresh_schemas_link()
     ensures { (c s : Collection) → c.head.schema ≢ s.head.schema → AreLinked c s }
+{}
+
+/// If a device is linked with a server's collection, has its number and its moment and nothing to send, a sync has
+/// nothing to do: the two have one content.
+#[tactic(auto, using(crate::proofs::EqualHeads::equal_heads_are_equal_contents))]
+pub fn equal_heads_are_equal_contents()
+    ensures { (c s : Collection) → AreLinkedParts c s → c.head.usn ≡ s.head.usn → c.head.moment ≡ s.head.moment → IsAllSent c → SameContent (content_of c) (content_of s) }
 {}

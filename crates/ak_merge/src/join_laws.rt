@@ -4,9 +4,10 @@ ghost use Rattle.std.specs.Prelude.{◌≡◌, ◌≢◌, ℤ, ◌<ℤ◌, ◌�
 ghost use Rattle.std.specs.FinMap.{get};
 ghost use Rattle.ak_base.specs.declared.names.Name.{Name};
 ghost use Rattle.ak_base.specs.declared.rows.Row.{Row};
-ghost use Rattle.ak_merge.specs.Holdings.{row_under, AreNamed, IsSingle, content_of, same_held, SameContent};
+ghost use Rattle.ak_merge.specs.Holdings.{row_under, AreNamed, AreChecked, IsSingle, content_of, same_held, SameContent};
 ghost use Rattle.ak_merge.specs.Joins.{AreApart, joined_under, join};
 ghost use Rattle.ak_merge.specs.Takings.{IsListOf, all_taken};
+ghost use Rattle.ak_merge.specs.declared.sides.Side.TheVariants.{Device, Server};
 
 /// Which side comes first makes no difference, if no two rows of one name and stamp differ and the
 /// sides were not changed last at the same moment.
@@ -29,10 +30,10 @@ pub fn last_settings_stand()
     ensures second { (a b : Collection) → a.head.moment ≤ℤ b.head.moment → ((join a b).conf ≡ b.head.conf) × ((join a b).crt ≡ b.head.crt) }
 {}
 
-/// What a side holds under each name once it has taken the rows of another, in any order, is the join
-/// of the two. It serves both ways: the device's rows taken by the server, and the server's by the
-/// device.
-#[tactic(auto, using(crate::proofs::TakingLaws::taking_joins))]
+/// What a side holds under each name once it has taken all rows of the other, in any order, is the join of the device's
+/// and the server's: a server that takes the device's rows, and a device that takes the server's. Two graves of one
+/// name are one grave only if both are in their ranges, and the device keeps its own.
 pub fn taking_joins()
-    ensures { (usn : ℤ) (came : List Row) (a b : Rows) → IsListOf came (get b) → AreNamed (get b) → IsSingle (get a) → (name : Name) → IsTrue (same_held (get (all_taken usn came a) name) (joined_under (get a) (get b) name)) }
+    ensures server { (usn : ℤ) (came : List Row) (c s : Rows) → IsListOf came (get c) → AreNamed (get c) → IsSingle (get s) → (name : Name) → IsTrue (same_held (get (all_taken Server usn came s) name) (joined_under (get c) (get s) name)) }
+    ensures device { (usn : ℤ) (came : List Row) (c s : Rows) → IsListOf came (get s) → AreNamed (get c) → AreNamed (get s) → AreChecked (get c) → AreChecked (get s) → IsSingle (get c) → (name : Name) → IsTrue (same_held (get (all_taken Device usn came c) name) (joined_under (get c) (get s) name)) }
 {}

@@ -13,6 +13,7 @@ mod first_links;
 mod join_laws;
 mod laws;
 mod part_laws;
+mod sides;
 mod tag_laws;
 mod tags;
 mod takes;
@@ -34,12 +35,12 @@ pub use edit_laws::{
     undos_keep_links, undos_keep_names,
 };
 pub use exchange_laws::{
-    device_half_joins, device_half_links, device_rows_join, exchange_links, joins_stay_apart,
-    server_half_joins, server_rows_join,
+    device_half_joins, device_half_links, device_rows_join, exchange_links, server_half_joins,
+    server_rows_join,
 };
 pub use first_links::{
-    copies_are_linked, fresh_schemas_link, openings_are_lawful, uploads_are_lawful,
-    uploads_keep_links,
+    copies_are_linked, equal_heads_are_equal_contents, fresh_schemas_link, openings_are_lawful,
+    uploads_are_lawful, uploads_keep_links,
 };
 pub use join_laws::{join_commutes, join_once, last_settings_stand, taking_joins};
 pub use laws::{
@@ -50,6 +51,7 @@ pub use part_laws::{
     rows_stand_between, settling_may_come_first, takings_stay_lawful, wanted_rows_are_listed,
     wanted_rows_never_grow,
 };
+pub use sides::Side;
 pub use tag_laws::{
     settled_tags_stay_lawful, tag_parts_add_up, tags_are_united, tags_stay_in_range,
     tags_stay_ordered, wanted_tags_are_listed,

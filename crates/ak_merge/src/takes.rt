@@ -5,8 +5,9 @@ ghost use Rattle.ak_base.specs.Rows.{IsChecked, with_usn};
 ghost use Rattle.ak_keep.specs.Keepers.{IsMarkedAt, KeepCause, WhereTold, back, is_marked, changed, put};
 ghost use Rattle.ak_keep.specs.Readings.{ReadsBy};
 ghost use Rattle.ak_keep.specs.Graves.{is_dead};
-ghost use Rattle.ak_merge.specs.Takings.{without_buried, is_newer, is_newer_of, with_taken, takes};
+ghost use Rattle.ak_merge.specs.Takings.{without_buried, beats, beats_held, is_newer_of, with_taken, takes};
 
+use crate::sides::Side;
 use ak_base::{Name, Row};
 use ak_keep::{KeepFault, Keeper, Lookup};
 
@@ -17,19 +18,24 @@ pub fn newer(held: &Row, came: &Row) -> bool
     held.name() == came.name() && held.stamp() < came.stamp()
 }
 
-/// Takes a row that came from the other side, with this update sequence number, by the rule of a sync; answers
-/// whether it is held now. A grave takes its row away in any case. If it is refused, a part may be done: the
-/// keeper stays marked, and its mark is as it was.
-pub fn take_row<K: Keeper>(keeper: &mut K, row: Row, usn: i64) -> Result<bool, KeepFault>
+/// Takes a row that came from the other side, with this update sequence number, by the rule of a sync for the
+/// side that takes; answers whether it is held now. A grave takes its row away in any case. If it is refused, a
+/// part may be done: the keeper stays marked, and its mark is as it was.
+pub fn take_row<K: Keeper>(
+    keeper: &mut K,
+    row: Row,
+    usn: i64,
+    side: Side,
+) -> Result<bool, KeepFault>
     requires marked { is_marked (K.keeping keeper.old) ≡ true }
     requires checked { IsChecked row }
     requires usn { IsWithin (pos 0) (pos 2_147_483_647) usn }
-    ensures ok { IfOk result (λ is_taken. K.keeping keeper.new ≡ changed (with_taken usn row) (K.keeping keeper.old)) }
-    ensures taken { IfOk result (λ is_taken. WhereTold (K.keeping keeper.old) (λ h. is_taken ≡ takes (get h.rows) row)) }
+    ensures ok { IfOk result (λ is_taken. K.keeping keeper.new ≡ changed (with_taken side usn row) (K.keeping keeper.old)) }
+    ensures taken { IfOk result (λ is_taken. WhereTold (K.keeping keeper.old) (λ h. is_taken ≡ takes side (get h.rows) row)) }
     ensures stays { IsMarkedAt (back (K.keeping keeper.old)) (K.keeping keeper.new) }
     ensures cause { KeepCause (K.health keeper.old) (K.health keeper.new) result }
 {
-    let takes = takes(keeper, &row)?;
+    let takes = takes(keeper, &row, side)?;
     bury(keeper, &row)?;
     if takes {
         put_with(keeper, row, usn)?;
@@ -39,25 +45,36 @@ pub fn take_row<K: Keeper>(keeper: &mut K, row: Row, usn: i64) -> Result<bool, K
     Ok(false)
 }
 
-/// Whether the row is to be held: its grave is not held, and no row of its name is or an older one.
-fn takes<L: Lookup>(from: &mut L, row: &Row) -> Result<bool, KeepFault>
-    ensures reads { ReadsBy L.Lookup from.old from.new result (λ h is_taken. is_taken ≡ takes (get h.rows) row.now) }
+/// Whether the row is to be held: its grave is not held, and no row of its name is, or one that it takes the place of.
+fn takes<L: Lookup>(from: &mut L, row: &Row, side: Side) -> Result<bool, KeepFault>
+    ensures reads { ReadsBy L.Lookup from.old from.new result (λ h is_taken. is_taken ≡ takes side (get h.rows) row.now) }
 {
     let name = row.name();
     if is_dead(from, name)? {
         return Ok(false);
     }
     let held = from.get(name)?;
-    Ok(is_newer(&held, row))
+    Ok(beats_held(&held, row, side))
 }
 
-/// Whether no row is held, or one with a lesser stamp than `came` has.
-fn is_newer(held: &Option<Row>, came: &Row) -> bool
-    ensures { result ≡ is_newer held.now came.now }
+/// Whether no row is held, or one that `came` takes the place of.
+fn beats_held(held: &Option<Row>, came: &Row, side: Side) -> bool
+    ensures { result ≡ beats_held side held.now came.now }
 {
     match held {
-        Some(held) => held.stamp() < came.stamp(),
+        Some(held) => beats(held, came, side),
         None => true,
+    }
+}
+
+/// Whether `came` takes the place of a row of its name that this side holds.
+fn beats(held: &Row, came: &Row, side: Side) -> bool
+    ensures { result ≡ beats side held.now came.now }
+{
+    match side {
+        Side::Server => held.stamp() < came.stamp(),
+        // A grave that is held keeps its number: if it was not sent yet it still has to be.
+        Side::Device => came.buried().is_none() && held.stamp() <= came.stamp(),
     }
 }
 

@@ -10,15 +10,16 @@ use Rattle.ak_keep.specs.Keepers.{Keeping, changed}
 use Rattle.ak_merge.specs.Commits.{Received}
 use Rattle.ak_merge.specs.Tags.{IsTagName}
 use Rattle.ak_merge.specs.Takings.{all_taken, with_taken}
+use Rattle.ak_merge.specs.declared.sides.Side.{Side}
 
 -- a keeper once it took these rows with this update sequence number, one after the other
-abbrev pub rows_taken : ℤ → List Row → Keeping → Keeping
-rows_taken usn [] k = k
-rows_taken usn (row ∷ more) k = rows_taken usn more (changed (with_taken usn row) k)
+abbrev pub rows_taken : Side → ℤ → List Row → Keeping → Keeping
+rows_taken side usn [] k = k
+rows_taken side usn (row ∷ more) k = rows_taken side usn more (changed (with_taken side usn row) k)
 
 -- the same of all that is held, in one
-abbrev pub with_all_taken : ℤ → List Row → Holding → Holding
-with_all_taken usn came h = record h { rows = all_taken usn came h.rows }
+abbrev pub with_all_taken : Side → ℤ → List Row → Holding → Holding
+with_all_taken side usn came h = record h { rows = all_taken side usn came h.rows }
 
 -- what came is in its ranges
 pub record MayBeTaken (came : Received) : Type 0 where

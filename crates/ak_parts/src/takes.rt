@@ -1,4 +1,4 @@
-// The rows that a request brings, taken by the rule of a sync with the server's number. A refusal leaves the keeper
+// The rows that a message brings, taken by the rule of a sync for a side, with one number. A refusal leaves the keeper
 // marked, with some of them taken.
 ghost use Rattle.std.specs.Prelude.{◌≡◌, ◌++◌, pos, true, map, OnOk};
 ghost use Rattle.std.specs.List.{All};
@@ -11,7 +11,7 @@ ghost use Rattle.ak_session.specs.Messages.{grave_with};
 
 use ak_base::{Card, Deck, Grave, Note, NoteType, Options, Review, Row};
 use ak_keep::{KeepFault, Keeper};
-use ak_merge::take_row;
+use ak_merge::{Side, take_row};
 
 /// Takes the graves of these ids, whose stored code is `kind`.
 pub fn take_graves<K: Keeper>(
@@ -19,17 +19,18 @@ pub fn take_graves<K: Keeper>(
     kind: i64,
     ids: &[i64],
     usn: i64,
+    side: Side,
 ) -> Result<(), KeepFault>
     requires marked { is_marked (K.keeping keeper.old) ≡ true }
     requires checked { All (λ id. IsChecked (grave_with kind id)) ids.now }
     requires usn { IsWithin (pos 0) (pos 2_147_483_647) usn }
     ensures ok { OnOk result (K.keeping keeper.new
-        ≡ rows_taken usn (map (grave_with kind) ids.now) (K.keeping keeper.old)) }
+        ≡ rows_taken side usn (map (grave_with kind) ids.now) (K.keeping keeper.old)) }
     ensures stays { IsMarkedAt (back (K.keeping keeper.old)) (K.keeping keeper.new) }
     ensures cause { KeepCause (K.health keeper.old) (K.health keeper.new) result }
 {
     for id in ids {
-        take_row(keeper, grave_with(kind, id), usn)?;
+        take_row(keeper, grave_with(kind, id), usn, side)?;
     }
     Ok(())
 }
@@ -46,17 +47,22 @@ fn grave_with(kind: i64, id: &i64) -> Row
 }
 
 /// Takes these reviews.
-pub fn take_reviews<K: Keeper>(keeper: &mut K, came: &[Review], usn: i64) -> Result<(), KeepFault>
+pub fn take_reviews<K: Keeper>(
+    keeper: &mut K,
+    came: &[Review],
+    usn: i64,
+    side: Side,
+) -> Result<(), KeepFault>
     requires marked { is_marked (K.keeping keeper.old) ≡ true }
     requires checked { All (λ row. IsChecked (rows.Review row)) came.now }
     requires usn { IsWithin (pos 0) (pos 2_147_483_647) usn }
     ensures ok { OnOk result (K.keeping keeper.new
-        ≡ rows_taken usn (map rows.Review came.now) (K.keeping keeper.old)) }
+        ≡ rows_taken side usn (map rows.Review came.now) (K.keeping keeper.old)) }
     ensures stays { IsMarkedAt (back (K.keeping keeper.old)) (K.keeping keeper.new) }
     ensures cause { KeepCause (K.health keeper.old) (K.health keeper.new) result }
 {
     for row in came {
-        take_row(keeper, review_row(row), usn)?;
+        take_row(keeper, review_row(row), usn, side)?;
     }
     Ok(())
 }
@@ -69,81 +75,106 @@ fn review_row(review: &Review) -> Row
 }
 
 /// Takes these cards.
-pub fn take_cards<K: Keeper>(keeper: &mut K, came: &[Card], usn: i64) -> Result<(), KeepFault>
+pub fn take_cards<K: Keeper>(
+    keeper: &mut K,
+    came: &[Card],
+    usn: i64,
+    side: Side,
+) -> Result<(), KeepFault>
     requires marked { is_marked (K.keeping keeper.old) ≡ true }
     requires checked { All (λ row. IsChecked (rows.Card row)) came.now }
     requires usn { IsWithin (pos 0) (pos 2_147_483_647) usn }
     ensures ok { OnOk result (K.keeping keeper.new
-        ≡ rows_taken usn (map rows.Card came.now) (K.keeping keeper.old)) }
+        ≡ rows_taken side usn (map rows.Card came.now) (K.keeping keeper.old)) }
     ensures stays { IsMarkedAt (back (K.keeping keeper.old)) (K.keeping keeper.new) }
     ensures cause { KeepCause (K.health keeper.old) (K.health keeper.new) result }
 {
     for row in came {
-        take_row(keeper, Row::Card(row.copy()?), usn)?;
+        take_row(keeper, Row::Card(row.copy()?), usn, side)?;
     }
     Ok(())
 }
 
 /// Takes these notes.
-pub fn take_notes<K: Keeper>(keeper: &mut K, came: &[Note], usn: i64) -> Result<(), KeepFault>
+pub fn take_notes<K: Keeper>(
+    keeper: &mut K,
+    came: &[Note],
+    usn: i64,
+    side: Side,
+) -> Result<(), KeepFault>
     requires marked { is_marked (K.keeping keeper.old) ≡ true }
     requires checked { All (λ row. IsChecked (rows.Note row)) came.now }
     requires usn { IsWithin (pos 0) (pos 2_147_483_647) usn }
     ensures ok { OnOk result (K.keeping keeper.new
-        ≡ rows_taken usn (map rows.Note came.now) (K.keeping keeper.old)) }
+        ≡ rows_taken side usn (map rows.Note came.now) (K.keeping keeper.old)) }
     ensures stays { IsMarkedAt (back (K.keeping keeper.old)) (K.keeping keeper.new) }
     ensures cause { KeepCause (K.health keeper.old) (K.health keeper.new) result }
 {
     for row in came {
-        take_row(keeper, Row::Note(row.copy()?), usn)?;
+        take_row(keeper, Row::Note(row.copy()?), usn, side)?;
     }
     Ok(())
 }
 
 /// Takes these note types.
-pub fn take_types<K: Keeper>(keeper: &mut K, came: &[NoteType], usn: i64) -> Result<(), KeepFault>
+pub fn take_types<K: Keeper>(
+    keeper: &mut K,
+    came: &[NoteType],
+    usn: i64,
+    side: Side,
+) -> Result<(), KeepFault>
     requires marked { is_marked (K.keeping keeper.old) ≡ true }
     requires checked { All (λ row. IsChecked (rows.NoteType row)) came.now }
     requires usn { IsWithin (pos 0) (pos 2_147_483_647) usn }
     ensures ok { OnOk result (K.keeping keeper.new
-        ≡ rows_taken usn (map rows.NoteType came.now) (K.keeping keeper.old)) }
+        ≡ rows_taken side usn (map rows.NoteType came.now) (K.keeping keeper.old)) }
     ensures stays { IsMarkedAt (back (K.keeping keeper.old)) (K.keeping keeper.new) }
     ensures cause { KeepCause (K.health keeper.old) (K.health keeper.new) result }
 {
     for row in came {
-        take_row(keeper, Row::NoteType(row.copy()?), usn)?;
+        take_row(keeper, Row::NoteType(row.copy()?), usn, side)?;
     }
     Ok(())
 }
 
 /// Takes these decks.
-pub fn take_decks<K: Keeper>(keeper: &mut K, came: &[Deck], usn: i64) -> Result<(), KeepFault>
+pub fn take_decks<K: Keeper>(
+    keeper: &mut K,
+    came: &[Deck],
+    usn: i64,
+    side: Side,
+) -> Result<(), KeepFault>
     requires marked { is_marked (K.keeping keeper.old) ≡ true }
     requires checked { All (λ row. IsChecked (rows.Deck row)) came.now }
     requires usn { IsWithin (pos 0) (pos 2_147_483_647) usn }
     ensures ok { OnOk result (K.keeping keeper.new
-        ≡ rows_taken usn (map rows.Deck came.now) (K.keeping keeper.old)) }
+        ≡ rows_taken side usn (map rows.Deck came.now) (K.keeping keeper.old)) }
     ensures stays { IsMarkedAt (back (K.keeping keeper.old)) (K.keeping keeper.new) }
     ensures cause { KeepCause (K.health keeper.old) (K.health keeper.new) result }
 {
     for row in came {
-        take_row(keeper, Row::Deck(row.copy()?), usn)?;
+        take_row(keeper, Row::Deck(row.copy()?), usn, side)?;
     }
     Ok(())
 }
 
 /// Takes these groups of options.
-pub fn take_options<K: Keeper>(keeper: &mut K, came: &[Options], usn: i64) -> Result<(), KeepFault>
+pub fn take_options<K: Keeper>(
+    keeper: &mut K,
+    came: &[Options],
+    usn: i64,
+    side: Side,
+) -> Result<(), KeepFault>
     requires marked { is_marked (K.keeping keeper.old) ≡ true }
     requires checked { All (λ row. IsChecked (rows.Options row)) came.now }
     requires usn { IsWithin (pos 0) (pos 2_147_483_647) usn }
     ensures ok { OnOk result (K.keeping keeper.new
-        ≡ rows_taken usn (map rows.Options came.now) (K.keeping keeper.old)) }
+        ≡ rows_taken side usn (map rows.Options came.now) (K.keeping keeper.old)) }
     ensures stays { IsMarkedAt (back (K.keeping keeper.old)) (K.keeping keeper.new) }
     ensures cause { KeepCause (K.health keeper.old) (K.health keeper.new) result }
 {
     for row in came {
-        take_row(keeper, Row::Options(row.copy()?), usn)?;
+        take_row(keeper, Row::Options(row.copy()?), usn, side)?;
     }
     Ok(())
 }

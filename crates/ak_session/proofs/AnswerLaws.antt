@@ -28,6 +28,7 @@ use Rattle.ak_session.proofs.MessageLaws.{one_rows, front_checked}
 use Rattle.ak_session.proofs.PlanLaws.{asked_place}
 use Rattle.ak_session.proofs.Ranges.{not_both}
 use Rattle.ak_session.proofs.Sums.{fold_named, fold_checked, chunk_rows_of, slice_of_three}
+use Rattle.ak_merge.specs.declared.sides.Side.TheVariants.{Device}
 
 form_by : (c : Collection) (before : List Ask) (ask : Ask) → is_meta ask ≡ false → is_download ask ≡ false → asks_commit ask ≡ false → is_given_to (asked_method ask) (answer_to c before ask) ≡ true
 form_by c before asks.Meta meta down commit = absurd (not_both refl meta)
@@ -77,7 +78,7 @@ chunks_fit who c s before request after may place is =
     )
 
 pub replies_take : (who : Asker) (c s : Collection) (before : List Request) (request : Request) (after : List Request) (usn : ℤ) (held : Rows) → MaySync c s → before ++ request ∷ after ≡ plan who c s
-    → all_taken usn (replied (answer s before request)).rows held ≡ all_taken usn (given_for s (asks_of before) request.ask).rows held
+    → all_taken Device usn (replied (answer s before request)).rows held ≡ all_taken Device usn (given_for s (asks_of before) request.ask).rows held
 unfolding answer
 replies_take who c s before request after usn held may place =
     let asked : List Ask = asks_of before in

@@ -47,6 +47,7 @@ use Rattle.ak_session.proofs.Starts.{taken_allowed, all_fit, method_fits}
 use Rattle.ak_session.proofs.Steps.{last_is}
 use Rattle.ak_session.proofs.Sums.{low, fold_named, fold_checked, pushes_checked, given_check}
 use Rattle.ak_session.proofs.SyncLaws.{device_sends, server_gives, server_half}
+use Rattle.ak_merge.specs.declared.sides.Side.TheVariants.{Device, Server}
 
 -- ---- counts
 same_number : (n : ℕ) → (n == n) ≡ true
@@ -151,12 +152,12 @@ number_in_range : (c : Collection) → IsCommitted c → IsWithin (pos 0) last_u
 number_in_range c own = let high = own.head.usn.high in record { low = own.head.usn.low; high = omega (arith, ints, high) }
 
 any_named : (c : Collection) (asked : List Ask) → IsCommitted c → AreNamed (get (fold_of c asked).rows)
-any_named c asked own = subst (λ (held : Collection). AreNamed (get held.rows)) (sym (fold_takes_all c asked)) (taken_named c.head.usn (all_brought asked).rows c.rows own.named)
+any_named c asked own = subst (λ (held : Collection). AreNamed (get held.rows)) (sym (fold_takes_all c asked)) (taken_named Server c.head.usn (all_brought asked).rows c.rows own.named)
 
 any_checked : (c : Collection) (asked : List Ask) → IsCommitted c → Fits (all_brought asked) → AreChecked (get (fold_of c asked).rows)
 any_checked c asked own fits =
     subst (λ (held : Collection). AreChecked (get held.rows)) (sym (fold_takes_all c asked))
-    (taken_checked c.head.usn (all_brought asked).rows c.rows (All-from_recursion _ (all_brought asked).rows fits.rows) (number_in_range c own) own.checked)
+    (taken_checked Server c.head.usn (all_brought asked).rows c.rows (All-from_recursion _ (all_brought asked).rows fits.rows) (number_in_range c own) own.checked)
 
 session_fits : (c : Collection) (accepted : List Request) → AreAllowed c accepted → Fits (all_brought (asks_of accepted))
 session_fits c accepted all = all_fit c [] (asks_of accepted) (taken_allowed c accepted all)
@@ -251,12 +252,12 @@ module _ (c s : Collection) (may : MaySync c s) where
   fold_holds : SameContent (content_of (fold_of s (planned_pushes c s))) (join c s)
   fold_holds =
       subst (λ (held : Collection). SameContent (content_of held) (join c s)) (fold_append s (planned_pushes c s) (asks.SanityCheck2 (counts_of (device_rows c s (planned_pushes c s))) ∷ []))
-      (server_half_joins (given_by_sync c s) (sent_by_sync c s) c s (of_finish s (planned_check c s) (pos 0)) (server_half c s may (pos 0)) may.linked may.apart may.named may.committed.named (low c s may)).content
+      (server_half_joins (given_by_sync c s) (sent_by_sync c s) c s (of_finish s (planned_check c s) (pos 0)) (server_half c s may (pos 0)) may.linked may.named may.committed.named (low c s may)).content
 
   device_holds : (name : Name) → IsTrue (same_held (get (device_rows c s (planned_pushes c s)) name) (joined_under (row_under c) (row_under s) name))
   device_holds =
-      subst (λ (r : Received). (name : Name) → IsTrue (same_held (get (all_taken s.head.usn r.rows c.rows) name) (joined_under (row_under c) (row_under s) name))) (given_check c s may)
-      (device_rows_join s.head.usn (given_by_sync c s).rows (sent_by_sync c s).rows c s may.linked may.committed.named (device_sends c s may).each (server_gives c s may))
+      subst (λ (r : Received). (name : Name) → IsTrue (same_held (get (all_taken Device s.head.usn r.rows c.rows) name) (joined_under (row_under c) (row_under s) name))) (given_check c s may)
+      (device_rows_join s.head.usn (given_by_sync c s).rows (sent_by_sync c s).rows c s may.linked may.named may.committed.named may.checked may.committed.checked (device_sends c s may).each (server_gives c s may))
 
   each_count : (table : Table) → row_count table (fold_of s (planned_pushes c s)).rows ≡ row_count table (device_rows c s (planned_pushes c s))
   each_count table =

@@ -18,6 +18,7 @@ use Rattle.ak_merge.specs.Takings.{takes, buried, taken, all_taken}
 use Rattle.ak_messages.specs.declared.requests.Ask.{Ask}
 use Rattle.ak_session.specs.Asks.{all_brought, fold_of}
 use Rattle.ak_session.proofs.Folds.{fold_takes_all}
+use Rattle.ak_merge.specs.declared.sides.Side.TheVariants.{Server}
 
 abbrev pub Entries : Type 0
 Entries = List (Name × Row)
@@ -36,7 +37,7 @@ under es name = find name_cmp name es
 
 -- the entries once this row was taken
 abbrev taken_in : ℤ → Row → Entries → Entries
-taken_in usn row es = if takes (under es) row then put name_cmp (name_of row) (with_usn row usn) (buried_in row es) else buried_in row es
+taken_in usn row es = if takes Server (under es) row then put name_cmp (name_of row) (with_usn row usn) (buried_in row es) else buried_in row es
 
 -- once these were
 abbrev pub all_taken_in : ℤ → List Row → Entries → Entries
@@ -68,18 +69,18 @@ entries_buried row held =
       | Some name ↦ entries_without held name
     ]
 
-entries_taken : (usn : ℤ) (row : Row) (held : Rows) → entries (taken usn row held) ≡ taken_in usn row (entries held)
+entries_taken : (usn : ℤ) (row : Row) (held : Rows) → entries (taken Server usn row held) ≡ taken_in usn row (entries held)
 entries_taken usn row held =
-    ap (λ (at : RowsByName). entries (if takes at row then insert (buried row held) (name_of row) (with_usn row usn) else buried row held)) (fun_ext (λ name. get-entries held name))
-    ∙ elim (takes (under (entries held)) row) as (λ b. entries (if b then insert (buried row held) (name_of row) (with_usn row usn) else buried row held)
+    ap (λ (at : RowsByName). entries (if takes Server at row then insert (buried row held) (name_of row) (with_usn row usn) else buried row held)) (fun_ext (λ name. get-entries held name))
+    ∙ elim (takes Server (under (entries held)) row) as (λ b. entries (if b then insert (buried row held) (name_of row) (with_usn row usn) else buried row held)
     ≡ (if b then put name_cmp (name_of row) (with_usn row usn) (buried_in row (entries held)) else buried_in row (entries held))) [
       | true ↦ entries-insert names_total (buried row held) (name_of row) (with_usn row usn) ∙ ap (put name_cmp (name_of row) (with_usn row usn)) (entries_buried row held)
       | false ↦ entries_buried row held
     ]
 
-pub entries_all_taken : (usn : ℤ) (came : List Row) (held : Rows) → entries (all_taken usn came held) ≡ all_taken_in usn came (entries held)
+pub entries_all_taken : (usn : ℤ) (came : List Row) (held : Rows) → entries (all_taken Server usn came held) ≡ all_taken_in usn came (entries held)
 entries_all_taken usn [] held = refl
-entries_all_taken usn (row ∷ more) held = entries_all_taken usn more (taken usn row held) ∙ ap (all_taken_in usn more) (entries_taken usn row held)
+entries_all_taken usn (row ∷ more) held = entries_all_taken usn more (taken Server usn row held) ∙ ap (all_taken_in usn more) (entries_taken usn row held)
 
 -- a map with these entries, which ascend
 abbrev pub map_of : Entries → Rows

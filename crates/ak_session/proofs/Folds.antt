@@ -13,6 +13,7 @@ use Rattle.ak_messages.specs.declared.requests.Ask.{Ask}
 use Rattle.ak_messages.specs.declared.requests.Request.{Request}
 use Rattle.ak_session.specs.Asks.{asks_of, brought, and_then, all_brought, fold_of}
 use Rattle.ak_session.specs.Contents.{folded}
+use Rattle.ak_merge.specs.declared.sides.Side.TheVariants.{Server}
 
 -- a collection with these rows, tags and settings
 abbrev remade : Collection → Rows → List Tag → Settings → Collection
@@ -28,10 +29,10 @@ taken_twice first more c =
     let usn : ℤ = c.head.usn in
     let own : Settings = settings_of c.head in
     ap (λ (rows : Rows). remade c rows (tags_taken usn more.tags (tags_taken usn first.tags c.head.tags)) (unwrap_or more.settings (unwrap_or first.settings own)))
-    (sym (parts_add_up usn first.rows more.rows c.rows))
-    ∙ ap (λ (tags : List Tag). remade c (all_taken usn (first.rows ++ more.rows) c.rows) tags (unwrap_or more.settings (unwrap_or first.settings own)))
+    (sym (parts_add_up Server usn first.rows more.rows c.rows))
+    ∙ ap (λ (tags : List Tag). remade c (all_taken Server usn (first.rows ++ more.rows) c.rows) tags (unwrap_or more.settings (unwrap_or first.settings own)))
     (sym (tag_parts_add_up usn first.tags more.tags c.head.tags))
-    ∙ ap (remade c (all_taken usn (first.rows ++ more.rows) c.rows) (tags_taken usn (first.tags ++ more.tags) c.head.tags))
+    ∙ ap (remade c (all_taken Server usn (first.rows ++ more.rows) c.rows) (tags_taken usn (first.tags ++ more.tags) c.head.tags))
     (settings_twice more.settings first.settings own)
 
 pub fold_takes_all : (c : Collection) (asked : List Ask) → fold_of c asked ≡ with_received (all_brought asked) c

@@ -25,6 +25,7 @@ use Rattle.ak_session.proofs.InOrder.{Made, graves_keep, chunk_keeps, changes_ke
 use Rattle.ak_session.proofs.Ranges.{all_front}
 use Rattle.ak_session.proofs.Steps.{nothing_last, brought_append}
 use Rattle.ak_session.proofs.Sums.{fold_named, fold_checked, graves_of, chunk_rows_of, change_rows_of, slice_of_three, settings_back, brought_check, pushes_checked}
+use Rattle.ak_merge.specs.declared.sides.Side.TheVariants.{Device}
 
 -- ---- tags and settings
 one_tags : (s : Collection) (before : List Ask) (ask : Ask) → (replied (answer_to s before ask)).tags ≡ (given_for s before ask).tags
@@ -71,17 +72,17 @@ same_settings s asked = settings_after s [] asked
 
 -- ---- rows
 pub one_rows : (s : Collection) (before : List Ask) (ask : Ask) (usn : ℤ) (held : Rows) → AreNamed (get (fold_of s before).rows) → AreChecked (get (fold_of s before).rows)
-    → all_taken usn (replied (answer_to s before ask)).rows held ≡ all_taken usn (given_for s before ask).rows held
+    → all_taken Device usn (replied (answer_to s before ask)).rows held ≡ all_taken Device usn (given_for s before ask).rows held
 one_rows s before asks.Meta usn held named checked = refl
 one_rows s before (asks.Start min_usn lmod) usn held named checked =
     let list : List Row = wanted_graves (From min_usn) (fold_of s before).rows in
-    ap (λ (l : List Row). all_taken usn l held) (graves_keep list (graves_of (From min_usn) (fold_of s before).rows named checked))
-    ∙ numbers_make_no_difference usn (λ row. negsuc 0) list held
+    ap (λ (l : List Row). all_taken Device usn l held) (graves_keep list (graves_of (From min_usn) (fold_of s before).rows named checked))
+    ∙ numbers_make_no_difference Device usn (λ row. negsuc 0) list held
 one_rows s before (asks.ApplyGraves ids) usn held named checked = refl
 one_rows s before (asks.ApplyChanges changes) usn held named checked =
-    ap (λ (l : List Row). all_taken usn l held) (changes_keep (server_changes s before) (change_rows_of (From (least_usn before)) (fold_of s before).rows named checked))
+    ap (λ (l : List Row). all_taken Device usn l held) (changes_keep (server_changes s before) (change_rows_of (From (least_usn before)) (fold_of s before).rows named checked))
 one_rows s before asks.Chunk usn held named checked =
-    ap (λ (l : List Row). all_taken usn l held) (chunk_keeps (slice (chunk_count before) (server_rows s before))
+    ap (λ (l : List Row). all_taken Device usn l held) (chunk_keeps (slice (chunk_count before) (server_rows s before))
     (slice_of_three (Made rows.Review) (Made rows.Card) (Made rows.Note) (server_rows s before) (chunk_rows_of (From (least_usn before)) (fold_of s before).rows named checked) (chunk_count before)))
 one_rows s before (asks.ApplyChunk chunk) usn held named checked = refl
 one_rows s before (asks.SanityCheck2 counts) usn held named checked = refl
@@ -101,16 +102,16 @@ module _ (c s : Collection) (may : MaySync c s) where
       (subst (λ (r : Received). AllByRecursion IsChecked r.rows) (ap all_brought (sym is) ∙ brought_append before rest) all_checked)
 
   rows_after : (before list more : List Ask) (usn : ℤ) (held : Rows) → before ++ (list ++ more) ≡ planned c s
-      → all_taken usn (replied_after s before list).rows held ≡ all_taken usn (given_after s before list).rows held
+      → all_taken Device usn (replied_after s before list).rows held ≡ all_taken Device usn (given_after s before list).rows held
   rows_after before [] more usn held is = refl
   rows_after before (ask ∷ list) more usn held is =
       let next : List Ask = before ++ ask ∷ [] in
-      parts_add_up usn (replied (answer_to s before ask)).rows (replied_after s (before ++ ask ∷ []) list).rows held
-      ∙ ap (all_taken usn (replied_after s (before ++ ask ∷ []) list).rows)
+      parts_add_up Device usn (replied (answer_to s before ask)).rows (replied_after s (before ++ ask ∷ []) list).rows held
+      ∙ ap (all_taken Device usn (replied_after s (before ++ ask ∷ []) list).rows)
       (one_rows s before ask usn held (fold_named c s may before) (fold_checked c s may before (front_checked before (ask ∷ (list ++ more)) is)))
-      ∙ rows_after (before ++ ask ∷ []) list more usn (all_taken usn (given_for s before ask).rows held) (append_assoc before (ask ∷ []) (list ++ more) ∙ is)
-      ∙ sym (parts_add_up usn (given_for s before ask).rows (given_after s (before ++ ask ∷ []) list).rows held)
+      ∙ rows_after (before ++ ask ∷ []) list more usn (all_taken Device usn (given_for s before ask).rows held) (append_assoc before (ask ∷ []) (list ++ more) ∙ is)
+      ∙ sym (parts_add_up Device usn (given_for s before ask).rows (given_after s (before ++ ask ∷ []) list).rows held)
 
 pub same_rows : (c s : Collection) (asked more : List Ask) (usn : ℤ) (held : Rows) → MaySync c s → asked ++ more ≡ planned c s
-    → all_taken usn (all_replied s asked).rows held ≡ all_taken usn (all_given s asked).rows held
+    → all_taken Device usn (all_replied s asked).rows held ≡ all_taken Device usn (all_given s asked).rows held
 same_rows c s asked more usn held may is = rows_after c s may [] asked more usn held is

@@ -31,6 +31,7 @@ use Rattle.ak_session.specs.Slices.{wanted_of, wanted_graves, wanted_in_chunks, 
 use Rattle.ak_session.proofs.Folds.{fold_takes_all}
 use Rattle.ak_session.proofs.InOrder.{not_table}
 use Rattle.ak_session.proofs.Ranges.{not_both, all_append}
+use Rattle.ak_merge.specs.declared.sides.Side.TheVariants.{Device, Server}
 
 -- ---- requests and what they ask
 asks_back : (who : Asker) (base : ℤ) (step : ℕ) (list : List Ask) → asks_of (requests_from who base step list) ≡ list
@@ -191,13 +192,13 @@ three_length one two three want held =
     length-append (wanted_past one want (pos 0) held) (wanted_past two want (pos 0) held ++ wanted_past three want (pos 0) held)
     ∙ ap (λ (n : ℕ). length (wanted_past one want (pos 0) held) + n) (length-append (wanted_past two want (pos 0) held) (wanted_past three want (pos 0) held))
 
-unsent_fewer : (one two three : Table) (usn : ℤ) (came : List Row) (held : Rows) → pos 0 ≤ℤ usn → length (wanted_of one two three Unsent (all_taken usn came held)) ≤ length (wanted_of one two three Unsent held)
+unsent_fewer : (one two three : Table) (usn : ℤ) (came : List Row) (held : Rows) → pos 0 ≤ℤ usn → length (wanted_of one two three Unsent (all_taken Device usn came held)) ≤ length (wanted_of one two three Unsent held)
 unsent_fewer one two three usn came held low =
-    let a = three_length one two three Unsent (all_taken usn came held) in
+    let a = three_length one two three Unsent (all_taken Device usn came held) in
     let b = three_length one two three Unsent held in
-    let x = unsent_never_grow one usn came held low in
-    let y = unsent_never_grow two usn came held low in
-    let z = unsent_never_grow three usn came held low in
+    let x = unsent_never_grow one Device usn came held low in
+    let y = unsent_never_grow two Device usn came held low in
+    let z = unsent_never_grow three Device usn came held low in
     omega (arith, a, b, x, y, z)
 
 -- rows that are no reviews, cards or notes
@@ -241,14 +242,14 @@ weaker_rows P Q so (x ∷ xs) all = (so x all.0, weaker_rows P Q so xs all.1)
 pub list_fewer : (c s : Collection) → length (server_rows s (planned_changes c s)) ≤ length (wanted_in_chunks (From c.head.usn) s.rows)
 list_fewer c s =
     let came : List Row = (all_brought (planned_changes c s)).rows in
-    let after : Rows = all_taken s.head.usn came s.rows in
+    let after : Rows = all_taken Server s.head.usn came s.rows in
     let same : length (server_rows s (planned_changes c s)) ≡ length (wanted_in_chunks (From c.head.usn) after) =
     ap (λ (held : Collection). length (wanted_in_chunks (From c.head.usn) held.rows)) (fold_takes_all s (planned_changes c s)) in
     let a = three_length tables.Review tables.Card tables.Note (From c.head.usn) after in
     let b = three_length tables.Review tables.Card tables.Note (From c.head.usn) s.rows in
-    let x = others_add_none tables.Review (From c.head.usn) s.head.usn came s.rows (All-from_recursion (λ row. (name_of row).table ≢ tables.Review) came (weaker_rows IsOther (λ row. (name_of row).table ≢ tables.Review) (λ row own. own.0) came (brought_other c s))) in
-    let y = others_add_none tables.Card (From c.head.usn) s.head.usn came s.rows (All-from_recursion (λ row. (name_of row).table ≢ tables.Card) came (weaker_rows IsOther (λ row. (name_of row).table ≢ tables.Card) (λ row own. own.1) came (brought_other c s))) in
-    let z = others_add_none tables.Note (From c.head.usn) s.head.usn came s.rows (All-from_recursion (λ row. (name_of row).table ≢ tables.Note) came (weaker_rows IsOther (λ row. (name_of row).table ≢ tables.Note) (λ row own. own.2) came (brought_other c s))) in
+    let x = others_add_none tables.Review (From c.head.usn) Server s.head.usn came s.rows (All-from_recursion (λ row. (name_of row).table ≢ tables.Review) came (weaker_rows IsOther (λ row. (name_of row).table ≢ tables.Review) (λ row own. own.0) came (brought_other c s))) in
+    let y = others_add_none tables.Card (From c.head.usn) Server s.head.usn came s.rows (All-from_recursion (λ row. (name_of row).table ≢ tables.Card) came (weaker_rows IsOther (λ row. (name_of row).table ≢ tables.Card) (λ row own. own.1) came (brought_other c s))) in
+    let z = others_add_none tables.Note (From c.head.usn) Server s.head.usn came s.rows (All-from_recursion (λ row. (name_of row).table ≢ tables.Note) came (weaker_rows IsOther (λ row. (name_of row).table ≢ tables.Note) (λ row own. own.2) came (brought_other c s))) in
     omega (arith, same, a, b, x, y, z)
 
 fewer_parts : (m n : ℕ) → m ≤ n → m / 250 ≤ n / 250

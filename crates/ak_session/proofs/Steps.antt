@@ -21,6 +21,7 @@ use Rattle.ak_session.specs.NextMethods.{last_from, last_asked}
 use Rattle.ak_session.specs.Plans.{device_rows}
 use Rattle.ak_session.specs.Requests.{asked_method, same_method}
 use Rattle.ak_session.proofs.Folds.{fold_append}
+use Rattle.ak_merge.specs.declared.sides.Side.TheVariants.{Device}
 
 -- ---- what came, one after the other
 pub or_none : (o : Option Settings) → option_or o None ≡ o
@@ -72,10 +73,10 @@ unfolding folded
 session_goes_on committed accepted request =
     ap (fold_of committed) (map-append (λ (r : Request). r.ask) accepted (request ∷ [])) ∙ fold_append committed (asks_of accepted) (request.ask ∷ [])
 
-pub device_goes_on : (c s : Collection) (asked : List Ask) (ask : Ask) → device_rows c s (asked ++ ask ∷ []) ≡ all_taken s.head.usn (given_for s asked ask).rows (device_rows c s asked)
+pub device_goes_on : (c s : Collection) (asked : List Ask) (ask : Ask) → device_rows c s (asked ++ ask ∷ []) ≡ all_taken Device s.head.usn (given_for s asked ask).rows (device_rows c s asked)
 device_goes_on c s asked ask =
-    ap (λ (r : Received). all_taken s.head.usn r.rows c.rows) (given_more s asked ask)
-    ∙ parts_add_up s.head.usn (all_given s asked).rows (given_for s asked ask).rows c.rows
+    ap (λ (r : Received). all_taken Device s.head.usn r.rows c.rows) (given_more s asked ask)
+    ∙ parts_add_up Device s.head.usn (all_given s asked).rows (given_for s asked ask).rows c.rows
 
 last_more : (first : Ask) (asked : List Ask) (ask : Ask) → last_from first (asked ++ ask ∷ []) ≡ ask
 last_more first [] ask = refl

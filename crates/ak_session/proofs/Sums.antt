@@ -38,6 +38,7 @@ use Rattle.ak_session.proofs.Ranges.{all_append}
 use Rattle.ak_session.proofs.Slices.{filled_slices_are_all, slices_until_short_are_all}
 use Rattle.ak_session.proofs.Steps.{or_none, nothing_first, nothing_last, brought_append, given_append, given_more, count_append, chunks_are_counted, number_stays}
 use Rattle.ak_session.proofs.Wanted.{Stands, three_stand, three_weaker, all_of_three}
+use Rattle.ak_merge.specs.declared.sides.Side.TheVariants.{Device, Server}
 
 -- ---- parts of one kind
 abbrev pub came_of : List Row → List (List ℕ) → Option Settings → Received
@@ -210,21 +211,21 @@ module _ (c s : Collection) (may : MaySync c s) where
 
   -- ---- rows in between
   pub device_named : (asked : List Ask) → AreNamed (get (device_rows c s asked))
-  device_named asked = taken_named s.head.usn (all_given s asked).rows c.rows may.named
+  device_named asked = taken_named Device s.head.usn (all_given s asked).rows c.rows may.named
 
   pub device_checked : (asked : List Ask) → AllByRecursion IsChecked (all_given s asked).rows → AreChecked (get (device_rows c s asked))
-  device_checked asked all = taken_checked s.head.usn (all_given s asked).rows c.rows (All-from_recursion IsChecked (all_given s asked).rows all) number_fits may.checked
+  device_checked asked all = taken_checked Device s.head.usn (all_given s asked).rows c.rows (All-from_recursion IsChecked (all_given s asked).rows all) number_fits may.checked
 
-  pub fold_rows : (asked : List Ask) → (fold_of s asked).rows ≡ all_taken s.head.usn (all_brought asked).rows s.rows
+  pub fold_rows : (asked : List Ask) → (fold_of s asked).rows ≡ all_taken Server s.head.usn (all_brought asked).rows s.rows
   fold_rows asked = ap (λ (held : Collection). held.rows) (fold_takes_all s asked)
 
   pub fold_named : (asked : List Ask) → AreNamed (get (fold_of s asked).rows)
-  fold_named asked = subst (λ (held : Rows). AreNamed (get held)) (sym (fold_rows asked)) (taken_named s.head.usn (all_brought asked).rows s.rows may.committed.named)
+  fold_named asked = subst (λ (held : Rows). AreNamed (get held)) (sym (fold_rows asked)) (taken_named Server s.head.usn (all_brought asked).rows s.rows may.committed.named)
 
   pub fold_checked : (asked : List Ask) → AllByRecursion IsChecked (all_brought asked).rows → AreChecked (get (fold_of s asked).rows)
   fold_checked asked all =
       subst (λ (held : Rows). AreChecked (get held)) (sym (fold_rows asked))
-      (taken_checked s.head.usn (all_brought asked).rows s.rows (All-from_recursion IsChecked (all_brought asked).rows all) number_fits may.committed.checked)
+      (taken_checked Server s.head.usn (all_brought asked).rows s.rows (All-from_recursion IsChecked (all_brought asked).rows all) number_fits may.committed.checked)
 
   pub wanted_checked : (one two three : Table) (want : Wanted) (held : Rows) → AreNamed (get held) → AreChecked (get held) → AllByRecursion IsChecked (wanted_of one two three want held)
   wanted_checked one two three want held named checked =

@@ -1,10 +1,13 @@
 -- What the requests of a sync add up to: the two halves of an exchange.
-use Rattle.std.specs.Prelude.{◌≡◌, ◌≢◌, ℕ, ℤ, IsTrue, List, [], ◌++◌, Some}
+use Rattle.std.specs.Prelude.{◌≡◌, ◌≢◌, ◌≤ℤ◌, ℕ, ℤ, pos, negsuc, IsTrue, List, [], ◌++◌, Some}
 use Rattle.std.specs.FinMap.{get}
 use Rattle.std.specs.List.{AllByRecursion}
-use Rattle.std.proofs.Common.{refl, sym, ap, subst, ◌∙◌, append_assoc}
+use Rattle.std.proofs.Common.{refl, sym, ap, subst, ◌∙◌, append_assoc, arith}
+use Rattle.std.proofs.lemmas.Int.{ints}
+use Rattle.std.specs.Cmp.{signed_Decides}
 use Rattle.std.proofs.lemmas.List.{append-nil}
-use Rattle.ak_base.specs.Rows.{name_of}
+use Rattle.ak_base.specs.Rows.{name_of, usn_of}
+use Rattle.ak_base.specs.declared.names.Name.{Name}
 use Rattle.ak_base.specs.declared.names.Table.{Table}
 use Rattle.ak_base.specs.declared.names.Table.TheVariants as tables
 use Rattle.ak_base.specs.declared.rows.Row.{Row}
@@ -12,9 +15,11 @@ use Rattle.ak_keep.specs.Collections.{Rows, Collection, is_wanted}
 use Rattle.ak_keep.specs.declared.keepers.Wanted.{Wanted}
 use Rattle.ak_keep.specs.declared.keepers.Wanted.TheVariants.{Unsent, From}
 use Rattle.ak_merge.proofs.TagLists.{unsent_listed, from_listed}
+use Rattle.ak_merge.proofs.CommitLaws.{of_some}
 use Rattle.ak_merge.specs.Commits.{Received}
 use Rattle.ak_merge.specs.Exchanges.{wanted_under, tags_from, unsent_tags, IsSent, IsServerHalf}
 use Rattle.ak_merge.specs.Holdings.{row_under, AreNamed, AreChecked}
+use Rattle.ak_merge.specs.Links.{IsGiven}
 use Rattle.ak_merge.specs.Tags.{has_name}
 use Rattle.ak_merge.specs.Takings.{all_taken}
 use Rattle.ak_messages.specs.declared.requests.Ask.{Ask}
@@ -31,6 +36,7 @@ use Rattle.ak_session.proofs.InOrder.{not_table}
 use Rattle.ak_session.proofs.Ranges.{all_append, past_second}
 use Rattle.ak_session.proofs.Sums.{low, device_named, device_checked, fold_rows, fold_named, fold_checked, given_start, checked_start, given_graves, checked_graves, given_chunks, checked_chunks, brought_graves, graves_checked, brought_changes, changes_checked, given_in_parts, sent_in_parts, server_graves, server_types, server_list, device_graves, device_types, device_list}
 use Rattle.ak_session.proofs.Wanted.{Stands, three_stand, three_weaker, all_of_three, IsFront, all_wanted, gives_all, unsent_stood, others_stood}
+use Rattle.ak_merge.specs.declared.sides.Side.TheVariants.{Device, Server}
 
 -- what stood before and is wanted
 abbrev Stood : Wanted → Rows → Row → Type 0
@@ -63,19 +69,19 @@ module _ (c s : Collection) (may : MaySync c s) where
   all_sent_rows = device_graves c s may ++ (device_types c s may ++ device_list c s may)
 
   abbrev taken_by_device : List Row → Rows
-  taken_by_device front = all_taken s.head.usn front c.rows
+  taken_by_device front = all_taken Device s.head.usn front c.rows
 
   -- the device's rows in between, by what it had taken
   rows_at_start : device_rows c s (planned_start c) ≡ taken_by_device (server_graves c s may)
-  rows_at_start = ap (λ (r : Received). all_taken s.head.usn r.rows c.rows) (given_start c s may)
+  rows_at_start = ap (λ (r : Received). all_taken Device s.head.usn r.rows c.rows) (given_start c s may)
 
   rows_at_graves : device_rows c s (planned_graves c s) ≡ taken_by_device (server_graves c s may)
-  rows_at_graves = ap (λ (r : Received). all_taken s.head.usn r.rows c.rows) (given_graves c s may)
+  rows_at_graves = ap (λ (r : Received). all_taken Device s.head.usn r.rows c.rows) (given_graves c s may)
 
   rows_at_chunks : device_rows c s (planned_chunks c s) ≡ taken_by_device all_given_rows
-  rows_at_chunks = ap (λ (r : Received). all_taken s.head.usn r.rows c.rows) (given_chunks c s may)
+  rows_at_chunks = ap (λ (r : Received). all_taken Device s.head.usn r.rows c.rows) (given_chunks c s may)
 
-  graves_front : IsFront s.head.usn c.rows all_given_rows (server_graves c s may)
+  graves_front : IsFront Device s.head.usn c.rows all_given_rows (server_graves c s may)
   graves_front = record {
     rest = server_types c s may ++ server_list c s may;
     is = refl;
@@ -83,7 +89,7 @@ module _ (c s : Collection) (may : MaySync c s) where
     checked = subst (λ (held : Rows). AreChecked (get held)) rows_at_start (device_checked c s may (planned_start c) (checked_start c s may));
   }
 
-  whole_front : IsFront s.head.usn c.rows all_given_rows all_given_rows
+  whole_front : IsFront Device s.head.usn c.rows all_given_rows all_given_rows
   whole_front = record {
     rest = [];
     is = append-nil all_given_rows;
@@ -91,14 +97,21 @@ module _ (c s : Collection) (may : MaySync c s) where
     checked = subst (λ (held : Rows). AreChecked (get held)) rows_at_chunks (device_checked c s may (planned_chunks c s) (checked_chunks c s may));
   }
 
-  unsent_three : (one two three : Table) (front : List Row) → IsFront s.head.usn c.rows all_given_rows front → AllByRecursion (Stood Unsent c.rows) (wanted_of one two three Unsent (taken_by_device front))
+  unsent_three : (one two three : Table) (front : List Row) → IsFront Device s.head.usn c.rows all_given_rows front → AllByRecursion (Stood Unsent c.rows) (wanted_of one two three Unsent (taken_by_device front))
   unsent_three one two three front own =
       three_stood one two three Unsent c.rows (taken_by_device front) own.named own.checked
-      (unsent_stood s.head.usn c.rows front one (low c s may)) (unsent_stood s.head.usn c.rows front two (low c s may)) (unsent_stood s.head.usn c.rows front three (low c s may))
+      (unsent_stood Device s.head.usn c.rows front one (low c s may)) (unsent_stood Device s.head.usn c.rows front two (low c s may)) (unsent_stood Device s.head.usn c.rows front three (low c s may))
+
+  -- what was not sent yet does not have the server's number
+  unsent_differs : (name : Name) (row : Row) → get c.rows name ≡ Some row → IsTrue (is_wanted Unsent row) → usn_of row ≢ s.head.usn
+  unsent_differs name row is wanted same =
+      let unsent : usn_of row ≡ negsuc 0 = (signed_Decides (usn_of row) (negsuc 0)).0 wanted in
+      let from : pos 0 ≤ℤ s.head.usn = low c s may in
+      omega (arith, ints, unsent, same, from)
 
   sent_wanted : IsSent (all_wanted Unsent (taken_by_device (server_graves c s may)) (taken_by_device (server_graves c s may)) (taken_by_device all_given_rows)) (wanted_under Unsent (row_under c)) (get (taken_by_device all_given_rows))
   sent_wanted =
-      gives_all s.head.usn Unsent c.rows all_given_rows (server_graves c s may) (server_graves c s may) all_given_rows may.named graves_front graves_front whole_front
+      gives_all Device s.head.usn Unsent c.rows all_given_rows (server_graves c s may) (server_graves c s may) all_given_rows may.named unsent_differs graves_front graves_front whole_front
       (all_append (Stood Unsent c.rows) (wanted_graves Unsent (taken_by_device (server_graves c s may))) (wanted_changes Unsent (taken_by_device (server_graves c s may)) ++ wanted_in_chunks Unsent (taken_by_device all_given_rows))
       (unsent_three tables.NoteGrave tables.CardGrave tables.DeckGrave (server_graves c s may) graves_front)
       (all_append (Stood Unsent c.rows) (wanted_changes Unsent (taken_by_device (server_graves c s may))) (wanted_in_chunks Unsent (taken_by_device all_given_rows))
@@ -115,28 +128,28 @@ module _ (c s : Collection) (may : MaySync c s) where
   given_rows : (given_by_sync c s).rows ≡ all_given_rows
   given_rows = ap (λ (r : Received). r.rows) (given_in_parts c s may)
 
-  pub device_sends : IsSent (sent_by_sync c s).rows (wanted_under Unsent (row_under c)) (get (all_taken s.head.usn (given_by_sync c s).rows c.rows))
+  pub device_sends : IsSent (sent_by_sync c s).rows (wanted_under Unsent (row_under c)) (get (all_taken Device s.head.usn (given_by_sync c s).rows c.rows))
   device_sends =
-      subst (λ (list : List Row). IsSent list (wanted_under Unsent (row_under c)) (get (all_taken s.head.usn (given_by_sync c s).rows c.rows))) (sym sent_rows)
-      (subst (λ (list : List Row). IsSent (all_wanted Unsent (taken_by_device (server_graves c s may)) (taken_by_device (server_graves c s may)) (taken_by_device all_given_rows)) (wanted_under Unsent (row_under c)) (get (all_taken s.head.usn list c.rows))) (sym given_rows) sent_wanted)
+      subst (λ (list : List Row). IsSent list (wanted_under Unsent (row_under c)) (get (all_taken Device s.head.usn (given_by_sync c s).rows c.rows))) (sym sent_rows)
+      (subst (λ (list : List Row). IsSent (all_wanted Unsent (taken_by_device (server_graves c s may)) (taken_by_device (server_graves c s may)) (taken_by_device all_given_rows)) (wanted_under Unsent (row_under c)) (get (all_taken Device s.head.usn list c.rows))) (sym given_rows) sent_wanted)
 
   -- ---- what the server gives
   abbrev taken_by_server : List Row → Rows
-  taken_by_server front = all_taken s.head.usn front s.rows
+  taken_by_server front = all_taken Server s.head.usn front s.rows
 
   abbrev two_parts : List Row
   two_parts = device_graves c s may ++ device_types c s may
 
   fold_at_graves : (fold_of s (planned_graves c s)).rows ≡ taken_by_server (device_graves c s may)
-  fold_at_graves = fold_rows c s may (planned_graves c s) ∙ ap (λ (r : Received). all_taken s.head.usn r.rows s.rows) (brought_graves c s may)
+  fold_at_graves = fold_rows c s may (planned_graves c s) ∙ ap (λ (r : Received). all_taken Server s.head.usn r.rows s.rows) (brought_graves c s may)
 
   fold_at_changes : (fold_of s (planned_changes c s)).rows ≡ taken_by_server two_parts
-  fold_at_changes = fold_rows c s may (planned_changes c s) ∙ ap (λ (r : Received). all_taken s.head.usn r.rows s.rows) (brought_changes c s may)
+  fold_at_changes = fold_rows c s may (planned_changes c s) ∙ ap (λ (r : Received). all_taken Server s.head.usn r.rows s.rows) (brought_changes c s may)
 
-  nothing_front : IsFront s.head.usn s.rows all_sent_rows []
+  nothing_front : IsFront Server s.head.usn s.rows all_sent_rows []
   nothing_front = record { rest = all_sent_rows; is = refl; named = may.committed.named; checked = may.committed.checked }
 
-  sent_graves_front : IsFront s.head.usn s.rows all_sent_rows (device_graves c s may)
+  sent_graves_front : IsFront Server s.head.usn s.rows all_sent_rows (device_graves c s may)
   sent_graves_front = record {
     rest = device_types c s may ++ device_list c s may;
     is = refl;
@@ -144,7 +157,7 @@ module _ (c s : Collection) (may : MaySync c s) where
     checked = subst (λ (held : Rows). AreChecked (get held)) fold_at_graves (fold_checked c s may (planned_graves c s) (graves_checked c s may));
   }
 
-  two_parts_front : IsFront s.head.usn s.rows all_sent_rows two_parts
+  two_parts_front : IsFront Server s.head.usn s.rows all_sent_rows two_parts
   two_parts_front = record {
     rest = device_list c s may;
     is = append_assoc (device_graves c s may) (device_types c s may) (device_list c s may);
@@ -163,17 +176,23 @@ module _ (c s : Collection) (may : MaySync c s) where
 
   at_types : (table : Table) → (tables.NoteGrave ≡ table → ⊥) → (tables.CardGrave ≡ table → ⊥) → (tables.DeckGrave ≡ table → ⊥) → (row : Row) → Stands table (From c.head.usn) (taken_by_server (device_graves c s may)) row → Stood (From c.head.usn) s.rows row
   at_types table first second third row own =
-      others_stood s.head.usn (From c.head.usn) s.rows (device_graves c s may) table (graves_of_others table first second third) row own
+      others_stood Server s.head.usn (From c.head.usn) s.rows (device_graves c s may) table (graves_of_others table first second third) row own
 
   at_chunks : (table : Table) → (tables.NoteGrave ≡ table → ⊥) → (tables.CardGrave ≡ table → ⊥) → (tables.DeckGrave ≡ table → ⊥) → (tables.NoteType ≡ table → ⊥) → (tables.Deck ≡ table → ⊥) → (tables.Options ≡ table → ⊥)
       → (row : Row) → Stands table (From c.head.usn) (taken_by_server two_parts) row → Stood (From c.head.usn) s.rows row
   at_chunks table a b d e f g row own =
-      others_stood s.head.usn (From c.head.usn) s.rows two_parts table
+      others_stood Server s.head.usn (From c.head.usn) s.rows two_parts table
       (all_append (λ (other : Row). (name_of other).table ≢ table) (device_graves c s may) (device_types c s may) (graves_of_others table a b d) (types_of_others table e f g)) row own
+
+  -- the server's rows have numbers below its own
+  given_differs : (name : Name) (row : Row) → get s.rows name ≡ Some row → IsTrue (is_wanted (From c.head.usn) row) → usn_of row ≢ s.head.usn
+  given_differs name row is _ same =
+      let given : IsGiven s.head.usn (usn_of row) = of_some (λ (r : Row). IsGiven s.head.usn (usn_of r)) (get s.rows name) row (may.committed.given.rows name) is in
+      omega (arith, ints, given.high, same)
 
   given_wanted : IsSent (all_wanted (From c.head.usn) s.rows (taken_by_server (device_graves c s may)) (taken_by_server two_parts)) (wanted_under (From c.head.usn) (row_under s)) (get (taken_by_server all_sent_rows))
   given_wanted =
-      gives_all s.head.usn (From c.head.usn) s.rows all_sent_rows [] (device_graves c s may) two_parts may.committed.named nothing_front sent_graves_front two_parts_front
+      gives_all Server s.head.usn (From c.head.usn) s.rows all_sent_rows [] (device_graves c s may) two_parts may.committed.named given_differs nothing_front sent_graves_front two_parts_front
       (all_append (Stood (From c.head.usn) s.rows) (wanted_graves (From c.head.usn) s.rows) (wanted_changes (From c.head.usn) (taken_by_server (device_graves c s may)) ++ wanted_in_chunks (From c.head.usn) (taken_by_server two_parts))
       (three_stood tables.NoteGrave tables.CardGrave tables.DeckGrave (From c.head.usn) s.rows s.rows may.committed.named may.committed.checked (λ row own. (own.stands, own.wanted)) (λ row own. (own.stands, own.wanted)) (λ row own. (own.stands, own.wanted)))
       (all_append (Stood (From c.head.usn) s.rows) (wanted_changes (From c.head.usn) (taken_by_server (device_graves c s may))) (wanted_in_chunks (From c.head.usn) (taken_by_server two_parts))
@@ -195,10 +214,10 @@ module _ (c s : Collection) (may : MaySync c s) where
   sent_as_parts : (sent_by_sync c s).rows ≡ all_sent_rows
   sent_as_parts = ap (λ (r : Received). r.rows) (sent_in_parts c s may)
 
-  pub server_gives : IsSent (given_by_sync c s).rows (wanted_under (From c.head.usn) (row_under s)) (get (all_taken s.head.usn (sent_by_sync c s).rows s.rows))
+  pub server_gives : IsSent (given_by_sync c s).rows (wanted_under (From c.head.usn) (row_under s)) (get (all_taken Server s.head.usn (sent_by_sync c s).rows s.rows))
   server_gives =
-      subst (λ (list : List Row). IsSent list (wanted_under (From c.head.usn) (row_under s)) (get (all_taken s.head.usn (sent_by_sync c s).rows s.rows))) (sym given_as_wanted)
-      (subst (λ (list : List Row). IsSent (all_wanted (From c.head.usn) s.rows (taken_by_server (device_graves c s may)) (taken_by_server two_parts)) (wanted_under (From c.head.usn) (row_under s)) (get (all_taken s.head.usn list s.rows))) (sym sent_as_parts) given_wanted)
+      subst (λ (list : List Row). IsSent list (wanted_under (From c.head.usn) (row_under s)) (get (all_taken Server s.head.usn (sent_by_sync c s).rows s.rows))) (sym given_as_wanted)
+      (subst (λ (list : List Row). IsSent (all_wanted (From c.head.usn) s.rows (taken_by_server (device_graves c s may)) (taken_by_server two_parts)) (wanted_under (From c.head.usn) (row_under s)) (get (all_taken Server s.head.usn list s.rows))) (sym sent_as_parts) given_wanted)
 
   -- ---- tags and settings
   pub tags_sent : (name : List ℕ) → has_name (sent_by_sync c s).tags name ≡ unsent_tags c.head.tags name

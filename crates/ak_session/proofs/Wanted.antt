@@ -6,7 +6,7 @@ use Rattle.std.proofs.Common.{refl, sym, ap, subst, ◌∙◌, arith}
 use Rattle.std.proofs.lemmas.List.Elements.{Contains-append_left, Contains-append_right, All-from_recursion}
 use Rattle.std.proofs.lemmas.List.{take_all}
 use Rattle.std.proofs.lemmas.Option.{none-some}
-use Rattle.ak_base.specs.Rows.{IsChecked, name_of}
+use Rattle.ak_base.specs.Rows.{IsChecked, name_of, usn_of}
 use Rattle.ak_base.specs.declared.names.Name.{Name}
 use Rattle.ak_base.specs.declared.names.Table.{Table}
 use Rattle.ak_base.specs.declared.names.Table.TheVariants as tables
@@ -26,6 +26,7 @@ use Rattle.ak_merge.specs.Takings.{all_taken}
 use Rattle.ak_session.specs.Slices.{wanted_of, wanted_graves, wanted_changes, wanted_in_chunks}
 use Rattle.ak_session.proofs.InOrder.{InThree}
 use Rattle.ak_session.proofs.Ranges.{all_append}
+use Rattle.ak_merge.specs.declared.sides.Side.{Side}
 
 -- ---- what a list of wanted rows has
 -- what holds of each element of a list
@@ -81,43 +82,43 @@ pub all_of_three : (P : Row → Type 0) (list : List Row) → InThree P P P list
 all_of_three P list own = subst (AllByRecursion P) (sym own.is) (all_append P own.first (own.second ++ own.third) own.ones (all_append P own.second own.third own.twos own.threes))
 
 -- ---- what stood before
-kept_cell : (usn : ℤ) (x g h : Option Row) (row : Row) → received_by usn x g None h ≡ Some row → x ≡ Some row
-kept_cell usn x g (Some h) row is = absurd (none-some row is)
-kept_cell usn x (Some g) None row is = is
-kept_cell usn None None None row is = is
-kept_cell usn (Some x) None None row is = is
+kept_cell : (side : Side) (usn : ℤ) (x g h : Option Row) (row : Row) → received_by side usn x g None h ≡ Some row → x ≡ Some row
+kept_cell side usn x g (Some h) row is = absurd (none-some row is)
+kept_cell side usn x (Some g) None row is = is
+kept_cell side usn None None None row is = is
+kept_cell side usn (Some x) None None row is = is
 
 none_newest : (name : Name) (o : Option Row) → IfSome o (λ (row : Row). (name_of row ≢ name) × (name_of row ≡ name)) → o ≡ None
 none_newest name None all = refl
 none_newest name (Some row) all = absurd (all.0 all.1)
 
 -- a row whose name is that of none that came stood before
-pub others_were_held : (usn : ℤ) (came : List Row) (held : Rows) (name : Name) (row : Row) → AllByRecursion (λ (other : Row). name_of other ≢ name) came
-    → get (all_taken usn came held) name ≡ Some row → get held name ≡ Some row
-others_were_held usn came held name row differ is =
-    let none : newest_in came name ≡ None = none_newest name (newest_in came name) (each_newest (λ (other : Row). name_of other ≢ name) came name differ) in
-    kept_cell usn (get held name) (grave_under (get held) name) (grave_under (newest_in came) name) row
-    (ap (λ (o : Option Row). received_by usn (get held name) (grave_under (get held) name) o (grave_under (newest_in came) name)) (sym none) ∙ sym (all_taken_at usn came held name) ∙ is)
+pub others_were_held : (side : Side) (usn : ℤ) (came : List Row) (held : Rows) (name : Name) (row : Row) → AllByRecursion (λ (other : Row). name_of other ≢ name) came
+    → get (all_taken side usn came held) name ≡ Some row → get held name ≡ Some row
+others_were_held side usn came held name row differ is =
+    let none : newest_in side came name ≡ None = none_newest name (newest_in side came name) (each_newest side (λ (other : Row). name_of other ≢ name) came name differ) in
+    kept_cell side usn (get held name) (grave_under (get held) name) (grave_under (newest_in side came) name) row
+    (ap (λ (o : Option Row). received_by side usn (get held name) (grave_under (get held) name) o (grave_under (newest_in side came) name)) (sym none) ∙ sym (all_taken_at side usn came held name) ∙ is)
 
 -- ---- what a side gives while rows come to it
 -- a front of the rows that come, after which each row stands under its name and passes its check
-pub record IsFront (usn : ℤ) (held : Rows) (came front : List Row) : Type 0 where
+pub record IsFront (side : Side) (usn : ℤ) (held : Rows) (came front : List Row) : Type 0 where
   pub rest : List Row
   pub is : front ++ rest ≡ came
-  pub named : AreNamed (get (all_taken usn front held))
-  pub checked : AreChecked (get (all_taken usn front held))
+  pub named : AreNamed (get (all_taken side usn front held))
+  pub checked : AreChecked (get (all_taken side usn front held))
 
 only_held : (want : Wanted) (o : Option Row) (row : Row) → only_wanted want o ≡ Some row → (o ≡ Some row) × IsTrue (is_wanted want row)
 only_held want None row is = absurd (none-some row is)
 only_held want (Some x) row is = let one = only_is want x row is in (ap (λ (r : Row). Some r) one.0, subst (λ (r : Row). IsTrue (is_wanted want r)) one.0 one.1)
 
-whole_at : (usn : ℤ) (want : Wanted) (held : Rows) (came front : List Row) (table : Table) (row : Row) → IsFront usn held came front → (name_of row).table ≡ table → IsTrue (is_wanted want row)
-    → get held (name_of row) ≡ Some row → get (all_taken usn came held) (name_of row) ≡ Some row → Contains (wanted_past table want (pos 0) (all_taken usn front held)) row
-whole_at usn want held came front table row own is wanted before after =
-    (wanted_rows_are_listed table want (all_taken usn front held) row own.named own.checked).1 (record {
+whole_at : (side : Side) (usn : ℤ) (want : Wanted) (held : Rows) (came front : List Row) (table : Table) (row : Row) → IsFront side usn held came front → (name_of row).table ≡ table → IsTrue (is_wanted want row)
+    → usn_of row ≢ usn → get (all_taken side usn came held) (name_of row) ≡ Some row → Contains (wanted_past table want (pos 0) (all_taken side usn front held)) row
+whole_at side usn want held came front table row own is wanted differ after =
+    (wanted_rows_are_listed table want (all_taken side usn front held) row own.named own.checked).1 (record {
       of_table = is;
       wanted = wanted;
-      stands = rows_stand_between usn front own.rest held (name_of row) row before (ap (λ (l : List Row). get (all_taken usn l held) (name_of row)) own.is ∙ after);
+      stands = rows_stand_between side usn front own.rest held (name_of row) row differ (ap (λ (l : List Row). get (all_taken side usn l held) (name_of row)) own.is ∙ after);
     })
 
 -- what a side gives: graves after a front, changes after another, rows in chunks after a third
@@ -152,66 +153,68 @@ module _ (want : Wanted) (a b c : Rows) (row : Row) where
       Contains-append_right (wanted_graves want a) (wanted_changes want b ++ wanted_in_chunks want c) row
       (Contains-append_right (wanted_changes want b) (wanted_in_chunks want c) row has)
 
--- each wanted row that stands before and in the end is given
-given_at : (usn : ℤ) (want : Wanted) (held : Rows) (came one two three : List Row) (row : Row) → IsFront usn held came one → IsFront usn held came two → IsFront usn held came three
-    → IsTrue (is_wanted want row) → get held (name_of row) ≡ Some row → get (all_taken usn came held) (name_of row) ≡ Some row → (table : Table) → (name_of row).table ≡ table
-    → Contains (all_wanted want (all_taken usn one held) (all_taken usn two held) (all_taken usn three held)) row
-given_at usn want held came one two three row first second third wanted before after table is = by_table table is
+-- each wanted row that stands in the end with another number than the one that rows are taken with is given
+given_at : (side : Side) (usn : ℤ) (want : Wanted) (held : Rows) (came one two three : List Row) (row : Row) → IsFront side usn held came one → IsFront side usn held came two → IsFront side usn held came three
+    → IsTrue (is_wanted want row) → usn_of row ≢ usn → get (all_taken side usn came held) (name_of row) ≡ Some row → (table : Table) → (name_of row).table ≡ table
+    → Contains (all_wanted want (all_taken side usn one held) (all_taken side usn two held) (all_taken side usn three held)) row
+given_at side usn want held came one two three row first second third wanted differ after table is = by_table table is
   where
-    by_table : (table : Table) → (name_of row).table ≡ table → Contains (all_wanted want (all_taken usn one held) (all_taken usn two held) (all_taken usn three held)) row
+    by_table : (table : Table) → (name_of row).table ≡ table → Contains (all_wanted want (all_taken side usn one held) (all_taken side usn two held) (all_taken side usn three held)) row
     by_table tables.NoteGrave is =
-        among_graves want (all_taken usn one held) (all_taken usn two held) (all_taken usn three held) row (in_first tables.NoteGrave tables.CardGrave tables.DeckGrave want (all_taken usn one held) row
-        (whole_at usn want held came one tables.NoteGrave row first is wanted before after))
+        among_graves want (all_taken side usn one held) (all_taken side usn two held) (all_taken side usn three held) row (in_first tables.NoteGrave tables.CardGrave tables.DeckGrave want (all_taken side usn one held) row
+        (whole_at side usn want held came one tables.NoteGrave row first is wanted differ after))
     by_table tables.CardGrave is =
-        among_graves want (all_taken usn one held) (all_taken usn two held) (all_taken usn three held) row (in_second tables.NoteGrave tables.CardGrave tables.DeckGrave want (all_taken usn one held) row
-        (whole_at usn want held came one tables.CardGrave row first is wanted before after))
+        among_graves want (all_taken side usn one held) (all_taken side usn two held) (all_taken side usn three held) row (in_second tables.NoteGrave tables.CardGrave tables.DeckGrave want (all_taken side usn one held) row
+        (whole_at side usn want held came one tables.CardGrave row first is wanted differ after))
     by_table tables.DeckGrave is =
-        among_graves want (all_taken usn one held) (all_taken usn two held) (all_taken usn three held) row (in_third tables.NoteGrave tables.CardGrave tables.DeckGrave want (all_taken usn one held) row
-        (whole_at usn want held came one tables.DeckGrave row first is wanted before after))
+        among_graves want (all_taken side usn one held) (all_taken side usn two held) (all_taken side usn three held) row (in_third tables.NoteGrave tables.CardGrave tables.DeckGrave want (all_taken side usn one held) row
+        (whole_at side usn want held came one tables.DeckGrave row first is wanted differ after))
     by_table tables.NoteType is =
-        among_changes want (all_taken usn one held) (all_taken usn two held) (all_taken usn three held) row (in_first tables.NoteType tables.Deck tables.Options want (all_taken usn two held) row
-        (whole_at usn want held came two tables.NoteType row second is wanted before after))
+        among_changes want (all_taken side usn one held) (all_taken side usn two held) (all_taken side usn three held) row (in_first tables.NoteType tables.Deck tables.Options want (all_taken side usn two held) row
+        (whole_at side usn want held came two tables.NoteType row second is wanted differ after))
     by_table tables.Deck is =
-        among_changes want (all_taken usn one held) (all_taken usn two held) (all_taken usn three held) row (in_second tables.NoteType tables.Deck tables.Options want (all_taken usn two held) row
-        (whole_at usn want held came two tables.Deck row second is wanted before after))
+        among_changes want (all_taken side usn one held) (all_taken side usn two held) (all_taken side usn three held) row (in_second tables.NoteType tables.Deck tables.Options want (all_taken side usn two held) row
+        (whole_at side usn want held came two tables.Deck row second is wanted differ after))
     by_table tables.Options is =
-        among_changes want (all_taken usn one held) (all_taken usn two held) (all_taken usn three held) row (in_third tables.NoteType tables.Deck tables.Options want (all_taken usn two held) row
-        (whole_at usn want held came two tables.Options row second is wanted before after))
+        among_changes want (all_taken side usn one held) (all_taken side usn two held) (all_taken side usn three held) row (in_third tables.NoteType tables.Deck tables.Options want (all_taken side usn two held) row
+        (whole_at side usn want held came two tables.Options row second is wanted differ after))
     by_table tables.Review is =
-        among_chunks want (all_taken usn one held) (all_taken usn two held) (all_taken usn three held) row (in_first tables.Review tables.Card tables.Note want (all_taken usn three held) row
-        (whole_at usn want held came three tables.Review row third is wanted before after))
+        among_chunks want (all_taken side usn one held) (all_taken side usn two held) (all_taken side usn three held) row (in_first tables.Review tables.Card tables.Note want (all_taken side usn three held) row
+        (whole_at side usn want held came three tables.Review row third is wanted differ after))
     by_table tables.Card is =
-        among_chunks want (all_taken usn one held) (all_taken usn two held) (all_taken usn three held) row (in_second tables.Review tables.Card tables.Note want (all_taken usn three held) row
-        (whole_at usn want held came three tables.Card row third is wanted before after))
+        among_chunks want (all_taken side usn one held) (all_taken side usn two held) (all_taken side usn three held) row (in_second tables.Review tables.Card tables.Note want (all_taken side usn three held) row
+        (whole_at side usn want held came three tables.Card row third is wanted differ after))
     by_table tables.Note is =
-        among_chunks want (all_taken usn one held) (all_taken usn two held) (all_taken usn three held) row (in_third tables.Review tables.Card tables.Note want (all_taken usn three held) row
-        (whole_at usn want held came three tables.Note row third is wanted before after))
+        among_chunks want (all_taken side usn one held) (all_taken side usn two held) (all_taken side usn three held) row (in_third tables.Review tables.Card tables.Note want (all_taken side usn three held) row
+        (whole_at side usn want held came three tables.Note row third is wanted differ after))
 
--- what a side gives is all that is wanted of it, if each row that it gives stood before
-pub gives_all : (usn : ℤ) (want : Wanted) (held : Rows) (came one two three : List Row) → AreNamed (get held) → IsFront usn held came one → IsFront usn held came two → IsFront usn held came three
-    → AllByRecursion (λ (row : Row). (get held (name_of row) ≡ Some row) × IsTrue (is_wanted want row)) (all_wanted want (all_taken usn one held) (all_taken usn two held) (all_taken usn three held))
-    → IsSent (all_wanted want (all_taken usn one held) (all_taken usn two held) (all_taken usn three held)) (wanted_under want (get held)) (get (all_taken usn came held))
-gives_all usn want held came one two three named first second third stood = record {
-  each = All-from_recursion (λ (row : Row). wanted_under want (get held) (name_of row) ≡ Some row) (all_wanted want (all_taken usn one held) (all_taken usn two held) (all_taken usn three held))
+-- what a side gives is all that is wanted of it, if each row that it gives stood before, and none that is wanted has the number that rows
+-- are taken with
+pub gives_all : (side : Side) (usn : ℤ) (want : Wanted) (held : Rows) (came one two three : List Row) → AreNamed (get held)
+    → ((name : Name) (row : Row) → get held name ≡ Some row → IsTrue (is_wanted want row) → usn_of row ≢ usn) → IsFront side usn held came one → IsFront side usn held came two → IsFront side usn held came three
+    → AllByRecursion (λ (row : Row). (get held (name_of row) ≡ Some row) × IsTrue (is_wanted want row)) (all_wanted want (all_taken side usn one held) (all_taken side usn two held) (all_taken side usn three held))
+    → IsSent (all_wanted want (all_taken side usn one held) (all_taken side usn two held) (all_taken side usn three held)) (wanted_under want (get held)) (get (all_taken side usn came held))
+gives_all side usn want held came one two three named differ first second third stood = record {
+  each = All-from_recursion (λ (row : Row). wanted_under want (get held) (name_of row) ≡ Some row) (all_wanted want (all_taken side usn one held) (all_taken side usn two held) (all_taken side usn three held))
       (weaker (λ (row : Row). (get held (name_of row) ≡ Some row) × IsTrue (is_wanted want row)) (λ (row : Row). wanted_under want (get held) (name_of row) ≡ Some row)
-      (λ row own. ap (only_wanted want) own.0 ∙ is_only want row own.1) (all_wanted want (all_taken usn one held) (all_taken usn two held) (all_taken usn three held)) stood);
+      (λ row own. ap (only_wanted want) own.0 ∙ is_only want row own.1) (all_wanted want (all_taken side usn one held) (all_taken side usn two held) (all_taken side usn three held)) stood);
   whole = λ name row is after.
       let own = only_held want (get held name) row is in
       let bears : name_of row ≡ name = named name row own.0 in
-      given_at usn want held came one two three row first second third own.1 (ap (get held) bears ∙ own.0) (ap (get (all_taken usn came held)) bears ∙ after) (name_of row).table refl;
+      given_at side usn want held came one two three row first second third own.1 (differ name row own.0 own.1) (ap (get (all_taken side usn came held)) bears ∙ after) (name_of row).table refl;
 }
 
 -- ---- rows that stood before
 -- what stands and was not sent yet stood before
-pub unsent_stood : (usn : ℤ) (held : Rows) (front : List Row) (table : Table) → pos 0 ≤ℤ usn → (row : Row) → Stands table Unsent (all_taken usn front held) row
+pub unsent_stood : (side : Side) (usn : ℤ) (held : Rows) (front : List Row) (table : Table) → pos 0 ≤ℤ usn → (row : Row) → Stands table Unsent (all_taken side usn front held) row
     → (get held (name_of row) ≡ Some row) × IsTrue (is_wanted Unsent row)
-unsent_stood usn held front table low row own = (pending_was_held usn front held (name_of row) row low own.stands own.wanted, own.wanted)
+unsent_stood side usn held front table low row own = (pending_was_held side usn front held (name_of row) row low own.stands own.wanted, own.wanted)
 
 -- what stands in a table of which nothing came stood before
-pub others_stood : (usn : ℤ) (want : Wanted) (held : Rows) (front : List Row) (table : Table) → AllByRecursion (λ (other : Row). (name_of other).table ≢ table) front → (row : Row) → Stands table want (all_taken usn front held) row
+pub others_stood : (side : Side) (usn : ℤ) (want : Wanted) (held : Rows) (front : List Row) (table : Table) → AllByRecursion (λ (other : Row). (name_of other).table ≢ table) front → (row : Row) → Stands table want (all_taken side usn front held) row
     → (get held (name_of row) ≡ Some row) × IsTrue (is_wanted want row)
-others_stood usn want held front table differ row own = (
-  others_were_held usn front held (name_of row) row
+others_stood side usn want held front table differ row own = (
+  others_were_held side usn front held (name_of row) row
       (weaker (λ (other : Row). (name_of other).table ≢ table) (λ (other : Row). name_of other ≢ name_of row) (λ other apart same. apart (ap (λ (n : Name). n.table) same ∙ own.of_table)) front differ) own.stands,
   own.wanted,
 )

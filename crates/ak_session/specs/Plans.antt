@@ -16,11 +16,12 @@ use Rattle.ak_session.specs.Asks.{all_brought}
 use Rattle.ak_session.specs.Messages.{grave_ids, chunk_of, changes_of}
 use Rattle.ak_session.specs.Requests.{is_meta, is_download}
 use Rattle.ak_session.specs.Slices.{wanted_graves, wanted_changes, wanted_in_chunks, filled_slices, slices_until_short}
+use Rattle.ak_merge.specs.declared.sides.Side.TheVariants.{Device}
 
 -- ---- the device in between
 -- the rows that the device holds once it took what the server gave for these requests, with the server's number
 abbrev pub device_rows : Collection → Collection → List Ask → Rows
-device_rows c s asked = all_taken s.head.usn (all_given s asked).rows c.rows
+device_rows c s asked = all_taken Device s.head.usn (all_given s asked).rows c.rows
 
 -- ---- the parts, each with all that comes before it
 -- the start: the device's number and the moment of its last change

@@ -6,7 +6,6 @@ use Rattle.ak_keep.specs.Collections.{Rows, Collection}
 use Rattle.std.specs.FinMap.{get}
 use Rattle.ak_merge.specs.Commits.{IsCommitted}
 use Rattle.ak_merge.specs.Holdings.{row_under, AreNamed, AreChecked}
-use Rattle.ak_merge.specs.Joins.{AreApart}
 use Rattle.ak_merge.specs.Links.{AreLinkedParts}
 use Rattle.ak_merge.specs.Soundness.{IsSound, IsLeastFault}
 use Rattle.ak_messages.specs.declared.replies.SanityReply.{SanityReply}
@@ -35,8 +34,6 @@ pub record MaySync (c s : Collection) : Type 0 where
   pub checked : AreChecked (row_under c)
   pub head : IsHeadInRange c.head
   pub committed : IsCommitted s
-  -- no two rows of one name and stamp differ
-  pub apart : AreApart (row_under c) (row_under s)
 
 -- no number of either side is the last one: the server's next number and the moments after both are in their ranges
 pub record HaveRoom (c s : Collection) : Type 0 where

@@ -14,6 +14,7 @@ ghost use Rattle.ak_session.specs.Plans.{Asker, plan};
 ghost use Rattle.ak_session.specs.Replies.{replied};
 ghost use Rattle.ak_session.specs.Requests.{asked_method, asks_commit, is_download, is_meta};
 ghost use Rattle.ak_session.specs.Sessions.{MaySync};
+ghost use Rattle.ak_merge.specs.declared.sides.Side.TheVariants.{Device};
 
 /// What a request is given has the form of its method. In a sync a chunk has at most 250 rows, and one that is not done
 /// has 250; and what a reply brings makes of any rows what the rows that the server gave make of them.
@@ -27,6 +28,6 @@ pub fn answers_have_their_form()
         × (chunk.done ≡ false → chunk_entries chunk ≡ 250) }
     ensures rows { (who : Asker) (c s : Collection) (before : List Request) (request : Request) (after : List Request)
         → (usn : ℤ) (held : Rows) → MaySync c s → before ++ request ∷ after ≡ plan who c s
-        → all_taken usn (replied (answer s before request)).rows held
-        ≡ all_taken usn (given_for s (asks_of before) request.ask).rows held }
+        → all_taken Device usn (replied (answer s before request)).rows held
+        ≡ all_taken Device usn (given_for s (asks_of before) request.ask).rows held }
 {}

@@ -12,6 +12,7 @@ ghost use Rattle.ak_session.specs.Contents.{folded};
 ghost use Rattle.ak_session.specs.Plans.{device_rows};
 ghost use Rattle.ak_session.specs.Requests.{asked_method, same_method};
 ghost use Rattle.ak_session.specs.NextMethods.{last_asked};
+ghost use Rattle.ak_merge.specs.declared.sides.Side.TheVariants.{Device};
 
 /// A session takes what one request more brings, and a device what it is given for it.
 pub fn sessions_go_on()
@@ -20,7 +21,7 @@ pub fn sessions_go_on()
         ≡ with_received (brought request.ask) (folded committed accepted) }
     ensures device { (c s : Collection) (asked : List Ask) (ask : Ask)
         → device_rows c s (asked ++ ask ∷ [])
-        ≡ all_taken s.head.usn (given_for s asked ask).rows (device_rows c s asked) }
+        ≡ all_taken Device s.head.usn (given_for s asked ask).rows (device_rows c s asked) }
     ensures given { (s : Collection) (asked : List Ask) (ask : Ask)
         → all_given s (asked ++ ask ∷ []) ≡ and_then (all_given s asked) (given_for s asked ask) }
     ensures brought { (asked : List Ask) (ask : Ask)

@@ -24,6 +24,7 @@ ghost use Rattle.ak_session.specs.Plans.{planned_start, planned_graves, planned_
 ghost use Rattle.ak_session.specs.Plans.{planned_pushes, planned_check};
 ghost use Rattle.ak_session.specs.Sessions.{MaySync, TellsCheck};
 ghost use Rattle.ak_session.specs.Slices.{wanted_graves, wanted_changes, wanted_in_chunks};
+ghost use Rattle.ak_merge.specs.declared.sides.Side.TheVariants.{Server};
 
 /// What the server gives in a sync is its graves, then its changes, then its rows in chunks, each row once; what the
 /// device sends is likewise its own that was not sent yet. Each part is of what the side holds when it gives it.
@@ -65,7 +66,7 @@ pub fn syncs_give_what_is_lacking()
         → AreOf (wanted_under Unsent (row_under c)) (sent_by_sync c s).rows }
     ensures gives { (c s : Collection) → MaySync c s
         → IsSent (given_by_sync c s).rows (wanted_under (From c.head.usn) (row_under s))
-        (get (all_taken s.head.usn (sent_by_sync c s).rows s.rows)) }
+        (get (all_taken Server s.head.usn (sent_by_sync c s).rows s.rows)) }
     ensures tags_given { (c s : Collection) (name : List ℕ) → MaySync c s
         → has_name (given_by_sync c s).tags name ≡ tags_from c.head.usn s.head.tags name }
     ensures gives_settings { (c s : Collection) → MaySync c s

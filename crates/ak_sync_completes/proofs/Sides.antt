@@ -34,5 +34,4 @@ sides_may_sync c s formed schema linked lawful apart = record {
   checked = checked_of c formed;
   head = formed.head;
   committed = lawful;
-  apart = apart;
 }

@@ -2,7 +2,7 @@ use crate::faults::check_fault;
 use ak_base::{Row, cut};
 use ak_keep::Keeper;
 use ak_memory::MemoryKeeper;
-use ak_merge::{apart, check, newer, take_row};
+use ak_merge::{Side, apart, check, newer, take_row};
 use cases_keepers::{failed, name_text, row_of, value_of};
 use cases_lines::{Unread, row_at, table_of, text_at, truth};
 use serde_json::Value;
@@ -16,19 +16,36 @@ pub fn checked(alloc: Global, keeper: &mut MemoryKeeper) -> Result<String, Unrea
     }
 }
 
-/// `take USN TABLE JSON`: takes the row as it came in a sync, and tells whether it is held now.
+/// `take SIDE USN TABLE JSON`: takes the row as it came in a sync, as a `device` or a `server`, and tells whether it is held now.
 pub fn take(alloc: Global, keeper: &mut MemoryKeeper, rest: &str) -> Result<String, Unread> {
+    let (side, rest) = cut(rest, " ").ok_or(Unread::Bad)?;
+    let side = side_named(side).ok_or(Unread::Bad)?;
     let (usn, row) = cut(rest, " ").ok_or(Unread::Bad)?;
     let usn = usn.parse::<i64>().ok().ok_or(Unread::Bad)?;
     let row = row_of(alloc, row)?;
-    taken(alloc, keeper, usn, row)
+    taken(alloc, keeper, side, usn, row)
 }
 
-fn taken(alloc: Global, keeper: &mut MemoryKeeper, usn: i64, row: Row) -> Result<String, Unread> {
+/// The side of this name.
+fn side_named(word: &str) -> Option<Side> {
+    match word {
+        "device" => Some(Side::Device),
+        "server" => Some(Side::Server),
+        _ => None,
+    }
+}
+
+fn taken(
+    alloc: Global,
+    keeper: &mut MemoryKeeper,
+    side: Side,
+    usn: i64,
+    row: Row,
+) -> Result<String, Unread> {
     if !keeper.marked() || usn < 0 || usn > 2_147_483_647 || row.check().is_err() {
         return Err(Unread::Bad);
     }
-    match take_row(keeper, row, usn) {
+    match take_row(keeper, row, usn, side) {
         Ok(true) => Ok(String::from_str(alloc, "taken")?),
         Ok(false) => Ok(String::from_str(alloc, "not taken")?),
         Err(fault) => failed(alloc, fault),

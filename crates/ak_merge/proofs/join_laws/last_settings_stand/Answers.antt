@@ -1,4 +1,4 @@
-use Rattle.ak_merge.proofs.LaterSyncs.{first_settings_stand, second_settings_stand}
+use Rattle.ak_merge.proofs.JoinLaws.{first_settings_stand, second_settings_stand}
 use Rattle.ak_merge.proofs.join_laws.last_settings_stand.Goals as goal
 
 pub returns : goal.returns

@@ -11,9 +11,9 @@ returns-then-takes-clause-ok g c =
     let k = g.K.Lookup.keeping c.args.keeper.now in
     let fits : SFits w64 c.args.usn = c.ranges.usn in
     (simp to_z-of_z at c.in_ok-put_with.ensures.ok) ∙ ap (put (with_usn c.args.row c.args.usn)) (rw c.takes.ensures.reads.same at c.in_ok-bury.ensures.ok)
-    ∙ put_there k c.args.row c.args.usn (rw c.if-takes.true at c.in_ok-takes.ensures.reads.told)
+    ∙ put_there c.args.side k c.args.row c.args.usn (rw c.if-takes.true at c.in_ok-takes.ensures.reads.told)
 
 pub returns-clause-ok : goal.returns-clause-ok
 returns-clause-ok g c =
     let k = g.K.Lookup.keeping c.args.keeper.now in
-    (rw c.takes.ensures.reads.same at c.in_ok-bury.ensures.ok) ∙ passed_over k c.args.row c.args.usn (rw c.if-takes.false at c.in_ok-takes.ensures.reads.told)
+    (rw c.takes.ensures.reads.same at c.in_ok-bury.ensures.ok) ∙ passed_over c.args.side k c.args.row c.args.usn (rw c.if-takes.false at c.in_ok-takes.ensures.reads.told)

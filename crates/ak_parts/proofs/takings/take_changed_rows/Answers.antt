@@ -33,7 +33,7 @@ pub returns-clause-ok : goal.returns-clause-ok
 returns-clause-ok g c =
     let usn : SFits w64 c.args.usn = search rules in
     if_ok c.take_options.result _ _
-    (taken_thrice c.args.usn (map rows.NoteType c.args.came.now.models) (map rows.Deck c.args.came.now.decks) (map rows.Options c.args.came.now.options)
+    (taken_thrice c.args.side c.args.usn (map rows.NoteType c.args.came.now.models) (map rows.Deck c.args.came.now.decks) (map rows.Options c.args.came.now.options)
     (g.K.Lookup.keeping c.args.keeper.now) (g.K.Lookup.keeping c.take_types.new.keeper) (g.K.Lookup.keeping c.take_decks.new.keeper) (g.K.Lookup.keeping c.take_options.new.keeper)
     (rw (to_z-of_z w64 c.args.usn usn, c.as_slice.ensures) at c.in_ok-take_types.ensures.ok) (rw (to_z-of_z w64 c.args.usn usn, c.as_slice-2.ensures) at c.in_ok-take_decks.ensures.ok))
     (rw (to_z-of_z w64 c.args.usn usn, c.as_slice-3.ensures) at c.take_options.ensures.ok)

@@ -33,7 +33,7 @@ pub returns-clause-ok : goal.returns-clause-ok
 returns-clause-ok g c =
     let usn : SFits w64 c.args.usn = search rules in
     if_ok c.take_notes.result _ _
-    (taken_thrice c.args.usn (map rows.Review c.args.chunk.now.reviews) (map rows.Card c.args.chunk.now.cards) (map rows.Note c.args.chunk.now.notes)
+    (taken_thrice c.args.side c.args.usn (map rows.Review c.args.chunk.now.reviews) (map rows.Card c.args.chunk.now.cards) (map rows.Note c.args.chunk.now.notes)
     (g.K.Lookup.keeping c.args.keeper.now) (g.K.Lookup.keeping c.take_reviews.new.keeper) (g.K.Lookup.keeping c.take_cards.new.keeper) (g.K.Lookup.keeping c.take_notes.new.keeper)
     (rw (to_z-of_z w64 c.args.usn usn, c.as_slice.ensures) at c.in_ok-take_reviews.ensures.ok) (rw (to_z-of_z w64 c.args.usn usn, c.as_slice-2.ensures) at c.in_ok-take_cards.ensures.ok))
     (rw (to_z-of_z w64 c.args.usn usn, c.as_slice-3.ensures) at c.take_notes.ensures.ok)

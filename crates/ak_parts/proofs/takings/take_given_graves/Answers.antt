@@ -30,7 +30,7 @@ pub returns-clause-ok : goal.returns-clause-ok
 returns-clause-ok g c =
     let usn : SFits w64 c.args.usn = search rules in
     if_ok c.take_graves-3.result _ _
-    (taken_thrice c.args.usn (map (grave_with (pos 1)) c.args.ids.now.notes) (map (grave_with (pos 0)) c.args.ids.now.cards) (map (grave_with (pos 2)) c.args.ids.now.decks)
+    (taken_thrice c.args.side c.args.usn (map (grave_with (pos 1)) c.args.ids.now.notes) (map (grave_with (pos 0)) c.args.ids.now.cards) (map (grave_with (pos 2)) c.args.ids.now.decks)
     (g.K.Lookup.keeping c.args.keeper.now) (g.K.Lookup.keeping c.take_graves.new.keeper) (g.K.Lookup.keeping c.take_graves-2.new.keeper) (g.K.Lookup.keeping c.take_graves-3.new.keeper)
     (rw (to_z-of_z w64 c.args.usn usn, c.as_slice.ensures) at c.in_ok-take_graves.ensures.ok) (rw (to_z-of_z w64 c.args.usn usn, c.as_slice-2.ensures) at c.in_ok-take_graves-2.ensures.ok))
     (rw (to_z-of_z w64 c.args.usn usn, c.as_slice-3.ensures) at c.take_graves-3.ensures.ok)
