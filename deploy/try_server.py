@@ -261,11 +261,9 @@ def try_days(tools, room):
             expect("sync on day %d" % number, device.sync(server.port), (0, "finished"))
         held = [content(path) for path in (one.path, two.path, server.file())]
         expect("contents after day %d" % number, held[0] == held[1] == held[2], True)
-        # An edit of one note on both devices, and a delete against an edit. A stamp counts seconds, and rises by one at least: two edits with one stamp are a tie, which no
-        # sync decides, so some seconds lie between these.
+        # An edit of one note on both devices, mostly with one stamp, and a delete against an edit.
         notes = [row[0] for row in query(one.path, "select id from notes order by id")]
         one.desk('fields %d ["by one","x"]' % notes[0], "delete %d" % notes[1])
-        time.sleep(3.1)
         two.desk('fields %d ["by two","x"]' % notes[0], 'fields %d ["kept?","x"]' % notes[1])
     for device in (one, two, one):
         expect("last sync", device.finish(server.port), "finished", "no changes")

@@ -117,14 +117,15 @@ class Causes(Case):
         self.assertEqual("ok", self.done([NOTE, "suspend %s" % ID, "unsuspend %s" % ID])[-1])
         self.assertEqual("found 0", self.done([NOTE, "find dekc:x"])[-1])
         self.assertRegex(self.done(['note 1 1 ["a",""]'])[-1], "note .* cards")
-        # A tie is avoided by a `clock` line.
+        # One second on two devices: the server's edit stands.
         script = ["device A", "do A " + NOTE, "sync A", "clock 1700000001000", "device B"]
         script += ["clock 1700000010000", 'do A fields %s ["c","d"]' % ID]
-        tied = script + ['do B fields %s ["e","f"]' % ID, "clock 1700000020000", "sync A", "sync B"]
-        apart = script + ["clock 1700000012000", 'do B fields %s ["e","f"]' % ID, "clock 1700000020000", "sync A", "sync B"]
+        tied = script + ['do B fields %s ["e","f"]' % ID, "clock 1700000020000", "sync A", "sync B", "show B notes"]
+        apart = script + ["clock 1700000012000", 'do B fields %s ["e","f"]' % ID, "clock 1700000020000", "sync A", "sync B", "show B notes"]
         said = [run([self.program, "-", "-", "lab"], input="".join(line + "\n" for line in it).encode()).stdout.decode() for it in (tied, apart)]
-        self.assertIn("tie note %s" % ID, said[0])
-        self.assertTrue(said[1].endswith("sync B: finished\n"), said[1])
+        self.assertIn('sync B: finished\n[%s,' % ID, said[0])
+        self.assertIn('"c\\u001fd"', said[0])
+        self.assertIn('"e\\u001ff"', said[1])
 
     def test_what_mends_a_check(self):
         self.make(NOTE)
