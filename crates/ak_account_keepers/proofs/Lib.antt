@@ -1,4 +1,2 @@
 pub mod OpenedLists
-pub mod OpeningHeads
-pub mod OpeningRows
 pub mod ReadFiles

@@ -14,8 +14,8 @@ use Rattle.ak_base.specs.declared.names.Table.{Table}
 use Rattle.ak_base.specs.declared.note_types.NoteType.{NoteType}
 use Rattle.ak_base.specs.declared.option_groups.Options.{Options}
 use Rattle.ak_base.specs.declared.rows.Row.{Row}
-use Rattle.ak_desk_runs.proofs.OpeningHeads.{head_within, second_within}
-use Rattle.ak_desk_runs.proofs.OpeningRows.{rows_are_apart, rows_pass}
+use Rattle.ak_openings.proofs.OpeningHeads.{head_within, second_within}
+use Rattle.ak_openings.proofs.OpeningRows.{rows_are_apart, rows_pass}
 use Rattle.ak_io.specs.Arrivals.{IsClockMoment}
 use Rattle.ak_keep.proofs.RowsByName.{all_find, named-get, named-rows_of}
 use Rattle.ak_keep.specs.Collections.{rows_of}

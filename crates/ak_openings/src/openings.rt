@@ -1,4 +1,9 @@
-ghost use Rattle.std.specs.Prelude.{◌≡◌, IfOk};
+ghost use Rattle.std.specs.List.{All, IsDistinct};
+ghost use Rattle.std.specs.Ordering.{eq_by_cmp};
+ghost use Rattle.std.specs.Prelude.{◌≡◌, IfOk, map};
+ghost use Rattle.ak_base.specs.Heads.{IsHeadInRange};
+ghost use Rattle.ak_base.specs.Names.{name_cmp};
+ghost use Rattle.ak_base.specs.Rows.{IsChecked, name_of};
 ghost use Rattle.ak_io.specs.Arrivals.{IsClockMoment};
 ghost use Rattle.ak_openings.specs.Openings.{AreDefaultOptions, AreOpeningRows, IsDefaultDeck, IsOpening, IsOpeningConf, IsOpeningHead, row_usn};
 
@@ -11,7 +16,12 @@ use std::alloc::Global;
 /// sent, as a learner's are, or they are a server's own, which has the update sequence number 1 then.
 pub fn opening(alloc: Global, ms: i64, unsent: bool) -> Result<Opening, Memory>
     requires moment { IsClockMoment ms }
-    ensures { IfOk result (IsOpening ms unsent) }
+    ensures is { IfOk result (IsOpening ms unsent) }
+
+    // So a keeper takes it whole: each row passes its check, no two have one name, and the head is in its ranges.
+    ensures checked { IfOk result (λ made. All IsChecked made.rows) }
+    ensures distinct { IfOk result (λ made. IsDistinct (eq_by_cmp name_cmp) (map name_of made.rows)) }
+    ensures range { IfOk result (λ made. IsHeadInRange made.head) }
 {
     let second = ms / 1_000;
     let usn = row_usn(unsent);
