@@ -5,16 +5,13 @@ use Rattle.std.proofs.lemmas.Option.{none-some, same_Some}
 use Rattle.std.specs.Option.{option_map}
 use Rattle.ak_base.specs.Heads.{IsHeadInRange, IsMoment}
 use Rattle.ak_base.specs.declared.heads.Head.{Head}
-use Rattle.ak_base.specs.declared.names.Name.{Name}
 use Rattle.ak_keep.specs.Collections.{Collection, Holding, Rows, collection_of}
 use Rattle.ak_keep.specs.Marks.{WithMark}
-use Rattle.ak_lab.specs.LabSyncs.{TestsTie}
 use Rattle.ak_lab_devices.specs.Devices.{as_downloaded, new_device}
 use Rattle.ak_lab_devices.specs.declared.devices.Device.{Device}
 use Rattle.ak_lab_keepers.specs.RestingKeepers.{Holds, kept_of}
 use Rattle.ak_lab_lines.specs.LabTexts.{counts_text}
 use Rattle.ak_loops.specs.Entries.{LoggedState, collection_in}
-use Rattle.ak_merge.specs.Conflicts.{first_conflict}
 use Rattle.ak_messages.specs.declared.requests.SanityCounts.{SanityCounts}
 use Rattle.ak_openings.specs.declared.whole_collections.Opening.{Opening}
 use Rattle.ak_server_copies.specs.Copies.{committed_in}
@@ -58,23 +55,6 @@ moment_read {F = F} read opening same range =
     moment_fits : (m : ℤ) → IsMoment m → SFits w64 m
     moment_fits (pos n) is = let high = is.high in record { sfits = omega (arith, ints, high) }
     moment_fits (negsuc n) is = let low = is.low in absurd (omega (arith, ints, low))
-
--- the rows of the collection that is held
-held_rows : (kept : WithMark Holding) (c : Collection) → Holds kept c → c.rows ≡ kept.current.rows
-held_rows kept c holds = by_head kept.current.head holds
-  where
-    by_head : (head : Option Head) → option_map (λ (head : Head). record { rows = kept.current.rows; head = head }) head ≡ Some c → c.rows ≡ kept.current.rows
-    by_head None none = absurd (none-some c none)
-    by_head (Some head) is = ap (λ (c : Collection). c.rows) (sym (same_Some (record { rows = kept.current.rows; head = head }) c is))
-
--- the first tie of a device with a copy of the server's collection
-pub tests_tie : {E : Type 0} (d : Device) (server : LoggedState) (now copy : WithMark Holding) (c : Collection) (result : Result (Option Name) E)
-    → (s : Collection) × (committed_in server ≡ Some s) × (copy ≡ kept_of s) → Holds d.collection c → now ≡ d.collection
-    → IfOk result (λ tie. tie ≡ first_conflict now.current.rows copy.current.rows) → IfOk result (TestsTie d server)
-tests_tie d server now copy c (Ok tie) (s, is, same) holds stays first =
-    let rows : now.current.rows ≡ c.rows = ap (λ (h : WithMark Holding). h.current.rows) stays ∙ sym (held_rows d.collection c holds) in
-    (c, s, holds, is, first ∙ ap (λ (rows : Rows). first_conflict rows copy.current.rows) rows ∙ ap (λ (h : WithMark Holding). first_conflict c.rows h.current.rows) same)
-tests_tie d server now copy c (Err end) copied holds stays first = tt
 
 -- the line of the counts of what is held
 pub counted : {E : Type 0} (kept : WithMark Holding) (counts : SanityCounts) (result : Result (List ℕ) E)

@@ -3,7 +3,6 @@ use Rattle.std.proofs.Common.{◌≡◌, ◌<◌, ◌≤◌, ◌⊎◌, ℕ, Lis
 use Rattle.std.proofs.lemmas.List.{set-get_or}
 use Rattle.std.proofs.lemmas.Option.{get_or_from_slice_get, slice_get_cases, slice_get_read}
 use Rattle.ak_base.specs.declared.names.Name.{Name}
-use Rattle.ak_lab.specs.LabSyncs.{TestsTie}
 use Rattle.ak_lab_devices.specs.Devices.{IsPlaceOf, device_of}
 use Rattle.ak_lab_devices.specs.declared.devices.Device.{Device}
 use Rattle.ak_loops.specs.Entries.{LoggedState}
@@ -34,12 +33,6 @@ pub read_there : (name : List ℕ) (devices : List Device) (place : ℕ) (d : De
 read_there name devices place d is read =
     let at = slice_get_read devices (length devices) place d refl is.within read in
     (at, is.held d at, is.named d at)
-
--- what is said of a tie of the device that was read at a place
-pub tie_there : {E : Type 0} (devices : List Device) (place : ℕ) (d : Device) (server : LoggedState) (result : Result (Option Name) E) → place < length devices → d ≡ get_or devices place d
-    → IfOk result (TestsTie d server) → IfOk result (λ tie. (d : Device) × (slice_get devices place ≡ Some d) × TestsTie d server tie)
-tie_there devices place d server (Ok tie) within read tests = (d, slice_get_read devices (length devices) place d refl within read, tests)
-tie_there devices place d server (Err end) within read tests = tt
 
 -- a device that was read at a place and did not change is put back
 pub back_there : (devices : List Device) (place : ℕ) (d made : Device) → place < length devices → d ≡ get_or devices place d → made ≡ d → slice_set devices place made ≡ devices

@@ -1,22 +1,17 @@
 -- A sync of the device at a place is one of the device of its name.
 use Rattle.std.proofs.Common.{◌≡◌, ℕ, ℤ, ◌+ℤ◌, true, [], List, Option, Some, None, Result, Ok, Err, get_or, refl, sym, ap, subst, ◌∙◌, inl, inr, slice_get, slice_set}
-use Rattle.std.proofs.lemmas.Option.{same_Some}
-use Rattle.ak_base.specs.declared.names.Name.{Name}
 use Rattle.ak_client.specs.declared.outcomes.Outcome.{Outcome}
 use Rattle.ak_faults.specs.Causes.{one_more}
-use Rattle.ak_lab.proofs.Coming.{stopped}
 use Rattle.ak_lab.proofs.Desks.{put_at, put_there, read_twice, ready_there}
 use Rattle.ak_lab.proofs.Placing.{back_there, placed, read_there}
 use Rattle.ak_lab.specs.LabStates.{IsReady, LabState}
-use Rattle.ak_lab.specs.LabSteps.{OnlyViews}
-use Rattle.ak_lab.specs.LabStops.{IsStopBy, PrintsOutcome}
-use Rattle.ak_lab.specs.LabSyncs.{EndsSync, IsLabSync, SyncsAt, TestsTie}
+use Rattle.ak_lab.specs.LabStops.{PrintsOutcome}
+use Rattle.ak_lab.specs.LabSyncs.{EndsSync, IsLabSync, SyncsAt}
 use Rattle.ak_lab.specs.LineStops.{CameOut}
 use Rattle.ak_lab.specs.declared.lab_stops.LabStop.{LabStop}
 use Rattle.ak_lab.specs.declared.lab_stops.LabStop.TheVariants as stops
 use Rattle.ak_lab_devices.specs.Devices.{IsPlaceOf}
 use Rattle.ak_lab_devices.specs.declared.devices.Device.{Device}
-use Rattle.ak_lab_lines.specs.LabTexts.{tie_text}
 use Rattle.ak_lab_lines.specs.declared.lab_lines.LabLine.TheVariants as lines
 use Rattle.ak_loops.specs.Entries.{LoggedState, health_in}
 
@@ -59,41 +54,23 @@ synced_ready name s place d made server sessions key at device_at outcome is rea
     let still = ready_there name s place d made is read (ap (λ (x : Device). x.name) sync.rest) (ap (λ (x : Device). x.shift) sync.rest) ready in
     record { clocks = still.clocks; calm = calm }
 
--- a tie that the test of the device at a place found
-pub tie_stopped : (name : List ℕ) (s t : LabState) (place : ℕ) (tie : Name) (stop : LabStop) → IsPlaceOf name s.devices place
-    → (d : Device) × (slice_get s.devices place ≡ Some d) × TestsTie d s.server (Some tie) → OnlyViews s t → IsStopBy (tie_text tie) stop
-    → CameOut (lines.Sync name) s t (Err stop)
-tie_stopped name s t place tie stop is (d, at, tests) only told =
-    stopped (lines.Sync name) s t (tie_text tie) stop told (inr (inl ((d, is.held d at), only)))
-    (inr (tie, record { d = d; found = is.held d at; tied = tests; read = only.0; left = only.1 }, refl))
-
--- the device at a place was tested, and then synced
-pub ends_sync : (name : List ℕ) (s m t : LabState) (place : ℕ) (outcome : Outcome) → IsPlaceOf name s.devices place
-    → (d : Device) × (slice_get s.devices place ≡ Some d) × TestsTie d s.server None → OnlyViews s m → SyncsAt place m t outcome
-    → EndsSync name s t outcome
-ends_sync name s m t place outcome is (d, at, tests) only syncs =
-    let viewed : LabState = record s { server = m.server } in
-    let it : SyncsAt place viewed t outcome = subst (λ (x : LabState). SyncsAt place x t outcome) only.1 syncs in
-    record {
-      d = it.d;
-      made = it.made;
-      met = m.server;
-      found = is.held it.d it.at;
-      apart = subst (λ (d : Device). TestsTie d s.server None) (same_Some d it.d (sym at ∙ it.at)) tests;
-      read = only.0;
-      syncs = it.syncs;
-      left = it.left;
-    }
+-- the device at a place was synced
+pub ends_sync : (name : List ℕ) (s t : LabState) (place : ℕ) (outcome : Outcome) → IsPlaceOf name s.devices place → SyncsAt place s t outcome → EndsSync name s t outcome
+ends_sync name s t place outcome is syncs = record {
+  d = syncs.d;
+  made = syncs.made;
+  found = is.held syncs.d syncs.at;
+  syncs = syncs.syncs;
+  left = syncs.left;
+}
 
 -- the outcome is printed, if memory suffices for it
 pub sync_printed : (name : List ℕ) (s t : LabState) (outcome : Outcome) (result : Result (List (List ℕ)) LabStop) → PrintsOutcome name outcome result
     → EndsSync name s t outcome → CameOut (lines.Sync name) s t result
 sync_printed name s t outcome (Ok printed) (text, is, said) ends = (outcome, text, ends, is, said)
 sync_printed name s t outcome (Err stop) out ends =
-    subst (λ (stop : LabStop). CameOut (lines.Sync name) s t (Err stop)) (sym out) (inr (inr (outcome, ends)))
+    subst (λ (stop : LabStop). CameOut (lines.Sync name) s t (Err stop)) (sym out) (inr (outcome, ends))
 
 -- memory ran out before the sync began
-pub sync_unbegun : (name : List ℕ) (s m t : LabState) (place : ℕ) → IsPlaceOf name s.devices place → OnlyViews s m → t ≡ m → CameOut (lines.Sync name) s t (Err stops.Memory)
-sync_unbegun name s m t place is only same =
-    let there = placed name s.devices place is in
-    inr (inl ((there.d, there.found), subst (OnlyViews s) (sym same) only))
+pub sync_unbegun : (name : List ℕ) (s t : LabState) → t ≡ s → CameOut (lines.Sync name) s t (Err stops.Memory)
+sync_unbegun name s t same = inl same

@@ -8,11 +8,11 @@ use Rattle.ak_keep.specs.Collections.{Collection}
 use Rattle.ak_lab_devices.specs.Devices.{are_in_time, device_of, is_clock_moment, new_device}
 use Rattle.ak_lab.specs.LabDesks.{EndsDo, EndsReview}
 use Rattle.ak_lab.specs.LabStates.{LabState, with_changed}
-use Rattle.ak_lab.specs.LabSyncs.{EndsSync, FindsTie}
+use Rattle.ak_lab.specs.LabSyncs.{EndsSync}
 use Rattle.ak_lab_devices.specs.declared.devices.Device.{Device}
 use Rattle.ak_lab_keepers.specs.RestingKeepers.{Holds}
 use Rattle.ak_lab_keepers.specs.Shown.{shown_lines}
-use Rattle.ak_lab_lines.specs.LabTexts.{counts_text, no_device_text, requests_text, sync_text, tie_text}
+use Rattle.ak_lab_lines.specs.LabTexts.{counts_text, no_device_text, requests_text, sync_text}
 use Rattle.ak_lab_lines.specs.declared.lab_lines.LabLine.{LabLine}
 use Rattle.ak_lab_lines.specs.declared.lab_lines.LabLine.TheVariants as lines
 use Rattle.ak_lab_lines.specs.declared.lab_lines.Side.{Side}
@@ -112,7 +112,7 @@ RefusesWith (lines.Review name card ease count) s t why = NoDevice name s t why
     ⊎ (fault : DeskFault) × EndsReview name (plan_of card ease count) s t (Err fault) × (desk_fault_text fault ≡ Some why)
 RefusesWith (lines.Do name text) s t why = NoDevice name s t why ⊎ SaysNoDeskLine name text s t why
     ⊎ (fault : DeskFault) × EndsDo name text s t (Err fault) × (desk_fault_text fault ≡ Some why)
-RefusesWith (lines.Sync name) s t why = NoDevice name s t why ⊎ (tie : Name) × FindsTie name s t tie × (why ≡ tie_text tie)
+RefusesWith (lines.Sync name) s t why = NoDevice name s t why
 RefusesWith (lines.Show side what) s t why = NoSide side s t why
 RefusesWith (lines.Count side) s t why = NoSide side s t why
 RefusesWith (lines.Requests name) s t why = NoDevice name s t why
@@ -121,10 +121,6 @@ RefusesWith (lines.Requests name) s t why = NoDevice name s t why
 -- the server was viewed some times, or not at all
 abbrev pub OnlyViews : LabState → LabState → Type 0
 OnlyViews s t = IsViewed s.server t.server × (t ≡ record s { server = t.server })
-
--- there is a device of this name
-abbrev pub HasDevice : List ℕ → LabState → Type 0
-HasDevice name s = (d : Device) × (device_of name s.devices ≡ Some d)
 
 -- a device of this name may be added
 abbrev pub HasRoomFor : List ℕ → LabState → Type 0
@@ -135,8 +131,7 @@ abbrev pub OnlyLooks : Side → LabState → LabState → Type 0
 OnlyLooks sides.Server s t = OnlyViews s t
 OnlyLooks (sides.Device name) s t = t ≡ s
 
--- memory ran out in a line: before it did anything; or after views of the server, which only a new device, a sync of a device and what looks at the
--- server make; or at the desk or in the sync, or for the text of what these came to
+-- memory ran out in a line: before it did anything; or after views of the server, which only a new device and what looks at the server make; or at the desk or in the sync, or for the text of what these came to
 abbrev pub RunsShort : LabLine → LabState → LabState → Type 0
 RunsShort (lines.Clock at) s t = t ≡ s
 RunsShort (lines.Device name) s t = (t ≡ s) ⊎ HasRoomFor name s × OnlyViews s t
@@ -144,7 +139,7 @@ RunsShort (lines.Shift name by) s t = t ≡ s
 RunsShort (lines.Review name card ease count) s t = (t ≡ s)
     ⊎ (result : Result (Unit {0}) DeskFault) × EndsReview name (plan_of card ease count) s t result
 RunsShort (lines.Do name text) s t = (t ≡ s) ⊎ (result : Result DeskAnswer DeskFault) × EndsDo name text s t result
-RunsShort (lines.Sync name) s t = (t ≡ s) ⊎ HasDevice name s × OnlyViews s t ⊎ (outcome : Outcome) × EndsSync name s t outcome
+RunsShort (lines.Sync name) s t = (t ≡ s) ⊎ (outcome : Outcome) × EndsSync name s t outcome
 RunsShort (lines.Show side what) s t = OnlyLooks side s t
 RunsShort (lines.Count side) s t = OnlyLooks side s t
 RunsShort (lines.Requests name) s t = t ≡ s

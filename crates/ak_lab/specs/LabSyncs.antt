@@ -1,7 +1,6 @@
 -- A sync of a device with the server of a lab, by messages over a wire that loses nothing.
 use Rattle.std.specs.List.{AllByRecursion, slice_get}
 use Rattle.std.specs.Prelude.{◌≡◌, ◌≢◌, ℕ, ℤ, ◌+◌, ◌+ℤ◌, true, List, [], ◌∷◌, ◌++◌, length, Option, Some, None, Result, IfOk}
-use Rattle.ak_base.specs.declared.names.Name.{Name}
 use Rattle.ak_client.specs.Greetings.{meta_of}
 use Rattle.ak_client.specs.Syncs.{IsSyncEnded, KeepsDevice}
 use Rattle.ak_client.specs.declared.outcomes.Outcome.TheVariants as outcomes
@@ -9,28 +8,18 @@ use Rattle.ak_client.specs.declared.outcomes.Outcome.{Outcome}
 use Rattle.ak_exchange.specs.Asked.{TriedAsk, answers_in, asker, asks_in}
 use Rattle.ak_exchange.specs.declared.envelopes.Ids.{Ids}
 use Rattle.ak_faults.specs.Causes.{Health, one_more}
-use Rattle.ak_keep.specs.Collections.{Collection}
 use Rattle.ak_lab_devices.specs.Devices.{device_of, keeping_of}
-use Rattle.ak_lab_keepers.specs.RestingKeepers.{Holds}
 use Rattle.ak_lab.specs.LabStates.{LabState, lab_host, with_changed}
 use Rattle.ak_lab_devices.specs.declared.devices.Device.{Device}
 use Rattle.ak_loops.specs.Entries.{LoggedState, log_in}
 use Rattle.ak_call_counts.specs.CallCounts.{no_calls}
 use Rattle.ak_loops.specs.LoopWires.{IsServedBy, health_over, state_over}
-use Rattle.ak_merge.specs.Conflicts.{first_conflict}
 use Rattle.ak_messages.specs.declared.replies.Reply.{Reply}
 use Rattle.ak_messages.specs.declared.requests.Request.{Request}
 use Rattle.ak_protocol.specs.Logs.{Event, with_growth}
-use Rattle.ak_server_copies.specs.Copies.{IsViewed, committed_in}
 use Rattle.ak_session.specs.Plans.{requests_from}
 use Rattle.ak_wires.specs.Wires.{IsServing, WireState, more}
 use Rattle.ak_wires.specs.declared.wires.WireEnd.{WireEnd}
-
--- ---- the test before a sync
--- the first name, by table and then by id, under which device and server hold rows of one stamp that are not equal; none if they are apart
-abbrev pub TestsTie : Device → LoggedState → Option Name → Type 0
-TestsTie d server tie = (c : Collection) × (s : Collection) × Holds d.collection c × (committed_in server ≡ Some s)
-    × (tie ≡ first_conflict c.rows s.rows)
 
 -- ---- what comes to the server
 -- these requests came one after the other, and nothing else did: each at least once, if it was answered
@@ -85,22 +74,10 @@ pub record SyncsAt (place : ℕ) (s t : LabState) (outcome : Outcome) : Type 0 w
   pub syncs : IsLabSync (one_more s.sessions) s.clock (s.clock +ℤ d.shift) d made s.server t.server outcome
   pub left : t ≡ record (with_changed made s) { server = t.server; sessions = one_more s.sessions }
 
--- `sync <device>`: the server is read, device and server are apart, and the sync of the next session ends so
+-- `sync <device>`: the sync of the next session ends so
 pub record EndsSync (name : List ℕ) (s t : LabState) (outcome : Outcome) : Type 0 where
   pub d : Device
   pub made : Device
-  -- the server once it was read, as the sync met it: the log has the views besides
-  pub met : LoggedState
   pub found : device_of name s.devices ≡ Some d
-  pub apart : TestsTie d s.server None
-  pub read : IsViewed s.server met
-  pub syncs : IsLabSync (one_more s.sessions) s.clock (s.clock +ℤ d.shift) d made met t.server outcome
+  pub syncs : IsLabSync (one_more s.sessions) s.clock (s.clock +ℤ d.shift) d made s.server t.server outcome
   pub left : t ≡ record (with_changed made s) { server = t.server; sessions = one_more s.sessions }
-
--- `sync <device>` of a device that is not apart from the server: nothing is sent
-pub record FindsTie (name : List ℕ) (s t : LabState) (tie : Name) : Type 0 where
-  pub d : Device
-  pub found : device_of name s.devices ≡ Some d
-  pub tied : TestsTie d s.server (Some tie)
-  pub read : IsViewed s.server t.server
-  pub left : t ≡ record s { server = t.server }

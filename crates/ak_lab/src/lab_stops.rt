@@ -1,9 +1,9 @@
-ghost use Rattle.ak_lab_lines.specs.LabTexts.{no_device_text, tie_text};
+ghost use Rattle.ak_lab_lines.specs.LabTexts.{no_device_text};
 ghost use Rattle.ak_lab.specs.LabStops.{IsDeskStop, IsLineStop, IsStopBy};
 
-use ak_base::{Memory, Name, Text};
+use ak_base::{Memory, Text};
 use ak_edit::DeskFault;
-use ak_lab_lines::{write_no_device, write_tie};
+use ak_lab_lines::write_no_device;
 use ak_lines::LineFault;
 use ak_texts::{write_desk_fault, write_line_fault};
 use std::alloc::{AllocFailed, Global};
@@ -54,16 +54,6 @@ pub(crate) fn no_device(alloc: Global, name: &Text) -> LabStop
     ensures { IsStopBy (no_device_text name.now) result }
 {
     match write_no_device(alloc, name.as_str()) {
-        Ok(text) => LabStop::Refused(text),
-        Err(Memory) => LabStop::Memory,
-    }
-}
-
-/// The stop for a sync of two sides that are not apart under this name.
-pub(crate) fn tie_stop(alloc: Global, name: Name) -> LabStop
-    ensures { IsStopBy (tie_text name) result }
-{
-    match write_tie(alloc, name) {
         Ok(text) => LabStop::Refused(text),
         Err(Memory) => LabStop::Memory,
     }

@@ -1,23 +1,18 @@
 // A sync of a device with the server.
-ghost use Rattle.std.specs.List.{slice_get};
-ghost use Rattle.std.specs.Prelude.{◌≡◌, ◌<◌, ◌∷◌, [], ℕ, ℤ, true, List as Sequence, length, Some, IfOk, OnErr, OnOk};
+ghost use Rattle.std.specs.Prelude.{◌≡◌, ◌∷◌, [], ℕ, ℤ, true, List as Sequence, IfOk, OnErr, OnOk};
 ghost use Rattle.ak_io.specs.Arrivals.{IsClockMoment};
 ghost use Rattle.ak_lab.specs.LabStates.{IsReady, lab_host, state_of};
-ghost use Rattle.ak_lab.specs.LabSteps.{OnlyViews};
 ghost use Rattle.ak_lab.specs.LabStops.{PrintsOutcome};
-ghost use Rattle.ak_lab.specs.LabSyncs.{IsLabSync, SyncsAt, TestsTie};
+ghost use Rattle.ak_lab.specs.LabSyncs.{IsLabSync, SyncsAt};
 ghost use Rattle.ak_lab.specs.LineStops.{CameOut};
 ghost use Rattle.ak_lab_devices.specs.Devices.{IsPlaceOf};
-ghost use Rattle.ak_lab_devices.specs.declared.devices.Device.{Device as DeviceState};
 ghost use Rattle.ak_lab_lines.specs.declared.lab_lines.LabLine.TheVariants as lines;
 ghost use Rattle.ak_loops.specs.Entries.{health_in};
-ghost use Rattle.ak_server_copies.specs.Copies.{IsViewed};
 
 use crate::lab_lines::one_line;
-use crate::lab_stops::{LabStop, no_device, tie_stop};
+use crate::lab_stops::{LabStop, no_device};
 use crate::labs::Lab;
-use crate::server_copies::copy_committed;
-use ak_base::{HostKey, List, Memory, Name, SessionKey, Text};
+use ak_base::{HostKey, List, Memory, SessionKey, Text};
 use ak_client::{Ids, Outcome};
 use ak_io::ListClock;
 use ak_lab_devices::{Device, place_of};
@@ -32,17 +27,11 @@ pub(crate) fn sync(lab: Lab, name: &Text) -> (Lab, Result<List<Text>, LabStop>)
     ensures ends { CameOut (lines.Sync name.now) (state_of lab) (state_of result.0) result.1 }
     ensures ready { IfOk result.1 (λ printed. IsReady (state_of result.0)) }
 {
-    let mut lab = lab;
     let Some(place) = place_of(lab.devices.as_slice(), name) else {
         let stop = no_device(lab.alloc, name);
         return (lab, Err(stop));
     };
     let alloc = lab.alloc;
-    match lab.tie_at(place) {
-        Ok(None) => {}
-        Ok(Some(tie)) => return (lab, Err(tie_stop(alloc, tie))),
-        Err(Memory) => return (lab, Err(LabStop::Memory)),
-    }
     let (lab, outcome) = sync_at(lab, place);
     match outcome {
         Ok(outcome) => {
@@ -53,37 +42,6 @@ pub(crate) fn sync(lab: Lab, name: &Text) -> (Lab, Result<List<Text>, LabStop>)
     }
 }
 
-impl Lab {
-    /// The first name under which the device at this place and the server are not apart, if there is one.
-    fn tie_at(&mut self, place: usize) -> Result<Option<Name>, Memory>
-        requires ready { IsReady (state_of self.old) }
-        requires within { place < length self.old.devices.items }
-        ensures tie { IfOk result (λ tie. (d : DeviceState) × (slice_get self.old.devices.items place ≡ Some d) × TestsTie d self.old.server tie) }
-        ensures viewed { OnlyViews (state_of self.old) (state_of self.new) }
-        ensures ready { IsReady (state_of self.new) }
-    {
-        find_tie(self.alloc, &mut self.devices[place], &mut self.server)
-    }
-}
-
-/// The first name under which device and server are not apart, if there is one. The server is read by views.
-fn find_tie(
-    alloc: Global,
-    device: &mut Device,
-    server: &mut LoggedServer,
-) -> Result<Option<Name>, Memory>
-    requires calm { (health_in server.old).calm ≡ true }
-    ensures tie { IfOk result (TestsTie device.old server.old) }
-    ensures same { device.new ≡ device.old }
-    ensures viewed { IsViewed server.old server.new }
-    ensures calm { (health_in server.new).calm ≡ true }
-{
-    let mut copy = copy_committed(alloc, server)?;
-    // For the proof alone: it says that the device holds a collection.
-    let _counts = device.collection.counts()?;
-    device.collection.first_tie(&mut copy)
-}
-
 /// When a sync is made, in milliseconds by the server's clock and by the device's, and in which session.
 #[derive(Clone, Copy, Debug)]
 struct SyncTurn {
@@ -92,7 +50,7 @@ struct SyncTurn {
     session: u64,
 }
 
-/// Syncs the device at this place, in the next session. Nothing else is asked first.
+/// Syncs the device at this place, in the next session.
 fn sync_at(lab: Lab, place: usize) -> (Lab, Result<Outcome, Memory>)
     requires ready { IsReady (state_of lab) }
     requires there { (name : Sequence ℕ) × IsPlaceOf name lab.devices.items place }

@@ -5,10 +5,10 @@ ghost use Rattle.ak_base.specs.Heads.{IsHeadInRange};
 ghost use Rattle.ak_base.specs.Names.{name_cmp};
 ghost use Rattle.ak_base.specs.Rows.{IsChecked, name_of};
 
-use ak_base::{List, Memory, Name, Text};
+use ak_base::{List, Memory, Text};
 use ak_desk_lines::Turn;
 use ak_edit::DeskFault;
-use ak_lab_keepers::{add_reviews_at_rest, counts_at_rest, first_tie, obey_at_rest, shown_texts};
+use ak_lab_keepers::{add_reviews_at_rest, counts_at_rest, obey_at_rest, shown_texts};
 use ak_lab_lines::Shown;
 use ak_lab_sides::ReviewPlan;
 use ak_lines::DeskLine;
@@ -58,7 +58,6 @@ impl HeldCollection {
     ghost use Rattle.ak_lab_sides.specs.NewReviews.{EndsReviews};
     ghost use Rattle.ak_lines.specs.DeskLines.{IsInRange};
     ghost use Rattle.ak_loops.specs.Entries.{collection_in};
-    ghost use Rattle.ak_merge.specs.Conflicts.{first_conflict};
     ghost use Rattle.ak_session.specs.Answers.{counts_of};
     ghost use Rattle.ak_study.specs.DayStarts.{IsInDay};
 
@@ -87,16 +86,6 @@ impl HeldCollection {
         ensures same { self.new ≡ self.old }
     {
         counts_at_rest(&mut self.keeper)
-    }
-
-    /// The first name, by table and then by id, under which this and the other hold rows of one stamp that are not equal; none
-    /// if the two are apart.
-    pub fn first_tie(&mut self, other: &mut HeldCollection) -> Result<Option<Name>, Memory>
-        ensures tie { IfOk result (λ tie. tie ≡ first_conflict self.old.current.rows other.old.current.rows) }
-        ensures same { self.new ≡ self.old }
-        ensures other { other.new ≡ other.old }
-    {
-        first_tie(&mut self.keeper, &mut other.keeper)
     }
 
     /// Does a line of the desk in its turn, without filters.

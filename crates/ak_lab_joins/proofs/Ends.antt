@@ -11,7 +11,7 @@ use Rattle.ak_keep.specs.Collections.{Collection}
 use Rattle.ak_lab_joins.proofs.Devices.{changed_found, others_found}
 use Rattle.ak_lab_joins.proofs.Lines as law_lines
 use Rattle.ak_lab_joins.proofs.Lines.{LinesStep, all_linked, at_line_linked, base_of, opened_linked, sync_linked}
-use Rattle.ak_lab_joins.proofs.Servers.{committed_is, viewed_grows, views_stay_quiet}
+use Rattle.ak_lab_joins.proofs.Servers.{committed_is}
 use Rattle.ak_lab_joins.proofs.Syncs.{CommitsNoneOrJoin}
 use Rattle.ak_lab_joins.proofs.Synced as synced
 use Rattle.ak_lab_joins.proofs.Synced.{holds_is}
@@ -30,23 +30,14 @@ use Rattle.ak_openings.specs.declared.whole_collections.Opening.{Opening}
 use Rattle.ak_protocol.specs.Accounts.{AccountState}
 use Rattle.ak_protocol.specs.Logs.{Commit, World}
 
--- ---- what is said over a server that was viewed is said over the one before
-over_viewed : (key key' : ℕ) (c : Collection) (before met after : World) → key ≡ key' → StaysQuiet before met → CommitsNoneOrJoin key c met after
-    → KeepsCommitted before after ⊎ CommitsOnceIn key' before after × HoldsJoin c before.state.committed after.state.committed
-over_viewed key key' c before met after own quiet (inl stays) = inl (stays.committed ∙ quiet.committed, stays.commits ∙ quiet.commits)
-over_viewed key key' c before met after own quiet (inr (one, joins)) =
-    inr (
-      one ∙ ap (λ (k : ℕ). commit_as k met.state.committed after.state.committed ∷ met.commits) own
-          ∙ ap (λ (base : Collection). commit_as key' base after.state.committed ∷ met.commits) quiet.committed
-          ∙ ap (λ (l : List Commit). commit_as key' before.state.committed after.state.committed ∷ l) quiet.commits,
-      subst (λ (base : Collection). HoldsJoin c base after.state.committed) quiet.committed joins,
-    )
+-- ---- what is said of a session is said of the one of its number
+once_by_number : (key key' : ℕ) (before after : World) → key ≡ key' → CommitsOnceIn key before after → CommitsOnceIn key' before after
+once_by_number key key' before after own one = one ∙ ap (λ (k : ℕ). commit_as k before.state.committed after.state.committed ∷ before.commits) own
 
-once_over_viewed : (key key' : ℕ) (before met after : World) → key ≡ key' → StaysQuiet before met → CommitsOnceIn key met after → CommitsOnceIn key' before after
-once_over_viewed key key' before met after own quiet one =
-    one ∙ ap (λ (k : ℕ). commit_as k met.state.committed after.state.committed ∷ met.commits) own
-    ∙ ap (λ (base : Collection). commit_as key' base after.state.committed ∷ met.commits) quiet.committed
-    ∙ ap (λ (l : List Commit). commit_as key' before.state.committed after.state.committed ∷ l) quiet.commits
+by_number : (key key' : ℕ) (c : Collection) (before after : World) → key ≡ key' → CommitsNoneOrJoin key c before after
+    → KeepsCommitted before after ⊎ CommitsOnceIn key' before after × HoldsJoin c before.state.committed after.state.committed
+by_number key key' c before after own (inl stays) = inl (stays.committed, stays.commits)
+by_number key key' c before after own (inr (one, joins)) = inr (once_by_number key key' before after own one, joins)
 
 -- ---- a sync
 module _ (account : AccountState) (name : List ℕ) (s t : LabState) (outcome : Outcome) (linked : IsLinkedLab account s) (room : HasSession s)
@@ -60,8 +51,11 @@ module _ (account : AccountState) (name : List ℕ) (s t : LabState) (outcome : 
   abbrev own : IsLinkedDevice (base_of account s) ends.d
   own = linked.devices name ends.d ends.found
 
-  quiet : StaysQuiet (world_in lab_host account s.server) (world_in lab_host account ends.met)
-  quiet = views_stay_quiet lab_host account s.server ends.met (viewed_grows s.server ends.met ends.read)
+  abbrev server_here : IsLinkedServer ends.syncs.ids.host.digits account s.sessions s.server
+  server_here = law_lines.server_here account name s t outcome linked room ends enough
+
+  abbrev device_here : IsLinkedDevice (world_in ends.syncs.ids.host.digits account s.server).state.committed ends.d
+  device_here = law_lines.device_here account name s t outcome linked room ends enough ends.d own
 
   lab_now : IsLinkedLab account t
   lab_now = sync_linked account name s t outcome linked room ends enough
@@ -100,25 +94,22 @@ module _ (account : AccountState) (name : List ℕ) (s t : LabState) (outcome : 
 
   -- what was committed, by the lab's host key
   abbrev Committed : List ℕ → Type 0
-  Committed h = CommitsNoneOrJoin ends.syncs.ids.session.0 own.c (world_in h account ends.met) (world_in h account t.server)
+  Committed h = CommitsNoneOrJoin ends.syncs.ids.session.0 own.c (world_in h account s.server) (world_in h account t.server)
 
   pub committed_so : MayHoldJoin (one_more s.sessions) own.c (world_in lab_host account s.server) (world_in lab_host account t.server)
   committed_so =
-      over_viewed ends.syncs.ids.session.0 (one_more s.sessions) own.c (world_in lab_host account s.server) (world_in lab_host account ends.met) (world_in lab_host account t.server)
-      ends.syncs.of.session quiet
+      by_number ends.syncs.ids.session.0 (one_more s.sessions) own.c (world_in lab_host account s.server) (world_in lab_host account t.server) ends.syncs.of.session
       (subst Committed same_host
-      (synced.committed account s.sessions s.clock (s.clock +ℤ ends.d.shift) ends.d ends.made ends.met t.server outcome room ends.syncs enough
-      (law_lines.met_server account name s t outcome linked room ends enough) (law_lines.device_met account name s t outcome linked room ends enough)
-      (law_lines.apart_met account name s t outcome linked room ends enough)))
+      (synced.committed account s.sessions s.clock (s.clock +ℤ ends.d.shift) ends.d ends.made s.server t.server outcome room ends.syncs enough
+      server_here device_here))
 
   -- ---- not finished
   kept : ends_before_finish outcome ≡ true → KeepsCommitted (world_in lab_host account s.server) (world_in lab_host account t.server)
   kept early =
-      let stays = subst (λ (h : List ℕ). StaysQuiet (world_in h account ends.met) (world_in h account t.server)) same_host
-      (synced.early_quiet account s.sessions s.clock (s.clock +ℤ ends.d.shift) ends.d ends.made ends.met t.server outcome room ends.syncs enough
-      (law_lines.met_server account name s t outcome linked room ends enough) (law_lines.device_met account name s t outcome linked room ends enough)
-      (law_lines.apart_met account name s t outcome linked room ends enough) early) in
-      (stays.committed ∙ quiet.committed, stays.commits ∙ quiet.commits)
+      let stays = subst (λ (h : List ℕ). StaysQuiet (world_in h account s.server) (world_in h account t.server)) same_host
+      (synced.early_quiet account s.sessions s.clock (s.clock +ℤ ends.d.shift) ends.d ends.made s.server t.server outcome room ends.syncs enough
+      server_here device_here early) in
+      (stays.committed, stays.commits)
 
   -- the server after any end but a finished one
   still_commits : outcome ≢ outcomes.Finished → (o : Outcome) → outcome ≡ o
@@ -145,9 +136,8 @@ module _ (account : AccountState) (name : List ℕ) (s t : LabState) (outcome : 
     held = was_held;
     device = λ d found. subst (λ (x : Device). StillHolds (s.clock +ℤ x.shift) own.c outcome x) (same_Some ends.made d (sym now_found ∙ found))
         (subst (λ (m : ℤ). StillHolds (s.clock +ℤ m) own.c outcome ends.made) (sym own_shift)
-        (synced.still_holds account s.sessions s.clock (s.clock +ℤ ends.d.shift) ends.d ends.made ends.met t.server outcome room ends.syncs enough
-        (law_lines.met_server account name s t outcome linked room ends enough) (law_lines.device_met account name s t outcome linked room ends enough)
-        (law_lines.apart_met account name s t outcome linked room ends enough) other));
+        (synced.still_holds account s.sessions s.clock (s.clock +ℤ ends.d.shift) ends.d ends.made s.server t.server outcome room ends.syncs enough
+        server_here device_here other));
     server = still_commits other outcome refl;
     linked = lab_now;
     keeps = keeps_others;
@@ -156,22 +146,19 @@ module _ (account : AccountState) (name : List ℕ) (s t : LabState) (outcome : 
   -- ---- finished
   pub finishes : outcome ≡ outcomes.Finished → Finishes account name s t
   finishes is =
-      let it = synced.finished_now account s.sessions s.clock (s.clock +ℤ ends.d.shift) ends.d ends.made ends.met t.server outcome room ends.syncs enough
-      (law_lines.met_server account name s t outcome linked room ends enough) (law_lines.device_met account name s t outcome linked room ends enough)
-      (law_lines.apart_met account name s t outcome linked room ends enough) is in
+      let it = synced.finished_now account s.sessions s.clock (s.clock +ℤ ends.d.shift) ends.d ends.made s.server t.server outcome room ends.syncs enough
+      server_here device_here is in
       let exchanged : AreExchanged own.c (base_of account s) it.device (base_of account t) =
-      subst (λ (h : List ℕ). AreExchanged own.c (base_of account s) it.device (world_in h account t.server).state.committed) same_host
-      (subst (λ (base : Collection). AreExchanged own.c base it.device (world_in host account t.server).state.committed)
-      (law_lines.met_base account name s t outcome linked room ends enough) it.exchanged) in
+      subst (λ (h : List ℕ). AreExchanged own.c (world_in h account s.server).state.committed it.device (world_in h account t.server).state.committed) same_host it.exchanged in
       let moment : it.device.head.moment ≡ (base_of account t).head.moment =
       subst (λ (h : List ℕ). it.device.head.moment ≡ (world_in h account t.server).state.committed.head.moment) same_host it.moment in
       let server_number : (base_of account t).head.usn ≡ (base_of account s).head.usn +ℤ pos 1 =
-      subst (λ (h : List ℕ). (world_in h account t.server).state.committed.head.usn ≡ (base_of account s).head.usn +ℤ pos 1) same_host
-      (it.server_number ∙ ap (λ (base : Collection). base.head.usn +ℤ pos 1) (law_lines.met_base account name s t outcome linked room ends enough)) in
+      subst (λ (h : List ℕ). (world_in h account t.server).state.committed.head.usn ≡ (world_in h account s.server).state.committed.head.usn +ℤ pos 1) same_host it.server_number in
+      let device_number : it.device.head.usn ≡ (base_of account s).head.usn +ℤ pos 1 =
+      subst (λ (h : List ℕ). it.device.head.usn ≡ (world_in h account s.server).state.committed.head.usn +ℤ pos 1) same_host it.device_number in
       let once : CommitsOnceIn (one_more s.sessions) (world_in lab_host account s.server) (world_in lab_host account t.server) =
-      once_over_viewed ends.syncs.ids.session.0 (one_more s.sessions) (world_in lab_host account s.server) (world_in lab_host account ends.met) (world_in lab_host account t.server)
-      ends.syncs.of.session quiet
-      (subst (λ (h : List ℕ). CommitsOnceIn ends.syncs.ids.session.0 (world_in h account ends.met) (world_in h account t.server)) same_host it.once) in
+      once_by_number ends.syncs.ids.session.0 (one_more s.sessions) (world_in lab_host account s.server) (world_in lab_host account t.server) ends.syncs.of.session
+      (subst (λ (h : List ℕ). CommitsOnceIn ends.syncs.ids.session.0 (world_in h account s.server) (world_in h account t.server)) same_host it.once) in
       record {
         joins = record {
           device = own.c;
@@ -189,7 +176,7 @@ module _ (account : AccountState) (name : List ℕ) (s t : LabState) (outcome : 
           past_server = exchanged.past_server;
           moment = moment;
           last_sync = exchanged.last_sync;
-          device_number = it.device_number ∙ ap (λ (base : Collection). base.head.usn +ℤ pos 1) (law_lines.met_base account name s t outcome linked room ends enough);
+          device_number = device_number;
           server_number = server_number;
           linked = exchanged.linked;
         };

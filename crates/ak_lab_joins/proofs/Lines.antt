@@ -16,7 +16,6 @@ use Rattle.ak_faults.specs.Causes.{one_more}
 use Rattle.ak_io.specs.declared.lines.Line.{Line}
 use Rattle.ak_keep.specs.Collections.{Collection}
 use Rattle.ak_keep.specs.Keepers.{Keeping, WhereHeld}
-use Rattle.ak_lab_joins.proofs.Apart.{apart_by_other}
 use Rattle.ak_lab_joins.proofs.Devices.{changed_or_old, new_or_old}
 use Rattle.ak_lab_joins.proofs.Edits.{finished_so, reviews_are_admitted, stepped_so}
 use Rattle.ak_lab_joins.proofs.Servers.{committed_is, opened_server, viewed_grows, viewed_server, views_stay_quiet}
@@ -27,7 +26,7 @@ use Rattle.ak_lab_joins.specs.LabJoins.{HasSession, IsLinkedDevice, IsLinkedLab,
 use Rattle.ak_lab.specs.LabRuns.{AllGo, IsLabOpening}
 use Rattle.ak_lab.specs.LabStates.{LabState, at_line, lab_host, opened_lab, with_changed}
 use Rattle.ak_lab.specs.LabSteps.{Accepts, AddsDevice, Shifts, SideHolds, plan_of}
-use Rattle.ak_lab.specs.LabSyncs.{EndsSync, TestsTie}
+use Rattle.ak_lab.specs.LabSyncs.{EndsSync}
 use Rattle.ak_lab.specs.LineOutcomes.{Accepted, EndsAs}
 use Rattle.ak_lab_devices.specs.Devices.{as_downloaded, device_of, keeping_of, new_device}
 use Rattle.ak_lab_devices.specs.declared.devices.Device.{Device}
@@ -44,7 +43,6 @@ use Rattle.ak_merge.specs.Commits.{IsCommitted}
 use Rattle.ak_merge.specs.Conflicts.{first_conflict}
 use Rattle.ak_merge.specs.EditBuilding.{unedited}
 use Rattle.ak_merge.specs.Holdings.{row_under}
-use Rattle.ak_merge.specs.Joins.{AreApart}
 use Rattle.ak_merge.specs.Undoing.{StepFits}
 use Rattle.ak_openings.specs.declared.whole_collections.Opening.{Opening}
 use Rattle.ak_outcomes.specs.OutcomeTexts.{outcome_text}
@@ -172,15 +170,6 @@ looked account sides.Server s t c linked (committed, viewed, left) =
 looked account (sides.Device name) s t c linked holds = subst (IsLinkedLab account) (sym holds.0) linked
 
 -- ---- a sync
--- the device of a sync and what the server committed are apart
-pub tested_apart : (account : AccountState) (s : LabState) (d : Device) → IsLinkedServer lab_host account s.sessions s.server → (it : IsLinkedDevice (base_of account s) d)
-    → TestsTie d s.server None → AreApart (row_under it.c) (row_under (base_of account s))
-tested_apart account s d server it (c, base, holds, committed, none) =
-    let own : c ≡ it.c = held_once d it.c c it.holds holds in
-    let theirs : base ≡ base_of account s = same_Some base (base_of account s) (sym committed ∙ committed_is lab_host account s.sessions s.server server) in
-    apart_by_other it.c.rows (base_of account s).rows it.named server.lawful.committed.named server.lawful.committed.checked
-    (sym (none ∙ ap (λ (x : Collection). first_conflict x.rows base.rows) own ∙ ap (λ (y : Collection). first_conflict it.c.rows y.rows) theirs))
-
 -- a sync that is told has an outcome with a text
 pub told_enough : (outcome : Outcome) (text : List ℕ) → outcome_text outcome ≡ Some text → outcome ≢ client_outcomes.Memory
 told_enough outcome text told is = none-some text (sym (ap outcome_text is) ∙ told)
@@ -197,48 +186,28 @@ module _ (account : AccountState) (name : List ℕ) (s t : LabState) (outcome : 
   abbrev own : IsLinkedDevice (base_of account s) ends.d
   own = linked.devices name ends.d ends.found
 
-  abbrev met_device : (d : Device) → IsLinkedDevice (base_of account s) d → IsLinkedDevice (world_in host account ends.met).state.committed d
-  met_device d it =
-      subst (λ (h : List ℕ). IsLinkedDevice (world_in h account ends.met).state.committed d) same_host (device_viewed account s ends.met linked ends.read d it)
+  -- the server and a device, by that host key
+  pub server_here : IsLinkedServer host account s.sessions s.server
+  server_here = subst (λ (h : List ℕ). IsLinkedServer h account s.sessions s.server) same_host linked.server
 
-  pub met_server : IsLinkedServer host account s.sessions ends.met
-  met_server = subst (λ (h : List ℕ). IsLinkedServer h account s.sessions ends.met) same_host (server_viewed account s ends.met linked ends.read)
-
-  pub met_base : (world_in host account ends.met).state.committed ≡ base_of account s
-  met_base =
-      subst (λ (h : List ℕ). (world_in h account ends.met).state.committed ≡ base_of account s) same_host (base_viewed account s ends.met linked ends.read)
-
-  -- the device as it met the server
-  abbrev pub device_met : IsLinkedDevice (world_in host account ends.met).state.committed ends.d
-  device_met = record {
-    c = own.c;
-    holds = own.holds;
-    named = own.named;
-    links = subst (λ (base : Collection). LinksWith own.c ends.d.undo base) (sym met_base) own.links;
-    suits = own.suits;
-    schema = subst (λ (base : Collection). base.head.schema ≤ℤ own.c.head.schema) (sym met_base) own.schema;
-  }
-
-  pub apart_met : AreApart (row_under own.c) (row_under (world_in host account ends.met).state.committed)
-  apart_met =
-      subst (λ (base : Collection). AreApart (row_under own.c) (row_under base)) (sym met_base)
-      (tested_apart account s ends.d linked.server own ends.apart)
+  abbrev pub device_here : (d : Device) → IsLinkedDevice (base_of account s) d → IsLinkedDevice (world_in host account s.server).state.committed d
+  device_here d it = subst (λ (h : List ℕ). IsLinkedDevice (world_in h account s.server).state.committed d) same_host it
 
   server_left : IsLinkedServer lab_host account (one_more s.sessions) t.server
   server_left =
       subst (λ (h : List ℕ). IsLinkedServer h account (one_more s.sessions) t.server) (sym same_host)
-      (synced.server_now account s.sessions s.clock (s.clock +ℤ ends.d.shift) ends.d ends.made ends.met t.server outcome room ends.syncs enough met_server device_met apart_met)
+      (synced.server_now account s.sessions s.clock (s.clock +ℤ ends.d.shift) ends.d ends.made s.server t.server outcome room ends.syncs enough server_here (device_here ends.d own))
 
   made_left : IsLinkedDevice (world_in lab_host account t.server).state.committed ends.made
   made_left =
       subst (λ (h : List ℕ). IsLinkedDevice (world_in h account t.server).state.committed ends.made) (sym same_host)
-      (synced.device_now account s.sessions s.clock (s.clock +ℤ ends.d.shift) ends.d ends.made ends.met t.server outcome room ends.syncs enough met_server device_met apart_met)
+      (synced.device_now account s.sessions s.clock (s.clock +ℤ ends.d.shift) ends.d ends.made s.server t.server outcome room ends.syncs enough server_here (device_here ends.d own))
 
   other_left : (e : Device) → IsLinkedDevice (base_of account s) e → IsLinkedDevice (world_in lab_host account t.server).state.committed e
   other_left e it =
       subst (λ (h : List ℕ). IsLinkedDevice (world_in h account t.server).state.committed e) (sym same_host)
-      (synced.others_now account s.sessions s.clock (s.clock +ℤ ends.d.shift) ends.d ends.made ends.met t.server outcome room ends.syncs enough met_server device_met apart_met
-      e (met_device e it))
+      (synced.others_now account s.sessions s.clock (s.clock +ℤ ends.d.shift) ends.d ends.made s.server t.server outcome room ends.syncs enough server_here (device_here ends.d own)
+      e (device_here e it))
 
   pub sync_linked : IsLinkedLab account t
   sync_linked =

@@ -6,5 +6,5 @@ mod resting_keepers;
 mod shown;
 
 pub use desk_lines::{add_reviews_at_rest, obey_at_rest};
-pub use resting_keepers::{counts_at_rest, first_tie, head_at_rest, unfailed};
+pub use resting_keepers::{counts_at_rest, head_at_rest, unfailed};
 pub use shown::shown_texts;

@@ -1,8 +1,6 @@
--- What the lab prints of syncs, wire calls and counts, of names of no device, and of ties.
+-- What the lab prints of syncs, wire calls and counts, and of names of no device.
 use Rattle.std.specs.Prelude.{ℕ, List, ◌++◌, codes, decimal}
-use Rattle.ak_base.specs.declared.names.Name.{Name}
 use Rattle.ak_messages.specs.declared.requests.SanityCounts.{SanityCounts}
-use Rattle.ak_texts.specs.FaultTexts.{name_text}
 
 -- `sync <device>: <outcome>`
 abbrev pub sync_text : List ℕ → List ℕ → List ℕ
@@ -30,7 +28,3 @@ counts_text counts = rows_text counts.notes counts.cards counts.reviews ++ other
 -- `no device <name>`
 abbrev pub no_device_text : List ℕ → List ℕ
 no_device_text name = codes "no device " ++ name
-
--- `tie <table> <id>`: two sides hold different rows of this name with equal stamps
-abbrev pub tie_text : Name → List ℕ
-tie_text name = codes "tie " ++ name_text name

@@ -1,10 +1,9 @@
 // What the lab prints of what its lines name.
 ghost use Rattle.std.specs.Prelude.{◌≡◌, ◌++◌, IfOk, decimal};
-ghost use Rattle.ak_lab_lines.specs.LabTexts.{sync_text, requests_text, counts_text, rows_text, others_text, no_device_text, tie_text};
+ghost use Rattle.ak_lab_lines.specs.LabTexts.{sync_text, requests_text, counts_text, rows_text, others_text, no_device_text};
 
-use ak_base::{Memory, Name, Text};
+use ak_base::{Memory, Text};
 use ak_messages::SanityCounts;
-use ak_texts::table_text;
 use std::alloc::Global;
 
 /// How a sync of a device ended.
@@ -58,15 +57,5 @@ pub fn write_no_device(alloc: Global, name: &str) -> Result<Text, Memory>
     ensures { IfOk result (λ text. text ≡ no_device_text name.now) }
 {
     let text = format!(in alloc; "no device {name}")?;
-    Ok(Text::from(text))
-}
-
-/// The refusal of a sync of two sides that hold different rows of this name with equal stamps.
-pub fn write_tie(alloc: Global, name: Name) -> Result<Text, Memory>
-    ensures { IfOk result (λ text. text ≡ tie_text name) }
-{
-    let table = table_text(name.table);
-    let id = name.id;
-    let text = format!(in alloc; "tie {table} {id}")?;
     Ok(Text::from(text))
 }
