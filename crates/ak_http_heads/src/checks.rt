@@ -1,6 +1,4 @@
 ghost use Rattle.std.specs.Prelude.{◌≡◌, map, Some, MatchResult};
-ghost use Rattle.std.specs.Str.{all_ascii_digits};
-ghost use Rattle.ak_base.specs.Decimals.{is_decimal};
 ghost use Rattle.httparse.specs.Borrowed.{header_parts};
 ghost use Rattle.ak_http_heads.specs.Routes.{IsRoutes};
 ghost use Rattle.ak_http_heads.specs.Heads.{lacks_length, is_large, is_over_limit, is_compressed, ReadsEnvelope, fault_of, Asks};
@@ -11,6 +9,7 @@ use crate::fields::{
 };
 use crate::heads::Head;
 use crate::routes::route_of;
+use ak_base::is_decimal;
 use ak_http_texts::Refusal;
 use ak_messages::{Envelope, Method};
 use http::Method as HttpMethod;
@@ -80,29 +79,6 @@ fn is_over_limit(value: &[u8]) -> bool
     ensures { result ≡ is_over_limit value.now }
 {
     is_decimal(value) && read_decimal(value, MOST_BODY_BYTES).is_none()
-}
-
-/// Whether a value is a whole number in decimal digits, without sign or leading zero.
-fn is_decimal(value: &[u8]) -> bool
-    ensures { result ≡ is_decimal value.now }
-{
-    match value {
-        [] => false,
-        [digit] => digit.is_ascii_digit(),
-        [first, ..] => *first != b'0' && are_digits(value),
-    }
-}
-
-/// Whether every byte is a decimal digit.
-fn are_digits(bytes: &[u8]) -> bool
-    ensures { result ≡ all_ascii_digits bytes.now }
-{
-    for byte in bytes {
-        if !byte.is_ascii_digit() {
-            return false;
-        }
-    }
-    true
 }
 
 /// Whether a content coding is told that is not exactly `identity`.

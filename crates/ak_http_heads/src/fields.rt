@@ -5,7 +5,7 @@ ghost use Rattle.ak_base.specs.Decimals.{number_of};
 ghost use Rattle.ak_base.specs.Keys.{are_lower_hex, host_digits};
 ghost use Rattle.ak_http_heads.specs.Fields.{has_name, values_of, first_of, value_of, session_number, host_in, session_in, step_in, base_in, length_in};
 
-use ak_base::{HostKey, SessionKey, read_number};
+use ak_base::{HostKey, SessionKey, are_lower_hex, read_number};
 use httparse::Header;
 use std::str;
 
@@ -127,16 +127,4 @@ fn hex_number(digits: &str) -> Option<SessionKey>
         Ok(number) => Some(SessionKey(number)),
         Err(_) => None,
     }
-}
-
-/// Whether every byte is 0 to 9, or a to f.
-fn are_lower_hex(digits: &[u8]) -> bool
-    ensures { result ≡ are_lower_hex digits.now }
-{
-    for digit in digits {
-        if !digit.is_ascii_hexdigit() || digit.is_ascii_uppercase() {
-            return false;
-        }
-    }
-    true
 }

@@ -1,6 +1,6 @@
 -- A factor that is written is read again, and no text of its value is shorter.
-use Rattle.std.proofs.Common.{◌≡◌, ℕ, zero, suc, ◌+◌, ◌-◌, ◌*◌, ◌/◌, ◌%◌, ◌^◌, ◌<◌, ◌≤◌, ◌==◌, ℤ, pos, negsuc, Bool, true, false, ◌&&◌, ◌||◌, if◌then◌else◌, List, [], ◌∷◌, ◌++◌, length, codes, Option, Some, None, option_and_then, refl, sym, ap, subst, ◌∙◌, arith, rules}
-use Rattle.std.specs.Prelude.{◌≤ℤ◌, option_map}
+use Rattle.std.proofs.Common.{◌≡◌, ℕ, zero, suc, ◌+◌, ◌-◌, ◌*◌, ◌/◌, ◌%◌, ◌<◌, ◌≤◌, ◌==◌, ℤ, pos, negsuc, Bool, true, false, ◌&&◌, ◌||◌, if◌then◌else◌, List, [], ◌∷◌, ◌++◌, length, codes, Option, Some, None, refl, sym, ap, subst, ◌∙◌, arith, rules}
+use Rattle.std.specs.Prelude.{◌≤ℤ◌}
 use Rattle.std.proofs.lemmas.Bool.{and_parts}
 use Rattle.std.proofs.lemmas.Fmt.{decimal_digit, digits_decimal}
 use Rattle.std.proofs.lemmas.Int.{ints}
@@ -169,13 +169,31 @@ are_places [] q h = cc
 are_places (x ∷ []) q h =
     let is = if_some (is_ascii_digit x) (100 * (x - 48)) q h in
     let low = digit_low x is.0 in
-    record { a = x - 48; b = 0; c = 0; a_low = low; b_low = omega arith; c_low = omega arith; value = let e = is.1 in omega (arith, e); short = few_one (x - 48) low }
+    record {
+      a = x - 48;
+      b = 0;
+      c = 0;
+      a_low = low;
+      b_low = omega arith;
+      c_low = omega arith;
+      value = let e = is.1 in omega (arith, e);
+      short = few_one (x - 48) low;
+    }
 are_places (x ∷ y ∷ []) q h =
     let is = if_some (is_ascii_digit x && is_ascii_digit y) (100 * (x - 48) + 10 * (y - 48)) q h in
     let both = and_parts (is_ascii_digit x) (is_ascii_digit y) is.0 in
     let low = digit_low x both.0 in
     let next = digit_low y both.1 in
-    record { a = x - 48; b = y - 48; c = 0; a_low = low; b_low = next; c_low = omega arith; value = let e = is.1 in omega (arith, e); short = few_two (x - 48) (y - 48) low next }
+    record {
+      a = x - 48;
+      b = y - 48;
+      c = 0;
+      a_low = low;
+      b_low = next;
+      c_low = omega arith;
+      value = let e = is.1 in omega (arith, e);
+      short = few_two (x - 48) (y - 48) low next;
+    }
 are_places (x ∷ y ∷ z ∷ []) q h =
     let is = if_some (is_ascii_digit x && is_ascii_digit y && is_ascii_digit z) (100 * (x - 48) + 10 * (y - 48) + (z - 48)) q h in
     let all = and_parts (is_ascii_digit x && is_ascii_digit y) (is_ascii_digit z) is.0 in
@@ -183,7 +201,16 @@ are_places (x ∷ y ∷ z ∷ []) q h =
     let low = digit_low x both.0 in
     let next = digit_low y both.1 in
     let last = digit_low z all.1 in
-    record { a = x - 48; b = y - 48; c = z - 48; a_low = low; b_low = next; c_low = last; value = sym is.1; short = few_three (x - 48) (y - 48) (z - 48) low next last }
+    record {
+      a = x - 48;
+      b = y - 48;
+      c = z - 48;
+      a_low = low;
+      b_low = next;
+      c_low = last;
+      value = sym is.1;
+      short = few_three (x - 48) (y - 48) (z - 48) low next last;
+    }
 are_places (x ∷ y ∷ z ∷ more ∷ ds) q h = cc
 
 -- the digits of a number are its digits

@@ -1,5 +1,5 @@
 -- What is read is in its ranges once its steps are seconds, so it is read again from what is written.
-use Rattle.std.proofs.Common.{◌≡◌, ℕ, zero, suc, ◌<◌, ◌≤◌, ℤ, pos, negsuc, List, [], ◌∷◌, map, length, get_or, Bool, true, false, Option, Some, None, Result, Ok, Err, refl, sym, ap, subst, ◌∙◌, arith}
+use Rattle.std.proofs.Common.{◌≡◌, ℕ, zero, suc, ◌≤◌, ℤ, pos, List, [], ◌∷◌, map, length, Option, None, Result, Ok, Err, refl, sym, ap, ◌∙◌, arith}
 use Rattle.std.specs.Prelude.{◌*ℤ◌, ◌≤ℤ◌}
 use Rattle.std.specs.Option.{option_or}
 use Rattle.std.proofs.lemmas.Int.{ints}
@@ -18,9 +18,8 @@ use Rattle.ak_base.proofs.OpeningOptions.{faults_in_seconds}
 use Rattle.ak_base.proofs.Optional.{first_none, second_none}
 use Rattle.ak_json.specs.Cells.{integer_at}
 use Rattle.ak_json.specs.Forms.{options_form}
-use Rattle.ak_json.specs.Groups.{IsOptionsBy, options_json}
 use Rattle.ak_json.specs.Ranges.{AreMinutes}
-use Rattle.ak_json.specs.Rows.{IsRow, row_check, stored_check, stored_check_of, checked_then, table_check, kept_row, row_json, ReadsRow}
+use Rattle.ak_json.specs.Rows.{IsRow, row_check, stored_check, checked_then, kept_row, row_json, ReadsRow}
 use Rattle.ak_json.specs.Versions.{version_of, longest_step, seconds_of, in_seconds}
 use Rattle.ak_json.specs.declared.versions.Version.{Version}
 use Rattle.ak_json.specs.declared.versions.Version.TheVariants.{First, Second}

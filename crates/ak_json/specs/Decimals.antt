@@ -1,5 +1,6 @@
 -- Factors as texts: decimals of at most three places, counted in thousandths.
-use Rattle.std.specs.Prelude.{ℕ, ℤ, pos, negsuc, ◌+◌, ◌-◌, ◌*◌, ◌/◌, ◌%◌, ◌&&◌, ◌==◌, if◌then◌else◌, List, [], ◌∷◌, ◌++◌, Option, Some, None, option_map, option_and_then, codes, decimal}
+use Rattle.std.specs.Prelude.{ℕ, ℤ, pos, negsuc, ◌+◌, ◌-◌, ◌*◌, ◌/◌, ◌%◌, ◌&&◌, ◌==◌, if◌then◌else◌, List, [], ◌∷◌, ◌++◌}
+use Rattle.std.specs.Prelude.{Option, Some, None, option_map, option_and_then, codes, decimal}
 use Rattle.std.specs.Char.{is_ascii_digit}
 use Rattle.ak_base.specs.Cuts.{has, front, behind}
 use Rattle.ak_base.specs.Decimals.{number_of}

@@ -1,5 +1,5 @@
 -- The two versions in which option groups are written. Only the second is written; both are read.
-use Rattle.std.specs.Prelude.{◌≡◌, ℤ, pos, ◌*ℤ◌, map, Bool, if◌then◌else◌, option_and_then, codes}
+use Rattle.std.specs.Prelude.{ℤ, pos, ◌*ℤ◌, map, Bool, if◌then◌else◌, option_and_then, codes}
 use Rattle.std.specs.Option.{is_some}
 use Rattle.serde_json.specs.Data.{Data}
 use Rattle.serde_json.specs.Find.{get}

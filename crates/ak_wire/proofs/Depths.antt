@@ -49,7 +49,7 @@ use Rattle.ak_json.specs.Groups.{options_json, new_json, rev_json, lapse_json, r
 use Rattle.ak_json.specs.NoteTypes.{note_type_json, fields_json, templates_json}
 use Rattle.ak_json.specs.Rests.{rest_members}
 use Rattle.ak_json.specs.Rows.{row_json}
-use Rattle.ak_json.specs.Written.{integer, bit, pair, steps_json, note_cells, card_cells, review_cells, grave_cells}
+use Rattle.ak_json.specs.Written.{integer, factor, bit, pair, steps_json, note_cells, card_cells, review_cells, grave_cells}
 
 -- the value nests at most so deep
 abbrev Nests : ℕ → Data → Type 0
@@ -167,20 +167,20 @@ group_nests pairs key ms h k =
 new_nests : (o : Options) (ms : Members) → members_depth ms ≤ 63 → Nests 65 (new_json o (object ms))
 new_nests o ms h =
     let n = none 63 in
-    group_nests ((codes "delays", steps_json o.new_steps) ∷ (codes "ints", pair (record { day = o.grad_ivl; count = o.easy_ivl })) ∷ (codes "initialFactor", integer o.initial_factor)
+    group_nests ((codes "steps", steps_json o.new_steps) ∷ (codes "ints", pair (record { day = o.grad_ivl; count = o.easy_ivl })) ∷ (codes "initialFactor", integer o.initial_factor)
     ∷ (codes "perDay", integer o.new_per_day) ∷ (codes "bury", boolean o.new_bury) ∷ []) (codes "new") ms
     (array_nests 62 (map integer o.new_steps) (numbers_nest 62 o.new_steps), (omega arith, (n, (n, (n, tt))))) h
 
 rev_nests : (o : Options) (ms : Members) → members_depth ms ≤ 63 → Nests 65 (rev_json o (object ms))
 rev_nests o ms h =
     let n = none 63 in
-    group_nests ((codes "perDay", integer o.rev_per_day) ∷ (codes "ease4Pm", integer o.ease4) ∷ (codes "ivlFctPm", integer o.ivl_fct) ∷ (codes "maxIvl", integer o.max_ivl)
-    ∷ (codes "hardFactorPm", integer o.hard_factor) ∷ (codes "bury", boolean o.rev_bury) ∷ []) (codes "rev") ms (n, (n, (n, (n, (n, (n, tt)))))) h
+    group_nests ((codes "perDay", integer o.rev_per_day) ∷ (codes "ease4", factor o.ease4) ∷ (codes "ivlFct", factor o.ivl_fct) ∷ (codes "maxIvl", integer o.max_ivl)
+    ∷ (codes "hardFactor", factor o.hard_factor) ∷ (codes "bury", boolean o.rev_bury) ∷ []) (codes "rev") ms (n, (n, (n, (n, (n, (n, tt)))))) h
 
 lapse_nests : (o : Options) (ms : Members) → members_depth ms ≤ 63 → Nests 65 (lapse_json o (object ms))
 lapse_nests o ms h =
     let n = none 63 in
-    group_nests ((codes "delays", steps_json o.lapse_steps) ∷ (codes "multPm", integer o.mult) ∷ (codes "minInt", integer o.min_int) ∷ (codes "leechFails", integer o.leech_fails)
+    group_nests ((codes "steps", steps_json o.lapse_steps) ∷ (codes "mult", factor o.mult) ∷ (codes "minInt", integer o.min_int) ∷ (codes "leechFails", integer o.leech_fails)
     ∷ (codes "leechAction", integer o.leech_action) ∷ []) (codes "lapse") ms (array_nests 62 (map integer o.lapse_steps) (numbers_nest 62 o.lapse_steps), (n, (n, (n, (n, tt))))) h
 
 options_nest : (o : Options) → Nests 66 (options_json o)
