@@ -11,7 +11,9 @@ use std::alloc::Global;
 impl<T: Tables> Answers for Files<'_, T> {
     fn answer(&mut self, alloc: Global, word: &str, rest: &str) -> Result<String, Unread> {
         match word {
-            "run" | "runs" | "reopened" | "synced" => answer_of_runs(alloc, self, word, rest),
+            "run" | "runs" | "over" | "reopened" | "synced" => {
+                answer_of_runs(alloc, self, word, rest)
+            },
             _ => answer_of_file(alloc, self, word, rest),
         }
     }
@@ -38,6 +40,7 @@ fn answer_by<T: Tables>(
     match word {
         "run" => run_alone(alloc, arguments),
         "runs" => run_in_turn(alloc, arguments),
+        "over" => files.text_in_file(alloc, arguments),
         "synced" => run_synced(alloc, arguments),
         _ => run_beside(alloc, files, arguments),
     }

@@ -22,8 +22,8 @@ pub fn run_beside<T: Tables>(
 }
 
 impl<T: Tables> Files<'_, T> {
-    /// What a run over the file, which is opened for it and closed again, is told as.
-    fn text_in_file(&mut self, alloc: Global, run: &Value) -> Result<String, Unread> {
+    /// `over RUN`: what a run over the file, which is opened for it and closed again, is told as.
+    pub fn text_in_file(&mut self, alloc: Global, run: &Value) -> Result<String, Unread> {
         let text = match self.open() {
             Ok(()) => text_over(alloc, &mut self.keeper, run),
             Err(_) => not_opened(alloc),

@@ -9,7 +9,8 @@ use crate::requests::request;
 use crate::rows::{about, check, conf, row, same};
 use crate::schedules::{answered, can_be_answered, fuzz, leech};
 use crate::texts::{
-    blank, clozes, cut_at, day, empty, hidden, hinted, host_key, number, plain, stripped,
+    blank, clozes, cut_at, day, decimal, empty, hidden, hinted, host_key, number, permille, plain,
+    stripped,
 };
 use cases_lines::{Answers, Unread};
 use serde_json::Value;
@@ -81,6 +82,8 @@ fn answer_of_texts(alloc: Global, word: &str, arguments: &Value) -> Result<Strin
     match word {
         "checksum" => checksum(alloc, arguments),
         "number" => number(alloc, arguments),
+        "decimal" => decimal(alloc, arguments),
+        "permille" => permille(alloc, arguments),
         "host-key" => host_key(alloc, arguments),
         "day" => day(alloc, arguments),
         "strip" => stripped(alloc, arguments),

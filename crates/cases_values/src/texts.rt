@@ -2,6 +2,7 @@ use crate::schedules::day_at;
 use crate::words::push_quoted;
 use ak_base::{HostKey, cut, read_number};
 use ak_filters::{FieldFilter, HintFilter, TextFilter, is_blank, is_empty_value, strip};
+use ak_json::{read_decimal, write_decimal};
 use ak_template::{cloze_numbers, show_clozes};
 use cases_lines::{Unread, listed, natural_at, number_at, quoted, text_at, truth};
 use serde_json::Value;
@@ -13,6 +14,24 @@ pub fn number(alloc: Global, arguments: &Value) -> Result<String, Unread> {
         Some(number) => Ok(format!(in alloc; "{number}")?),
         None => Ok(String::from_str(alloc, "none")?),
     }
+}
+
+/// `decimal [TEXT]`: the thousandths that the text is, or `none`.
+pub fn decimal(alloc: Global, arguments: &Value) -> Result<String, Unread> {
+    match read_decimal(text_at(arguments, 0)?) {
+        Some(permille) => Ok(format!(in alloc; "{permille}")?),
+        None => Ok(String::from_str(alloc, "none")?),
+    }
+}
+
+/// `permille [NUMBER]`: the shortest decimal of so many thousandths.
+pub fn permille(alloc: Global, arguments: &Value) -> Result<String, Unread> {
+    let permille = number_at(arguments, 0)?;
+    if permille < 0 || permille > 999_999_999 {
+        return Err(Unread::Bad);
+    }
+    let text = write_decimal(permille)?;
+    Ok(String::from_str(alloc, text.as_str())?)
 }
 
 /// `host-key [TEXT]`: whether the text is one.
