@@ -43,6 +43,7 @@ import contextlib
 import fcntl
 import json
 import os
+import re
 import sqlite3
 import threading
 import urllib.parse
@@ -62,8 +63,8 @@ Grave = collections.namedtuple("Grave", GRAVE_COLUMNS)
 RawHead = collections.namedtuple("RawHead", HEAD_COLUMNS)
 Head = collections.namedtuple("Head", "crt mod scm ver dty usn ls conf tags")
 
-# `object` is the JSON object as the file has it. Other names than in it: `options` is its `conf`, `filtered` its `dyn`,
-# `cloze` its `type`, `front` and `back` are `qfmt` and `afmt`.
+# `object` is the JSON object as the file has it, but that of options is as the program writes it. Other names than in it: `options`
+# is its `conf`, `filtered` its `dyn`, `cloze` its `type`, `front` and `back` are `qfmt` and `afmt`.
 Template = collections.namedtuple("Template", "name front back")
 NoteType = collections.namedtuple("NoteType", "id name cloze fields templates object")
 Deck = collections.namedtuple("Deck", "id name options filtered object")
@@ -224,8 +225,32 @@ def deck_of(value):
 
 
 def options_of(value):
-    """Options of their JSON object."""
-    return Options(value["id"], value["name"], value)
+    """Options of their JSON object, in version 1 or 2."""
+    return Options(value["id"], value["name"], in_version_2(value))
+
+
+# What version 1 of options calls otherwise: steps, which are in minutes there, and factors, which are whole permille.
+OLD_KEYS = {
+    "new": {"delays": "steps"}, "rev": {"ease4Pm": "ease4", "hardFactorPm": "hardFactor", "ivlFctPm": "ivlFct"},
+    "lapse": {"delays": "steps", "multPm": "mult"},
+}
+
+
+def in_version_2(options):
+    """The object of options in version 2: of version 1, what the program writes once it has read it."""
+    if "delays" not in options["new"]:
+        return options
+    made = dict(options, **{group: dict(options[group]) for group in OLD_KEYS})
+    for group, keys in OLD_KEYS.items():
+        for old, key in keys.items():
+            held = made[group].pop(old)
+            made[group][key] = [60 * minutes for minutes in held] if key == "steps" else shortest_decimal("%d.%03d" % divmod(held, 1000))
+    return made
+
+
+def shortest_decimal(text):
+    """A decimal without zeros that say nothing, as the program writes it. Another text stays."""
+    return text.rstrip("0").rstrip(".") if re.fullmatch(r"[0-9]+\.[0-9]{1,3}", text) else text
 
 
 def fields_of(note):

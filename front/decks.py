@@ -3,7 +3,7 @@
 import collections
 import json
 
-from front.collection import deck_of, options_of
+from front.collection import deck_of, options_of, shortest_decimal
 from front.sitting import Sitting, Slip, compact
 
 Counts = collections.namedtuple("Counts", "new learning review")
@@ -15,18 +15,18 @@ OPTION_LABELS = [
     ("name", "name"),
     ("new.perDay", "new cards a day"),
     ("rev.perDay", "reviews a day"),
-    ("new.delays", "steps of new cards, in minutes"),
+    ("new.steps", "steps of new cards, in seconds"),
     ("new.ints", "days after the last step, and after Easy"),
     ("new.initialFactor", "first factor, in permille"),
-    ("lapse.delays", "steps of forgotten cards, in minutes"),
-    ("lapse.multPm", "what is left of the days of a forgotten card, in permille"),
+    ("lapse.steps", "steps of forgotten cards, in seconds"),
+    ("lapse.mult", "what is left of the days of a forgotten card, 0 to 1"),
     ("lapse.minInt", "fewest days of a forgotten card"),
     ("lapse.leechFails", "lapses of a leech (0 for never)"),
     ("lapse.leechAction", "a leech is suspended (0) or only tagged (1)"),
     ("rev.maxIvl", "longest interval, in days"),
-    ("rev.hardFactorPm", "Hard multiplies by, in permille"),
-    ("rev.ease4Pm", "Easy multiplies by, in permille"),
-    ("rev.ivlFctPm", "each interval is multiplied by, in permille"),
+    ("rev.hardFactor", "Hard multiplies by"),
+    ("rev.ease4", "Easy multiplies by"),
+    ("rev.ivlFct", "each interval is multiplied by"),
     ("new.bury", "bury new cards of a note until tomorrow (yes or no)"),
     ("rev.bury", "bury reviews of a note until tomorrow (yes or no)"),
     ("maxTaken", "longest time of an answer that counts, in seconds"),
@@ -269,7 +269,8 @@ def set_option(options, key, label, text):
     """Sets a value of options to what a text says, in the form that the value has."""
     held, text = _at(options, key), text.strip()
     if isinstance(held, str):
-        made = text
+        # (a name stays as it is)
+        made = shortest_decimal(text) if "." in key else text
     elif held is True or held is False:
         if text not in ("yes", "no"):
             raise Slip("%s: yes or no" % label)

@@ -383,7 +383,7 @@ def object_faults(ranges, column, rows):
         elif column == "decks":
             fault = forms.object_fault(ranges.deck, forms.DECK, value)
         else:
-            fault = forms.object_fault(ranges.options, forms.OPTIONS, value)
+            fault = forms.object_fault(ranges.options, forms.OLD_OPTIONS if forms.is_old(value) else forms.OPTIONS, value)
         if fault:
             yield "has the %s %s, of which %s" % (word, short(key), fault)
         elif str(value["id"]) != key:

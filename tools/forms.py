@@ -3,16 +3,21 @@
 A form names for each key the column of docs/profile/collection.md that it is.
 """
 import json
+import re
 
 # How deep a text of JSON nests, and the value of an unknown key, in an object and in `new`, `rev` and `lapse` of an option group.
 DEEPEST_TEXT, DEEPEST_VALUE, DEEPEST_INNER = 127, 63, 62
 
 LARGEST = (1 << 63) - 1
 
-INTEGER, TEXT, BOOL, BIT, STEPS, PAIR, OBJECT, LIST, IGNORED = range(9)
+# A decimal: up to six digits, without a leading zero, and up to three behind a point.
+DECIMAL_TEXT = re.compile(r"(0|[1-9][0-9]{0,5})(\.[0-9]{1,3})?")
+
+INTEGER, TEXT, BOOL, BIT, STEPS, MINUTES, DECIMAL, PAIR, OBJECT, LIST, IGNORED = range(11)
 
 KIND_WORDS = {
-    INTEGER: "a whole number", TEXT: "a text", BOOL: "true or false", BIT: "0 or 1", STEPS: "a list of whole numbers",
+    INTEGER: "a whole number", TEXT: "a text", BOOL: "true or false", BIT: "0 or 1", STEPS: "a list of whole numbers", MINUTES: "a list of whole numbers",
+    DECIMAL: "a text of a decimal, such as 1.3",
     PAIR: "a list of two whole numbers", OBJECT: "an object", LIST: "a list", IGNORED: "without numbers that are not whole",
 }
 
@@ -27,21 +32,35 @@ DECK = [
     ("dyn", BIT, "filtered"), ("newToday", PAIR, "new_today"), ("revToday", PAIR, "rev_today"),
 ]
 NEW = [
-    ("delays", STEPS, "new_steps"), ("ints", PAIR, ("grad_ivl", "easy_ivl")), ("initialFactor", INTEGER, "initial_factor"),
+    ("steps", STEPS, "new_steps"), ("ints", PAIR, ("grad_ivl", "easy_ivl")), ("initialFactor", INTEGER, "initial_factor"),
     ("perDay", INTEGER, "new_per_day"), ("bury", BOOL, "new_bury"),
 ]
 REV = [
-    ("perDay", INTEGER, "rev_per_day"), ("ease4Pm", INTEGER, "ease4"), ("ivlFctPm", INTEGER, "ivl_fct"), ("maxIvl", INTEGER, "max_ivl"),
-    ("hardFactorPm", INTEGER, "hard_factor"), ("bury", BOOL, "rev_bury"),
+    ("perDay", INTEGER, "rev_per_day"), ("ease4", DECIMAL, "ease4"), ("ivlFct", DECIMAL, "ivl_fct"), ("maxIvl", INTEGER, "max_ivl"),
+    ("hardFactor", DECIMAL, "hard_factor"), ("bury", BOOL, "rev_bury"),
 ]
 LAPSE = [
-    ("delays", STEPS, "lapse_steps"), ("multPm", INTEGER, "mult"), ("minInt", INTEGER, "min_int"), ("leechFails", INTEGER, "leech_fails"),
+    ("steps", STEPS, "lapse_steps"), ("mult", DECIMAL, "mult"), ("minInt", INTEGER, "min_int"), ("leechFails", INTEGER, "leech_fails"),
     ("leechAction", INTEGER, "leech_action"),
 ]
 OPTIONS = [
     ("id", INTEGER, "id"), ("mod", INTEGER, "stamp"), ("usn", INTEGER, "usn"), ("name", TEXT, "name"), ("maxTaken", INTEGER, "max_taken"),
     ("new", OBJECT, NEW), ("rev", OBJECT, REV), ("lapse", OBJECT, LAPSE),
 ]
+# An option group of version 1: the key of version 1 for each that has another name now, and those names are ignored.
+OLD_KEYS = {
+    "new": {"steps": ("delays", MINUTES)}, "rev": {key: (key + "Pm", INTEGER) for key in ("ease4", "ivlFct", "hardFactor")},
+    "lapse": {"steps": ("delays", MINUTES), "mult": ("multPm", INTEGER)},
+}
+
+
+def old_form(key, form):
+    """The form of version 1 for an object in an option group."""
+    old = OLD_KEYS[key]
+    return [old.get(inner, (inner, kind)) + (name,) for inner, kind, name in form] + [(inner, IGNORED, None) for inner in old]
+
+
+OLD_OPTIONS = [(key, kind, old_form(key, form) if kind == OBJECT else form) for key, kind, form in OPTIONS]
 CONF = [
     ("newSpread", INTEGER, "new_spread"), ("collapseTime", INTEGER, "collapse"), ("dayLearnFirst", BOOL, "day_learn_first"),
     ("nextPos", INTEGER, "next_pos"), ("lastUnburied", INTEGER, "last_unburied"),
@@ -106,18 +125,35 @@ def is_shallow(value, most):
     return isinstance(value, (bool, str)) or value is None or -LARGEST - 1 <= value <= 2 * LARGEST + 1
 
 
+def is_old(value):
+    """Whether an option group is of version 1."""
+    return isinstance(value, dict) and isinstance(value.get("new"), dict) and "delays" in value["new"]
+
+
 def is_of(kind, value):
     if kind == INTEGER:
         return is_integer(value)
     if kind == BIT:
         return is_integer(value) and value in (0, 1)
-    if kind == STEPS:
+    if kind == DECIMAL:
+        return isinstance(value, str) and DECIMAL_TEXT.fullmatch(value) is not None
+    if kind in (STEPS, MINUTES):
         return isinstance(value, list) and all(map(is_integer, value))
     if kind == PAIR:
         return isinstance(value, list) and len(value) == 2 and all(map(is_integer, value))
     if kind == IGNORED:
         return is_shallow(value, 1 << 20)
     return isinstance(value, {TEXT: str, BOOL: bool, OBJECT: dict, LIST: list}[kind])
+
+
+def column_of(kind, value):
+    """What a column holds of a value of its kind: steps are in seconds, decimals in permille."""
+    if kind == MINUTES:
+        return [60 * it for it in value]
+    if kind == DECIMAL:
+        whole, _, fraction = value.partition(".")
+        return 1000 * int(whole) + int(fraction.ljust(3, "0"))
+    return value
 
 
 def columns_of(form, value, deepest=DEEPEST_VALUE):
@@ -143,7 +179,7 @@ def columns_of(form, value, deepest=DEEPEST_VALUE):
         elif isinstance(name, tuple):
             columns.update(zip(name, value[key]))
         elif name is not None:
-            columns[name] = value[key]
+            columns[name] = column_of(kind, value[key])
     for key in sorted(set(unknown) - known):
         if not is_shallow(unknown[key], deepest):
             raise NotRead("its unknown key %s nests over %d deep, or has a number that is not whole" % (key, deepest))

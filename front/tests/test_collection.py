@@ -12,6 +12,7 @@ from front.collection import (
     NotCollection,
     fields_of,
     open_collection,
+    options_of,
     tags_of,
 )
 from front.program import ROOT
@@ -65,6 +66,19 @@ class Reading(FileCase):
             self.assertTrue(collection.types()[2].cloze)
             self.assertEqual(collection.options()[1].object["new"]["perDay"], 20)
             self.assertEqual(collection.head().conf["nextPos"], 3)
+
+    def test_options_of_version_1_are_those_that_the_program_writes(self):
+        old = {
+            "id": 5, "lapse": {"delays": [10, 25], "kept": "yes", "minInt": 2, "mult": 5, "multPm": 250}, "name": "Hard", "new": {"delays": [1, 1440], "perDay": 30, "steps": "mine"},
+            "rev": {"ease4Pm": 1350, "hardFactorPm": 1000, "ivlFctPm": 975, "perDay": 150},
+        }
+        new = {
+            "id": 5, "lapse": {"kept": "yes", "minInt": 2, "mult": "0.25", "steps": [600, 1500]}, "name": "Hard", "new": {"perDay": 30, "steps": [60, 86400]},
+            "rev": {"ease4": "1.35", "hardFactor": "1", "ivlFct": "0.975", "perDay": 150},
+        }
+        self.assertEqual(options_of(old).object, new)
+        self.assertEqual(options_of(new).object, new)
+        self.assertEqual(old["new"]["delays"], [1, 1440])
 
     def test_reviews_come_from_an_id_on(self):
         made = self.make('note 1 1 ["a","b"]')

@@ -7,9 +7,9 @@ from tools import answers
 from tools.tests.support import Case, run
 
 OPTIONS = {
-    "id": 0, "lapse": {"delays": [10], "leechAction": 0, "leechFails": 8, "minInt": 1, "multPm": 0}, "maxTaken": 60, "mod": 0, "name": "Slow",
-    "new": {"bury": True, "delays": [1, 10], "initialFactor": 2500, "ints": [1, 4], "perDay": 5},
-    "rev": {"bury": True, "ease4Pm": 1300, "hardFactorPm": 1200, "ivlFctPm": 1000, "maxIvl": 36500, "perDay": 50}, "usn": 0,
+    "id": 0, "lapse": {"leechAction": 0, "leechFails": 8, "minInt": 1, "mult": "0", "steps": [600]}, "maxTaken": 60, "mod": 0, "name": "Slow",
+    "new": {"bury": True, "initialFactor": 2500, "ints": [1, 4], "perDay": 5, "steps": [60, 600]},
+    "rev": {"bury": True, "ease4": "1.3", "hardFactor": "1.2", "ivlFct": "1", "maxIvl": 36500, "perDay": 50}, "usn": 0,
 }
 TYPE = {
     "flds": [{"name": "Word"}, {"name": "Meaning"}], "id": 1, "mod": 0, "name": "Word", "sortf": 0,

@@ -23,6 +23,13 @@ FILE_NAMES = {"stamp": "mod", "extra": "data", "kind": "type", "last_ivl": "last
 HEAD_NAMES = {"moment": "mod", "schema": "scm", "last_sync": "ls"}
 TABLES = (("notes", "note"), ("cards", "card"), ("revlog", "review"), ("graves", "grave"))
 
+# The group 1 of an opening collection as version 1 has it.
+OLD_GROUP = {
+    "id": 1, "lapse": {"delays": [10], "leechAction": 0, "leechFails": 8, "minInt": 1, "multPm": 0}, "maxTaken": 60, "mod": 0, "name": "Default",
+    "new": {"bury": False, "delays": [1, 10], "initialFactor": 2500, "ints": [1, 4], "perDay": 20},
+    "rev": {"bury": False, "ease4Pm": 1300, "hardFactorPm": 1200, "ivlFctPm": 1000, "maxIvl": 36500, "perDay": 200}, "usn": 0,
+}
+
 
 def ends_of(column):
     """Values at the ends of a range, and the next ones past them."""
@@ -171,17 +178,34 @@ class Ends(Case):
         for name, usn, is_good in (("x", -1, True), ("x", 2147483647, True), ("x", -2, False), ("x", 2147483648, False), ("", 0, False), ("x" * 512, 0, True), ("x" * 513, 0, False), ("x", 1.0, False), ("x", "1", False)):
             self.objects("tags", is_good, lambda tags: tags.update({name: usn}), (name, usn))
 
+    def columns_of_objects(self, cell, form, ranges, inner, begin=lambda rows: None):
+        """Each column of an object of a form, or of an object in it, at each end of its range and past it. `begin` comes before each change."""
+        for key, kind, name in form:
+            if key == "id" or kind in (forms.OBJECT, forms.IGNORED):
+                continue
+            names = name if isinstance(name, tuple) else (name,)
+            for place, name in enumerate(names):
+                for values, is_good in zip(ends_of(in_minutes(ranges[name]) if kind == forms.MINUTES else ranges[name]), (True, False)):
+                    for value in values:
+                        written = decimal_text(value) if kind == forms.DECIMAL else value
+
+                        def change(rows):
+                            begin(rows)
+                            put(rows["1"], inner, key, place if len(names) > 1 else None, written)
+
+                        self.objects(cell, is_good, change, (key, name, short_of(value)))
+
     def test_decks_and_options(self):
-        for cell, form, ranges, inner in (("decks", forms.DECK, self.ranges.deck, None), ("dconf", forms.OPTIONS, self.ranges.options, None),
-                                          ("dconf", forms.NEW, self.ranges.options, "new"), ("dconf", forms.REV, self.ranges.options, "rev"), ("dconf", forms.LAPSE, self.ranges.options, "lapse")):
-            for key, kind, name in form:
-                if key == "id" or kind == forms.OBJECT:
-                    continue
-                names = name if isinstance(name, tuple) else (name,)
-                for place, name in enumerate(names):
-                    for values, is_good in zip(ends_of(ranges[name]), (True, False)):
-                        for value in values:
-                            self.objects(cell, is_good, lambda rows: put(rows["1"], inner, key, place if len(names) > 1 else None, value), (key, name, short_of(value)))
+        self.columns_of_objects("decks", forms.DECK, self.ranges.deck, None)
+        self.columns_of_objects("dconf", forms.OPTIONS, self.ranges.options, None)
+        for inner, form in (("new", forms.NEW), ("rev", forms.REV), ("lapse", forms.LAPSE)):
+            self.columns_of_objects("dconf", form, self.ranges.options, inner)
+
+    def test_options_of_version_1(self):
+        begin = lambda rows: rows.update({"1": copy.deepcopy(OLD_GROUP)})
+        self.columns_of_objects("dconf", forms.OLD_OPTIONS, self.ranges.options, None, begin)
+        for inner, _, form in forms.OLD_OPTIONS[5:]:
+            self.columns_of_objects("dconf", form, self.ranges.options, inner, begin)
 
     def test_note_types(self):
         for key, _, name in forms.NOTE_TYPE[1:4]:
@@ -213,6 +237,11 @@ class Ends(Case):
             ("decks", lambda rows: rows["1"].update(k=nested(63))),
             ("decks", lambda rows: rows["1"].update(k=18446744073709551615)),
             ("dconf", lambda rows: rows["1"]["lapse"].update(k=nested(62))),
+            ("dconf", lambda rows: rows["1"]["lapse"].update(delays=nested(62))),
+            ("dconf", lambda rows: rows["1"]["rev"].update(ease4="1.300", hardFactor="2", ivlFct="0.85", ease4Pm="any")),
+            ("dconf", lambda rows: rows.update({"1": dict(OLD_GROUP, new=dict(OLD_GROUP["new"], steps=nested(99)))})),
+            ("dconf", lambda rows: rows.update({"1": dict(OLD_GROUP, lapse=dict(OLD_GROUP["lapse"], steps="any", mult=2))})),
+            ("dconf", lambda rows: rows.update({"1": dict(OLD_GROUP, rev=dict(OLD_GROUP["rev"], ease4="any", steps=nested(62)))})),
             ("models", lambda rows: rows["1"]["flds"][0].update(ord="any")),
             ("models", lambda rows: rows["1"]["flds"][0].pop("ord")),
         ]
@@ -223,8 +252,15 @@ class Ends(Case):
             ("dconf", lambda rows: rows["1"]["lapse"].update(k=nested(63))),
             ("dconf", lambda rows: rows["1"]["new"].pop("bury")),
             ("dconf", lambda rows: rows["1"].update(rev=[])),
-            ("dconf", lambda rows: rows["1"]["new"].update(delays=[1, 2.0])),
+            ("dconf", lambda rows: rows["1"]["new"].update(steps=[60, 2.0])),
             ("dconf", lambda rows: rows["1"]["new"].update(ints=[1])),
+            ("dconf", lambda rows: rows["1"]["new"].update(delays=[1])),
+            ("dconf", lambda rows: rows["1"]["lapse"].update(delays=[1.5])),
+            ("dconf", lambda rows: rows.update({"1": dict(OLD_GROUP, new=rows["1"]["new"])})),
+            ("dconf", lambda rows: rows.update({"1": dict(OLD_GROUP, new=dict(OLD_GROUP["new"], delays=None))})),
+            ("dconf", lambda rows: rows.update({"1": dict(OLD_GROUP, new=dict(OLD_GROUP["new"], steps=1.5))})),
+            ("dconf", lambda rows: rows.update({"1": dict(OLD_GROUP, rev=dict(OLD_GROUP["rev"], steps=nested(63)))})),
+            *[("dconf", lambda rows, text=text: rows["1"]["rev"].update(ease4=text)) for text in (".5", "1.", "01", "-1", "1.3001", "1000000", "\u0661", "", 1, 1.3, None)],
             ("models", lambda rows: rows["1"]["flds"][0].update(ord=1.5)),
             ("models", lambda rows: rows["1"]["flds"].append("x")),
             ("models", lambda rows: rows["1"].update(type=True)),
@@ -278,6 +314,16 @@ def put(row, inner, key, place, value):
     else:
         target[key] = copy.copy(target[key])
         target[key][place] = value
+
+
+def decimal_text(permille):
+    """A number of thousandths as a decimal text. One below 0 has no such text."""
+    return "%s%d.%03d" % ("-" if permille < 0 else "", *divmod(abs(permille), 1000))
+
+
+def in_minutes(steps):
+    """The range of a column of steps, which is in seconds, as version 1 has it."""
+    return Steps(steps.most, Between(1, steps.each.most // 60))
 
 
 def short_of(value):
