@@ -30,7 +30,7 @@ pub fn permille(alloc: Global, arguments: &Value) -> Result<String, Unread> {
     if permille < 0 || permille > 999_999_999 {
         return Err(Unread::Bad);
     }
-    let text = write_decimal(permille)?;
+    let text = write_decimal(alloc, permille)?;
     Ok(String::from_str(alloc, text.as_str())?)
 }
 
