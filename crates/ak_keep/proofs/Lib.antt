@@ -2,6 +2,7 @@ pub mod CardIds
 pub mod Causing
 pub mod Collecting
 pub mod Forming
+pub mod HeadNumbers
 pub mod Paging
 pub mod RowsByName
 pub mod TablePlaces

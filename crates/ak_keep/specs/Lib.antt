@@ -2,6 +2,7 @@ pub mod Collections
 pub mod Entries
 pub mod FreeNames
 pub mod Graves
+pub mod HeadNumbers
 pub mod Keepers
 pub mod Lookups
 pub mod Marks

@@ -1,14 +1,17 @@
-ghost use Rattle.std.specs.Prelude.{◌≡◌, ◌≢◌, ◌<◌, ◌≤◌, Bool, true, false, Err, length, map, IfOk, OnOk, OnErr};
+ghost use Rattle.std.specs.Prelude.{◌≡◌, ◌≢◌, ◌<◌, ◌≤◌, Bool, true, false, Err, is_some, length, map, IfOk, IfSome, OnOk, OnErr};
 ghost use Rattle.std.specs.List.{All, IsDistinct};
+ghost use Rattle.std.specs.Option.{option_map};
 ghost use Rattle.std.specs.Ordering.{eq_by_cmp};
 ghost use Rattle.ak_base.specs.Heads.{AreMomentsInRange, IsHeadInRange};
 ghost use Rattle.ak_base.specs.Names.{name_cmp};
 ghost use Rattle.ak_base.specs.Rows.{IsChecked, name_of};
 ghost use Rattle.ak_faults.specs.Causes.{GoesOn};
 ghost use Rattle.ak_keep.specs.Collections.{AscendsPast, IsPageOf, wanted_past, is_wanted};
+ghost use Rattle.ak_keep.specs.HeadNumbers.{AreNumbersInRange, numbers_of};
 ghost use Rattle.ak_keep.specs.Keepers.{IsMarkedAt, KeepCause, is_marked, put, removed, head_set, moments_set, replaced, marked_here, back, committed};
 ghost use Rattle.ak_keep.specs.declared.keepers.KeepFault.TheVariants.{Memory as WantOfMemory};
 
+use crate::head_numbers::Numbers;
 use crate::readables::Readable;
 use ak_base::{Head, List, Memory, Name, Row, Table};
 
@@ -19,7 +22,7 @@ use ak_base::{Head, List, Memory, Name, Row, Table};
 pub trait Keeper: Readable {
     ghost use Rattle.ak_keep.specs.Readings.{ReadsBy};
 
-    /// Whether `remove`, `set_moments` and `commit` take no memory.
+    /// Whether `numbers`, `remove`, `set_moments`, `mark` and `commit` take no memory.
     ghost spares_memory: { Bool };
 
     /// Whether it is marked. It takes no memory.
@@ -28,6 +31,13 @@ pub trait Keeper: Readable {
 
         // All that a keeper gives passes its check.
         ensures checks { Self.checks ≡ true };
+
+    /// The numbers of the head, None if no collection is held. Unlike `head` it copies no settings and no tags.
+    fn numbers(&mut self) -> Result<Option<Numbers>, KeepFault>
+        ensures reads { ReadsBy Self.Lookup self.old self.new result (λ h numbers. numbers ≡ option_map numbers_of h.head) }
+        ensures held { IfOk result (λ numbers. is_some numbers ≡ (Self.keeping self.old).headed.current) }
+        ensures range { IfOk result (λ numbers. IfSome numbers AreNumbersInRange) }
+        ensures spares { spares_memory ≡ true → result ≢ Err WantOfMemory };
 
     /// Puts the row under its name, in place of the row that is held there.
     fn put(&mut self, row: Row) -> Result<(), KeepFault>
@@ -110,7 +120,8 @@ pub trait Keeper: Readable {
         ensures commits { OnOk result (committed (Self.keeping self.new) ≡ Self.keeping self.old) }
         ensures marked { OnOk result (IsMarkedAt (Self.keeping self.old) (Self.keeping self.new)) }
         ensures err { OnErr result (Self.keeping self.new ≡ Self.keeping self.old) }
-        ensures cause { KeepCause (Self.health self.old) (Self.health self.new) result };
+        ensures cause { KeepCause (Self.health self.old) (Self.health self.new) result }
+        ensures spares { spares_memory ≡ true → result ≢ Err WantOfMemory };
 
     /// Goes back to what was held at the mark, and is no longer marked. It can't be refused.
     fn back(&mut self)

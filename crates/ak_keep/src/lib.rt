@@ -3,6 +3,7 @@
 
 mod commits;
 mod decks;
+mod head_numbers;
 mod keepers;
 mod lookups;
 mod readables;
@@ -10,6 +11,7 @@ mod walks;
 
 pub use commits::keep_or_back;
 pub use decks::read_decks;
+pub use head_numbers::Numbers;
 pub use keepers::{KeepFault, Keeper, Wanted};
 pub use lookups::{
     card_at, deck_at, deck_of_card, note_at, note_type_at, options_at, options_of_card,

@@ -2,11 +2,13 @@ ghost use Rattle.std.specs.Prelude.{◌≡◌, ◌<◌, ◌^◌, ◌≤◌, true
 ghost use Rattle.std.specs.FinMap as finite;
 ghost use Rattle.std.specs.List.{All};
 ghost use Rattle.std.specs.List.Sorted.{IsStrictlySortedBy};
+ghost use Rattle.std.specs.Option.{option_map};
 ghost use Rattle.std.specs.Ordering.{int_cmp};
 ghost use Rattle.ak_base.specs.Heads.{AreMomentsInRange, IsHeadInRange};
 ghost use Rattle.ak_base.specs.Rows.{IsChecked, name_of};
 ghost use Rattle.ak_keep.specs.Collections.{AscendsPast, IsId, IsPageOf, IsWellFormed, Rows, with_row, without, with_head, with_moments, made_of, rows_past, wanted_past, is_wanted, cards_of, row_count};
 ghost use Rattle.ak_keep.specs.FreeNames.{IsFirstFree, IsFoundFrom, is_used};
+ghost use Rattle.ak_keep.specs.HeadNumbers.{AreNumbersInRange, numbers_of};
 ghost use Rattle.ak_keep.specs.Marks as marks;
 ghost use Rattle.ak_memory.specs.Collections.{rows_before};
 
@@ -14,7 +16,7 @@ use crate::heads::{MarkedHead, Moments};
 use crate::marked_rows::MarkedRows;
 use crate::versions::Version;
 use ak_base::{Head, List, Memory, Name, Row, Table};
-use ak_keep::Wanted;
+use ak_keep::{Numbers, Wanted};
 use std::alloc::Global;
 use std::marker::Model;
 use std::mem;
@@ -179,6 +181,15 @@ impl MarkedCollection {
         ensures range { IfOk result (λ head. IfSome head IsHeadInRange) }
     {
         self.head.copy()
+    }
+
+    /// The numbers of the head. It takes no memory.
+    #[tactic(auto, using(ak_keep::proofs::HeadNumbers::numbers_fit))]
+    pub(crate) fn numbers(&self) -> Option<Numbers>
+        ensures numbers { result ≡ option_map numbers_of self.now.current.head }
+        ensures range { IfSome result AreNumbersInRange }
+    {
+        self.head.numbers()
     }
 
     /// Puts this head in place of the one that is held. It takes no memory.

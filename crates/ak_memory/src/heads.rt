@@ -1,9 +1,12 @@
 ghost use Rattle.std.specs.Prelude.{◌≡◌, Some, None, is_some, IfOk};
+ghost use Rattle.std.specs.Option.{option_map};
+ghost use Rattle.ak_keep.specs.HeadNumbers.{numbers_of};
 ghost use Rattle.ak_memory.specs.Heads.{head_before, with_moments};
 ghost use Rattle.ak_memory.specs.Versions.{at, both, with_current};
 
 use crate::versions::Version;
 use ak_base::{Head, Memory};
+use ak_keep::Numbers;
 use std::marker::Model;
 use std::mem;
 
@@ -78,6 +81,16 @@ impl MarkedHead {
                 Ok(Some(copy))
             }
             None => Ok(None),
+        }
+    }
+
+    /// The numbers of the head that is held. It takes no memory.
+    pub(crate) fn numbers(&self) -> Option<Numbers>
+        ensures { result ≡ option_map numbers_of self.now.current }
+    {
+        match &self.head {
+            Some(head) => Some(Numbers::of(head)),
+            None => None,
         }
     }
 

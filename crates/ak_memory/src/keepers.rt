@@ -2,6 +2,7 @@ ghost use Rattle.std.specs.Prelude.{◌≡◌, ◌<◌, ◌≤◌, ◌≤ℤ◌,
 ghost use Rattle.std.specs.FinMap as finite;
 ghost use Rattle.std.specs.List.{All, IsDistinct};
 ghost use Rattle.std.specs.List.Sorted.{IsStrictlySortedBy};
+ghost use Rattle.std.specs.Option.{option_map};
 ghost use Rattle.std.specs.Ordering.{eq_by_cmp, int_cmp};
 ghost use Rattle.std.specs.Result.{IsErrOf};
 ghost use Rattle.ak_base.specs.Heads.{AreMomentsInRange, IsHeadInRange};
@@ -9,6 +10,7 @@ ghost use Rattle.ak_base.specs.Names.{name_cmp};
 ghost use Rattle.ak_base.specs.Rows.{IsChecked, name_of};
 ghost use Rattle.ak_keep.specs.Collections.{AscendsPast, IsId, IsPageOf, IsWellFormed, with_row, without, with_head, with_moments, made_of, rows_past, wanted_past, row_count, cards_of, is_wanted};
 ghost use Rattle.ak_keep.specs.FreeNames.{IsFirstFree, IsFoundFrom, is_used};
+ghost use Rattle.ak_keep.specs.HeadNumbers.{AreNumbersInRange, numbers_of};
 ghost use Rattle.ak_keep.specs.Keepers.{KeepCause, all_known, is_marked, put};
 ghost use Rattle.ak_keep.specs.Marks as marks;
 ghost use Rattle.ak_keep.specs.MemoryKeepers.{FailsWhere, health_of, is_to_fail, called, called_with, answer_of};
@@ -19,7 +21,7 @@ use crate::collections::MarkedCollection;
 use crate::marked_rows::MarkedRows;
 use ak_base::{Head, List, Name, Row, Table};
 use ak_faults::Calls;
-use ak_keep::{KeepFault, Keeper, Lookup, Readable, Wanted};
+use ak_keep::{KeepFault, Keeper, Lookup, Numbers, Readable, Wanted};
 use std::alloc::Global;
 use std::marker::Model;
 
@@ -184,6 +186,16 @@ impl Keeper for MemoryKeeper {
 
     fn marked(&self) -> bool {
         self.memory.is_marked()
+    }
+
+    fn numbers(&mut self) -> Result<Option<Numbers>, KeepFault>
+        ensures state { self.new ≡ called self.old }
+        ensures answer { result ≡ answer_of (is_to_fail self.old) (option_map numbers_of self.old.kept.current.head) }
+        ensures range { IfOk result (λ numbers. IfSome numbers AreNumbersInRange) }
+        ensures cause { KeepCause (health_of self.old) (health_of self.new) result }
+    {
+        next_call(&mut self.calls)?;
+        Ok(self.memory.numbers())
     }
 
     fn put(&mut self, row: Row) -> Result<(), KeepFault>

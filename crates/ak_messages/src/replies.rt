@@ -1,5 +1,6 @@
-ghost use Rattle.std.specs.Prelude.{◌≡◌, IfOk};
+ghost use Rattle.std.specs.Prelude.{◌≡◌, true, IfOk, IsOk};
 ghost use Rattle.ak_messages.specs.MessageForms.{is_given_to};
+ghost use Rattle.ak_messages.specs.declared.methods.Method.TheVariants as methods;
 
 use crate::methods::Method;
 use crate::requests::{Changes, Chunk, GraveIds, SanityCounts, Whole};
@@ -88,9 +89,10 @@ pub struct SanityReply {
 }
 
 impl Reply {
-    /// An equal reply of its own.
+    /// An equal reply of its own. What a finish is given takes no memory.
     pub fn copy(&self) -> Result<Reply, Memory>
-        ensures { IfOk result (λ made. made ≡ self.now) }
+        ensures made { IfOk result (λ made. made ≡ self.now) }
+        ensures spares { is_given_to methods.Finish self.now.give ≡ true → IsOk result }
     {
         Ok(Reply {
             status: self.status,
@@ -119,9 +121,10 @@ impl Give {
         }
     }
 
-    /// An equal one of its own.
+    /// An equal one of its own. What a finish is given takes no memory.
     pub fn copy(&self) -> Result<Give, Memory>
-        ensures { IfOk result (λ made. made ≡ self.now) }
+        ensures made { IfOk result (λ made. made ≡ self.now) }
+        ensures spares { is_given_to methods.Finish self.now ≡ true → IsOk result }
     {
         match self {
             Give::Nothing => Ok(Give::Nothing),

@@ -9,6 +9,7 @@ ghost use Rattle.ak_base.specs.Names.{name_cmp};
 ghost use Rattle.ak_base.specs.Rows.{IsChecked, name_of};
 ghost use Rattle.ak_keep.specs.Collections.{AscendsPast, IsId, IsPageOf, with_row, without, with_head, with_moments, made_of, rows_past, wanted_past, row_count, cards_of, is_wanted};
 ghost use Rattle.ak_keep.specs.FreeNames.{IsFirstFree, IsFoundFrom, is_used};
+ghost use Rattle.ak_keep.specs.HeadNumbers.{AreNumbersInRange, numbers_of};
 ghost use Rattle.ak_keep.specs.Keepers.{IsRightlyKnown, KeepCause, all_known, is_marked};
 ghost use Rattle.ak_keep.specs.Marks as marks;
 ghost use Rattle.ak_keep.specs.declared.keepers.KeepFault.TheVariants.{Failed, Memory as WantOfMemory};
@@ -18,7 +19,7 @@ use crate::loads::memory_of;
 use crate::tables::Tables;
 use crate::touched::Touched;
 use ak_base::{Head, List, Memory, Name, Row, Table};
-use ak_keep::{KeepFault, Keeper, Lookup, Readable, Wanted};
+use ak_keep::{KeepFault, Keeper, Lookup, Numbers, Readable, Wanted};
 use ak_memory::MemoryKeeper;
 use std::alloc::Global;
 use std::marker::Model;
@@ -181,6 +182,16 @@ impl<T: Tables> Keeper for TableKeeper<T> {
 
     fn marked(&self) -> bool {
         self.memory.marked()
+    }
+
+    fn numbers(&mut self) -> Result<Option<Numbers>, KeepFault>
+        ensures numbers { IfOk result (λ numbers. numbers ≡ option_map numbers_of self.old.kept.current.head) }
+        ensures range { IfOk result (λ numbers. IfSome numbers AreNumbersInRange) }
+        ensures state { self.new ≡ self.old }
+        ensures unfailing { IsErrOf result Failed → ⊥ }
+        ensures cause { KeepCause self.old.health self.new.health result }
+    {
+        self.memory.numbers()
     }
 
     fn put(&mut self, row: Row) -> Result<(), KeepFault>

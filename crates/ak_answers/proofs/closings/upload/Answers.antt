@@ -30,7 +30,7 @@ returns-clause-gives g c =
 
 pub returns-clause-ok : goal.returns-clause-ok
 returns-clause-ok g c =
-    upload_puts c.in_ok-rows.rows c.args.whole.now.rows c.in_ok-made.made (uploaded_head c.args.head.now c.args.whole.now c.args.now)
+    upload_puts c.in_ok-rows.rows c.args.whole.now.rows c.in_ok-made.made (uploaded_head c.args.numbers.now c.args.whole.now c.args.now)
     (marked_here (g.K.Lookup.keeping c.args.keeper.now)) (g.K.Lookup.keeping c.replace_marked.new.keeper)
     (c.in_ok-rows.ensures ∙ ap uploaded_rows c.as_slice.ensures) (rw (to_z-of_z w64 c.args.now c.ranges.now) at c.in_ok-made.ensures.ok)
     c.in_ok-replace_marked.ensures.ok

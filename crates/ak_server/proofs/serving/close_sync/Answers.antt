@@ -25,12 +25,13 @@ returns-clause-right g c =
     on_ok c.commit.result _ _ _ _
     (λ ok live kept. closed_right g.K.Lookup.keeping c.args.account.now c.args.basis c.args.request.now c.requires.right c.requires.accepted c.commit.new.account c.args.now
     (g.K.Lookup.keeping c.finish.new.keeper) c.granted.result ok live kept
-    (ap (λ (k : Keeping). k.headed.current) c.in_ok-give.ensures.ok ∙ c.requires.right.keeper.held) (ap (λ (r : Reply). r.status) c.granted.ensures))
+    (ap (λ (k : Keeping). k.headed.current) c.in_ok-give.ensures.ok ∙ c.requires.right.keeper.held) (ap (λ (r : Reply). r.status) c.granted.ensures)
+    (finish_gives c.args.request.now c.granted.result (finished_moment c.args.basis (to_z w64 (of_z w64 c.args.now))) c.requires.asked (c.granted.ensures ∙ ap granted c.in_ok-give.ensures.gives)))
     c.commit.ensures.ok c.commit.ensures.live c.commit.ensures.kept
 
 pub returns-clause-does : goal.returns-clause-does
 returns-clause-does g c =
-    let made : g.K.Lookup.keeping c.finish.new.keeper ≡ moments_set (finished_moment c.args.basis c.args.now) c.args.basis.head.schema (finished_usn c.args.basis) c.args.basis.head.last_sync (g.K.Lookup.keeping c.args.account.now.keeper) =
+    let made : g.K.Lookup.keeping c.finish.new.keeper ≡ moments_set (finished_moment c.args.basis c.args.now) c.args.basis.numbers.schema (finished_usn c.args.basis) c.args.basis.numbers.last_sync (g.K.Lookup.keeping c.args.account.now.keeper) =
     rw (to_z-of_z w64 c.args.now c.ranges.now) at c.in_ok-give.ensures.ok in
     let given = c.granted.ensures ∙ ap granted (rw (to_z-of_z w64 c.args.now c.ranges.now) at c.in_ok-give.ensures.gives) in
     if_ok c.commit.result c.granted.result _ _ _ _

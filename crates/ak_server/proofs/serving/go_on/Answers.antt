@@ -23,13 +23,13 @@ returns-then-ends-clause-does g c = λ now.
       kept = Some c.in_ok-kept.kept;
     } in
     ending_accepts g.K.Lookup.keeping c.args.account.now c.args.basis c.args.request.now c.requires.right c.requires.accepted new c.in_ok-give.field-0 c.granted-reply.result c.requires.stays
-    (c.end_session.ensures.back ∙ c.in_ok-give.ensures.committed) c.in_ok-give.ensures.told c.granted-reply.ensures (ap Some c.in_ok-kept.ensures) c.end_session.ensures.live
+    (c.end_session.ensures.back ∙ c.in_ok-give.ensures.committed) c.in_ok-give.ensures.told c.granted-reply.ensures (ap Some c.in_ok-kept.ensures.kept) c.end_session.ensures.live
     (sym c.is_bad-ends.ensures ∙ c.if-ends.true) now
 
 pub returns-clause-right : goal.returns-clause-right
 returns-clause-right g c =
     going_right g.K.Lookup.keeping c.args.account.now c.args.basis c.args.request.now c.requires.right c.requires.accepted _ c.in_ok-give.field-0 c.with.result c.granted-reply.result c.requires.stays
-    c.in_ok-give.ensures.ok c.in_ok-give.ensures.committed c.in_ok-give.ensures.told c.granted-reply.ensures (ap Some c.in_ok-kept.ensures)
+    c.in_ok-give.ensures.ok c.in_ok-give.ensures.committed c.in_ok-give.ensures.told c.granted-reply.ensures (ap Some c.in_ok-kept.ensures.kept)
     refl c.with.ensures.summary c.with.ensures.given c.in_ok-give.ensures.given
 
 pub returns-clause-does : goal.returns-clause-does
@@ -42,5 +42,5 @@ returns-clause-does g c = λ now.
       kept = Some c.in_ok-kept.kept;
     } in
     going_accepts g.K.Lookup.keeping c.args.account.now c.args.basis c.args.request.now c.requires.right c.requires.accepted new c.in_ok-give.field-0 c.with.result c.granted-reply.result c.requires.stays
-    c.in_ok-give.ensures.ok c.in_ok-give.ensures.committed c.in_ok-give.ensures.told c.granted-reply.ensures (ap Some c.in_ok-kept.ensures)
+    c.in_ok-give.ensures.ok c.in_ok-give.ensures.committed c.in_ok-give.ensures.told c.granted-reply.ensures (ap Some c.in_ok-kept.ensures.kept)
     refl c.with.ensures.summary c.with.ensures.given c.in_ok-give.ensures.given (sym c.is_bad-ends.ensures ∙ c.if-ends.false) now
