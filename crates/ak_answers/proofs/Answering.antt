@@ -1,5 +1,5 @@
 -- What an accepted request is given, as the answer of its session.
-use Rattle.std.specs.Prelude.{◌≡◌, ℤ, Bool, false, Option, Some, None, IfSome}
+use Rattle.std.specs.Prelude.{◌≡◌, ℤ, ⊤, Bool, false, Option, Some, None, IfSome}
 use Rattle.std.proofs.Common.{refl, sym, ap, subst, ◌∙◌}
 use Rattle.ak_base.specs.declared.heads.Head.{Head}
 use Rattle.ak_keep.specs.Collections.{Collection, Holding, Rows, collection_of}

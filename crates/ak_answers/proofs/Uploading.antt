@@ -3,15 +3,15 @@ use Rattle.std.specs.Cmp.{first_so, second_so}
 use Rattle.std.specs.List.{All, AllByRecursion, IsDistinct, list_all, list_any}
 use Rattle.std.specs.List.Sorted.{IsStrictlySortedBy}
 use Rattle.std.specs.Cmp.Lexicographic.{slice_cmp}
-use Rattle.std.specs.Ordering.{eq_by_cmp, int_eq, nat_cmp}
-use Rattle.std.specs.Prelude.{◌≡◌, ℤ, pos, negsuc, ◌+ℤ◌, ◌≤ℤ◌, ◌||◌, ◌&&◌, Bool, true, false, not, cond, int_lt, is_some, List, [], ◌∷◌, map, filter}
-use Rattle.std.proofs.Common.{refl, sym, ap, subst, ◌∙◌, arith}
+use Rattle.std.specs.Ordering.{eq_by_cmp, nat_cmp}
+use Rattle.std.specs.Prelude.{◌≡◌, ℤ, pos, ◌≤ℤ◌, ◌||◌, ◌&&◌, Bool, true, false, not, cond, is_some, List, [], ◌∷◌, map, filter}
+use Rattle.std.proofs.Common.{sym, ap, subst, ◌∙◌, arith}
 use Rattle.std.proofs.lemmas.Bool.{or_parts}
 use Rattle.std.proofs.lemmas.Int.{ints}
 use Rattle.std.proofs.lemmas.List.Elements.{All-from_recursion}
 use Rattle.ak_base.proofs.RowFacts.{name_of-with_usn}
-use Rattle.ak_base.specs.Heads.{IsHeadInRange, IsMoment, IsTagInRange, IsWithin, tag_names}
-use Rattle.ak_base.specs.Limits.{last_head_usn, last_moment, last_stamp, last_usn}
+use Rattle.ak_base.specs.Heads.{IsHeadInRange, IsMoment, IsTagInRange, tag_names}
+use Rattle.ak_base.specs.Limits.{last_moment, last_stamp}
 use Rattle.ak_base.specs.Names.{name_cmp}
 use Rattle.ak_base.specs.Rows.{IsChecked, buried_of, name_of, with_usn}
 use Rattle.ak_base.specs.declared.heads.Conf.{Conf}

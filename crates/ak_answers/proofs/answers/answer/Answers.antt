@@ -2,11 +2,8 @@ use Rattle.std.specs.Prelude.{false}
 use Rattle.std.proofs.Common.{refl, rules, w64, SFits}
 use Rattle.std.proofs.lemmas.Int.{to_z-of_z}
 use Rattle.ak_keep.proofs.Causing.{cause-ok}
-use Rattle.ak_keep.specs.Keepers.{WhereHeld}
-use Rattle.ak_keep.specs.Collections.{Collection}
 use Rattle.ak_machine.proofs.Deciding.{ok_so}
 use Rattle.ak_messages.specs.declared.requests.Ask.TheVariants as asks
-use Rattle.ak_answers.specs.Answers.{Answers}
 use Rattle.ak_answers.proofs.Answering.{changes_answered, chunk_answered, download_answered, nothing_answered, sanity_answered, start_answered}
 use Rattle.ak_answers.proofs.answers.answer.Goals as goal
 

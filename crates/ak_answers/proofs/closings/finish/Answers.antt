@@ -1,5 +1,5 @@
-use Rattle.std.specs.Prelude.{◌≡◌, ℤ}
-use Rattle.std.proofs.Common.{ap, ◌∙◌, rules, w64, SFits, to_z, of_z}
+use Rattle.std.specs.Prelude.{ℤ}
+use Rattle.std.proofs.Common.{ap, ◌∙◌, rules, w64, SFits}
 use Rattle.std.proofs.lemmas.Int.{to_z-of_z}
 use Rattle.ak_keep.proofs.Causing.{cause-ok}
 use Rattle.ak_messages.specs.declared.replies.Give.TheVariants as gives

@@ -1,7 +1,7 @@
 use Rattle.std.specs.List.{All, IsDistinct}
 use Rattle.std.specs.Ordering.{eq_by_cmp}
-use Rattle.std.specs.Prelude.{◌≡◌, List, map}
-use Rattle.std.proofs.Common.{sym, ap, subst, ◌∙◌, rules, w64, SFits}
+use Rattle.std.specs.Prelude.{List, map}
+use Rattle.std.proofs.Common.{sym, ap, subst, ◌∙◌, w64}
 use Rattle.std.proofs.lemmas.Int.{to_z-of_z}
 use Rattle.ak_base.specs.Names.{name_cmp}
 use Rattle.ak_base.specs.Rows.{IsChecked, name_of}

@@ -12,7 +12,7 @@ use Rattle.ak_messages.specs.declared.requests.Ask.{Ask}
 use Rattle.ak_messages.specs.declared.requests.Ask.TheVariants as asks
 use Rattle.ak_protocol.specs.Replies.{granted}
 use Rattle.ak_server.proofs.Closing.{closed_accepts, closed_right, marked_for, upload_fits, upload_reply, upload_tables}
-use Rattle.ak_server.proofs.Faulting.{if_ok, on_ok}
+use Rattle.ak_server.proofs.Faulting.{err_so, if_ok, ok_so, on_ok}
 use Rattle.ak_session.proofs.Ranges.{not_both}
 use Rattle.ak_session.specs.Requests.{asked_method, asks_commit, same_method}
 use Rattle.ak_server.proofs.serving.close_upload.Goals as goal
@@ -55,6 +55,14 @@ returns-clause-does g c =
     (λ s own. upload_reply g.K.Lookup.keeping c.args.account.now c.args.basis c.args.request.now c.requires.right c.requires.accepted s own c.args.now
     (g.K.Lookup.keeping c.upload.new.keeper) c.granted.result c.args.whole.now c.requires.asked given))
     c.commit.ensures.reply c.commit.ensures.ok c.commit.ensures.live c.commit.ensures.kept
+
+pub returns-clause-status : goal.returns-clause-status
+returns-clause-status g c =
+    ok_so c.commit.result (λ (x : Reply). x ≡ c.granted.result) (λ (x : Reply). x.status ≡ 200)
+    (λ x is. ap (λ (r : Reply). r.status) (is ∙ c.granted.ensures)) c.commit.ensures.reply
+
+pub returns-clause-err : goal.returns-clause-err
+returns-clause-err g c = err_so c.commit.result _ _ (λ leaves. record { committed = leaves.committed ∙ c.in_ok-give.ensures.committed; kept = leaves.kept }) c.commit.ensures.err
 
 pub returns-clause-cause : goal.returns-clause-cause
 returns-clause-cause g c = cause_after c.in_ok-give.ensures.cause.goes c.commit.ensures.cause
