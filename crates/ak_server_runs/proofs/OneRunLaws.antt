@@ -170,5 +170,5 @@ pub runs_once : {L K : Type 0} (views : Views L K) (words : List Text) (text : O
     → before.service.accounts ≡ [] → RunsOnce views serves.serves.turns serves.opened after.service
 runs_once views words text before after done serves tells none =
     let (opening, stands) = all_stand views.keeping serves.opens.listed before.keepers after.keepers before.service serves.opened serves.opens.opens tells
-      no_accounts (none_stand views.keeping before.service.accounts none) in
+    no_accounts (none_stand views.keeping before.service.accounts none) in
     record { opening = opening; opened_as = stands; run = one_run views serves.serves.turns opening serves.opened after.service serves.serves.serves stands }

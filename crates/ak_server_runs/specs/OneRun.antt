@@ -51,7 +51,7 @@ abbrev pub AnswersLinks : {L K : Type 0} → Views L K → ServerState → List 
 AnswersLinks views server [] events = events ≡ []
 AnswersLinks views server (turn ∷ turns) events =
     ((request : Request) × (now : ℤ) × (setback : Setback) × (more : List Event) × (events ≡ Asked request now setback ∷ more)
-        × IsServedTo views turn server request now setback × AnswersLinks views (server_next server (Asked request now setback)) turns more)
+    × IsServedTo views turn server request now setback × AnswersLinks views (server_next server (Asked request now setback)) turns more)
     ⊎ ((IsRefusedTo views turn ⊎ IsCutOff views turn) × AnswersLinks views server turns events)
 
 -- the clock gives the moment of each event, in their order, and nothing else
