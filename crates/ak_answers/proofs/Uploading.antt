@@ -1,18 +1,17 @@
 -- What an upload puts in place of a collection: its rows and its head are in their ranges, and no two rows share a name.
 use Rattle.std.specs.Cmp.{first_so, second_so}
-use Rattle.std.specs.FinMap.{empty}
 use Rattle.std.specs.List.{All, AllByRecursion, IsDistinct, list_all, list_any}
 use Rattle.std.specs.List.Sorted.{IsStrictlySortedBy}
 use Rattle.std.specs.Cmp.Lexicographic.{slice_cmp}
-use Rattle.std.specs.Ordering.{eq_by_cmp, int_eq, nat_cmp}
-use Rattle.std.specs.Prelude.{◌≡◌, ℤ, pos, negsuc, ◌+ℤ◌, ◌≤ℤ◌, ◌||◌, ◌&&◌, Bool, true, false, not, cond, int_lt, is_some, List, [], ◌∷◌, map, filter}
-use Rattle.std.proofs.Common.{refl, sym, ap, subst, ◌∙◌, arith}
+use Rattle.std.specs.Ordering.{eq_by_cmp, nat_cmp}
+use Rattle.std.specs.Prelude.{◌≡◌, ℤ, pos, ◌≤ℤ◌, ◌||◌, ◌&&◌, Bool, true, false, not, cond, is_some, List, [], ◌∷◌, map, filter}
+use Rattle.std.proofs.Common.{sym, ap, subst, ◌∙◌, arith}
 use Rattle.std.proofs.lemmas.Bool.{or_parts}
 use Rattle.std.proofs.lemmas.Int.{ints}
 use Rattle.std.proofs.lemmas.List.Elements.{All-from_recursion}
 use Rattle.ak_base.proofs.RowFacts.{name_of-with_usn}
-use Rattle.ak_base.specs.Heads.{IsHeadInRange, IsMoment, IsTagInRange, IsWithin, tag_names}
-use Rattle.ak_base.specs.Limits.{last_head_usn, last_moment, last_stamp, last_usn}
+use Rattle.ak_base.specs.Heads.{IsHeadInRange, IsMoment, IsTagInRange, tag_names}
+use Rattle.ak_base.specs.Limits.{last_moment, last_stamp}
 use Rattle.ak_base.specs.Names.{name_cmp}
 use Rattle.ak_base.specs.Rows.{IsChecked, buried_of, name_of, with_usn}
 use Rattle.ak_base.specs.declared.heads.Conf.{Conf}
@@ -21,7 +20,10 @@ use Rattle.ak_base.specs.declared.heads.Tag.{Tag}
 use Rattle.ak_base.specs.declared.names.Name.{Name}
 use Rattle.ak_base.specs.declared.rows.Row.{Row}
 use Rattle.ak_io.specs.Arrivals.{IsClockMoment}
-use Rattle.ak_keep.specs.Collections.{Rows}
+use Rattle.ak_keep.proofs.HeadNumbers.{some_collection}
+use Rattle.ak_keep.specs.Collections.{Collection}
+use Rattle.ak_keep.specs.HeadNumbers.{AreNumbersInRange, numbered}
+use Rattle.ak_keep.specs.declared.head_numbers.Numbers.{Numbers}
 use Rattle.ak_keep.specs.Keepers.{Keeping, replaced}
 use Rattle.ak_merge.specs.Commits.{uploaded_rows}
 use Rattle.ak_merge.specs.Tags.{IsTagName, tags_taken}
@@ -103,19 +105,19 @@ pub uploaded_checked : (whole : Whole) → is_whole_in_range whole ≡ true → 
 uploaded_checked whole is = All-from_recursion IsChecked (uploaded_rows whole.rows) (rows_fit whole.rows (parts_of whole is).rows)
 
 -- ---- the moments
-record Moments (head : Head) (whole : Whole) : Type 0 where
-  moment : has_no_next head.moment ≡ false
-  schema : has_no_next head.schema ≡ false
+record Moments (held : Numbers) (whole : Whole) : Type 0 where
+  moment : has_no_next held.moment ≡ false
+  schema : has_no_next held.schema ≡ false
   their_moment : has_no_next whole.moment ≡ false
   their_schema : has_no_next whole.schema ≡ false
 
-moments_of : (head : Head) (whole : Whole) → ((held : Rows) → has_last_moment (record { rows = held; head = head }) whole ≡ false) → Moments head whole
-moments_of head whole none =
-    let moment : Bool = has_no_next head.moment in
-    let schema : Bool = has_no_next head.schema in
+moments_of : (held : Numbers) (whole : Whole) → ((c : Collection) → has_last_moment (numbered held c) whole ≡ false) → Moments held whole
+moments_of held whole none =
+    let moment : Bool = has_no_next held.moment in
+    let schema : Bool = has_no_next held.schema in
     let their_moment : Bool = has_no_next whole.moment in
     let their_schema : Bool = has_no_next whole.schema in
-    let four = or_parts (moment || schema || their_moment) their_schema (none empty) in
+    let four = or_parts (moment || schema || their_moment) their_schema (none some_collection) in
     let three = or_parts (moment || schema) their_moment four.0 in
     let two = or_parts moment schema three.0 in
     record { moment = two.0; schema = two.1; their_moment = three.1; their_schema = four.1 }
@@ -124,11 +126,11 @@ moments_of head whole none =
 pub at_most_last : (moment : ℤ) → has_no_next moment ≡ false → moment ≤ℤ last_moment
 at_most_last moment is = grind (arith, ints, is)
 
-pub their_moment_fits : (head : Head) (whole : Whole) → ((held : Rows) → has_last_moment (record { rows = held; head = head }) whole ≡ false) → whole.moment ≤ℤ last_moment
-their_moment_fits head whole none = at_most_last whole.moment (moments_of head whole none).their_moment
+pub their_moment_fits : (held : Numbers) (whole : Whole) → ((c : Collection) → has_last_moment (numbered held c) whole ≡ false) → whole.moment ≤ℤ last_moment
+their_moment_fits held whole none = at_most_last whole.moment (moments_of held whole none).their_moment
 
-pub their_schema_fits : (head : Head) (whole : Whole) → ((held : Rows) → has_last_moment (record { rows = held; head = head }) whole ≡ false) → whole.schema ≤ℤ last_moment
-their_schema_fits head whole none = at_most_last whole.schema (moments_of head whole none).their_schema
+pub their_schema_fits : (held : Numbers) (whole : Whole) → ((c : Collection) → has_last_moment (numbered held c) whole ≡ false) → whole.schema ≤ℤ last_moment
+their_schema_fits held whole none = at_most_last whole.schema (moments_of held whole none).their_schema
 
 clock_fits : (now : ℤ) → IsClockMoment now → IsMoment now
 clock_fits now clock = let high = clock.high in record { low = clock.low; high = grind (arith, ints, high) }
@@ -146,8 +148,8 @@ unfolding IsStrictlySortedBy
 no_tags_ascend = tt
 
 -- the head that is put is in its ranges
-pub uploaded_head_fits : (held : Head) (whole : Whole) (now : ℤ) → IsClockMoment now → IsHeadInRange held → is_whole_in_range whole ≡ true
-    → ((rows : Rows) → has_last_moment (record { rows = rows; head = held }) whole ≡ false) → IsHeadInRange (uploaded_head held whole now)
+pub uploaded_head_fits : (held : Numbers) (whole : Whole) (now : ℤ) → IsClockMoment now → AreNumbersInRange held → is_whole_in_range whole ≡ true
+    → ((c : Collection) → has_last_moment (numbered held c) whole ≡ false) → IsHeadInRange (uploaded_head held whole now)
 uploaded_head_fits held whole now clock range is none =
     let parts = parts_of whole is in
     let moments = moments_of held whole none in
@@ -158,7 +160,7 @@ uploaded_head_fits held whole now clock range is none =
       moment = moment_fits now held.moment whole.moment timely moments.moment moments.their_moment;
       schema = moment_fits now held.schema whole.schema timely moments.schema moments.their_schema;
       usn = record { low = omega (arith, ints); high = omega (arith, ints) };
-      last_sync = range.last_sync;
+      last_sync = range.moments.last_sync;
       conf = settings_fit whole.conf parts.conf;
       tags = tags_stay_in_range (pos 0) (tag_names whole.tags) [] names (record { low = omega (arith, ints); high = omega (arith, ints) }) (All-from_recursion IsTagInRange [] tt);
       ascending = tags_stay_ordered (pos 0) (tag_names whole.tags) [] no_tags_ascend;
@@ -168,7 +170,7 @@ abbrev head_with : ℤ → ℤ → ℤ → ℤ → Conf → List Tag → Head
 head_with crt moment schema last_sync conf tags = record { crt = crt; moment = moment; schema = schema; usn = pos 1; last_sync = last_sync; conf = conf; tags = tags }
 
 -- a head of these parts is the one that an upload makes
-pub uploaded_head_is : (held : Head) (whole : Whole) (now crt moment schema last_sync : ℤ) (conf : Conf) (tags : List Tag)
+pub uploaded_head_is : (held : Numbers) (whole : Whole) (now crt moment schema last_sync : ℤ) (conf : Conf) (tags : List Tag)
     → crt ≡ whole.crt → moment ≡ moment_past now held.moment whole.moment → schema ≡ moment_past now held.schema whole.schema
     → last_sync ≡ held.last_sync → conf ≡ whole.conf → tags ≡ tags_taken (pos 0) (tag_names whole.tags) []
     → record { crt = crt; moment = moment; schema = schema; usn = pos 1; last_sync = last_sync; conf = conf; tags = tags } ≡ uploaded_head held whole now

@@ -1,11 +1,13 @@
 -- What an accepted request does to a session's tables, and what it is given.
-use Rattle.std.specs.Option.{option_map_or}
+use Rattle.std.specs.Option.{option_map, option_map_or}
 use Rattle.std.specs.Prelude.{◌≡◌, ℤ, true, false, Bool, int_lt, if◌then◌else◌, List, Option, Some, None}
 use Rattle.ak_base.specs.Heads.{IsHeadInRange}
 use Rattle.ak_base.specs.declared.heads.Head.{Head}
 use Rattle.ak_base.specs.declared.rows.Row.{Row}
 use Rattle.ak_keep.specs.Collections.{Rows, Collection, Holding}
+use Rattle.ak_keep.specs.HeadNumbers.{AreNumbersInRange, numbers_of}
 use Rattle.ak_keep.specs.Keepers.{Keeping, WhereTold, changed, marked_here}
+use Rattle.ak_keep.specs.declared.head_numbers.Numbers.{Numbers}
 use Rattle.ak_keep.specs.declared.keepers.Wanted.TheVariants.{From}
 use Rattle.ak_machine.specs.Serving.{reply_to}
 use Rattle.ak_machine.specs.Sessions.{session_seen}
@@ -21,7 +23,6 @@ use Rattle.ak_messages.specs.declared.requests.Changes.{Changes}
 use Rattle.ak_protocol.specs.Replies.{granted}
 use Rattle.ak_parts.specs.Chunks.{IsSlice, ahead_of}
 use Rattle.ak_answers.specs.declared.answers.Answered.{Answered}
-use Rattle.ak_answers.specs.declared.answers.Basis.{Basis}
 use Rattle.ak_session.specs.Asks.{brought}
 use Rattle.ak_session.specs.Messages.{changes_of, chunk_of}
 use Rattle.ak_session.specs.Requests.{asked_method, same_method}
@@ -32,6 +33,12 @@ pub record HasHead (k : Keeping) (head : Head) : Type 0 where
   pub held : k.headed.current ≡ true
   pub told : WhereTold k (λ h. h.head ≡ Some head)
   pub range : IsHeadInRange head
+
+-- a keeper that holds a head with these numbers, which are in their ranges
+pub record HasNumbers (k : Keeping) (numbers : Numbers) : Type 0 where
+  pub held : k.headed.current ≡ true
+  pub told : WhereTold k (λ h. option_map numbers_of h.head ≡ Some numbers)
+  pub range : AreNumbersInRange numbers
 
 -- what is held once this came, if a collection is held
 abbrev pub held_with : Received → Holding → Holding
@@ -95,6 +102,6 @@ abbrev pub Answers : Collection → Session → Ask → Answered → Type 0
 Answers tables live asks.Chunk it = IsNextChunk tables.rows live it
 Answers tables live ask it = IsAnswer tables live ask it
 
--- the tables of a holding with the head of what a request was tested against
-abbrev pub tables_of : Basis → Holding → Collection
-tables_of basis h = record { rows = h.rows; head = basis.head }
+-- the tables of a holding with this head
+abbrev pub tables_of : Head → Holding → Collection
+tables_of head h = record { rows = h.rows; head = head }

@@ -1,5 +1,5 @@
 -- All rows of a collection, table by table.
-use Rattle.std.specs.Prelude.{ℤ, pos, List}
+use Rattle.std.specs.Prelude.{pos, List}
 use Rattle.ak_base.specs.declared.heads.Head.{Head}
 use Rattle.ak_base.specs.declared.names.Table.{Table}
 use Rattle.ak_base.specs.declared.rows.Row.{Row}

@@ -3,34 +3,34 @@ ghost use Rattle.std.specs.Prelude.{◌≡◌, true, false, IfOk, OnOk};
 ghost use Rattle.std.specs.Option.{option_map, unwrap_or};
 ghost use Rattle.ak_base.specs.Heads.{IsHeadInRange};
 ghost use Rattle.ak_keep.specs.Collections.{Rows};
-ghost use Rattle.ak_keep.specs.Keepers.{IsMarkedAt, KeepCause, WhereTold, back, changed, is_marked, marked_here};
+ghost use Rattle.ak_keep.specs.Keepers.{IsMarkedAt, KeepCause, WhereHeld, WhereTold, back, changed, is_marked, marked_here};
 ghost use Rattle.ak_keep.specs.Readings.{ReadsBy};
 ghost use Rattle.ak_keep.specs.declared.keepers.Wanted.TheVariants.{From as From_usn};
 ghost use Rattle.ak_merge.specs.Commits.{with_received};
 ghost use Rattle.ak_messages.specs.declared.requests.Ask.TheVariants as asks;
-ghost use Rattle.ak_answers.specs.Answers.{Answers, HasHead, IsNextChunk, answered, changes_given, expects_mark, held_with, is_chunk, settings_unless_newer, tables_of};
+ghost use Rattle.ak_answers.specs.Answers.{Answers, HasHead, HasNumbers, IsNextChunk, answered, changes_given, expects_mark, held_with, is_chunk, settings_unless_newer, tables_of};
 ghost use Rattle.ak_parts.specs.Takes.{MayBeTaken};
 ghost use Rattle.ak_session.specs.Asks.{brought};
 ghost use Rattle.ak_session.specs.Messages.{grave_ids, newer_of, settings_in};
 ghost use Rattle.ak_session.specs.Slices.{wanted_graves};
 
 use crate::sanity::sanity_of;
-use crate::wholes::whole_of;
+use crate::wholes::read_whole;
 use ak_base::{Conf, Head, Memory, Name};
-use ak_keep::{KeepFault, Keeper, Wanted};
+use ak_keep::{KeepFault, Keeper, Numbers, Wanted};
 use ak_machine::Session;
 use ak_merge::{Side, take_tags};
 use ak_messages::{Ask, Changes, Chunk, Give, GraveIds, Newer};
 use ak_parts::{
-    Changed, changed_of, chunk_of, grave_ids, next_rows, take_changed_rows, take_chunk_rows,
-    take_given_graves, wanted_changes, wanted_graves, wanted_tags,
+    Changed, changed_of, chunk_of, grave_ids, head_of, next_rows, take_changed_rows,
+    take_chunk_rows, take_given_graves, wanted_changes, wanted_graves, wanted_tags,
 };
 use std::alloc::Global;
 
-/// What a request was tested against: the head that is held, and the live session.
-#[derive(Drop)]
+/// What a request was tested against: the numbers of the head that is held, and the live session.
+#[derive(Clone, Copy, Debug)]
 pub struct Basis {
-    pub head: Head,
+    pub numbers: Numbers,
     pub live: Session,
 }
 
@@ -42,18 +42,19 @@ pub struct Answered {
     pub given: Name,
 }
 
-/// Answers an accepted request that neither commits nor is a meta. A refusal may leave the session half done.
+/// Answers an accepted request that neither commits nor is a meta. A refusal may leave the session half done. The head is
+/// read only for changes and for a download.
 pub fn answer<K: Keeper>(
     alloc: Global,
     keeper: &mut K,
     basis: Basis,
     ask: &Ask,
 ) -> Result<Answered, KeepFault>
-    requires held { HasHead (K.keeping keeper.old) basis.head }
+    requires held { HasNumbers (K.keeping keeper.old) basis.numbers }
     requires marked { is_marked (K.keeping keeper.old) ≡ expects_mark ask.now }
     requires taken { MayBeTaken (brought ask.now) }
     ensures ok { OnOk result (K.keeping keeper.new ≡ answered ask.now (K.keeping keeper.old)) }
-    ensures told { IfOk result (λ it. WhereTold (K.keeping keeper.old) (λ h. Answers (tables_of basis h) basis.live ask.now it)) }
+    ensures told { IfOk result (λ it. WhereHeld (K.keeping keeper.old) (λ tables. Answers tables basis.live ask.now it)) }
     ensures given { IfOk result (λ it. is_chunk ask.now ≡ false → it.given ≡ basis.live.given) }
     ensures committed { back (K.keeping keeper.new) ≡ back (K.keeping keeper.old) }
     ensures cause { KeepCause (K.health keeper.old) (K.health keeper.new) result }
@@ -65,16 +66,16 @@ pub fn answer<K: Keeper>(
             Ok(give_answer(Give::Graves(graves), false, given))
         }
         Ask::ApplyGraves(ids) => {
-            apply_graves(keeper, ids, &basis.head)?;
+            apply_graves(keeper, ids, basis.numbers)?;
             Ok(give_answer(Give::Nothing, false, given))
         }
         Ask::ApplyChanges(changes) => {
-            let changes = exchange_changes(alloc, keeper, basis, changes)?;
+            let changes = exchange_changes(alloc, keeper, basis.live, changes)?;
             Ok(give_answer(Give::Changes(changes), false, given))
         }
         Ask::Chunk => give_chunk(alloc, keeper, basis.live),
         Ask::ApplyChunk(chunk) => {
-            apply_chunk(keeper, chunk, &basis.head)?;
+            apply_chunk(keeper, chunk, basis.numbers)?;
             Ok(give_answer(Give::Nothing, chunk.done, given))
         }
         Ask::SanityCheck2(counts) => {
@@ -82,7 +83,7 @@ pub fn answer<K: Keeper>(
             Ok(give_answer(Give::Sanity(sanity), false, given))
         }
         Ask::Download => {
-            let whole = whole_of(alloc, keeper, basis.head)?;
+            let whole = read_whole(alloc, keeper)?;
             Ok(give_answer(Give::Whole(whole), false, given))
         }
         Ask::Meta => Ok(give_answer(Give::Nothing, false, given)),
@@ -114,35 +115,40 @@ fn start<K: Keeper>(alloc: Global, keeper: &mut K, min_usn: i64) -> Result<Grave
 }
 
 /// Takes the graves that came.
-fn apply_graves<K: Keeper>(keeper: &mut K, ids: &GraveIds, head: &Head) -> Result<(), KeepFault>
-    requires held { HasHead (K.keeping keeper.old) head.now }
+fn apply_graves<K: Keeper>(
+    keeper: &mut K,
+    ids: &GraveIds,
+    numbers: Numbers,
+) -> Result<(), KeepFault>
+    requires held { HasNumbers (K.keeping keeper.old) numbers }
     requires marked { is_marked (K.keeping keeper.old) ≡ true }
     requires taken { MayBeTaken (brought (asks.ApplyGraves ids.now)) }
     ensures ok { OnOk result (K.keeping keeper.new ≡ changed (held_with (brought (asks.ApplyGraves ids.now))) (K.keeping keeper.old)) }
     ensures committed { back (K.keeping keeper.new) ≡ back (K.keeping keeper.old) }
     ensures cause { KeepCause (K.health keeper.old) (K.health keeper.new) result }
 {
-    take_given_graves(keeper, ids, head.usn, Side::Server)
+    take_given_graves(keeper, ids, numbers.usn, Side::Server)
 }
 
 /// Gives the server's changes as they were before it takes those that came.
 fn exchange_changes<K: Keeper>(
     alloc: Global,
     keeper: &mut K,
-    basis: Basis,
+    live: Session,
     came: &Changes,
 ) -> Result<Changes, KeepFault>
-    requires held { HasHead (K.keeping keeper.old) basis.head }
+    requires held { (K.keeping keeper.old).headed.current ≡ true }
     requires marked { is_marked (K.keeping keeper.old) ≡ true }
     requires taken { MayBeTaken (brought (asks.ApplyChanges came.now)) }
     ensures ok { OnOk result (K.keeping keeper.new ≡ changed (held_with (brought (asks.ApplyChanges came.now))) (K.keeping keeper.old)) }
-    ensures told { IfOk result (λ given. WhereTold (K.keeping keeper.old) (λ h.
-        given ≡ changes_given (tables_of basis h) basis.live)) }
+    ensures told { IfOk result (λ given. WhereHeld (K.keeping keeper.old) (λ tables.
+        given ≡ changes_given tables live)) }
     ensures committed { back (K.keeping keeper.new) ≡ back (K.keeping keeper.old) }
     ensures cause { KeepCause (K.health keeper.old) (K.health keeper.new) result }
 {
-    let given = changes_from(alloc, keeper, &basis)?;
-    take_changes(keeper, came, basis.head)?;
+    let head = head_of(keeper)?;
+    let given = changes_from(alloc, keeper, &head, &live)?;
+    take_changes(keeper, came, head)?;
     Ok(given)
 }
 
@@ -150,20 +156,21 @@ fn exchange_changes<K: Keeper>(
 fn changes_from<K: Keeper>(
     alloc: Global,
     keeper: &mut K,
-    basis: &Basis,
+    head: &Head,
+    live: &Session,
 ) -> Result<Changes, KeepFault>
     ensures reads { ReadsBy K.Lookup keeper.old keeper.new result (λ h given.
-        given ≡ changes_given (tables_of basis.now h) basis.now.live) }
+        given ≡ changes_given (tables_of head.now h) live.now) }
 {
-    let want = Wanted::From(basis.live.least_usn);
+    let want = Wanted::From(live.least_usn);
     let rows = wanted_changes(keeper, want)?;
     let Changed {
         models,
         decks,
         options,
     } = changed_of(alloc, rows)?;
-    let tags = wanted_tags(alloc, basis.head.tags.as_slice(), &want)?;
-    let newer = settings_given(&basis.head, &basis.live)?;
+    let tags = wanted_tags(alloc, head.tags.as_slice(), &want)?;
+    let newer = settings_given(head, live)?;
     Ok(Changes {
         models,
         decks,
@@ -257,13 +264,13 @@ fn give_chunk<K: Keeper>(
 }
 
 /// Takes the rows of a chunk.
-fn apply_chunk<K: Keeper>(keeper: &mut K, chunk: &Chunk, head: &Head) -> Result<(), KeepFault>
-    requires held { HasHead (K.keeping keeper.old) head.now }
+fn apply_chunk<K: Keeper>(keeper: &mut K, chunk: &Chunk, numbers: Numbers) -> Result<(), KeepFault>
+    requires held { HasNumbers (K.keeping keeper.old) numbers }
     requires marked { is_marked (K.keeping keeper.old) ≡ true }
     requires taken { MayBeTaken (brought (asks.ApplyChunk chunk.now)) }
     ensures ok { OnOk result (K.keeping keeper.new ≡ changed (held_with (brought (asks.ApplyChunk chunk.now))) (K.keeping keeper.old)) }
     ensures committed { back (K.keeping keeper.new) ≡ back (K.keeping keeper.old) }
     ensures cause { KeepCause (K.health keeper.old) (K.health keeper.new) result }
 {
-    take_chunk_rows(keeper, chunk, head.usn, Side::Server)
+    take_chunk_rows(keeper, chunk, numbers.usn, Side::Server)
 }

@@ -8,4 +8,4 @@ mod wholes;
 
 pub use answers::{Answered, Basis, answer};
 pub use closings::{finish, upload};
-pub use wholes::whole_of;
+pub use wholes::{read_whole, whole_of};

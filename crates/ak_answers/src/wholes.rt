@@ -1,6 +1,8 @@
 // A whole collection, as a download gives it.
-ghost use Rattle.std.specs.Prelude.{◌≡◌, ◌++◌, map};
+ghost use Rattle.std.specs.Prelude.{◌≡◌, ◌++◌, true, map, IfSome};
 ghost use Rattle.std.specs.FinMap.{entries};
+ghost use Rattle.ak_keep.specs.Collections.{collection_of};
+ghost use Rattle.ak_keep.specs.Keepers.{IsNamedRightly};
 ghost use Rattle.ak_keep.specs.Readings.{ReadsBy};
 ghost use Rattle.ak_protocol.specs.Replies.{whole_of};
 ghost use Rattle.ak_answers.specs.Wholes.{rows_in, whole_with};
@@ -8,8 +10,18 @@ ghost use Rattle.ak_answers.specs.Wholes.{rows_in, whole_with};
 use ak_base::{Head, List, Row, Table};
 use ak_keep::{KeepFault, Keeper, Walk};
 use ak_messages::Whole;
-use ak_parts::append_page;
+use ak_parts::{append_page, head_of};
 use std::alloc::Global;
+
+/// The whole collection that is held, with its head but for the moment of its last sync.
+pub fn read_whole<K: Keeper>(alloc: Global, from: &mut K) -> Result<Whole, KeepFault>
+    requires held { (K.keeping from.old).headed.current ≡ true }
+    ensures reads { ReadsBy K.Lookup from.old from.new result (λ h whole. IfSome (collection_of h) (λ c. whole ≡ whole_of c)) }
+    ensures known { IsNamedRightly (K.keeping from.old) }
+{
+    let head = head_of(from)?;
+    whole_of(alloc, from, head)
+}
 
 /// All rows that are held by table and id, graves too, with this head but for the moment of its last sync.
 pub fn whole_of<K: Keeper>(alloc: Global, from: &mut K, head: Head) -> Result<Whole, KeepFault>

@@ -1,9 +1,7 @@
 -- The cards that a note has, as the ords of its type.
-use Rattle.std.specs.Prelude.{◌≡◌, ◌⊎◌, ⊤, take, IfOk, OnOk, IfErr, Result, ℕ, zero, suc, ◌-◌, ℤ, pos, Bool, true, false, ◌==◌, ◌||◌, if◌then◌else◌, List, [], ◌∷◌, ◌++◌, length, Option, Some, None, codes}
+use Rattle.std.specs.Prelude.{◌≡◌, ◌⊎◌, ⊤, take, IfOk, OnOk, IfErr, Result, ℕ, zero, suc, ℤ, pos, Bool, true, false, ◌||◌, if◌then◌else◌, List, [], ◌∷◌, ◌++◌, length, Option, Some, None}
 use Rattle.std.specs.Option.{option_map, option_or, unwrap_or}
-use Rattle.std.specs.List.{slice_get}
 use Rattle.std.specs.Ordering.{int_eq}
-use Rattle.std.specs.Cmp.Lexicographic.{pointwise}
 use Rattle.ak_base.specs.declared.note_types.FieldDef.{FieldDef}
 use Rattle.ak_base.specs.declared.note_types.CardTemplate.{CardTemplate}
 use Rattle.ak_base.specs.declared.note_types.NoteType.{NoteType}
@@ -13,7 +11,7 @@ use Rattle.ak_cardgen.specs.declared.faults.GenFault.TheVariants.{Template as Of
 use Rattle.ak_cardgen.specs.declared.fronts.Fronts.{Fronts}
 use Rattle.ak_template.specs.Clozes.{numbers_of}
 use Rattle.ak_template.specs.Grammar.{IsTemplate, first_fault}
-use Rattle.ak_template.specs.Pages.{field_value, shows_in}
+use Rattle.ak_template.specs.Pages.{field_value, ends_in_cloze, shows_in}
 use Rattle.ak_template.specs.Trees.{Tree, tree_steps}
 use Rattle.ak_template.specs.declared.faces.Face.{Face}
 use Rattle.ak_template.specs.declared.faces.Pair.{Pair}
@@ -73,19 +71,10 @@ AreShown face place (template ∷ templates) ords =
 
 -- ---- a cloze type: N - 1 for each number N of a cloze in a field that the front names with `cloze:`
 
--- the filter is `cloze`
-abbrev pub is_cloze_filter : Option (List ℕ) → Bool
-is_cloze_filter None = false
-is_cloze_filter (Some filter) = pointwise ◌==◌ filter (codes "cloze")
-
--- whether the last filter, which is right before the name, is `cloze`
-abbrev pub is_cloze : List (List ℕ) → Bool
-is_cloze filters = is_cloze_filter (slice_get filters (length filters - 1))
-
 -- the numbers that a step names; a name that is no field has no text
 abbrev pub step_numbers : Face → Step → List ℤ
 step_numbers face (Words words) = []
-step_numbers face (Field filters name) = if is_cloze filters then numbers_of (unwrap_or (field_value face name) []) else []
+step_numbers face (Field filters name) = if ends_in_cloze filters then numbers_of (unwrap_or (field_value face name) []) else []
 step_numbers face (Open inverted name) = []
 step_numbers face (Close name) = []
 

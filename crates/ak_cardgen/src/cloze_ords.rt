@@ -1,10 +1,10 @@
 ghost use Rattle.std.specs.Prelude.{◌≡◌, suc, ◌∷◌, [], ◌++◌, ◌≤◌, pos, List, IfOk, OnOk, if◌then◌else◌};
 ghost use Rattle.std.specs.Option.{unwrap_or};
-ghost use Rattle.ak_cardgen.specs.Generation.{TellsClozed, is_cloze, step_numbers, numbers_in, has_number, ords_below};
+ghost use Rattle.ak_cardgen.specs.Generation.{TellsClozed, step_numbers, numbers_in, has_number, ords_below};
 ghost use Rattle.ak_template.specs.Pages.{field_value};
 
 use ak_base::{List, Memory, Text};
-use ak_template::{Face, LAST_NUMBER, Step, Template, cloze_numbers, value_of};
+use ak_template::{Face, LAST_NUMBER, Step, Template, cloze_numbers, ends_in_cloze, value_of};
 use std::alloc::Global;
 
 /// The ords of a note whose clozes the first front names, ascending; none, if there is no front.
@@ -46,22 +46,12 @@ fn add_numbers(
     ensures { OnOk result (numbers.new.items ≡ numbers.old.items ++ step_numbers face.now step.now) }
 {
     if let Step::Field(filters, name) = step {
-        if is_cloze(filters.as_slice()) {
+        if ends_in_cloze(filters.as_slice()) {
             let found = cloze_numbers(alloc, text_of(face, name.as_str()))?;
             numbers.extend_from_slice(found.as_slice())?;
         }
     }
     Ok(())
-}
-
-/// Whether the last filter, which is right before the name, is `cloze`.
-fn is_cloze(filters: &[Text]) -> bool
-    ensures { result ≡ is_cloze filters.now }
-{
-    match filters.last() {
-        Some(filter) => filter.as_str() == "cloze",
-        None => false,
-    }
 }
 
 /// The text of a field, or an empty one if there is none of that name.

@@ -4,6 +4,7 @@ pub mod EndedLines
 pub mod FoundDays
 pub mod KeptLinks
 pub mod LineStepping
+pub mod MutedFilters
 pub mod ObeyedLines
 pub mod ShownPages
 pub mod StartedDecks

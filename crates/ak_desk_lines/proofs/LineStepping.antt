@@ -120,6 +120,8 @@ did adds renames (lines.Find search) t c was now answer does reads =
     inl reads
 did adds renames (lines.Page card back) t c was now answer does reads =
     inl reads
+did adds renames (lines.Mute filter) t c was now answer does reads =
+    inl reads
 did adds renames (lines.Suspend cards) t c was now answer does reads =
     edit_step t.at c was now (card_edit suspended cards c) (λ named. suspensions_are_admitted cards c named) does.0
 did adds renames (lines.Unsuspend cards) t c was now answer does reads =
@@ -164,6 +166,7 @@ refused_step (lines.DeleteOptions allow options) t c was now fault answers left 
 refused_step (lines.Answer card button taken) t c was now fault answers left starts = inl left
 refused_step (lines.Find search) t c was now fault answers left starts = inl left
 refused_step (lines.Page card back) t c was now fault answers left starts = inl left
+refused_step (lines.Mute filter) t c was now fault answers left starts = inl left
 refused_step (lines.Suspend cards) t c was now fault answers left starts = inl left
 refused_step (lines.Unsuspend cards) t c was now fault answers left starts = inl left
 refused_step (lines.Bury cards) t c was now fault answers left starts = inl left

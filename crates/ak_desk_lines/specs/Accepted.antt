@@ -243,6 +243,7 @@ Does (lines.Next deck) t c before after answer = AsksOnDay t.at c before after a
 Does (lines.Counts deck) t c before after answer = AsksOnDay t.at c before after answer (TellsCounts deck)
 Does (lines.Find search) t c before after answer = TellsFound t.at search c answer
 Does (lines.Page card back) t c before after answer = ⊤
+Does (lines.Mute filter) t c before after answer = ⊤
 Does (lines.Suspend cards) t c before after answer = FinishesEdit t.at (card_edit suspended cards) c before after answer
 Does (lines.Unsuspend cards) t c before after answer =
     FinishesEdit t.at (card_edit unsuspended cards) c before after answer

@@ -1,5 +1,5 @@
 -- How a line ends, accepted or refused.
-use Rattle.std.specs.Prelude.{◌≡◌, ◌⊎◌, ⊤, ℕ, ◌+◌, ◌-◌, ◌^◌, min, ℤ, Bool, List, Option, Result, IfErr, IfOk, OnOk}
+use Rattle.std.specs.Prelude.{◌≡◌, ◌⊎◌, ⊤, ℕ, ◌+◌, ◌-◌, ◌^◌, min, ℤ, Bool, true, false, List, Option, Result, IfErr, IfOk, OnOk}
 use Rattle.ak_base.specs.declared.names.Table.TheVariants as tables
 use Rattle.ak_desk.specs.declared.desks.Desk.{Desk}
 use Rattle.ak_desk_lines.specs.Accepted.{Does, Starts}
@@ -9,6 +9,7 @@ use Rattle.ak_desk_lines.specs.declared.turns.Turn.{Turn}
 use Rattle.ak_edit.specs.Refusals.{AnswersBy, IsFromOutside}
 use Rattle.ak_edit.specs.declared.desk_faults.DeskFault.{DeskFault}
 use Rattle.ak_edit.specs.declared.desk_faults.DeskFault.TheVariants as faults
+use Rattle.ak_filters.specs.Lists.{has_filter, without_filter}
 use Rattle.ak_filters.specs.Meanings.{Meaning}
 use Rattle.ak_keep.specs.Collections.{Collection}
 use Rattle.ak_keep.specs.Keepers.{Keeping, WhereHeld, WhereTold}
@@ -44,15 +45,17 @@ IsLeft (lines.Counts deck) t fault before after = IsLeftAsking t deck fault befo
 IsLeft line t fault before after = after ≡ before
 
 -- a line is accepted if none of its tests refuses it, and else the first one that does is told, but for what comes from
--- outside. Why a page is refused is said apart
+-- outside. Why a page is refused, or a line that drops a filter, is said apart
 abbrev pub AnswersLine : DeskLine → Turn → Collection → List Step → Result DeskAnswer DeskFault → Type 0
 AnswersLine (lines.Page card back) t c steps result = ⊤
+AnswersLine (lines.Mute filter) t c steps result = ⊤
 AnswersLine line t c steps result = AnswersBy (Refuses line t c steps) result
 
--- a line that only reads leaves all as it was
+-- a line that only reads, or drops a filter, leaves all as it was
 abbrev pub KeepsIfReading : DeskLine → DeskState → DeskState → Type 0
 KeepsIfReading (lines.Find search) before after = after ≡ before
 KeepsIfReading (lines.Page card back) before after = after ≡ before
+KeepsIfReading (lines.Mute filter) before after = after ≡ before
 KeepsIfReading lines.Check before after = after ≡ before
 KeepsIfReading line before after = ⊤
 
@@ -111,7 +114,15 @@ pub record EndsPage (held : Keeping) (card : ℤ) (back : Bool) (filters turned 
   pub refused : IfErr result (RefusesPage held card back filters turned)
   pub same : kinds turned ≡ kinds filters
 
--- what a line makes of the filters: a page applies them, and other lines none
+-- ---- filters
+-- how a line ended that drops the first filter of this name: it is refused if there is none
+pub record EndsMute (name : List ℕ) (filters after : List Meaning) (result : Result DeskAnswer DeskFault) : Type 0 where
+  pub dropped : IfOk result (λ answer. has_filter name filters ≡ true)
+  pub refused : IfErr result (λ fault. has_filter name filters ≡ false)
+  pub left : after ≡ without_filter name filters
+
+-- what a line makes of the filters: a page applies them, `mute` drops one, and other lines do nothing with them
 abbrev pub AppliesFilters : DeskLine → Keeping → List Meaning → List Meaning → Result DeskAnswer DeskFault → Type 0
 AppliesFilters (lines.Page card back) held filters turned result = EndsPage held card back filters turned result
+AppliesFilters (lines.Mute filter) held filters turned result = EndsMute filter filters turned result
 AppliesFilters line held filters turned result = turned ≡ filters

@@ -1,5 +1,5 @@
 -- Why a line is refused.
-use Rattle.std.specs.Prelude.{◌≡◌, ◌⊎◌, ℤ, List, None}
+use Rattle.std.specs.Prelude.{◌≡◌, ◌⊎◌, ℕ, ℤ, List, None}
 use Rattle.ak_base.specs.declared.names.Table.TheVariants as tables
 use Rattle.ak_base.specs.declared.notes.Note.{Note}
 use Rattle.ak_calls.specs.Calls.{IsMissingFault, IsMissingOrEnd}
@@ -34,6 +34,7 @@ use Rattle.ak_pages.specs.CardPages.{IsPageRefusal}
 use Rattle.ak_study.specs.Answers.{IsAnswerFault, RefusesAnswer}
 use Rattle.ak_study.specs.CardPlaces.{buried_by_hand, suspended, unsuspended}
 use Rattle.ak_study.specs.DayStarts.{RefusesStart}
+use Rattle.ak_template.specs.declared.faces.PageFault.TheVariants as pages
 use Rattle.ak_types.specs.TypeAdditions.{IsAdditionFault as IsNewTypeFault, RefusesTypeAddition}
 use Rattle.ak_types.specs.TypeDeletions.{IsDeletionFault as IsTypeDeletionFault, RefusesDeletion as RefusesTypeDeletion}
 use Rattle.ak_types.specs.TypeEdits.{IsTypeEditFault, RefusesTypeEdit}
@@ -58,7 +59,7 @@ abbrev pub RefusesAsking : ℤ → ℤ → Collection → Refusal
 RefusesAsking at deck c = OrElse (RefusesStart at c) (RefusesNoDeck deck c)
 
 -- the tests of a line, by the collection that was held and the undo list. A page is not among these: RefusesPage says its
--- tests, with the filters, and what stands here for it is never asked
+-- tests, with the filters; nor is a line that drops a filter, of which EndsMute speaks. What stands here for them is never asked
 abbrev pub Refuses : DeskLine → Turn → Collection → List Step → Refusal
 Refuses (lines.AddNote note_type deck fields) t c steps = RefusesNewNote t.at (new_note t note_type deck fields) c
 Refuses (lines.SetFields note fields) t c steps = RefusesChangedNote t.at note (λ held. other_fields held fields) c
@@ -82,6 +83,7 @@ Refuses (lines.Next deck) t c steps = RefusesAsking t.at deck c
 Refuses (lines.Counts deck) t c steps = RefusesAsking t.at deck c
 Refuses (lines.Find search) t c steps = RefusesNever
 Refuses (lines.Page card back) t c steps = RefusesNever
+Refuses (lines.Mute filter) t c steps = RefusesNever
 Refuses (lines.Suspend cards) t c steps = RefusesCardEdit t.at suspended cards c
 Refuses (lines.Unsuspend cards) t c steps = RefusesCardEdit t.at unsuspended cards c
 Refuses (lines.Bury cards) t c steps = RefusesCardEdit t.at buried_by_hand cards c
@@ -98,6 +100,10 @@ IsChangeFaultOf note fault =
 -- the deck of this id is not held, or a fault of the end of an edit
 abbrev pub IsAskingFault : ℤ → DeskFault → Type 0
 IsAskingFault deck fault = (fault ≡ faults.NoSuch (name_in tables.Deck deck)) ⊎ IsEndFault fault
+
+-- there is no filter of this name
+abbrev pub IsNoFilter : List ℕ → DeskFault → Type 0
+IsNoFilter filter fault = fault ≡ faults.Page (pages.NoFilter filter)
 
 -- what a line may be refused by, also where it is not told what is held
 abbrev pub MayRefuse : DeskLine → Turn → DeskFault → Type 0
@@ -122,6 +128,7 @@ MayRefuse (lines.Next deck) t = IsAskingFault deck
 MayRefuse (lines.Counts deck) t = IsAskingFault deck
 MayRefuse (lines.Find search) t = IsFromOutside
 MayRefuse (lines.Page card back) t = IsPageRefusal
+MayRefuse (lines.Mute filter) t = IsNoFilter filter
 MayRefuse (lines.Suspend cards) t = IsMissingOrEnd tables.Card
 MayRefuse (lines.Unsuspend cards) t = IsMissingOrEnd tables.Card
 MayRefuse (lines.Bury cards) t = IsMissingOrEnd tables.Card

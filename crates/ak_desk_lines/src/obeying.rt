@@ -13,7 +13,7 @@ use crate::note_lines::{add_note, delete_notes, set_fields, set_tags};
 use crate::option_lines::{add_options, delete_options, set_options, set_spread};
 use crate::turns::Turn;
 use crate::type_lines::{add_type, delete_type, edit_type};
-use crate::view_lines::{find_cards, show_page};
+use crate::view_lines::{find_cards, mute_filter, show_page};
 use ak_desk::Desk;
 use ak_edit::DeskFault;
 use ak_filters::FieldFilter;
@@ -24,7 +24,7 @@ use ak_types::TypeEdit;
 
 /// Does what a line says at a desk, and gives its answer. A line that is refused leaves the collection and the undo list
 /// as they were, but that `next` and `counts` may have started the day; a page leaves the filters with the turns that
-/// they took.
+/// they took, and `mute` leaves one filter less.
 pub fn obey<K: Keeper>(
     desk: &mut Desk<K>,
     line: DeskLine,
@@ -38,7 +38,7 @@ pub fn obey<K: Keeper>(
     // What the line leaves and is answered, or why it is refused.
     ensures ends { EndsAt K.Lookup line turn desk.old desk.new result }
 
-    // A page applies the filters, other lines none.
+    // A page applies the filters, `mute` drops one, other lines do nothing with them.
     ensures filters { AppliesFilters line (K.keeping desk.old.keeper.now)
         (map (λ b. meaning b) filters.old.items) (map (λ b. meaning b) filters.new.items) result }
     ensures cause { DeskCause (K.health desk.old.keeper.now) (K.health desk.new.keeper.now) result }
@@ -88,6 +88,7 @@ pub fn obey<K: Keeper>(
         DeskLine::Counts(deck) => ask_counts(desk, deck, turn),
         DeskLine::Find(search) => find_cards(desk, &search, turn),
         DeskLine::Page { card, back } => show_page(desk, card, back, filters, turn),
+        DeskLine::Mute(filter) => mute_filter(desk, filter, filters, turn),
         DeskLine::Suspend(cards) => suspend(desk, &cards, turn),
         DeskLine::Unsuspend(cards) => unsuspend(desk, &cards, turn),
         DeskLine::Bury(cards) => bury(desk, &cards, turn),

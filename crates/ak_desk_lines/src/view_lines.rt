@@ -1,7 +1,7 @@
 ghost use Rattle.std.specs.Prelude.{◌≡◌, true, map, IfErr, IfOk, IfSome};
 ghost use Rattle.ak_desk.specs.Desks.{IsIdle};
 ghost use Rattle.ak_desk_lines.specs.Accepted.{AreFound, answer_with};
-ghost use Rattle.ak_desk_lines.specs.LineEnds.{EndsAt, EndsPage};
+ghost use Rattle.ak_desk_lines.specs.LineEnds.{EndsAt, EndsMute, EndsPage};
 ghost use Rattle.ak_edit.specs.Refusals.{DeskCause, IsFromOutside};
 ghost use Rattle.ak_keep.specs.Keepers.{WhereTold};
 ghost use Rattle.ak_lines.specs.declared.desk_lines.DeskLine.TheVariants as lines;
@@ -13,10 +13,11 @@ use crate::turns::Turn;
 use ak_base::{List, Text};
 use ak_desk::Desk;
 use ak_edit::DeskFault;
-use ak_filters::FieldFilter;
+use ak_filters::{FieldFilter, drop_filter};
 use ak_keep::Keeper;
 use ak_pages::card_page;
 use ak_search::{Expr, find};
+use ak_template::PageFault;
 use ak_texts::DeskAnswer;
 use std::alloc::Global;
 
@@ -94,4 +95,25 @@ fn shown(made: Result<Text, DeskFault>) -> Result<DeskAnswer, DeskFault>
         Ok(text) => Ok(DeskAnswer::Page(text)),
         Err(fault) => Err(fault),
     }
+}
+
+/// `mute`: drops the first filter of that name. The desk and the turn are for the clauses alone; the desk is as it was.
+pub(crate) fn mute_filter<K: Keeper>(
+    desk: &mut Desk<K>,
+    filter: Text,
+    filters: &mut Vec<Box<dyn FieldFilter>>,
+    turn: Turn,
+) -> Result<DeskAnswer, DeskFault>
+    requires idle { IsIdle (K.keeping desk.old.keeper.now) }
+    ensures ends { EndsAt K.Lookup (lines.Mute filter) turn desk.old desk.new result }
+    ensures drops { EndsMute filter
+        (map (λ b. meaning b) filters.old.items) (map (λ b. meaning b) filters.new.items) result }
+    ensures cause { DeskCause (K.health desk.old.keeper.now) (K.health desk.new.keeper.now) result }
+    ensures lent { (desk.new.keeper.ghost_name ≡ desk.old.keeper.ghost_name)
+        × (desk.new.undo.ghost_name ≡ desk.old.undo.ghost_name) }
+{
+    if drop_filter(filters, filter.as_str()) {
+        return Ok(DeskAnswer::Done);
+    }
+    Err(DeskFault::Page(PageFault::NoFilter(filter)))
 }

@@ -35,7 +35,7 @@ one_key bytes a b x y =
     cc
 
 -- the host key of a request is the one that its bytes carry
-carries_own : (bytes left : List ℕ) (request : Request) → AsksRequest bytes left request → CarriesKey bytes request.host.digits
+pub carries_own : (bytes left : List ℕ) (request : Request) → AsksRequest bytes left request → CarriesKey bytes request.host.digits
 carries_own bytes left request (asked, body, whole, reads) = record {
   head = whole.head;
   rest = whole.behind;

@@ -48,7 +48,7 @@ use Rattle.ak_json.proofs.Kept.{lacks_known, plain_kept}
 use Rattle.ak_json.proofs.OptionRests.{options_ignored}
 use Rattle.ak_json.proofs.Orderly.{IsOrderly, AreOrderly, HaveOrderly, AreMembers, unasked, mapped, put_members, text_reads}
 use Rattle.ak_json.proofs.Parts.{of_object}
-use Rattle.ak_json.proofs.RowForms.{fields_faultless, templates_faultless}
+use Rattle.ak_json.proofs.RowForms.{fields_faultless, kept_stands, templates_faultless}
 use Rattle.ak_json.proofs.Sorted.{unknown_behind}
 
 -- ---- what stands in an orderly value is orderly
@@ -304,7 +304,7 @@ abbrev IsDecided : Table → Data → Type 0
 IsDecided table d = ((row : Row) × ReadsRow table d row) ⊎ SomeFault (RefusesRow table d)
 
 of_row : (table : Table) (d : Data) (row : Row) → form_refusal table d ≡ None → IsRow table d row → (checked : Result (Unit {0}) RowFault) → stored_check table d row ≡ checked → IsDecided table d
-of_row table d row form is (Ok good) e = inl (kept_row d row, record { form = form; stored = row; is = is; good = e; kept = refl })
+of_row table d row form is (Ok good) e = inl (kept_row d row, record { form = form; stands = kept_stands table d row is.0; stored = row; is = is; good = e; kept = refl })
 of_row table d row form is (Err fault) e = inr (faults.Row fault, (row, record { form = form; is = is; bad = e }), λ m. cc)
 
 of_fault : (table : Table) (d : Data) (fault : JsonFault) → IsOfForm fault → form_refusal table d ≡ Some fault → IsDecided table d

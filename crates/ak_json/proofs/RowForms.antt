@@ -1,5 +1,5 @@
 -- From the form_faults of a row to what is inside it, and from the form's fault to the row's.
-use Rattle.std.proofs.Common.{◌≡◌, ℕ, zero, suc, [], ◌∷◌, Bool, true, false, Option, Some, None, refl, subst}
+use Rattle.std.proofs.Common.{◌≡◌, ℕ, zero, suc, [], ◌∷◌, Bool, true, false, Option, Some, None, refl, sym, subst}
 use Rattle.ak_base.proofs.Optional.{first_none, second_none}
 use Rattle.std.specs.Prelude.{if◌then◌else◌, unwrap_or, option_and_then}
 use Rattle.std.specs.Option.{is_some}
@@ -13,7 +13,9 @@ use Rattle.ak_json.specs.FormFaults.{plain_form_fault, parts_form_fault, told_at
 use Rattle.ak_json.specs.Faults.{Tells}
 use Rattle.ak_json.specs.NoteTypes.{items_at}
 use Rattle.ak_json.specs.Objects.{object_form_fault}
-use Rattle.ak_json.specs.Rows.{row_form_fault, form_refusal, RefusesRow}
+use Rattle.ak_base.specs.declared.rows.Row.{Row}
+use Rattle.ak_base.specs.declared.rows.Row.TheVariants as rows
+use Rattle.ak_json.specs.Rows.{IsRow, StandsIn, kept_row, row_form_fault, form_refusal, RefusesRow}
 use Rattle.ak_json.specs.declared.faults.JsonFault.{JsonFault}
 use Rattle.ak_json.specs.declared.faults.JsonFault.TheVariants as faults
 use Rattle.ak_json.specs.declared.form_faults.FormFault.{FormFault}
@@ -80,3 +82,17 @@ form_refuses table d (faults.Missing text) h = h
 form_refuses table d (faults.WrongKind text) h = h
 form_refuses table d (faults.Row fault) h = absurd h
 form_refuses table d faults.Memory h = tt
+
+-- the row stands in the table once its steps are seconds
+pub kept_stands : (table : Table) (d : Data) (stored : Row) → StandsIn table stored → StandsIn table (kept_row d stored)
+kept_stands table d (rows.Note n) h = h
+kept_stands table d (rows.Card c) h = h
+kept_stands table d (rows.Review r) h = h
+kept_stands table d (rows.NoteType n) h = h
+kept_stands table d (rows.Deck k) h = h
+kept_stands table d (rows.Grave g) h = h
+kept_stands tables.Options d (rows.Options o) h = tt
+kept_stands table d (rows.Options o) h = absurd h
+
+pub stands_again : (table : Table) (d : Data) (stored row : Row) → IsRow table d stored → row ≡ kept_row d stored → StandsIn table row
+stands_again table d stored row is kept = subst (StandsIn table) (sym kept) (kept_stands table d stored is.0)

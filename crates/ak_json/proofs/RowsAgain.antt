@@ -53,31 +53,31 @@ in_range (Err fault) later h = cc
 note_in : (table : Table) (n : Note) → StandsIn table (rows.Note n) → row_check table (rows.Note n) ≡ Ok tt → ReadsRow table (row_json (rows.Note n)) (rows.Note n)
 note_in tables.Note n s h =
     let read : IsNote n = note_again n tt (in_range (first_fault (note_faults n)) (Ok tt) h) in
-    record { form = rw read.form refl; stored = rows.Note n; is = (tt, sym read.row); good = h; kept = refl }
+    record { form = rw read.form refl; stands = tt; stored = rows.Note n; is = (tt, sym read.row); good = h; kept = refl }
 note_in table n s h = absurd s
 
 card_in : (table : Table) (c : Card) → StandsIn table (rows.Card c) → row_check table (rows.Card c) ≡ Ok tt → ReadsRow table (row_json (rows.Card c)) (rows.Card c)
 card_in tables.Card c s h =
     let read : IsCard c = card_again c tt (in_range (first_fault (card_faults c)) (Ok tt) h) in
-    record { form = rw read.form refl; stored = rows.Card c; is = (tt, sym read.row); good = h; kept = refl }
+    record { form = rw read.form refl; stands = tt; stored = rows.Card c; is = (tt, sym read.row); good = h; kept = refl }
 card_in table c s h = absurd s
 
 review_in : (table : Table) (r : Review) → StandsIn table (rows.Review r) → row_check table (rows.Review r) ≡ Ok tt → ReadsRow table (row_json (rows.Review r)) (rows.Review r)
 review_in tables.Review r s h =
     let read : IsReview r = review_again r tt (in_range (first_fault (review_faults r)) (Ok tt) h) in
-    record { form = rw read.form refl; stored = rows.Review r; is = (tt, sym read.row); good = h; kept = refl }
+    record { form = rw read.form refl; stands = tt; stored = rows.Review r; is = (tt, sym read.row); good = h; kept = refl }
 review_in table r s h = absurd s
 
 grave_in : (table : Table) (g : Grave) → StandsIn table (rows.Grave g) → row_check table (rows.Grave g) ≡ Ok tt → ReadsRow table (row_json (rows.Grave g)) (rows.Grave g)
 grave_in tables.NoteGrave g s h =
     let read : IsGrave g = grave_again g tt (in_range (first_fault (grave_faults g)) (code_check tables.NoteGrave g) h) in
-    record { form = rw read.form refl; stored = rows.Grave g; is = (tt, sym read.row); good = h; kept = refl }
+    record { form = rw read.form refl; stands = tt; stored = rows.Grave g; is = (tt, sym read.row); good = h; kept = refl }
 grave_in tables.CardGrave g s h =
     let read : IsGrave g = grave_again g tt (in_range (first_fault (grave_faults g)) (code_check tables.CardGrave g) h) in
-    record { form = rw read.form refl; stored = rows.Grave g; is = (tt, sym read.row); good = h; kept = refl }
+    record { form = rw read.form refl; stands = tt; stored = rows.Grave g; is = (tt, sym read.row); good = h; kept = refl }
 grave_in tables.DeckGrave g s h =
     let read : IsGrave g = grave_again g tt (in_range (first_fault (grave_faults g)) (code_check tables.DeckGrave g) h) in
-    record { form = rw read.form refl; stored = rows.Grave g; is = (tt, sym read.row); good = h; kept = refl }
+    record { form = rw read.form refl; stands = tt; stored = rows.Grave g; is = (tt, sym read.row); good = h; kept = refl }
 grave_in table g s h = absurd s
 
 deck_in : (table : Table) (k : Deck) → StandsIn table (rows.Deck k) → row_check table (rows.Deck k) ≡ Ok tt → ReadsRow table (row_json (rows.Deck k)) (rows.Deck k)
@@ -85,6 +85,7 @@ deck_in tables.Deck k s h =
     let read : IsDeckAgain k = deck_again k tt (in_range (first_fault (deck_faults k)) (Ok tt) h) in
     record {
       form = ap (λ (o : Option FormFault). option_or (option_map told o) (deep_key deck_form (deck_json k))) read.fault ∙ read.deep;
+      stands = tt;
       stored = rows.Deck k;
       is = (tt, read.row);
       good = h;
@@ -97,6 +98,7 @@ note_type_in tables.NoteType n s h =
     let read : IsNoteTypeAgain n = note_type_again n tt (in_range (first_fault (note_type_faults n)) (Ok tt) h) in
     record {
       form = ap (λ (o : Option FormFault). option_or (option_map told o) (deep_key note_type_form (note_type_json n))) read.fault ∙ read.deep;
+      stands = tt;
       stored = rows.NoteType n;
       is = (tt, read.row);
       good = h;
@@ -117,6 +119,7 @@ options_in tables.Options o s h =
       form =
           ap (λ (v : Version). refusal_by v d) new
           ∙ (ap (λ (fault : Option FormFault). option_or (option_map told fault) (deep_fault (options_kept_by Second d))) read.fault ∙ read.deep);
+      stands = tt;
       stored = rows.Options o;
       is = (tt, subst (λ (v : Version). IsOptionsBy v d o) (sym new) read.row);
       good =

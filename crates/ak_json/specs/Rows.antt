@@ -119,6 +119,7 @@ kept_row d row = row
 -- the value has the form of a row of the table, what it stands for is in its ranges, and the row is that with its steps in seconds
 pub record ReadsRow (table : Table) (d : Data) (row : Row) : Type 0 where
   pub form : form_refusal table d ≡ None
+  pub stands : StandsIn table row
   pub stored : Row
   pub is : IsRow table d stored
   pub good : stored_check table d stored ≡ Ok tt

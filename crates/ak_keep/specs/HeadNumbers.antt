@@ -1,4 +1,4 @@
--- The numbers of a collection's head, apart from its settings and its tags.
+-- The numbers of a collection's head: all of it but its conf and its tags.
 use Rattle.std.specs.Prelude.{ℤ, pos}
 use Rattle.ak_base.specs.Heads.{AreMomentsInRange, IsWithin}
 use Rattle.ak_base.specs.Limits.{last_stamp}

@@ -3,7 +3,7 @@ ghost use Rattle.ak_keep.specs.HeadNumbers.{numbers_of};
 
 use ak_base::Head;
 
-/// The numbers of a head: all of it but the settings and the tags, so that a copy takes no memory.
+/// The numbers of a head: all of it but `conf` and the tags, so that a copy takes no memory.
 #[derive(Clone, Copy, Debug, PartialEq, Eq)]
 pub struct Numbers {
     /// The second at which the collection's first day begins.

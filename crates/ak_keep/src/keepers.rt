@@ -32,7 +32,7 @@ pub trait Keeper: Readable {
         // All that a keeper gives passes its check.
         ensures checks { Self.checks ≡ true };
 
-    /// The numbers of the head, None if no collection is held. Unlike `head` it copies no settings and no tags.
+    /// The numbers of the head, None if no collection is held. Unlike `head` it copies no `conf` and no tags.
     fn numbers(&mut self) -> Result<Option<Numbers>, KeepFault>
         ensures reads { ReadsBy Self.Lookup self.old self.new result (λ h numbers. numbers ≡ option_map numbers_of h.head) }
         ensures held { IfOk result (λ numbers. is_some numbers ≡ (Self.keeping self.old).headed.current) }

@@ -149,6 +149,7 @@ small verbs.Next = refl
 small verbs.Counts = refl
 small verbs.Find = refl
 small verbs.Page = refl
+small verbs.Mute = refl
 small verbs.Suspend = refl
 small verbs.Unsuspend = refl
 small verbs.Bury = refl

@@ -54,6 +54,7 @@ verb_code verbs.Bury = 22
 verb_code verbs.Flag = 23
 verb_code verbs.Undo = 24
 verb_code verbs.Check = 25
+verb_code verbs.Mute = 26
 
 -- the verb of a line
 abbrev verb_in : DeskLine → Verb
@@ -78,6 +79,7 @@ verb_in (lines.Next deck) = verbs.Next
 verb_in (lines.Counts deck) = verbs.Counts
 verb_in (lines.Find search) = verbs.Find
 verb_in (lines.Page card back) = verbs.Page
+verb_in (lines.Mute filter) = verbs.Mute
 verb_in (lines.Suspend cards) = verbs.Suspend
 verb_in (lines.Unsuspend cards) = verbs.Unsuspend
 verb_in (lines.Bury cards) = verbs.Bury
@@ -107,6 +109,7 @@ verb_meant f (lines.Next deck) m = m.0
 verb_meant f (lines.Counts deck) m = m.0
 verb_meant f (lines.Find search) m = m.0.0
 verb_meant f (lines.Page card back) m = m.0.0
+verb_meant f (lines.Mute filter) m = m.0.0
 verb_meant f (lines.Suspend cards) m = m.0.0
 verb_meant f (lines.Unsuspend cards) m = m.0.0
 verb_meant f (lines.Bury cards) m = m.0.0
@@ -245,6 +248,10 @@ same_page : (f : LineForm) (card1 : ℤ) (back1 : Bool) (b : DeskLine) → Means
 same_page f card1 back1 (lines.Page card2 back2) m n = let t : back1 ≡ back2 = same_side f back1 back2 m.1 n.1 in let e = m.0.1 in let g = n.0.1 in cc
 same_page f card1 back1 b m n = absurd (omega (arith, same_code f (lines.Page card1 back1) b m n))
 
+same_mute : (f : LineForm) (filter1 : List ℕ) (b : DeskLine) → MeansLine f (lines.Mute filter1) → MeansLine f b → AreSameLines (lines.Mute filter1) b
+same_mute f filter1 (lines.Mute filter2) m n = let e = m.0.1 in let g = n.0.1 in let t = m.1 in let u = n.1 in cc
+same_mute f filter1 b m n = absurd (omega (arith, same_code f (lines.Mute filter1) b m n))
+
 same_suspend : (f : LineForm) (cards1 : List ℤ) (b : DeskLine) → MeansLine f (lines.Suspend cards1) → MeansLine f b → AreSameLines (lines.Suspend cards1) b
 same_suspend f cards1 (lines.Suspend cards2) m n = let e = m.0.1 in let g = n.0.1 in let t = m.1 in let u = n.1 in cc
 same_suspend f cards1 b m n = absurd (omega (arith, same_code f (lines.Suspend cards1) b m n))
@@ -291,6 +298,7 @@ one_meaning f (lines.Next deck) b m n = same_next f deck b m n
 one_meaning f (lines.Counts deck) b m n = same_counts f deck b m n
 one_meaning f (lines.Find search) b m n = same_find f search b m n
 one_meaning f (lines.Page card back) b m n = same_page f card back b m n
+one_meaning f (lines.Mute filter) b m n = same_mute f filter b m n
 one_meaning f (lines.Suspend cards) b m n = same_suspend f cards b m n
 one_meaning f (lines.Unsuspend cards) b m n = same_unsuspend f cards b m n
 one_meaning f (lines.Bury cards) b m n = same_bury f cards b m n

@@ -30,6 +30,7 @@ verb_spaceless verbs.Next = refl
 verb_spaceless verbs.Counts = refl
 verb_spaceless verbs.Find = refl
 verb_spaceless verbs.Page = refl
+verb_spaceless verbs.Mute = refl
 verb_spaceless verbs.Suspend = refl
 verb_spaceless verbs.Unsuspend = refl
 verb_spaceless verbs.Bury = refl
@@ -51,7 +52,7 @@ no_other word verb is = cc
 
 pub verb_named : (word : List ℕ) (verb : Verb) → verb_of word ≡ Some verb → verb_text verb ≡ word
 verb_named word verb =
-    first_or_other word verbs.Note verb _ (first_or_other word verbs.Fields verb _ (first_or_other word verbs.Tags verb _ (first_or_other word verbs.Delete verb _ (first_or_other word verbs.Type verb _ (first_or_other word verbs.Retype verb _ (first_or_other word verbs.Untype verb _ (first_or_other word verbs.Drop verb _ (first_or_other word verbs.Rename verb _ (first_or_other word verbs.Move verb _ (first_or_other word verbs.Adopt verb _ (first_or_other word verbs.Spread verb _ (first_or_other word verbs.Deck verb _ (first_or_other word verbs.Options verb _ (first_or_other word verbs.Unoptions verb _ (first_or_other word verbs.Answer verb _ (first_or_other word verbs.Next verb _ (first_or_other word verbs.Counts verb _ (first_or_other word verbs.Find verb _ (first_or_other word verbs.Page verb _ (first_or_other word verbs.Suspend verb _ (first_or_other word verbs.Unsuspend verb _ (first_or_other word verbs.Bury verb _ (first_or_other word verbs.Flag verb None (no_other word verb))))))))))))))))))))))))
+    first_or_other word verbs.Note verb _ (first_or_other word verbs.Fields verb _ (first_or_other word verbs.Tags verb _ (first_or_other word verbs.Delete verb _ (first_or_other word verbs.Type verb _ (first_or_other word verbs.Retype verb _ (first_or_other word verbs.Untype verb _ (first_or_other word verbs.Drop verb _ (first_or_other word verbs.Rename verb _ (first_or_other word verbs.Move verb _ (first_or_other word verbs.Adopt verb _ (first_or_other word verbs.Spread verb _ (first_or_other word verbs.Deck verb _ (first_or_other word verbs.Options verb _ (first_or_other word verbs.Unoptions verb _ (first_or_other word verbs.Answer verb _ (first_or_other word verbs.Next verb _ (first_or_other word verbs.Counts verb _ (first_or_other word verbs.Find verb _ (first_or_other word verbs.Page verb _ (first_or_other word verbs.Mute verb _ (first_or_other word verbs.Suspend verb _ (first_or_other word verbs.Unsuspend verb _ (first_or_other word verbs.Bury verb _ (first_or_other word verbs.Flag verb None (no_other word verb)))))))))))))))))))))))))
 
 pub lone_named : (word : List ℕ) (verb : Verb) → lone_verb_of word ≡ Some verb → verb_text verb ≡ word
 lone_named word verb =

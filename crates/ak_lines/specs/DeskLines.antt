@@ -83,6 +83,7 @@ MeansLine f (lines.Next deck) = HasVerb f verbs.Next (deck ∷ [])
 MeansLine f (lines.Counts deck) = HasVerb f verbs.Counts (deck ∷ [])
 MeansLine f (lines.Find search) = HasVerb f verbs.Find [] × HasSearch f search
 MeansLine f (lines.Page card back) = HasVerb f verbs.Page (card ∷ []) × HasSide f back
+MeansLine f (lines.Mute filter) = HasVerb f verbs.Mute [] × (f.tail ≡ AnyText filter)
 MeansLine f (lines.Suspend cards) = HasVerb f verbs.Suspend [] × HasIds f cards
 MeansLine f (lines.Unsuspend cards) = HasVerb f verbs.Unsuspend [] × HasIds f cards
 MeansLine f (lines.Bury cards) = HasVerb f verbs.Bury [] × HasIds f cards

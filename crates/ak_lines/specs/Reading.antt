@@ -29,6 +29,7 @@ study_verb_of word =
     else if is_word word (codes "counts") then Some verbs.Counts
     else if is_word word (codes "find") then Some verbs.Find
     else if is_word word (codes "page") then Some verbs.Page
+    else if is_word word (codes "mute") then Some verbs.Mute
     else if is_word word (codes "suspend") then Some verbs.Suspend
     else if is_word word (codes "unsuspend") then Some verbs.Unsuspend
     else if is_word word (codes "bury") then Some verbs.Bury

@@ -95,6 +95,8 @@ pub enum DeskLine {
         card: i64,
         back: bool,
     },
+    /// `mute <filter>`
+    Mute(Text),
     /// `suspend <cards>`
     Suspend(List<i64>),
     /// `unsuspend <cards>`
@@ -213,6 +215,7 @@ fn read_arguments(alloc: Global, verb: Verb, text: &str) -> Result<DeskLine, Lin
         Verb::Counts => read_counts(text),
         Verb::Find => read_find(alloc, text),
         Verb::Page => read_page(text),
+        Verb::Mute => read_mute(alloc, text),
         Verb::Suspend => read_suspend(alloc, text),
         Verb::Unsuspend => read_unsuspend(alloc, text),
         Verb::Bury => read_bury(alloc, text),
@@ -468,6 +471,15 @@ fn read_page(text: &str) -> Result<DeskLine, LineFault>
         "back" => Ok(DeskLine::Page { card, back: true }),
         _ => Err(LineFault::BadLine),
     }
+}
+
+/// What follows `mute`: the name is all up to the end of the line.
+fn read_mute(alloc: Global, text: &str) -> Result<DeskLine, LineFault>
+    ensures ok { IfOk result (ReadsForm (verb_form false verbs.Mute text.now)) }
+    ensures err { IfErr result (RefusesForm (verb_form false verbs.Mute text.now)) }
+{
+    let filter = Text::of(alloc, text)?;
+    Ok(DeskLine::Mute(filter))
 }
 
 /// What follows `suspend`.

@@ -1,19 +1,22 @@
 // Whether an account accepts a request: the tests in their order. They ask no keeper.
-ghost use Rattle.std.specs.Prelude.{◌≡◌, ◌≤◌, ◌==◌, true, is_some, Some, None, IfSome, IfOk};
+ghost use Rattle.std.specs.Prelude.{◌≡◌, ◌≤◌, ◌==◌, true, false, is_some, Some, None, IfSome, IfOk, IsOk};
 ghost use Rattle.std.specs.Option.{option_map};
 ghost use Rattle.std.specs.Ordering.{int_eq};
-ghost use Rattle.ak_keep.specs.Collections.{Collection, Rows};
+ghost use Rattle.ak_keep.specs.Collections.{Collection};
+ghost use Rattle.ak_keep.specs.HeadNumbers.{numbered};
 ghost use Rattle.ak_protocol.specs.Replies.{declined, objected, refused};
 ghost use Rattle.ak_machine.specs.Sessions.{IsCounted, session_seen};
 ghost use Rattle.ak_machine.specs.Decisions.{declined_so, objection_in, refusal_in, refusal_of};
 ghost use Rattle.ak_machine.specs.Serving.{has_next_step, objection_to, session_of};
+ghost use Rattle.ak_session.specs.Requests.{is_upload};
 
 use crate::objections::{
     Cause, may_follow, method_of, objection_to_changes, objection_to_chunk, objection_to_graves,
     objection_to_start, objection_to_upload,
 };
 use crate::sessions::Session;
-use ak_base::{Head, Memory};
+use ak_base::Memory;
+use ak_keep::Numbers;
 use ak_messages::{Ask, Request, Word};
 
 /// The last step of a session.
@@ -27,49 +30,51 @@ pub struct Declined {
     pub seen: i64,
 }
 
-/// Why an account with this committed head and this live session refuses a request that is no meta and no repeat, if it
-/// does. Only the test of an upload's names takes memory.
+/// Why an account whose committed head has these numbers, with this live session, refuses a request that is no meta and
+/// no repeat, if it does. Only the test of an upload's names takes memory.
 pub fn refusal_of(
-    head: &Head,
+    held: &Numbers,
     live: &Option<Session>,
     request: &Request,
 ) -> Result<Option<Declined>, Memory>
     requires counted { IfSome live.now IsCounted }
-    ensures why { (held : Rows) (tables : Collection) → IfOk result (λ why. option_map declined_so why
-        ≡ option_map refused (refusal_of (record { rows = held; head = head.now }) (option_map (session_seen tables) live.now) request.now)) }
+    ensures why { (c : Collection) (tables : Collection) → IfOk result (λ why. option_map declined_so why
+        ≡ option_map refused (refusal_of (numbered held.now c) (option_map (session_seen tables) live.now) request.now)) }
     ensures live { IfOk result (λ why. why ≡ None → is_some live.now ≡ true) }
+    ensures spares { is_upload request.now.ask ≡ false → IsOk result }
 {
-    if !is_over(head, request) {
-        return Ok(Some(decline(409, Word::Base, head.moment)));
+    if !is_over(held, request) {
+        return Ok(Some(decline(409, Word::Base, held.moment)));
     }
     match live {
-        Some(live) => refusal_in(head, live, request),
+        Some(live) => refusal_in(held, live, request),
         None => Ok(Some(decline(409, Word::NoSession, 0))),
     }
 }
 
-/// Whether the request is over the committed collection with this head.
-fn is_over(head: &Head, request: &Request) -> bool
-    ensures { result ≡ int_eq request.now.base head.now.moment }
+/// Whether the request is over the committed collection with these numbers.
+fn is_over(held: &Numbers, request: &Request) -> bool
+    ensures { result ≡ int_eq request.now.base held.now.moment }
 {
-    request.base == head.moment
+    request.base == held.moment
 }
 
 /// Why a request over the committed collection is refused while this session is live.
-fn refusal_in(head: &Head, live: &Session, request: &Request) -> Result<Option<Declined>, Memory>
+fn refusal_in(held: &Numbers, live: &Session, request: &Request) -> Result<Option<Declined>, Memory>
     requires counted { IsCounted live.now }
-    ensures { (held : Rows) (tables : Collection) → IfOk result (λ why. option_map declined_so why
-        ≡ option_map refused (refusal_in (record { rows = held; head = head.now }) (session_of (Some (session_seen tables live.now)) request.now) request.now)) }
+    ensures why { (c : Collection) (tables : Collection) → IfOk result (λ why. option_map declined_so why
+        ≡ option_map refused (refusal_in (numbered held.now c) (session_of (Some (session_seen tables live.now)) request.now) request.now)) }
+    ensures spares { is_upload request.now.ask ≡ false → IsOk result }
 {
     if !has_key_of(live, request) {
         return Ok(Some(decline(409, Word::NoSession, 0)));
     }
     if !has_next_step(live, request) {
         // A wrong step has the reply of a method that may not come.
-        return Ok(Some(declined_for(Cause::Method, live.last, head)));
+        return Ok(Some(declined_for(Cause::Method, live.last, held)));
     }
-    match objection_to(head, live, &request.ask)? {
-        Some(cause) => Ok(Some(declined_for(cause, live.last, head))),
+    match objection_to(held, live, &request.ask)? {
+        Some(cause) => Ok(Some(declined_for(cause, live.last, held))),
         None => Ok(None),
     }
 }
@@ -90,32 +95,33 @@ fn has_next_step(live: &Session, request: &Request) -> bool
 }
 
 /// Why the session refuses what is asked, if it does.
-fn objection_to(head: &Head, live: &Session, ask: &Ask) -> Result<Option<Cause>, Memory>
-    ensures { (held : Rows) (tables : Collection) → IfOk result (λ why. option_map objection_in why
-        ≡ objection_to (record { rows = held; head = head.now }) (session_seen tables live.now) ask.now) }
+fn objection_to(held: &Numbers, live: &Session, ask: &Ask) -> Result<Option<Cause>, Memory>
+    ensures why { (c : Collection) (tables : Collection) → IfOk result (λ why. option_map objection_in why
+        ≡ objection_to (numbered held.now c) (session_seen tables live.now) ask.now) }
+    ensures spares { is_upload ask.now ≡ false → IsOk result }
 {
     if !may_follow(live, method_of(ask)) {
         return Ok(Some(Cause::Method));
     }
     match ask {
-        Ask::Start { min_usn, lmod } => Ok(objection_to_start(head, min_usn, lmod)),
+        Ask::Start { min_usn, lmod } => Ok(objection_to_start(held, min_usn, lmod)),
         Ask::ApplyGraves(ids) => Ok(objection_to_graves(ids)),
-        Ask::ApplyChanges(changes) => Ok(objection_to_changes(head.moment < live.moment, changes)),
+        Ask::ApplyChanges(changes) => Ok(objection_to_changes(held.moment < live.moment, changes)),
         Ask::ApplyChunk(chunk) => Ok(objection_to_chunk(chunk)),
-        Ask::Upload(whole) => objection_to_upload(head, whole),
+        Ask::Upload(whole) => objection_to_upload(held, whole),
         Ask::Meta | Ask::Chunk | Ask::SanityCheck2(_) | Ask::Finish | Ask::Download => Ok(None),
     }
 }
 
-/// What the reply says of this cause, after this last step and over a committed collection with this head.
-fn declined_for(cause: Cause, last: u64, head: &Head) -> Declined
+/// What the reply says of this cause, after this last step and over a committed collection with these numbers.
+fn declined_for(cause: Cause, last: u64, held: &Numbers) -> Declined
     requires { last ≤ 9_223_372_036_854_775_807 }
-    ensures { declined_so result ≡ objected (objection_in cause) last head.now.usn }
+    ensures { declined_so result ≡ objected (objection_in cause) last held.now.usn }
 {
     match cause {
         Cause::Method => decline(409, Word::Step, last as i64),
-        Cause::Usn => decline(409, Word::Usn, head.usn),
-        Cause::Sequence => decline(409, Word::Sequence, head.usn),
+        Cause::Usn => decline(409, Word::Usn, held.usn),
+        Cause::Sequence => decline(409, Word::Sequence, held.usn),
         Cause::Rows => decline(400, Word::Rows, 0),
         Cause::Row => decline(400, Word::Row, 0),
         Cause::Newer => decline(400, Word::Newer, 0),

@@ -6,14 +6,16 @@ ghost use Rattle.std.specs.Ordering.{int_eq, eq_by_cmp};
 ghost use Rattle.ak_base.specs.Names.{name_cmp};
 ghost use Rattle.ak_base.specs.declared.names.Name.{Name as Named};
 ghost use Rattle.ak_base.specs.Limits.{last_head_usn};
-ghost use Rattle.ak_keep.specs.Collections.{Rows};
+ghost use Rattle.ak_keep.specs.Collections.{Collection};
+ghost use Rattle.ak_keep.specs.HeadNumbers.{numbered};
 ghost use Rattle.ak_machine.specs.Decisions.{objection_in};
 ghost use Rattle.ak_session.specs.NextMethods.{methods_after};
 ghost use Rattle.ak_session.specs.Refusals.{first_objection, start_tests, grave_tests, change_tests, chunk_tests, upload_tests, is_checked, is_tag_in_range, is_whole_in_range, has_last_moment, has_twins, same_names, same_tags, has_no_next};
 ghost use Rattle.ak_session.specs.Requests.{asked_method, same_method};
 
 use crate::sessions::Session;
-use ak_base::{Head, LAST_HEAD_USN, LAST_MOMENT, LAST_STAMP, LAST_USN, Memory, Name, Row, Tag};
+use ak_base::{LAST_HEAD_USN, LAST_MOMENT, LAST_STAMP, LAST_USN, Memory, Name, Row, Tag};
+use ak_keep::Numbers;
 use ak_messages::{Ask, Changes, Chunk, GraveIds, MOST_ENTRIES, Method, Whole};
 use ak_parts::{
     are_changes_in_range, are_graves_in_range, are_rows_checked, is_between, is_conf_in_range,
@@ -68,25 +70,25 @@ pub fn may_follow(live: &Session, method: Method) -> bool
     }
 }
 
-/// Why a start is refused, over a committed collection with this head. For the proof alone the numbers are references.
-pub fn objection_to_start(head: &Head, min_usn: &i64, lmod: &i64) -> Option<Cause>
-    ensures { (held : Rows) → option_map objection_in result
-        ≡ first_objection (start_tests (record { rows = held; head = head.now }) min_usn.now lmod.now) }
+/// Why a start is refused, over a committed collection with these numbers. For the proof alone the numbers are references.
+pub fn objection_to_start(held: &Numbers, min_usn: &i64, lmod: &i64) -> Option<Cause>
+    ensures { (c : Collection) → option_map objection_in result
+        ≡ first_objection (start_tests (numbered held.now c) min_usn.now lmod.now) }
 {
-    if !is_between(*min_usn, 0, head.usn) {
+    if !is_between(*min_usn, 0, held.usn) {
         return Some(Cause::Usn);
     }
-    if has_no_number(head, *lmod) {
+    if has_no_number(held, *lmod) {
         return Some(Cause::Sequence);
     }
     None
 }
 
 /// Whether the server's number is the last one, or a moment of either side is.
-fn has_no_number(head: &Head, lmod: i64) -> bool
-    ensures { result ≡ (int_eq head.now.usn last_head_usn || has_no_next head.now.moment || has_no_next lmod) }
+fn has_no_number(held: &Numbers, lmod: i64) -> bool
+    ensures { result ≡ (int_eq held.now.usn last_head_usn || has_no_next held.now.moment || has_no_next lmod) }
 {
-    head.usn == LAST_HEAD_USN || has_no_next(head.moment) || has_no_next(lmod)
+    held.usn == LAST_HEAD_USN || has_no_next(held.moment) || has_no_next(lmod)
 }
 
 /// Why graves are refused.
@@ -128,12 +130,12 @@ pub fn objection_to_chunk(chunk: &Chunk) -> Option<Cause>
     None
 }
 
-/// Why an upload is refused, over a committed collection with this head. To find two rows of one name takes memory.
-pub fn objection_to_upload(head: &Head, whole: &Whole) -> Result<Option<Cause>, Memory>
-    ensures { (held : Rows) → IfOk result (λ why. option_map objection_in why
-        ≡ first_objection (upload_tests (record { rows = held; head = head.now }) whole.now)) }
+/// Why an upload is refused, over a committed collection with these numbers. To find two rows of one name takes memory.
+pub fn objection_to_upload(held: &Numbers, whole: &Whole) -> Result<Option<Cause>, Memory>
+    ensures { (c : Collection) → IfOk result (λ why. option_map objection_in why
+        ≡ first_objection (upload_tests (numbered held.now c) whole.now)) }
 {
-    if has_last_moment(head, whole) {
+    if has_last_moment(held, whole) {
         return Ok(Some(Cause::Sequence));
     }
     if !is_whole_in_range(whole) {
@@ -149,11 +151,11 @@ pub fn objection_to_upload(head: &Head, whole: &Whole) -> Result<Option<Cause>, 
 }
 
 /// Whether a moment or a schema moment of either side is the last one.
-fn has_last_moment(head: &Head, whole: &Whole) -> bool
-    ensures { (held : Rows) → result ≡ has_last_moment (record { rows = held; head = head.now }) whole.now }
+fn has_last_moment(held: &Numbers, whole: &Whole) -> bool
+    ensures { (c : Collection) → result ≡ has_last_moment (numbered held.now c) whole.now }
 {
-    has_no_next(head.moment)
-        || has_no_next(head.schema)
+    has_no_next(held.moment)
+        || has_no_next(held.schema)
         || has_no_next(whole.moment)
         || has_no_next(whole.schema)
 }

@@ -1,13 +1,15 @@
 // The replies of a server, by their form.
 ghost use Rattle.std.specs.Prelude.{◌≡◌, IfOk};
 ghost use Rattle.ak_io.specs.Arrivals.{IsClockMoment};
+ghost use Rattle.ak_keep.specs.Collections.{Collection};
+ghost use Rattle.ak_keep.specs.HeadNumbers.{numbered};
 ghost use Rattle.ak_messages.specs.declared.replies.Give.TheVariants as gives;
 ghost use Rattle.ak_protocol.specs.Replies.{granted, unknown_key, meta_reply};
 ghost use Rattle.ak_machine.specs.Decisions.{declined_so, setback_reply};
 
 use crate::decisions::Declined;
-use ak_base::{Head, Memory, Text};
-use ak_keep::KeepFault;
+use ak_base::{Memory, Text};
+use ak_keep::{KeepFault, Numbers};
 use ak_messages::{Give, MetaReply, Reply, Word};
 use std::alloc::Global;
 
@@ -67,16 +69,16 @@ pub fn setback_reply(fault: KeepFault) -> Reply
     }
 }
 
-/// The reply to a meta at a moment in milliseconds, over a committed collection with this head.
-pub fn meta_reply(alloc: Global, head: &Head, now: i64) -> Result<Reply, Memory>
+/// The reply to a meta at a moment in milliseconds, over a committed collection with these numbers.
+pub fn meta_reply(alloc: Global, held: &Numbers, now: i64) -> Result<Reply, Memory>
     requires clock { IsClockMoment now }
-    ensures { IfOk result (λ reply. reply ≡ granted (gives.Meta (meta_reply head.now now))) }
+    ensures { (c : Collection) → IfOk result (λ reply. reply ≡ granted (gives.Meta (meta_reply (numbered held.now c).head now))) }
 {
     Ok(granted(Give::Meta(MetaReply {
-        scm: head.schema,
+        scm: held.schema,
         ts: now / 1000,
-        moment: head.moment,
-        usn: head.usn,
+        moment: held.moment,
+        usn: held.usn,
         musn: 0,
         msg: Text::of(alloc, "")?,
         cont: true,

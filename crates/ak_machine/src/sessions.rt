@@ -1,7 +1,9 @@
-// What is remembered of a session and of a reply, as requests come. It takes no memory, but for the copy of a reply.
-ghost use Rattle.std.specs.Prelude.{◌≡◌, ◌+◌, ◌<◌, if◌then◌else◌, IfOk};
+// What is remembered of a session and of a reply, as requests come. It takes no memory, but for the copy of a reply
+// that is not a finish's.
+ghost use Rattle.std.specs.Prelude.{◌≡◌, ◌+◌, ◌<◌, true, if◌then◌else◌, IfOk, IsOk};
 ghost use Rattle.ak_keep.specs.Collections.{Collection};
 ghost use Rattle.ak_merge.specs.Commits.{with_received};
+ghost use Rattle.ak_messages.specs.MessageForms.{is_given_to};
 ghost use Rattle.ak_messages.specs.declared.methods.Method.TheVariants as methods;
 ghost use Rattle.ak_protocol.specs.Accounts.{is_repeat};
 ghost use Rattle.ak_protocol.specs.Serving.{kept_of};
@@ -127,9 +129,10 @@ fn told_moment(ask: &Ask) -> i64
 }
 
 impl Kept {
-    /// The reply to a request as it is kept: none for a download.
+    /// The reply to a request as it is kept: none for a download. To keep what a finish is given takes no memory.
     pub fn of(request: &Request, reply: &Reply) -> Result<Kept, Memory>
-        ensures { IfOk result (λ kept. kept_seen kept ≡ kept_of request.now reply.now) }
+        ensures kept { IfOk result (λ kept. kept_seen kept ≡ kept_of request.now reply.now) }
+        ensures spares { is_given_to methods.Finish reply.now.give ≡ true → IsOk result }
     {
         let reply = if is_download(&request.ask) {
             None

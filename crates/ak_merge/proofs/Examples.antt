@@ -338,11 +338,11 @@ linked_after_a_sync any = inr (note_links any any (pos 3) (pos 10) (pos 3) (pos 
 linked_after_an_edit : (any their : Head) → their.moment <ℤ any.moment → AreLinked (held_of (late ∷ []) any) (held_of (given_3 ∷ []) their)
 linked_after_an_edit any their moved = inr (note_links any their (negsuc 0) (pos 20) (pos 3) (pos 10) (codes "home") (codes "house")
     (omega (arith, ints, moved)) (λ at_once. absurd (omega (arith, ints, moved, at_once))) (record {
-  own = inl refl;
-  given = three;
-  taken = λ _ _. inr (inl (record { unsent = refl; newer = omega (arith, ints) }));
-  known = λ _ settled. absurd (not_both settled refl);
-}))
+      own = inl refl;
+      given = three;
+      taken = λ _ _. inr (inl (record { unsent = refl; newer = omega (arith, ints) }));
+      known = λ _ settled. absurd (not_both settled refl);
+    }))
 
 -- The device holds a note as settled that the server never had: the two are not linked.
 not_linked_by_a_lost_row : (any their : Head) → AreLinked (held_of (given_3 ∷ []) any) (held_of [] their) → ⊥
@@ -444,11 +444,11 @@ map_checked xs all = of_maps xs xs (λ a b. AreChecked a) (each_standing IsCheck
 linked_then : (any their : Head) → AreLinkedParts (device_then any) (server_then their)
 linked_then any their = note_links (record any { moment = pos 20 }) (record their { moment = pos 10 }) (negsuc 0) (pos 20) (pos 3) (pos 10) (codes "home") (codes "house")
     (omega (arith, ints)) (λ at_once. absurd (omega (arith, ints, at_once))) (record {
-  own = inl refl;
-  given = three;
-  taken = λ _ _. inr (inl (record { unsent = refl; newer = omega (arith, ints) }));
-  known = λ _ settled. absurd (not_both settled refl);
-})
+      own = inl refl;
+      given = three;
+      taken = λ _ _. inr (inl (record { unsent = refl; newer = omega (arith, ints) }));
+      known = λ _ settled. absurd (not_both settled refl);
+    })
 
 sent_then : (any : Head) → IsSent (late ∷ []) (wanted_under Unsent (row_under (device_then any))) (get (all_taken Device (pos 5) [] (device_then any).rows))
 sent_then any = record {

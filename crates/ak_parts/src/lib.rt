@@ -15,7 +15,7 @@ mod walks;
 
 pub use chunks::next_rows;
 pub use counts::{counts_of, same_counts};
-pub use heads::head_of;
+pub use heads::{head_of, held_numbers};
 pub use lists::append_page;
 pub use parts::{Changed, changed_of, chunk_of, grave_ids};
 pub use ranges::{

@@ -1,13 +1,14 @@
 -- A session that begins, and one that is over.
-use Rattle.std.specs.FinMap.{empty}
 use Rattle.std.specs.List.{list_any}
 use Rattle.std.specs.Option.{option_map}
 use Rattle.std.specs.Prelude.{◌≡◌, ◌≢◌, ◌⊎◌, ℕ, ℤ, Bool, true, false, if◌then◌else◌, Option, Some, None, Result, Ok, Err, IfSome, IfOk, IfErr}
 use Rattle.std.proofs.Common.{refl, sym, ap, subst, ◌∙◌, arith, inl, inr}
-use Rattle.ak_base.specs.declared.heads.Head.{Head}
 use Rattle.ak_faults.specs.Causes.{Health}
+use Rattle.ak_keep.proofs.HeadNumbers.{some_collection}
 use Rattle.ak_keep.specs.Collections.{Collection}
+use Rattle.ak_keep.specs.HeadNumbers.{numbered, numbers_of}
 use Rattle.ak_keep.specs.Keepers.{KeepCause, Keeping, WhereTold, back, is_marked}
+use Rattle.ak_keep.specs.declared.head_numbers.Numbers.{Numbers}
 use Rattle.ak_keep.specs.declared.keepers.KeepFault.{KeepFault}
 use Rattle.ak_keep.specs.declared.keepers.KeepFault.TheVariants as keep_faults
 use Rattle.ak_machine.specs.Decisions.{setback_of, setback_reply}
@@ -25,8 +26,8 @@ use Rattle.ak_protocol.specs.Accounts.{is_repeat, repeated}
 use Rattle.ak_protocol.specs.Replies.{granted, meta_reply, out_of_memory}
 use Rattle.ak_protocol.specs.Serving.{Undisturbed}
 use Rattle.ak_server.proofs.Keepings.{committed_back, tables_back}
-use Rattle.ak_server.proofs.Seeing.{alike_same, for_some, head_is, of_some, same_some, see, seen_as}
-use Rattle.ak_server.specs.Accounts.{IsKept, IsOver, IsRight, account_seen, committed_in, is_started, tables_in}
+use Rattle.ak_server.proofs.Seeing.{alike_same, for_some, numbered_same, numbers_are, of_some, same_some, see, seen_as}
+use Rattle.ak_server.specs.Accounts.{AreGranted, IsKept, IsOver, IsRight, account_seen, committed_in, is_started, tables_in}
 use Rattle.ak_server.specs.Servers.{DoesSo, DoesUndisturbed, GivesAgain, IsStruck, LeavesCommitted, ServeCause, StrikesOne}
 use Rattle.ak_server.specs.Serving.{Does, FindsAgain, IsDecided}
 use Rattle.ak_server.specs.declared.accounts.Account.{Account}
@@ -84,11 +85,8 @@ begun_over next c t method same =
     }
 
 module _ {K : Type 0} (keeping : K → Keeping) (old new : Account K) (right : IsRight keeping old) (back_is : keeping new.keeper ≡ back (keeping old.keeper))
-    (request : Request) (next : Session) (head : Head) (live_is : new.live ≡ Some next) (none : new.kept ≡ None)
+    (request : Request) (next : Session) (live_is : new.live ≡ Some next) (none : new.kept ≡ None)
     (opens : (committed : Collection) → session_seen committed next ≡ opened committed request.session.0) (place : next.given ≡ first_place) where
-  abbrev some_collection : Collection
-  some_collection = record { rows = empty; head = head }
-
   method_is : next.method ≡ methods.Meta
   method_is = ap (λ (s : SessionSummary). s.method) (opens some_collection)
 
@@ -97,17 +95,18 @@ module _ {K : Type 0} (keeping : K → Keeping) (old new : Account K) (right : I
     keeper = kept_back keeping old new right back_is (ap is_started live_is ∙ ap has_mark method_is);
     session = subst (λ (o : Option Session). IfSome o IsCounted) (sym live_is) (begun_counted next request.session.0 some_collection (opens some_collection) place);
     told = λ c t over under. subst (λ (o : Option Session). IfSome o (λ live. IsOver live c t)) (sym live_is) (begun_over next c t method_is (same_back keeping old new right back_is c t over under));
-    granted = subst (λ (o : Option Kept). IfSome o (λ kept. IfSome kept.reply (λ reply. reply.status ≡ 200))) (sym none) tt;
+    granted = subst (λ (o : Option Kept). AreGranted o) (sym none) tt;
     unread = subst (λ (o : Option Kept). IfSome o (λ kept. kept.reply ≡ None → is_started new.live ≡ false)) (sym none) tt;
   }
 
-  pub begun_does : (now : ℤ) (reply : Reply) → WhereTold (back (keeping old.keeper)) (λ h. h.head ≡ Some head) → is_meta request.ask ≡ true
-      → reply ≡ granted (gives.Meta (meta_reply head now)) → Does keeping old request now new reply
-  begun_does now reply told meta is = for_some (account_seen keeping old) (λ s. DoesUndisturbed keeping s request now new reply) (λ s own.
+  pub begun_does : (now : ℤ) (reply : Reply) (numbers : Numbers) → WhereTold (back (keeping old.keeper)) (λ h. option_map numbers_of h.head ≡ Some numbers)
+      → is_meta request.ask ≡ true → ((c : Collection) → reply ≡ granted (gives.Meta (meta_reply (numbered numbers c).head now))) → Does keeping old request now new reply
+  begun_does now reply numbers told meta is = for_some (account_seen keeping old) (λ s. DoesUndisturbed keeping s request now new reply) (λ s own.
       let seen = see keeping old s own in
       record {
-        reply_is = is
-            ∙ ap (λ (h : Head). granted (gives.Meta (meta_reply h now))) (sym (head_is (back (keeping old.keeper)) head s.committed told (tables_back (keeping old.keeper) ∙ seen.committed)))
+        reply_is = is s.committed
+            ∙ ap (λ (c : Collection). granted (gives.Meta (meta_reply c.head now)))
+            (numbered_same numbers s.committed (numbers_are (back (keeping old.keeper)) numbers s.committed told (tables_back (keeping old.keeper) ∙ seen.committed)))
             ∙ sym (ap (λ (d : Did). d.reply) (does_meta s request now meta));
         seen = seen_as keeping new s.committed s.committed (Some (opened s.committed request.session.0)) None
             (over_back keeping old new right back_is s.committed seen.committed) (under_back keeping old new right back_is s.committed seen.committed)
@@ -123,7 +122,7 @@ does_struck s request now keep_faults.Memory = refl
 module _ {K : Type 0} (keeping : K → Keeping) (old new : Account K) (right : IsRight keeping old) (back_is : keeping new.keeper ≡ back (keeping old.keeper))
     (over : new.live ≡ None) where
   -- an account whose session is over, with the kept reply or without one
-  pub over_right : IfSome new.kept (λ kept. IfSome kept.reply (λ reply. reply.status ≡ 200)) → IsRight keeping new
+  pub over_right : AreGranted new.kept → IsRight keeping new
   over_right granted = record {
     keeper = kept_back keeping old new right back_is (ap is_started over);
     session = subst (λ (o : Option Session). IfSome o IsCounted) (sym over) tt;
@@ -160,15 +159,14 @@ struck_since keeping old mid new request leaves struck = record {
   kept = struck.kept ∙ ap (λ (o : Option Kept). if is_meta request.ask then None else o) leaves.kept;
 }
 
-kept_struck : (b : Bool) (kept : Option Kept) → IfSome kept (λ k. IfSome k.reply (λ reply. reply.status ≡ 200))
-    → IfSome (if b then None else kept) (λ k. IfSome k.reply (λ reply. reply.status ≡ 200))
+kept_struck : (b : Bool) (kept : Option Kept) → AreGranted kept → AreGranted (if b then None else kept)
 kept_struck true kept granted = tt
 kept_struck false kept granted = granted
 
 module _ {K : Type 0} (keeping : K → Keeping) (old new : Account K) (request : Request) (right : IsRight keeping old) (struck : IsStruck keeping old new request) where
   pub right_struck : IsRight keeping new
   right_struck = over_right keeping old new right struck.committed struck.over
-      (subst (λ (o : Option Kept). IfSome o (λ kept. IfSome kept.reply (λ reply. reply.status ≡ 200))) (sym struck.kept)
+      (subst (λ (o : Option Kept). AreGranted o) (sym struck.kept)
       (kept_struck (is_meta request.ask) old.kept right.granted))
 
   pub does_so_struck : (now : ℤ) (fault : KeepFault) (reply : Reply) → reply ≡ setback_reply fault

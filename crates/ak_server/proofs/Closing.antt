@@ -12,13 +12,16 @@ use Rattle.ak_base.specs.Heads.{IsMoment}
 use Rattle.ak_base.specs.Limits.{last_head_usn, last_moment}
 use Rattle.ak_base.specs.declared.heads.Head.{Head}
 use Rattle.ak_io.specs.Arrivals.{IsClockMoment}
-use Rattle.ak_keep.specs.Collections.{Collection, Rows, rows_of}
+use Rattle.ak_keep.specs.Collections.{Collection, rows_of}
+use Rattle.ak_keep.specs.HeadNumbers.{numbered, numbers_of}
 use Rattle.ak_keep.specs.Keepers.{Keeping, back, committed, is_marked, marked_here, moments_set, replaced}
+use Rattle.ak_keep.specs.declared.head_numbers.Numbers.{Numbers}
 use Rattle.ak_machine.specs.Serving.{Did, accepted, closed_by, ended, finished, is_bad_check, tests_of, went_on}
 use Rattle.ak_machine.specs.Sessions.{IsCounted, has_mark, kept_seen, session_seen}
 use Rattle.ak_machine.specs.Summaries.{AccountSummary, SessionSummary}
 use Rattle.ak_machine.specs.declared.sessions.Session.{Session}
 use Rattle.ak_merge.specs.Commits.{uploaded_rows}
+use Rattle.ak_messages.specs.declared.methods.Method.TheVariants as methods
 use Rattle.ak_messages.specs.declared.replies.Give.TheVariants as gives
 use Rattle.ak_messages.specs.declared.replies.Reply.{Reply}
 use Rattle.ak_messages.specs.declared.requests.Ask.{Ask}
@@ -27,18 +30,18 @@ use Rattle.ak_messages.specs.declared.requests.Request.{Request}
 use Rattle.ak_messages.specs.declared.requests.Whole.{Whole}
 use Rattle.ak_protocol.specs.Replies.{granted}
 use Rattle.ak_protocol.specs.Serving.{commit_reply, kept_of}
-use Rattle.ak_server.proofs.GoingOn.{alike_basis, counted_basis, head_basis, kept_granted, marked_right, over_basis, passed_over, started_basis}
+use Rattle.ak_server.proofs.GoingOn.{alike_basis, counted_basis, numbers_basis, kept_granted, marked_right, over_basis, passed_over, started_basis}
 use Rattle.ak_server.proofs.Keepings.{committed_kept, tables_kept, tables_marked, tables_replaced, tables_set, with_numbers}
 use Rattle.ak_server.proofs.Passing.{AlikeNumbers}
 use Rattle.ak_server.proofs.Seeing.{for_some, same_some, see, seen_as}
-use Rattle.ak_server.specs.Accounts.{IsOver, IsRight, account_seen, committed_in, is_started, tables_in}
+use Rattle.ak_server.specs.Accounts.{IsOver, IsRight, account_seen, committed_in, gives_moment, is_started, tables_in}
 use Rattle.ak_server.specs.Serving.{Accepts, IsAccepted}
 use Rattle.ak_server.specs.declared.accounts.Account.{Account}
 use Rattle.ak_session.proofs.Ranges.{moment_fits, none_first, none_rest, untrue}
 use Rattle.ak_session.specs.Closings.{moment_past}
 use Rattle.ak_session.specs.Objections.{NoNumber, WrongRow}
 use Rattle.ak_session.specs.Refusals.{first_objection, has_last_moment, has_no_next, has_twins, is_whole_in_range, same_names, same_tags, test, upload_tests}
-use Rattle.ak_session.specs.Requests.{asks_commit}
+use Rattle.ak_session.specs.Requests.{asked_method, asks_commit, is_download, same_method}
 
 -- ---- what the tests of an upload tell
 pub record UploadPasses (c : Collection) (whole : Whole) : Type 0 where
@@ -59,6 +62,13 @@ upload_passes c whole none =
           (none_first twins WrongRow [] (none_rest outside WrongRow (test twins WrongRow ∷ []) more))).0;
     }
 
+-- ---- replies
+-- the reply to a finish, as it is kept, gives a moment
+pub finish_gives : (request : Request) (reply : Reply) (moment : ℤ) → request.ask ≡ asks.Finish → reply ≡ granted (gives.Moment moment)
+    → same_method (asked_method request.ask) methods.Finish ≡ true → gives_moment (kept_of request reply).reply ≡ true
+finish_gives request reply moment is so _ =
+    ap (λ (ask : Ask). gives_moment (if is_download ask then None else Some reply)) is ∙ ap (λ (r : Reply). gives_moment (Some r)) so
+
 -- ---- numbers
 clock_moment : (now : ℤ) → IsClockMoment now → IsMoment now
 clock_moment now clock = let low = clock.low in let high = clock.high in record { low = low; high = omega (arith, ints, high) }
@@ -69,8 +79,8 @@ least_is x most le = let is = int_min_is x most in omega (arith, ints, is, le)
 below_so : (usn : ℤ) → usn <ℤ last_head_usn → (usn +ℤ pos 1) ≤ℤ last_head_usn
 below_so usn low = omega (arith, ints, low)
 
--- heads with these moments are uploaded alike
-uploaded_alike : (a b : Head) (whole : Whole) (now : ℤ) → a.moment ≡ b.moment → a.schema ≡ b.schema → a.last_sync ≡ b.last_sync
+-- heads with these moments are uploaded over alike
+uploaded_alike : (a b : Numbers) (whole : Whole) (now : ℤ) → a.moment ≡ b.moment → a.schema ≡ b.schema → a.last_sync ≡ b.last_sync
     → uploaded_head a whole now ≡ uploaded_head b whole now
 uploaded_alike a b whole now moment schema sync =
     ap (λ (x : ℤ). uploaded_head (record a { moment = x }) whole now) moment
@@ -88,10 +98,11 @@ module _ {K : Type 0} (keeping : K → Keeping) (old : Account K) (basis : Basis
       (counted_basis keeping old basis request right taken).room
       (sym (started_basis keeping old basis request right taken) ∙ marked_for asks.Finish is)
 
-  pub upload_fits : (whole : Whole) → request.ask ≡ asks.Upload whole → (rows : Rows) → UploadPasses (record { rows = rows; head = basis.head }) whole
-  upload_fits whole is rows =
-      let c : Collection = record { rows = rows; head = basis.head } in
-      upload_passes c whole (ap (λ (ask : Ask). first_objection (tests_of c (session_seen c basis.live) ask)) (sym is) ∙ (passed_over keeping old basis request right taken rows c).tests)
+  pub upload_fits : (whole : Whole) → request.ask ≡ asks.Upload whole → (c : Collection) → UploadPasses (numbered basis.numbers c) whole
+  upload_fits whole is c =
+      let tested : Collection = numbered basis.numbers c in
+      upload_passes tested whole
+      (ap (λ (ask : Ask). first_objection (tests_of tested (session_seen tested basis.live) ask)) (sym is) ∙ (passed_over keeping old basis request right taken c tested).tests)
 
   module _ (s : AccountSummary) (own : account_seen keeping old ≡ Some s) (now : ℤ) (mid : Keeping) (reply : Reply) where
     abbrev held_of : Collection
@@ -103,33 +114,33 @@ module _ {K : Type 0} (keeping : K → Keeping) (old : Account K) (basis : Basis
     alike : AlikeNumbers held_of s.committed
     alike = alike_basis keeping old basis request right taken s.committed held_of (see keeping old s own).committed (see keeping old s own).tables
 
-    head_so : held_of.head ≡ basis.head
-    head_so = head_basis keeping old basis request right taken s.committed held_of (see keeping old s own).committed (see keeping old s own).tables
+    numbers_so : numbers_of held_of.head ≡ basis.numbers
+    numbers_so = numbers_basis keeping old basis request right taken s.committed held_of (see keeping old s own).committed (see keeping old s own).tables
 
     over : IsOver basis.live s.committed held_of
     over = over_basis keeping old basis request right taken s.committed held_of (see keeping old s own).committed (see keeping old s own).tables
 
-    same_moment : basis.head.moment ≡ s.committed.head.moment
-    same_moment = sym (ap (λ (h : Head). h.moment) head_so) ∙ alike.moment
+    same_moment : basis.numbers.moment ≡ s.committed.head.moment
+    same_moment = sym (ap (λ (n : Numbers). n.moment) numbers_so) ∙ alike.moment
 
     -- an upload
-    uploads : (whole : Whole) → uploaded_head basis.head whole now ≡ uploaded_head s.committed.head whole now
+    uploads : (whole : Whole) → uploaded_head basis.numbers whole now ≡ uploaded_head (numbers_of s.committed.head) whole now
     uploads whole =
-        uploaded_alike basis.head s.committed.head whole now same_moment
-        (sym (ap (λ (h : Head). h.schema) head_so) ∙ alike.schema) (sym (ap (λ (h : Head). h.last_sync) head_so) ∙ alike.last_sync)
+        uploaded_alike basis.numbers (numbers_of s.committed.head) whole now same_moment
+        (sym (ap (λ (n : Numbers). n.schema) numbers_so) ∙ alike.schema) (sym (ap (λ (n : Numbers). n.last_sync) numbers_so) ∙ alike.last_sync)
 
     pub upload_tables : (whole : Whole) → request.ask ≡ asks.Upload whole
-        → mid ≡ replaced (uploaded_rows whole.rows) (uploaded_head basis.head whole now) (marked_here (keeping old.keeper))
+        → mid ≡ replaced (uploaded_rows whole.rows) (uploaded_head basis.numbers whole now) (marked_here (keeping old.keeper))
         → tables_in mid ≡ Some (closed_by s.committed session_of request.ask now)
     upload_tables whole is made =
         ap tables_in made
-        ∙ tables_replaced (uploaded_rows whole.rows) (uploaded_head basis.head whole now) (marked_here (keeping old.keeper)) held_of
+        ∙ tables_replaced (uploaded_rows whole.rows) (uploaded_head basis.numbers whole now) (marked_here (keeping old.keeper)) held_of
         (tables_marked (keeping old.keeper) ∙ (see keeping old s own).tables)
         ∙ ap (λ (h : Head). Some (record { rows = rows_of (uploaded_rows whole.rows); head = h })) (uploads whole)
         ∙ ap (λ (ask : Ask). Some (closed_by s.committed session_of ask now)) (sym is)
 
     pub upload_reply : (whole : Whole) → request.ask ≡ asks.Upload whole
-        → reply ≡ granted (gives.Uploaded (uploaded_head basis.head whole now).moment (uploaded_head basis.head whole now).schema)
+        → reply ≡ granted (gives.Uploaded (uploaded_head basis.numbers whole now).moment (uploaded_head basis.numbers whole now).schema)
         → reply ≡ commit_reply request.ask (closed_by s.committed session_of request.ask now).head
     upload_reply whole is given =
         given
@@ -148,22 +159,22 @@ module _ {K : Type 0} (keeping : K → Keeping) (old : Account K) (basis : Basis
 
     usn_so : request.ask ≡ asks.Finish → finished_usn basis ≡ s.committed.head.usn +ℤ pos 1
     usn_so is =
-        ap (λ (x : ℤ). int_min (x +ℤ pos 1) last_head_usn) (sym (ap (λ (h : Head). h.usn) head_so) ∙ alike.usn)
+        ap (λ (x : ℤ). int_min (x +ℤ pos 1) last_head_usn) (sym (ap (λ (n : Numbers). n.usn) numbers_so) ∙ alike.usn)
         ∙ least_is (s.committed.head.usn +ℤ pos 1) last_head_usn (below_so s.committed.head.usn (over.room (marked_finish is)).0)
 
-    abbrev numbered : ℤ → ℤ → ℤ → ℤ → Collection
-    numbered m sc u l = with_numbers m sc u l held_of
+    abbrev held_with : ℤ → ℤ → ℤ → ℤ → Collection
+    held_with m sc u l = with_numbers m sc u l held_of
 
     pub finish_tables : IsClockMoment now → request.ask ≡ asks.Finish
-        → mid ≡ moments_set (finished_moment basis now) basis.head.schema (finished_usn basis) basis.head.last_sync (keeping old.keeper)
+        → mid ≡ moments_set (finished_moment basis now) basis.numbers.schema (finished_usn basis) basis.numbers.last_sync (keeping old.keeper)
         → tables_in mid ≡ Some (closed_by s.committed session_of request.ask now)
     finish_tables clock is made =
         ap tables_in made
-        ∙ tables_set (finished_moment basis now) basis.head.schema (finished_usn basis) basis.head.last_sync (keeping old.keeper)
-        ∙ ap (option_map (with_numbers (finished_moment basis now) basis.head.schema (finished_usn basis) basis.head.last_sync)) (see keeping old s own).tables
-        ∙ ap (λ (x : ℤ). Some (numbered x basis.head.schema (finished_usn basis) basis.head.last_sync)) (moment_so clock is)
-        ∙ ap (λ (x : ℤ). Some (numbered (moment_past now s.committed.head.moment basis.live.moment) basis.head.schema x basis.head.last_sync)) (usn_so is)
-        ∙ ap (λ (h : Head). Some (numbered (moment_past now s.committed.head.moment basis.live.moment) h.schema (s.committed.head.usn +ℤ pos 1) h.last_sync)) (sym head_so)
+        ∙ tables_set (finished_moment basis now) basis.numbers.schema (finished_usn basis) basis.numbers.last_sync (keeping old.keeper)
+        ∙ ap (option_map (with_numbers (finished_moment basis now) basis.numbers.schema (finished_usn basis) basis.numbers.last_sync)) (see keeping old s own).tables
+        ∙ ap (λ (x : ℤ). Some (held_with x basis.numbers.schema (finished_usn basis) basis.numbers.last_sync)) (moment_so clock is)
+        ∙ ap (λ (x : ℤ). Some (held_with (moment_past now s.committed.head.moment basis.live.moment) basis.numbers.schema x basis.numbers.last_sync)) (usn_so is)
+        ∙ ap (λ (n : Numbers). Some (held_with (moment_past now s.committed.head.moment basis.live.moment) n.schema (s.committed.head.usn +ℤ pos 1) n.last_sync)) (sym numbers_so)
         ∙ ap (λ (ask : Ask). Some (closed_by s.committed session_of ask now)) (sym is)
 
     pub finish_reply : IsClockMoment now → request.ask ≡ asks.Finish → reply ≡ granted (gives.Moment (finished_moment basis now))
@@ -176,8 +187,9 @@ module _ {K : Type 0} (keeping : K → Keeping) (old : Account K) (basis : Basis
   -- ---- once it is committed
   module _ (new : Account K) (now : ℤ) (mid : Keeping) (reply : Reply) (keeper_is : keeping new.keeper ≡ committed mid) (live_is : new.live ≡ None)
       (kept_is : option_map kept_seen new.kept ≡ Some (kept_of request reply)) where
-    pub closed_right : mid.headed.current ≡ true → reply.status ≡ 200 → IsRight keeping new
-    closed_right held given = record {
+    pub closed_right : mid.headed.current ≡ true → reply.status ≡ 200
+        → (same_method (asked_method request.ask) methods.Finish ≡ true → gives_moment (kept_of request reply).reply ≡ true) → IsRight keeping new
+    closed_right held given moment = record {
       keeper = record {
         held = ap (λ (k : Keeping). k.headed.current) keeper_is ∙ held;
         held_before = ap (λ (k : Keeping). (back k).headed.current) keeper_is ∙ held;
@@ -185,7 +197,7 @@ module _ {K : Type 0} (keeping : K → Keeping) (old : Account K) (basis : Basis
       };
       session = subst (λ (o : Option Session). IfSome o IsCounted) (sym live_is) tt;
       told = λ c t _ _. subst (λ (o : Option Session). IfSome o (λ live. IsOver live c t)) (sym live_is) tt;
-      granted = kept_granted new.kept request reply kept_is given;
+      granted = kept_granted new.kept request reply kept_is given moment;
       unread = for_some new.kept (λ kept. kept.reply ≡ None → is_started new.live ≡ false) (λ kept _ _. ap is_started live_is);
     }
 

@@ -1,16 +1,17 @@
 -- An accepted request after which nothing is committed: the session goes on, or is over after a bad sanity check.
-use Rattle.std.specs.FinMap.{empty}
 use Rattle.std.specs.List.{list_any}
 use Rattle.std.specs.Option.{option_map}
 use Rattle.std.specs.Prelude.{◌≡◌, ◌<◌, ◌≤ℤ◌, ℤ, Bool, true, false, if◌then◌else◌, Option, Some, None, IfSome}
 use Rattle.std.proofs.Common.{refl, sym, ap, subst, ◌∙◌}
-use Rattle.ak_answers.specs.Answers.{Answers, answered, expects_mark, is_chunk, tables_of}
+use Rattle.ak_answers.specs.Answers.{Answers, answered, expects_mark, is_chunk}
 use Rattle.ak_answers.specs.declared.answers.Answered.{Answered}
 use Rattle.ak_answers.specs.declared.answers.Basis.{Basis}
 use Rattle.ak_base.specs.Limits.{last_head_usn}
-use Rattle.ak_base.specs.declared.heads.Head.{Head}
-use Rattle.ak_keep.specs.Collections.{Collection, Rows}
-use Rattle.ak_keep.specs.Keepers.{Keeping, WhereTold, back, is_marked}
+use Rattle.ak_keep.proofs.HeadNumbers.{some_collection}
+use Rattle.ak_keep.specs.Collections.{Collection}
+use Rattle.ak_keep.specs.HeadNumbers.{numbered, numbers_of}
+use Rattle.ak_keep.specs.Keepers.{Keeping, WhereHeld, back, is_marked}
+use Rattle.ak_keep.specs.declared.head_numbers.Numbers.{Numbers}
 use Rattle.ak_machine.specs.Decisions.{refusal_of}
 use Rattle.ak_machine.specs.Serving.{Did, accepted, ended, finished, is_bad_check, reply_to, went_on}
 use Rattle.ak_machine.specs.Sessions.{IsCounted, has_mark, kept_seen, session_seen}
@@ -36,10 +37,11 @@ use Rattle.ak_server.proofs.Followings.{Follows, expects_asked, expects_of, foll
 use Rattle.ak_server.proofs.Keepings.{same_committed, tables_marked, tables_received}
 use Rattle.ak_server.proofs.Passing.{AlikeNumbers, Passed, brought_taken, passed_all, refusal_alike}
 use Rattle.ak_server.proofs.Replying.{IsRightAnswer, over_later, right_answer}
-use Rattle.ak_server.proofs.Seeing.{for_some, head_is, numbers_alike, of_some, of_tables, same_some, same_unmarked, see, seen_as}
-use Rattle.ak_server.specs.Accounts.{IsOver, IsRight, account_seen, committed_in, is_started, tables_in}
+use Rattle.ak_server.proofs.Seeing.{for_some, numbered_same, numbers_alike, numbers_are, of_current, of_some, same_some, same_unmarked, see, seen_as}
+use Rattle.ak_server.specs.Accounts.{AreGranted, IsOver, IsRight, account_seen, committed_in, gives_moment, is_started, tables_in}
 use Rattle.ak_server.specs.Serving.{Accepts, IsAccepted, is_bad}
 use Rattle.ak_server.specs.declared.accounts.Account.{Account}
+use Rattle.ak_session.proofs.Ranges.{not_both}
 use Rattle.ak_session.specs.Asks.{brought, nothing}
 use Rattle.ak_session.specs.NextMethods.{methods_after}
 use Rattle.ak_session.specs.Requests.{asked_method, asks_commit, is_download, same_method}
@@ -71,10 +73,30 @@ reply_by true reply kept is granted = subst (λ (o : Option Reply). IfSome o (λ
 reply_by false reply kept is granted = subst (λ (o : Option Reply). IfSome o (λ r. r.status ≡ 200)) (sym is) granted
 
 pub kept_granted : (o : Option Kept) (request : Request) (reply : Reply) → option_map kept_seen o ≡ Some (kept_of request reply) → reply.status ≡ 200
-    → IfSome o (λ kept. IfSome kept.reply (λ r. r.status ≡ 200))
-kept_granted None request reply is granted = tt
-kept_granted (Some kept) request reply is granted =
-    reply_by (is_download request.ask) reply kept.reply (ap (λ (k : KeptReply). k.reply) (same_some (kept_seen kept) (kept_of request reply) is)) granted
+    → (same_method (asked_method request.ask) methods.Finish ≡ true → gives_moment (kept_of request reply).reply ≡ true) → AreGranted o
+kept_granted None request reply is granted moment = tt
+kept_granted (Some kept) request reply is granted moment =
+    let same : kept_seen kept ≡ kept_of request reply = same_some (kept_seen kept) (kept_of request reply) is in
+    record {
+      status = reply_by (is_download request.ask) reply kept.reply (ap (λ (k : KeptReply). k.reply) same) granted;
+      moment = λ finish. ap (λ (k : KeptReply). gives_moment k.reply) same ∙ moment (sym (ap (λ (k : KeptReply). same_method k.method methods.Finish) same) ∙ finish);
+    }
+
+finish_commits : (ask : Ask) → same_method (asked_method ask) methods.Finish ≡ true → asks_commit ask ≡ true
+finish_commits asks.Meta is = is
+finish_commits (asks.Start min_usn lmod) is = is
+finish_commits (asks.ApplyGraves ids) is = is
+finish_commits (asks.ApplyChanges changes) is = is
+finish_commits asks.Chunk is = is
+finish_commits (asks.ApplyChunk chunk) is = is
+finish_commits (asks.SanityCheck2 counts) is = is
+finish_commits asks.Finish is = is
+finish_commits (asks.Upload whole) is = refl
+finish_commits asks.Download is = is
+
+-- what does not commit is no finish
+pub no_finish : {P : Type 0} (ask : Ask) → asks_commit ask ≡ false → same_method (asked_method ask) methods.Finish ≡ true → P
+no_finish ask stays is = absurd (not_both (finish_commits ask is) stays)
 
 none_by : (b : Bool) (reply : Reply) (kept : Option Reply) → kept ≡ (if b then None else Some reply) → kept ≡ None → b ≡ true
 none_by true reply kept is none = refl
@@ -82,17 +104,17 @@ none_by false reply kept is none = absurd (not_none (sym is ∙ none))
 
 -- ---- what was tested
 module _ {K : Type 0} (keeping : K → Keeping) (old : Account K) (basis : Basis) (request : Request) (right : IsRight keeping old) (taken : IsAccepted keeping old basis request) where
-  abbrev tested : Rows → Collection
-  tested rows = record { rows = rows; head = basis.head }
+  abbrev tested : Collection
+  tested = numbered basis.numbers some_collection
 
-  pub passed_over : (rows : Rows) (tables : Collection) → Passed (tested rows) (session_seen tables basis.live) request
-  passed_over rows tables = passed_all (tested rows) (session_seen tables basis.live) request (taken.passed rows tables)
+  pub passed_over : (c : Collection) (tables : Collection) → Passed (numbered basis.numbers c) (session_seen tables basis.live) request
+  passed_over c tables = passed_all (numbered basis.numbers c) (session_seen tables basis.live) request (taken.passed c tables)
 
   pub counted_basis : IsCounted basis.live
   counted_basis = of_some old.live IsCounted basis.live right.session taken.live
 
   follows_basis : Follows basis.live.method (asked_method request.ask)
-  follows_basis = follows basis.live.method (asked_method request.ask) basis.live.done (passed_over empty (tested empty)).may
+  follows_basis = follows basis.live.method (asked_method request.ask) basis.live.done (passed_over some_collection tested).may
 
   pub started_basis : is_marked (keeping old.keeper) ≡ has_mark basis.live.method
   started_basis = right.keeper.marked ∙ ap is_started taken.live
@@ -102,10 +124,10 @@ module _ {K : Type 0} (keeping : K → Keeping) (old : Account K) (basis : Basis
   marked_right = started_basis ∙ follows_basis.mark ∙ sym (expects_asked request.ask)
 
   pub brought_right : MayBeTaken (brought request.ask)
-  brought_right = brought_taken (tested empty) (session_seen (tested empty) basis.live) request.ask (passed_over empty (tested empty)).tests
+  brought_right = brought_taken tested (session_seen tested basis.live) request.ask (passed_over some_collection tested).tests
 
   pub step_right : basis.live.last < 9_223_372_036_854_775_807
-  step_right = step_room (session_seen (tested empty) basis.live) request (passed_over empty (tested empty)).step
+  step_right = step_room (session_seen tested basis.live) request (passed_over some_collection tested).step
 
   pub later_right : same_method (asked_method request.ask) methods.Meta ≡ false
   later_right = follows_basis.later
@@ -114,8 +136,8 @@ module _ {K : Type 0} (keeping : K → Keeping) (old : Account K) (basis : Basis
     pub over_basis : IsOver basis.live c t
     over_basis = of_some old.live (λ (live : Session). IsOver live c t) basis.live (right.told c t over under) taken.live
 
-    pub head_basis : t.head ≡ basis.head
-    head_basis = head_is (keeping old.keeper) basis.head t taken.held.told under
+    pub numbers_basis : numbers_of t.head ≡ basis.numbers
+    numbers_basis = numbers_are (keeping old.keeper) basis.numbers t taken.held.told under
 
     pub alike_basis : AlikeNumbers t c
     alike_basis = numbers_alike (keeping old.keeper) old.live c t taken.named right.keeper (right.told c t over under) over under
@@ -125,11 +147,11 @@ module _ {K : Type 0} (keeping : K → Keeping) (old : Account K) (basis : Basis
     passed_basis =
         passed_all c (session_seen t basis.live) request
         (sym (refusal_alike t c alike_basis (Some (session_seen t basis.live)) request)
-        ∙ ap (λ (h : Head). refusal_of (record { rows = t.rows; head = h }) (Some (session_seen t basis.live)) request) head_basis
-        ∙ taken.passed t.rows t)
+        ∙ ap (λ (x : Collection). refusal_of x (Some (session_seen t basis.live)) request) (sym (numbered_same basis.numbers t numbers_basis))
+        ∙ taken.passed t t)
 
     usn_basis : c.head.usn ≤ℤ last_head_usn
-    usn_basis = subst (λ (usn : ℤ). usn ≤ℤ last_head_usn) (sym (ap (λ (h : Head). h.usn) head_basis) ∙ alike_basis.usn) taken.held.range.usn.high
+    usn_basis = subst (λ (usn : ℤ). usn ≤ℤ last_head_usn) (sym (ap (λ (n : Numbers). n.usn) numbers_basis) ∙ alike_basis.usn) taken.held.range.moments.usn.high
 
     -- a download comes before any mark
     whole_basis : is_download request.ask ≡ true → t ≡ c
@@ -137,11 +159,11 @@ module _ {K : Type 0} (keeping : K → Keeping) (old : Account K) (basis : Basis
         same_unmarked (keeping old.keeper) c t taken.named
         (marked_right ∙ expects_asked request.ask ∙ ap expects_of (same_method_is (asked_method request.ask) methods.Download is)) over under
 
-    pub answer_basis : (it : Answered) → WhereTold (keeping old.keeper) (λ h. Answers (tables_of basis h) basis.live request.ask it)
+    pub answer_basis : (it : Answered) → WhereHeld (keeping old.keeper) (λ tables. Answers tables basis.live request.ask it)
         → Answers t basis.live request.ask it × IsRightAnswer c t basis.live request.ask it
     answer_basis it told =
         let is : Answers t basis.live request.ask it =
-        of_tables (keeping old.keeper) basis.head (λ (tables : Collection). Answers tables basis.live request.ask it) t taken.held.told told under in (
+        of_current (keeping old.keeper) (λ (tables : Collection). Answers tables basis.live request.ask it) t told under in (
           is,
           right_answer c t basis.live request.ask it alike_basis whole_basis
               (λ chunk. over_basis.next (subst (λ (m : Method). list_any (same_method m) (methods_after basis.live.method basis.live.done) ≡ true)
@@ -151,7 +173,7 @@ module _ {K : Type 0} (keeping : K → Keeping) (old : Account K) (basis : Basis
   -- ---- the session goes on
   module _ (new : Account K) (it : Answered) (next : Session) (reply : Reply) (stays : asks_commit request.ask ≡ false)
       (keeper_is : keeping new.keeper ≡ answered request.ask (keeping old.keeper)) (back_is : back (keeping new.keeper) ≡ back (keeping old.keeper))
-      (told : WhereTold (keeping old.keeper) (λ h. Answers (tables_of basis h) basis.live request.ask it))
+      (told : WhereHeld (keeping old.keeper) (λ tables. Answers tables basis.live request.ask it))
       (reply_is : reply ≡ granted it.give) (kept_is : option_map kept_seen new.kept ≡ Some (kept_of request reply)) where
     reply_right : (c t : Collection) → committed_in (keeping old.keeper) ≡ Some c → tables_in (keeping old.keeper) ≡ Some t
         → reply ≡ reply_to c (session_seen t basis.live) request.ask
@@ -164,10 +186,10 @@ module _ {K : Type 0} (keeping : K → Keeping) (old : Account K) (basis : Basis
         (summary : (tables : Collection) → session_seen (with_received (brought request.ask) tables) next ≡ record (with_request (session_seen tables basis.live) request.ask) { done = it.done })
         (place : next.given ≡ it.given) (same_place : is_chunk request.ask ≡ false → it.given ≡ basis.live.given) where
       later_next : IsLater basis.live next request.ask it.done it.given
-      later_next = later_session basis.live next request.ask it.done it.given (tested empty) (summary (tested empty)) place
+      later_next = later_session basis.live next request.ask it.done it.given tested (summary tested) place
 
       counted_next : IsCounted next
-      counted_next = counted_later (tested empty) (tested empty) basis.live request counted_basis (passed_over empty (tested empty)) stays next it.done it.given later_next same_place
+      counted_next = counted_later tested tested basis.live request counted_basis (passed_over some_collection tested) stays next it.done it.given later_next same_place
 
       over_next : (c t' : Collection) → committed_in (keeping new.keeper) ≡ Some c → tables_in (keeping new.keeper) ≡ Some t' → IsOver next c t'
       over_next c t' over under =
@@ -194,7 +216,7 @@ module _ {K : Type 0} (keeping : K → Keeping) (old : Account K) (basis : Basis
         };
         session = subst (λ (o : Option Session). IfSome o IsCounted) (sym live_is) counted_next;
         told = λ c t over under. subst (λ (o : Option Session). IfSome o (λ live. IsOver live c t)) (sym live_is) (over_next c t over under);
-        granted = kept_granted new.kept request reply kept_is granted_right;
+        granted = kept_granted new.kept request reply kept_is granted_right (no_finish request.ask stays);
         unread = for_some new.kept (λ kept. kept.reply ≡ None → is_started new.live ≡ false) unread_by;
       }
 
@@ -224,10 +246,10 @@ module _ {K : Type 0} (keeping : K → Keeping) (old : Account K) (basis : Basis
   -- ---- the session is over
   module _ (new : Account K) (it : Answered) (reply : Reply) (stays : asks_commit request.ask ≡ false)
       (back_is : keeping new.keeper ≡ back (keeping old.keeper))
-      (told : WhereTold (keeping old.keeper) (λ h. Answers (tables_of basis h) basis.live request.ask it))
+      (told : WhereHeld (keeping old.keeper) (λ tables. Answers tables basis.live request.ask it))
       (reply_is : reply ≡ granted it.give) (kept_is : option_map kept_seen new.kept ≡ Some (kept_of request reply)) (over : new.live ≡ None) where
     pub ending_right : IsRight keeping new
-    ending_right = over_right keeping old new right back_is over (kept_granted new.kept request reply kept_is (ap (λ (r : Reply). r.status) reply_is))
+    ending_right = over_right keeping old new right back_is over (kept_granted new.kept request reply kept_is (ap (λ (r : Reply). r.status) reply_is) (no_finish request.ask stays))
 
     pub ending_accepts : is_bad it.give ≡ true → (now : ℤ) → Accepts keeping old request now new reply
     ending_accepts bad now = for_some (account_seen keeping old) (λ s. IfSome s.live (λ live.

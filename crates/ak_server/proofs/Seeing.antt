@@ -3,9 +3,12 @@ use Rattle.std.specs.Option.{option_and_then, option_map}
 use Rattle.std.specs.Prelude.{◌≡◌, false, Option, Some, None, IfSome}
 use Rattle.std.proofs.Common.{refl, sym, ap, subst, ◌∙◌}
 use Rattle.ak_base.specs.declared.heads.Head.{Head}
-use Rattle.ak_keep.specs.Collections.{Collection, Holding, collection_of}
-use Rattle.ak_keep.specs.Keepers.{IsNamedRightly, Keeping, WhereTold, is_marked}
+use Rattle.ak_keep.proofs.HeadNumbers.{numbered_alike}
+use Rattle.ak_keep.specs.Collections.{Collection, Holding, Rows, collection_of}
+use Rattle.ak_keep.specs.HeadNumbers.{numbered, numbers_of}
+use Rattle.ak_keep.specs.Keepers.{IsNamedRightly, Keeping, WhereHeld, WhereTold, is_marked}
 use Rattle.ak_keep.specs.Marks.{WithMark}
+use Rattle.ak_keep.specs.declared.head_numbers.Numbers.{Numbers}
 use Rattle.ak_machine.specs.Sessions.{kept_seen, session_seen}
 use Rattle.ak_machine.specs.Summaries.{AccountSummary, SessionSummary}
 use Rattle.ak_machine.specs.declared.sessions.Kept.{Kept}
@@ -68,28 +71,34 @@ seen_as keeping a c t live kept over under session reply =
     ∙ ap (λ (x : Option KeptReply). Some (record { committed = c; live = live; kept = x })) reply
 
 -- ---- what is told
-by_told : (t : Option (WithMark Holding)) (head : Head) (P : Collection → Type 0) (c : Collection)
-    → IfSome t (λ w. w.current.head ≡ Some head) → IfSome t (λ w. P (record { rows = w.current.rows; head = head }))
+current_by : (t : Option (WithMark Holding)) (P : Collection → Type 0) (c : Collection) → IfSome t (λ w. IfSome (collection_of w.current) P)
     → option_and_then (λ (w : WithMark Holding). collection_of w.current) t ≡ Some c → P c
-by_told None head P c told holds is = absurd (not_none (sym is))
-by_told (Some w) head P c told holds is =
-    subst P (same_some (record { rows = w.current.rows; head = head }) c
-    (sym (ap (option_map (λ (x : Head). record { rows = w.current.rows; head = x })) told) ∙ is)) holds
+current_by None P c all is = absurd (not_none (sym is))
+current_by (Some w) P c all is = of_some (collection_of w.current) P c all is
 
--- what holds of what is told, with this head, holds of the current collection
-pub of_tables : (k : Keeping) (head : Head) (P : Collection → Type 0) (c : Collection) → WhereTold k (λ h. h.head ≡ Some head)
-    → WhereTold k (λ h. P (record { rows = h.rows; head = head })) → tables_in k ≡ Some c → P c
-of_tables k head P c told holds is = by_told k.told head P c told holds is
+-- what holds of a collection that is told holds of the current one
+pub of_current : (k : Keeping) (P : Collection → Type 0) (c : Collection) → WhereHeld k P → tables_in k ≡ Some c → P c
+of_current k P c all is = current_by k.told P c all is
 
-by_head : (t : Option (WithMark Holding)) (head : Head) (c : Collection) → IfSome t (λ w. w.current.head ≡ Some head)
-    → option_and_then (λ (w : WithMark Holding). collection_of w.current) t ≡ Some c → c.head ≡ head
-by_head None head c told is = absurd (not_none (sym is))
-by_head (Some w) head c told is =
-    sym (ap (λ (x : Collection). x.head) (same_some (record { rows = w.current.rows; head = head }) c
-    (sym (ap (option_map (λ (x : Head). record { rows = w.current.rows; head = x })) told) ∙ is)))
+numbers_in : (rows : Rows) (head : Option Head) (numbers : Numbers) (c : Collection) → option_map numbers_of head ≡ Some numbers
+    → collection_of (record { rows = rows; head = head }) ≡ Some c → numbers_of c.head ≡ numbers
+numbers_in rows None numbers c told is = absurd (not_none (sym is))
+numbers_in rows (Some head) numbers c told is =
+    ap (λ (x : Collection). numbers_of x.head) (sym (same_some (record { rows = rows; head = head }) c is)) ∙ same_some (numbers_of head) numbers told
 
-pub head_is : (k : Keeping) (head : Head) (c : Collection) → WhereTold k (λ h. h.head ≡ Some head) → tables_in k ≡ Some c → c.head ≡ head
-head_is k head c told is = by_head k.told head c told is
+by_numbers : (t : Option (WithMark Holding)) (numbers : Numbers) (c : Collection) → IfSome t (λ w. option_map numbers_of w.current.head ≡ Some numbers)
+    → option_and_then (λ (w : WithMark Holding). collection_of w.current) t ≡ Some c → numbers_of c.head ≡ numbers
+by_numbers None numbers c told is = absurd (not_none (sym is))
+by_numbers (Some w) numbers c told is = numbers_in w.current.rows w.current.head numbers c told is
+
+-- the current collection has the numbers that are told
+pub numbers_are : (k : Keeping) (numbers : Numbers) (c : Collection) → WhereTold k (λ h. option_map numbers_of h.head ≡ Some numbers) → tables_in k ≡ Some c
+    → numbers_of c.head ≡ numbers
+numbers_are k numbers c told is = by_numbers k.told numbers c told is
+
+-- with the numbers that it has it is itself
+pub numbered_same : (numbers : Numbers) (c : Collection) → numbers_of c.head ≡ numbers → numbered numbers c ≡ c
+numbered_same numbers c is = ap (λ (n : Numbers). numbered n c) (sym is) ∙ numbered_alike c
 
 -- ---- the numbers
 pub alike_same : (c t : Collection) → t ≡ c → AlikeNumbers t c

@@ -3,11 +3,10 @@ use Rattle.std.specs.Option.{option_and_then, option_map, unwrap_or}
 use Rattle.std.specs.Prelude.{◌≡◌, ℕ, ℤ, Bool, true, false, if◌then◌else◌, Option, Some, None, Result, Ok, IfSome, IfOk, IfErr, ⊤}
 use Rattle.std.proofs.Common.{refl, sym, ap, subst, ◌∙◌, arith}
 use Rattle.ak_answers.specs.declared.answers.Basis.{Basis}
-use Rattle.ak_base.specs.Heads.{IsHeadInRange}
-use Rattle.ak_base.specs.declared.heads.Head.{Head}
-use Rattle.ak_keep.specs.Collections.{Collection, Holding, Rows, collection_of}
+use Rattle.ak_keep.specs.Collections.{Collection, collection_of}
+use Rattle.ak_keep.specs.HeadNumbers.{AreNumbersInRange, numbered, numbers_of}
 use Rattle.ak_keep.specs.Keepers.{IsNamedRightly, Keeping, WhereTold, back}
-use Rattle.ak_keep.specs.Marks.{WithMark}
+use Rattle.ak_keep.specs.declared.head_numbers.Numbers.{Numbers}
 use Rattle.ak_keep.specs.declared.keepers.KeepFault.{KeepFault}
 use Rattle.ak_keep.specs.declared.keepers.KeepFault.TheVariants.{Memory}
 use Rattle.ak_machine.specs.Decisions.{refusal_of}
@@ -28,8 +27,8 @@ use Rattle.ak_protocol.specs.Serving.{Undisturbed}
 use Rattle.ak_server.proofs.Keepings.{unmarked_tables}
 use Rattle.ak_server.proofs.Outcomes.{done_if_accepted, done_if_refused}
 use Rattle.ak_server.proofs.Passing.{AlikeNumbers, none_mapped, refusal_alike}
-use Rattle.ak_server.proofs.Seeing.{for_some, head_is, numbers_alike, of_some, same_some, see}
-use Rattle.ak_server.specs.Accounts.{IsKept, IsOver, IsRight, IsSameAccount, account_seen, committed_in, is_started, tables_in}
+use Rattle.ak_server.proofs.Seeing.{for_some, numbered_same, numbers_alike, numbers_are, of_current, of_some, same_some, see}
+use Rattle.ak_server.specs.Accounts.{AreGranted, IsKept, IsOver, IsRight, IsSameAccount, account_seen, committed_in, is_started, tables_in}
 use Rattle.ak_server.specs.Servers.{DoesUndisturbed, LeavesCommitted}
 use Rattle.ak_server.specs.Serving.{Accepts, Does, FindsAgain, IsAccepted, IsDecided, IsGivenAgain, IsOnlyRead}
 use Rattle.ak_server.specs.declared.accounts.Account.{Account}
@@ -59,21 +58,12 @@ module _ {K : Type 0} (keeping : K → Keeping) (old new : Account K) (only : Is
     session = subst (λ (o : Option Session). IfSome o IsCounted) (sym live_read) right.session;
     told = λ c t over under. subst (λ (o : Option Session). IfSome o (λ live. IsOver live c t)) (sym live_read)
         (right.told c t (ap committed_in (sym only.keeper) ∙ over) (ap tables_in (sym only.keeper) ∙ under));
-    granted = subst (λ (o : Option Kept). IfSome o (λ kept. IfSome kept.reply (λ reply. reply.status ≡ 200))) (sym kept_read) right.granted;
+    granted = subst (λ (o : Option Kept). AreGranted o) (sym kept_read) right.granted;
     unread = subst (λ (o : Option Kept). IfSome o (λ kept. kept.reply ≡ None → is_started new.live ≡ false)) (sym kept_read)
         (subst (λ (l : Option Session). IfSome old.kept (λ kept. kept.reply ≡ None → is_started l ≡ false)) (sym live_read) right.unread);
   }
 
 -- ---- repeats
-current_by : (t : Option (WithMark Holding)) (P : Collection → Type 0) (c : Collection) → IfSome t (λ w. IfSome (collection_of w.current) P)
-    → option_and_then (λ (w : WithMark Holding). collection_of w.current) t ≡ Some c → P c
-current_by None P c all is = absurd (not_none (sym is))
-current_by (Some w) P c all is = of_some (collection_of w.current) P c all is
-
--- what holds of a collection that is told holds of the current one
-pub of_current : (k : Keeping) (P : Collection → Type 0) (c : Collection) → WhereTold k (λ h. IfSome (collection_of h) P) → tables_in k ≡ Some c → P c
-of_current k P c all is = current_by k.told P c all is
-
 pub repeated_not : (kept : KeptReply) (request : Request) → is_repeat kept request ≡ false → repeated (Some kept) request ≡ None
 repeated_not kept request is = ap (λ (b : Bool). if b then Some kept else None) is
 
@@ -147,30 +137,30 @@ decided_refused o reply is = let so = some_refused o reply is in subst IsDecided
 pub decided_granted : (reply : Reply) → reply.status ≡ 200 → IsDecided reply
 decided_granted reply is = record { known = λ other. absurd (omega (arith, is, other)); kept = λ other. absurd (omega (arith, is, other)); spared = λ other. absurd (omega (arith, is, other)) }
 
--- what was decided over the head that was read is decided over the committed collection
-pub decided_over : {K : Type 0} (keeping : K → Keeping) (old : Account K) (request : Request) (head : Head) (s : AccountSummary)
-    (own : account_seen keeping old ≡ Some s) → IsRight keeping old → IsNamedRightly (keeping old.keeper) → WhereTold (keeping old.keeper) (λ h. h.head ≡ Some head)
-    → refusal_of (record { rows = (see keeping old s own).held.rows; head = head }) (option_map (session_seen (see keeping old s own).held) old.live) request
+-- what was decided over the numbers that were read is decided over the committed collection
+pub decided_over : {K : Type 0} (keeping : K → Keeping) (old : Account K) (request : Request) (numbers : Numbers) (s : AccountSummary)
+    (own : account_seen keeping old ≡ Some s) → IsRight keeping old → IsNamedRightly (keeping old.keeper) → WhereTold (keeping old.keeper) (λ h. option_map numbers_of h.head ≡ Some numbers)
+    → refusal_of (numbered numbers (see keeping old s own).held) (option_map (session_seen (see keeping old s own).held) old.live) request
     ≡ refusal_of s.committed s.live request
-decided_over keeping old request head s own right named told =
+decided_over keeping old request numbers s own right named told =
     let seen = see keeping old s own in
     let alike : AlikeNumbers seen.held s.committed =
     numbers_alike (keeping old.keeper) old.live s.committed seen.held named right.keeper (right.told s.committed seen.held seen.committed seen.tables) seen.committed seen.tables in
-    ap (λ (h : Head). refusal_of (record { rows = seen.held.rows; head = h }) (option_map (session_seen seen.held) old.live) request)
-    (sym (head_is (keeping old.keeper) head seen.held told seen.tables))
+    ap (λ (c : Collection). refusal_of c (option_map (session_seen seen.held) old.live) request)
+    (numbered_same numbers seen.held (numbers_are (keeping old.keeper) numbers seen.held told seen.tables))
     ∙ refusal_alike seen.held s.committed alike (option_map (session_seen seen.held) old.live) request
     ∙ ap (λ (live : Option SessionSummary). refusal_of s.committed live request) (sym seen.live)
 
 -- a refusal is what the account gives
-pub refused_does : {K : Type 0} (keeping : K → Keeping) (old new : Account K) (request : Request) (now : ℤ) (head : Head) (reply : Reply)
-    → IsRight keeping old → IsNamedRightly (keeping old.keeper) → WhereTold (keeping old.keeper) (λ h. h.head ≡ Some head) → IsOnlyRead keeping old new
+pub refused_does : {K : Type 0} (keeping : K → Keeping) (old new : Account K) (request : Request) (now : ℤ) (numbers : Numbers) (reply : Reply)
+    → IsRight keeping old → IsNamedRightly (keeping old.keeper) → WhereTold (keeping old.keeper) (λ h. option_map numbers_of h.head ≡ Some numbers) → IsOnlyRead keeping old new
     → is_meta request.ask ≡ false → repeated (option_map kept_seen old.kept) request ≡ None
-    → ((rows : Rows) (tables : Collection) → Some reply ≡ option_map refused (refusal_of (record { rows = rows; head = head }) (option_map (session_seen tables) old.live) request))
+    → ((c : Collection) (tables : Collection) → Some reply ≡ option_map refused (refusal_of (numbered numbers c) (option_map (session_seen tables) old.live) request))
     → Does keeping old request now new reply
-refused_does keeping old new request now head reply right named told only later first why = for_some (account_seen keeping old) (λ s. DoesUndisturbed keeping s request now new reply) (λ s own.
+refused_does keeping old new request now numbers reply right named told only later first why = for_some (account_seen keeping old) (λ s. DoesUndisturbed keeping s request now new reply) (λ s own.
     let seen = see keeping old s own in
     let so = some_refused (refusal_of s.committed s.live request) reply
-    (why seen.held.rows seen.held ∙ ap (option_map refused) (decided_over keeping old request head s own right named told)) in
+    (why seen.held seen.held ∙ ap (option_map refused) (decided_over keeping old request numbers s own right named told)) in
     let did : does s request now Undisturbed ≡ unchanged s (refused so.0) =
     done_if_refused s request now later (ap (λ (o : Option KeptReply). repeated o request) seen.kept ∙ first) so.0 so.1.0 in
     record {
@@ -181,7 +171,7 @@ refused_does keeping old new request now head reply right named told only later 
 -- ---- what is accepted
 -- an accepted request is done
 pub accepted_does : {K : Type 0} (keeping : K → Keeping) (old read new : Account K) (request : Request) (now : ℤ) (basis : Basis) (reply : Reply)
-    → IsRight keeping old → IsNamedRightly (keeping old.keeper) → WhereTold (keeping old.keeper) (λ h. h.head ≡ Some basis.head) → IsOnlyRead keeping old read
+    → IsRight keeping old → IsNamedRightly (keeping old.keeper) → WhereTold (keeping old.keeper) (λ h. option_map numbers_of h.head ≡ Some basis.numbers) → IsOnlyRead keeping old read
     → is_meta request.ask ≡ false → repeated (option_map kept_seen old.kept) request ≡ None → IsAccepted keeping read basis request
     → Accepts keeping read request now new reply → Does keeping old request now new reply
 accepted_does keeping old read new request now basis reply right named told only later first taken accepts = for_some (account_seen keeping old) (λ s. DoesUndisturbed keeping s request now new reply) (λ s own.
@@ -189,9 +179,9 @@ accepted_does keeping old read new request now basis reply right named told only
     let live_is : old.live ≡ Some basis.live = sym (live_read keeping old read only) ∙ taken.live in
     let session : s.live ≡ Some (session_seen seen.held basis.live) = seen.live ∙ ap (option_map (session_seen seen.held)) live_is in
     let allowed : refusal_of s.committed s.live request ≡ None =
-    sym (decided_over keeping old request basis.head s own right named told)
-    ∙ ap (λ (o : Option Session). refusal_of (record { rows = seen.held.rows; head = basis.head }) (option_map (session_seen seen.held) o) request) live_is
-    ∙ taken.passed seen.held.rows seen.held in
+    sym (decided_over keeping old request basis.numbers s own right named told)
+    ∙ ap (λ (o : Option Session). refusal_of (numbered basis.numbers seen.held) (option_map (session_seen seen.held) o) request) live_is
+    ∙ taken.passed seen.held seen.held in
     let did : does s request now Undisturbed ≡ accepted s (session_seen seen.held basis.live) request now =
     done_if_accepted s request now later (ap (λ (o : Option KeptReply). repeated o request) seen.kept ∙ first) (session_seen seen.held basis.live) session allowed in
     let done = of_some s.live (λ (live : SessionSummary). (reply ≡ (accepted s live request now).reply) × (account_seen keeping new ≡ Some (accepted s live request now).next)) (session_seen seen.held basis.live)
@@ -202,21 +192,21 @@ accepted_does keeping old read new request now basis reply right named told only
       seen = done.1 ∙ sym (ap (λ (d : Did). Some d.next) did);
     })
 
--- a request that no test found fault with is accepted, over the head that was read
-pub taken_read : {K : Type 0} (keeping : K → Keeping) (old new : Account K) (request : Request) (head : Head) (live : Session) → IsOnlyRead keeping old new
-    → IsRight keeping old → IsNamedRightly (keeping old.keeper) → WhereTold (keeping old.keeper) (λ h. h.head ≡ Some head) → IsHeadInRange head → old.live ≡ Some live
-    → ((rows : Rows) (tables : Collection) → None ≡ option_map refused (refusal_of (record { rows = rows; head = head }) (option_map (session_seen tables) old.live) request))
-    → IsAccepted keeping new (record { head = head; live = live }) request
-taken_read keeping old new request head live only right named told range live_is none = record {
+-- a request that no test found fault with is accepted, over the numbers that were read
+pub taken_read : {K : Type 0} (keeping : K → Keeping) (old new : Account K) (request : Request) (numbers : Numbers) (live : Session) → IsOnlyRead keeping old new
+    → IsRight keeping old → IsNamedRightly (keeping old.keeper) → WhereTold (keeping old.keeper) (λ h. option_map numbers_of h.head ≡ Some numbers) → AreNumbersInRange numbers → old.live ≡ Some live
+    → ((c : Collection) (tables : Collection) → None ≡ option_map refused (refusal_of (numbered numbers c) (option_map (session_seen tables) old.live) request))
+    → IsAccepted keeping new (record { numbers = numbers; live = live }) request
+taken_read keeping old new request numbers live only right named told range live_is none = record {
   held = record {
     held = ap (λ (k : Keeping). k.headed.current) only.keeper ∙ right.keeper.held;
-    told = subst (λ (k : Keeping). WhereTold k (λ h. h.head ≡ Some head)) (sym only.keeper) told;
+    told = subst (λ (k : Keeping). WhereTold k (λ h. option_map numbers_of h.head ≡ Some numbers)) (sym only.keeper) told;
     range = range;
   };
   named = subst IsNamedRightly (sym only.keeper) named;
   live = live_read keeping old new only ∙ live_is;
-  passed = λ rows tables. none_mapped refused (refusal_of (record { rows = rows; head = head }) (Some (session_seen tables live)) request)
-      (ap (λ (o : Option Session). option_map refused (refusal_of (record { rows = rows; head = head }) (option_map (session_seen tables) o) request)) (sym live_is) ∙ sym (none rows tables));
+  passed = λ c tables. none_mapped refused (refusal_of (numbered numbers c) (Some (session_seen tables live)) request)
+      (ap (λ (o : Option Session). option_map refused (refusal_of (numbered numbers c) (option_map (session_seen tables) o) request)) (sym live_is) ∙ sym (none c tables));
 }
 
 -- what was left before a read was left after it

@@ -10,7 +10,6 @@ use Rattle.ak_keep.specs.Keepers.{Keeping, WhereTold, back}
 use Rattle.ak_keep.specs.Marks.{WithMark}
 use Rattle.ak_machine.specs.Sessions.{kept_seen, session_seen}
 use Rattle.ak_machine.specs.Summaries.{account_summary}
-use Rattle.ak_machine.specs.declared.sessions.Kept.{Kept}
 use Rattle.ak_protocol.proofs.Cases.{not_none}
 use Rattle.ak_protocol.specs.Accounts.{AccountState, viewed}
 use Rattle.ak_protocol.specs.Logs.{View, server_next}
@@ -19,7 +18,7 @@ use Rattle.ak_server.proofs.Beginning.{over_back, over_right, under_back}
 use Rattle.ak_server.proofs.Keepings.{tables_back}
 use Rattle.ak_server.proofs.Seeing.{same_some, see, seen_as}
 use Rattle.ak_server.proofs.Standing.{none_state, stands_next, state_of}
-use Rattle.ak_server.specs.Accounts.{IsPlaceOf, IsRight, StandsFor, account_at, account_seen, tables_in}
+use Rattle.ak_server.specs.Accounts.{AreGranted, IsPlaceOf, IsRight, StandsFor, account_at, account_seen, tables_in}
 use Rattle.ak_server.specs.Servers.{IsViewed, ViewsRows}
 use Rattle.ak_server.specs.declared.accounts.Account.{Account}
 
@@ -36,7 +35,7 @@ module _ {K : Type 0} (keeping : K → Keeping) (old new : Account K) (right : I
 
   pub right_viewed : IsRight keeping new
   right_viewed = over_right keeping old new right view.keeper live_viewed
-      (subst (λ (o : Option Kept). IfSome o (λ kept. IfSome kept.reply (λ reply. reply.status ≡ 200))) (sym kept_viewed) right.granted)
+      (subst AreGranted (sym kept_viewed) right.granted)
 
   pub seen_viewed : (s : AccountState) → account_seen keeping old ≡ Some (account_summary s) → account_seen keeping new ≡ Some (account_summary (viewed s))
   seen_viewed s own =

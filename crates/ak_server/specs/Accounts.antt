@@ -1,5 +1,5 @@
 -- What an account in a server's memory stands for.
-use Rattle.std.specs.Option.{option_map, option_and_then}
+use Rattle.std.specs.Option.{option_map, option_map_or, option_and_then}
 use Rattle.std.specs.List.{list_any, slice_get, slice_set}
 use Rattle.std.specs.Prelude.{◌≡◌, ℕ, ◌*◌, ◌<◌, length, ◌<ℤ◌, Bool, true, false, find, drop, List, Option, Some, None, IfSome}
 use Rattle.ak_base.specs.Limits.{last_head_usn}
@@ -8,7 +8,9 @@ use Rattle.ak_keep.specs.Keepers.{Keeping, is_marked, back}
 use Rattle.ak_keep.specs.declared.keepers.Wanted.TheVariants.{From}
 use Rattle.ak_keep.specs.Marks as marks
 use Rattle.ak_keep.specs.Marks.{WithMark}
+use Rattle.ak_messages.specs.MessageForms.{is_given_to}
 use Rattle.ak_messages.specs.declared.methods.Method.TheVariants as methods
+use Rattle.ak_messages.specs.declared.replies.Reply.{Reply}
 use Rattle.ak_parts.specs.Chunks.{ahead_of}
 use Rattle.ak_protocol.specs.Accounts.{AccountState}
 use Rattle.ak_protocol.specs.Servers.{ServerState, same_host}
@@ -84,6 +86,19 @@ pub record IsOver (live : Session) (committed held : Collection) : Type 0 where
   pub next : list_any (same_method methods.Chunk) (methods_after live.method live.done) ≡ true
       → ahead_of (From live.least_usn) live.given held.rows ≡ drop (250 * live.chunks) (wanted_in_chunks (From live.least_usn) held.rows)
 
+-- whether a moment is given: what a finish is given
+abbrev pub gives_moment : Option Reply → Bool
+gives_moment reply = option_map_or (λ (r : Reply). is_given_to methods.Finish r.give) reply false
+
+-- a kept reply grants what was asked: it has status 200, and that to a finish gives a moment
+pub record IsGranted (kept : Kept) : Type 0 where
+  pub status : IfSome kept.reply (λ reply. reply.status ≡ 200)
+  pub moment : same_method kept.method methods.Finish ≡ true → gives_moment kept.reply ≡ true
+
+-- the same of the kept reply, if there is one
+abbrev pub AreGranted : Option Kept → Type 0
+AreGranted kept = IfSome kept IsGranted
+
 -- what holds of each account between two requests
 pub record IsRight {K : Type 0} (keeping : K → Keeping) (a : Account K) : Type 0 where
   pub keeper : IsKept (keeping a.keeper) a.live
@@ -91,7 +106,7 @@ pub record IsRight {K : Type 0} (keeping : K → Keeping) (a : Account K) : Type
   pub told : (committed held : Collection) → committed_in (keeping a.keeper) ≡ Some committed → tables_in (keeping a.keeper) ≡ Some held
       → IfSome a.live (λ live. IsOver live committed held)
   -- a kept reply grants what was asked
-  pub granted : IfSome a.kept (λ kept. IfSome kept.reply (λ reply. reply.status ≡ 200))
+  pub granted : AreGranted a.kept
   -- a kept download is read again, so nothing has started since
   pub unread : IfSome a.kept (λ kept. kept.reply ≡ None → is_started a.live ≡ false)
 

@@ -1,9 +1,10 @@
 -- What one account makes of a request, step by step.
 use Rattle.std.specs.Option.{option_map}
 use Rattle.std.specs.Prelude.{◌≡◌, ◌≢◌, ℤ, Bool, true, false, not, Some, None, Result, IfSome, IfOk, IfErr}
-use Rattle.ak_answers.specs.Answers.{HasHead}
+use Rattle.ak_answers.specs.Answers.{HasNumbers}
 use Rattle.ak_answers.specs.declared.answers.Basis.{Basis}
-use Rattle.ak_keep.specs.Collections.{Collection, Rows}
+use Rattle.ak_keep.specs.Collections.{Collection}
+use Rattle.ak_keep.specs.HeadNumbers.{numbered}
 use Rattle.ak_keep.specs.Keepers.{IsNamedRightly, Keeping}
 use Rattle.ak_machine.specs.Decisions.{refusal_of}
 use Rattle.ak_machine.specs.Serving.{accepted}
@@ -48,13 +49,13 @@ abbrev pub IsGivenAgain : {K : Type 0} → (K → Keeping) → Account K → Req
 IsGivenAgain keeping old request reply = IfSome (account_seen keeping old) (λ (s : AccountSummary).
     option_map (given_again s.committed) (repeated s.kept request) ≡ Some reply)
 
--- a request was tested against this head and this live session, and no test found fault
+-- a request was tested against these numbers and this live session, and no test found fault
 pub record IsAccepted {K : Type 0} (keeping : K → Keeping) (old : Account K) (basis : Basis) (request : Request) : Type 0 where
-  pub held : HasHead (keeping old.keeper) basis.head
+  pub held : HasNumbers (keeping old.keeper) basis.numbers
   pub named : IsNamedRightly (keeping old.keeper)
   pub live : old.live ≡ Some basis.live
-  pub passed : (rows : Rows) (tables : Collection)
-      → refusal_of (record { rows = rows; head = basis.head }) (Some (session_seen tables basis.live)) request ≡ None
+  pub passed : (c : Collection) (tables : Collection)
+      → refusal_of (numbered basis.numbers c) (Some (session_seen tables basis.live)) request ≡ None
 
 -- if the keeper tells what it holds, the account did what is remembered of it does with an accepted request
 abbrev pub Accepts : {K : Type 0} → (K → Keeping) → Account K → Request → ℤ → Account K → Reply → Type 0

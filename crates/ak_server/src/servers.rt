@@ -54,6 +54,7 @@ impl<K: Keeper> Server<K> {
     ghost use Rattle.ak_base.specs.Rows.{IsChecked};
     ghost use Rattle.ak_keep.specs.Collections.{AscendsPast};
     ghost use Rattle.ak_keep.specs.Keepers.{is_marked};
+    ghost use Rattle.ak_messages.specs.declared.requests.Ask.TheVariants as asks;
     ghost use Rattle.ak_server.specs.Accounts.{StandsFor, account_at};
     ghost use Rattle.ak_server.specs.Servers.{EndsOne, GivesAgain, GivesHead, GivesOneHead, GivesOneRows, GivesRows, IsEmpty, IsViewedAt, OthersStay, Serves, ServesFor, StandsWith, IsServedFor, Strikes, no_accounts, account_added, ViewCause};
 
@@ -126,6 +127,9 @@ impl<K: Keeper> Server<K> {
             (account_at request.now.host.digits self.new) request.now result }
         ensures cause { IsServedFor K.health (account_at request.now.host.digits self.old)
             (account_at request.now.host.digits self.new) result }
+
+        // A finish takes no memory where the keeper takes none, if it is repeated too.
+        ensures spares { K.spares_memory ≡ true → request.now.ask ≡ asks.Finish → result.status ≢ 500 }
     {
         match place_of(self.accounts.as_slice(), request.host) {
             Some(place) => serve_account(self.alloc, &mut self.accounts[place], request, now),

@@ -1,11 +1,14 @@
 // What an account makes of a request: first it is decided, then done. The kept reply is made before anything is committed.
-ghost use Rattle.std.specs.Prelude.{◌≡◌, ◌≢◌, ℤ, true, false, Some, None, IfOk, IfSome, OnOk, OnErr};
+ghost use Rattle.std.specs.Prelude.{◌≡◌, ◌≢◌, ℤ, true, false, Some, None, Err, IfOk, IfSome, OnOk, OnErr};
 ghost use Rattle.ak_io.specs.Arrivals.{IsClockMoment};
 ghost use Rattle.ak_faults.specs.Causes.{GoesOn};
 ghost use Rattle.ak_keep.specs.Collections.{collection_of};
 ghost use Rattle.ak_keep.specs.Keepers.{IsNamedRightly, KeepCause, back, committed, is_marked};
+ghost use Rattle.ak_keep.specs.declared.keepers.KeepFault.TheVariants.{Memory as WantOfMemory};
 ghost use Rattle.ak_keep.specs.Readings.{ReadsBy};
 ghost use Rattle.ak_machine.specs.Sessions.{kept_seen};
+ghost use Rattle.ak_messages.specs.MessageForms.{is_given_to};
+ghost use Rattle.ak_messages.specs.declared.methods.Method.TheVariants as methods;
 ghost use Rattle.ak_messages.specs.declared.requests.Ask.TheVariants as asks;
 ghost use Rattle.ak_protocol.specs.Accounts.{repeated};
 ghost use Rattle.ak_protocol.specs.Replies.{download_reply};
@@ -17,11 +20,11 @@ ghost use Rattle.ak_session.specs.Requests.{asks_commit, is_meta};
 ghost use Rattle.std.specs.Option.{option_map};
 
 use crate::accounts::Account;
-use ak_answers::{Answered, Basis, answer, finish, upload, whole_of};
+use ak_answers::{Answered, Basis, answer, finish, read_whole, upload};
 use ak_keep::{KeepFault, Keeper};
 use ak_machine::{Kept, Session, declined_reply, granted, meta_reply, refusal_of, setback_reply};
 use ak_messages::{Ask, Give, Reply, Request, Whole};
-use ak_parts::head_of;
+use ak_parts::held_numbers;
 use std::alloc::Global;
 
 /// Serves a request at a moment, in milliseconds. If the keeper fails or memory runs out the session is over.
@@ -40,6 +43,7 @@ pub(crate) fn serve_account<K: Keeper>(
     ensures again { GivesAgain (Some account.old) (Some account.new) request.now result }
     ensures struck { StrikesOne K.keeping account.old account.new request.now result }
     ensures cause { ServeCause (K.health account.old.keeper) (K.health account.new.keeper) result }
+    ensures spares { K.spares_memory ≡ true → request.now.ask ≡ asks.Finish → result.status ≢ 500 }
 {
     match attempt(alloc, account, request, now) {
         Ok(reply) => reply,
@@ -67,6 +71,7 @@ fn attempt<K: Keeper>(
     ensures status { IfOk result (λ reply. IsDecided reply) }
     ensures err { OnErr result (LeavesCommitted K.keeping account.old account.new) }
     ensures cause { KeepCause (K.health account.old.keeper) (K.health account.new.keeper) result }
+    ensures spares { K.spares_memory ≡ true → request.now.ask ≡ asks.Finish → result ≢ Err WantOfMemory }
 {
     if let Ask::Meta = request.ask {
         return begin(alloc, account, request, now);
@@ -95,8 +100,8 @@ fn begin<K: Keeper>(
     ensures cause { KeepCause (K.health account.old.keeper) (K.health account.new.keeper) result }
 {
     end_session(account);
-    let head = head_of(&mut account.keeper)?;
-    let reply = meta_reply(alloc, &head, now)?;
+    let numbers = held_numbers(&mut account.keeper)?;
+    let reply = meta_reply(alloc, &numbers, now)?;
     account.live = Some(Session::begun(request.session.0));
     account.kept = None;
     Ok(reply)
@@ -132,7 +137,7 @@ pub(crate) fn end_session<K: Keeper>(account: &mut Account<K>)
 }
 
 /// The kept reply, if the request is a repeat of the one that it replied to. A download is read again; any other asks
-/// nothing of the keeper.
+/// nothing of the keeper. The reply to a finish is copied without memory.
 fn repeat<K: Keeper>(
     alloc: Global,
     account: &mut Account<K>,
@@ -145,6 +150,7 @@ fn repeat<K: Keeper>(
     ensures kept { FindsAgain (λ found same. found ≡ Some same) account.old account.new request.now result }
     ensures status { IfOk result (λ found. IfSome found (λ reply. reply.status ≡ 200)) }
     ensures cause { KeepCause (K.health account.old.keeper) (K.health account.new.keeper) result }
+    ensures spares { request.now.ask ≡ asks.Finish → result ≢ Err WantOfMemory }
 {
     let Some(kept) = &account.kept else {
         return Ok(None);
@@ -154,20 +160,19 @@ fn repeat<K: Keeper>(
     }
     match &kept.reply {
         Some(reply) => Ok(Some(reply.copy()?)),
-        None => Ok(Some(read_whole(alloc, &mut account.keeper)?)),
+        None => Ok(Some(read_download(alloc, &mut account.keeper)?)),
     }
 }
 
 /// The reply to a download.
-fn read_whole<K: Keeper>(alloc: Global, keeper: &mut K) -> Result<Reply, KeepFault>
+fn read_download<K: Keeper>(alloc: Global, keeper: &mut K) -> Result<Reply, KeepFault>
     requires held { (K.keeping keeper.old).headed.current ≡ true }
     ensures reads { ReadsBy K.Lookup keeper.old keeper.new result (λ h reply.
         IfSome (collection_of h) (λ c. reply ≡ download_reply c)) }
     ensures known { IsNamedRightly (K.keeping keeper.old) }
     ensures status { IfOk result (λ reply. reply.status ≡ 200) }
 {
-    let head = head_of(keeper)?;
-    let whole = whole_of(alloc, keeper, head)?;
+    let whole = read_whole(alloc, keeper)?;
     Ok(granted(Give::Whole(whole)))
 }
 
@@ -188,15 +193,16 @@ fn decide<K: Keeper>(
     ensures status { IfOk result (λ reply. IsDecided reply) }
     ensures err { OnErr result (LeavesCommitted K.keeping account.old account.new) }
     ensures cause { KeepCause (K.health account.old.keeper) (K.health account.new.keeper) result }
+    ensures spares { K.spares_memory ≡ true → request.now.ask ≡ asks.Finish → result ≢ Err WantOfMemory }
 {
-    let head = head_of(&mut account.keeper)?;
-    if let Some(why) = refusal_of(&head, &account.live, request)? {
+    let numbers = held_numbers(&mut account.keeper)?;
+    if let Some(why) = refusal_of(&numbers, &account.live, request)? {
         return Ok(declined_reply(why));
     }
     let Some(live) = account.live else {
         unreachable!();
     };
-    accept(alloc, account, Basis { head, live }, request, now)
+    accept(alloc, account, Basis { numbers, live }, request, now)
 }
 
 /// Does what an accepted request asks.
@@ -216,6 +222,7 @@ fn accept<K: Keeper>(
     ensures status { IfOk result (λ reply. reply.status ≡ 200) }
     ensures err { OnErr result (LeavesCommitted K.keeping account.old account.new) }
     ensures cause { KeepCause (K.health account.old.keeper) (K.health account.new.keeper) result }
+    ensures spares { K.spares_memory ≡ true → request.now.ask ≡ asks.Finish → result ≢ Err WantOfMemory }
 {
     match &request.ask {
         Ask::Upload(whole) => close_upload(account, basis, request, whole, now),
@@ -243,7 +250,7 @@ fn close_upload<K: Keeper>(
     ensures err { OnErr result (LeavesCommitted K.keeping account.old account.new) }
     ensures cause { KeepCause (K.health account.old.keeper) (K.health account.new.keeper) result }
 {
-    let give = upload(&mut account.keeper, &basis.head, whole, now)?;
+    let give = upload(&mut account.keeper, &basis.numbers, whole, now)?;
     commit(account, request, granted(give))
 }
 
@@ -264,6 +271,7 @@ fn close_sync<K: Keeper>(
     ensures status { IfOk result (λ reply. reply.status ≡ 200) }
     ensures err { OnErr result (LeavesCommitted K.keeping account.old account.new) }
     ensures cause { KeepCause (K.health account.old.keeper) (K.health account.new.keeper) result }
+    ensures spares { K.spares_memory ≡ true → result ≢ Err WantOfMemory }
 {
     let give = finish(&mut account.keeper, basis, now)?;
     commit(account, request, granted(give))
@@ -283,6 +291,7 @@ fn commit<K: Keeper>(
     ensures ok { OnOk result (K.keeping account.new.keeper ≡ committed (K.keeping account.old.keeper)) }
     ensures err { OnErr result (LeavesCommitted K.keeping account.old account.new) }
     ensures cause { KeepCause (K.health account.old.keeper) (K.health account.new.keeper) result }
+    ensures spares { K.spares_memory ≡ true → is_given_to methods.Finish reply.give ≡ true → result ≢ Err WantOfMemory }
 {
     let kept = Kept::of(request, &reply)?;
     account.keeper.commit()?;

@@ -1,2 +1,3 @@
 pub mod ServedSoFar
 pub mod CountedFailures
+pub mod OneRunLaws

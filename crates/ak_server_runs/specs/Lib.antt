@@ -1,3 +1,4 @@
 pub mod ServedDoors
 pub mod ServerRuns
 pub mod Failures
+pub mod OneRun

@@ -6,6 +6,6 @@ mod laws;
 mod run_ends;
 mod runs;
 
-pub use laws::failures_are_counted;
+pub use laws::{failures_are_counted, runs_are_one_run, unnamed_accounts_stay};
 pub use run_ends::RunEnd;
 pub use runs::serve_all;

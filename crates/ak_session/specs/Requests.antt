@@ -43,6 +43,10 @@ is_meta ask = same_method (asked_method ask) methods.Meta
 abbrev pub is_download : Ask → Bool
 is_download ask = same_method (asked_method ask) methods.Download
 
+-- a request to put a whole collection in place of the committed one
+abbrev pub is_upload : Ask → Bool
+is_upload ask = same_method (asked_method ask) methods.Upload
+
 -- a request after which another collection is committed: a finish, or an upload
 abbrev pub asks_commit : Ask → Bool
 asks_commit asks.Meta = false

@@ -16,3 +16,4 @@ pub mod Turning
 pub mod Walking
 pub mod Writing
 pub mod Colons
+pub mod Dropped

@@ -1,6 +1,7 @@
 -- Laws of templates, pages and clozes, over every text, tree, face and list of filters.
 use Rattle.std.specs.Prelude.{◌≡◌, ⊤, ◌<◌, false, ℕ, List, [], ◌∷◌, ◌++◌, length, codes, Some, None, Ok}
 use Rattle.std.specs.Option.{option_map}
+use Rattle.ak_filters.specs.Lists.{without_filter}
 use Rattle.ak_filters.specs.Meanings.{Meaning}
 use Rattle.ak_template.specs.declared.faces.Face.{Face}
 use Rattle.ak_base.specs.Cuts.{has}
@@ -17,6 +18,12 @@ abbrev pub TurnsAreOccurrences : Type 0
 TurnsAreOccurrences =
     (face : Face) (tree : Tree) (filters later : List Meaning) (text name : List ℕ) → page face tree filters ≡ (Ok text, later) →
     filter_named name later ≡ option_map (turned_by (occurrences name (shown_filters face tree))) (filter_named name filters)
+
+-- a page that asks for no filter of a name is the same without the first filter of that name: its text or its fault, and the turns of the others
+abbrev pub UnaskedMayGo : Type 0
+UnaskedMayGo =
+    (face : Face) (tree : Tree) (filters : List Meaning) (name : List ℕ) → occurrences name (shown_filters face tree) ≡ 0 →
+    page face tree (without_filter name filters) ≡ ((page face tree filters).0, without_filter name (page face tree filters).1)
 
 -- some text makes it a template when it is added
 abbrev pub CanGoOn : List ℕ → Type 0

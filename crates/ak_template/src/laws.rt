@@ -3,7 +3,7 @@ ghost use Rattle.std.specs.Prelude.{◌≡◌, ◌<◌, ◌∷◌, ◌++◌, [],
 ghost use Rattle.std.specs.Fmt.{decimal};
 ghost use Rattle.ak_template.specs.Grammar.{IsTemplate, IsFaultOf, first_fault};
 ghost use Rattle.ak_filters.specs.Meanings.{Meaning};
-ghost use Rattle.ak_template.specs.Laws.{FaultsAreTags, UnclosedGoesOn, TurnsAreOccurrences};
+ghost use Rattle.ak_template.specs.Laws.{FaultsAreTags, UnclosedGoesOn, TurnsAreOccurrences, UnaskedMayGo};
 ghost use Rattle.ak_template.specs.Pages.{page, walk};
 ghost use Rattle.ak_template.specs.Pieces.{Piece, has_tag, pieces, tag_of, trimmed, words_at};
 ghost use Rattle.ak_template.specs.Trees.{Tree, tree_steps, written};
@@ -63,6 +63,13 @@ pub fn page_by_steps()
 /// their number.
 pub fn turns_by_occurrences()
     ensures { TurnsAreOccurrences }
+{}
+
+/// A page that asks for no filter of a name is the same after the first filter of that name was dropped: its text or its fault, and
+/// the turns of the others. So a dropped filter is missed only where a page asks for it.
+#[tactic(auto, using(crate::proofs::Dropped::unasked_may_go))]
+pub fn unasked_filters_may_go()
+    ensures { UnaskedMayGo }
 {}
 
 /// The parts of a field written out are the field.

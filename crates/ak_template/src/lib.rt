@@ -21,8 +21,8 @@ pub use faults::TemplateFault;
 pub use laws::{
     a_cloze_is_found, a_tag_is_read, clozes_end_first, faults_are_of_the_text, faults_are_tags,
     no_fault_with_tree, one_tree, page_by_steps, parts_are_the_field, plain_fields_stay,
-    plain_text_is_words, tree_without_fault, turns_by_occurrences, unclosed_sections_go_on,
-    written_is_read,
+    plain_text_is_words, tree_without_fault, turns_by_occurrences, unasked_filters_may_go,
+    unclosed_sections_go_on, written_is_read,
 };
 pub use pages::render;
 pub use parses::parse;

@@ -179,42 +179,42 @@ conf_or d h = json_or (ReadsConf d) (Tells (conf_fault d)) (each_conf d h)
 
 note_made : (d : Data) (row : Row) → ReadsRow tables.Note d row → (note : Note) × ReadsNote d note
 note_made d (rows.Note note) h = (note, h)
-note_made d row h = absurd h.is.0
+note_made d row h = absurd h.stands
 
 note_or : ReadsOrRefuses ReadsNote (RefusesRowOf tables.Note)
 note_or d h = made_of (ReadsRow tables.Note d) (ReadsNote d) (RefusesRowOf tables.Note d) (note_made d) (row_or tables.Note d h)
 
 card_made : (d : Data) (row : Row) → ReadsRow tables.Card d row → (card : Card) × ReadsCard d card
 card_made d (rows.Card card) h = (card, h)
-card_made d row h = absurd h.is.0
+card_made d row h = absurd h.stands
 
 card_or : ReadsOrRefuses ReadsCard (RefusesRowOf tables.Card)
 card_or d h = made_of (ReadsRow tables.Card d) (ReadsCard d) (RefusesRowOf tables.Card d) (card_made d) (row_or tables.Card d h)
 
 review_made : (d : Data) (row : Row) → ReadsRow tables.Review d row → (review : Review) × ReadsReview d review
 review_made d (rows.Review review) h = (review, h)
-review_made d row h = absurd h.is.0
+review_made d row h = absurd h.stands
 
 review_or : ReadsOrRefuses ReadsReview (RefusesRowOf tables.Review)
 review_or d h = made_of (ReadsRow tables.Review d) (ReadsReview d) (RefusesRowOf tables.Review d) (review_made d) (row_or tables.Review d h)
 
 note_type_made : (d : Data) (row : Row) → ReadsRow tables.NoteType d row → (note_type : NoteType) × ReadsNoteType d note_type
 note_type_made d (rows.NoteType note_type) h = (note_type, h)
-note_type_made d row h = absurd h.is.0
+note_type_made d row h = absurd h.stands
 
 note_type_or : ReadsOrRefuses ReadsNoteType (RefusesRowOf tables.NoteType)
 note_type_or d h = made_of (ReadsRow tables.NoteType d) (ReadsNoteType d) (RefusesRowOf tables.NoteType d) (note_type_made d) (row_or tables.NoteType d h)
 
 deck_made : (d : Data) (row : Row) → ReadsRow tables.Deck d row → (deck : Deck) × ReadsDeck d deck
 deck_made d (rows.Deck deck) h = (deck, h)
-deck_made d row h = absurd h.is.0
+deck_made d row h = absurd h.stands
 
 deck_or : ReadsOrRefuses ReadsDeck (RefusesRowOf tables.Deck)
 deck_or d h = made_of (ReadsRow tables.Deck d) (ReadsDeck d) (RefusesRowOf tables.Deck d) (deck_made d) (row_or tables.Deck d h)
 
 options_made : (d : Data) (row : Row) → ReadsRow tables.Options d row → (options : Options) × ReadsOptions d options
 options_made d (rows.Options options) h = (options, h)
-options_made d row h = absurd h.is.0
+options_made d row h = absurd h.stands
 
 options_or : ReadsOrRefuses ReadsOptions (RefusesRowOf tables.Options)
 options_or d h = made_of (ReadsRow tables.Options d) (ReadsOptions d) (RefusesRowOf tables.Options d) (options_made d) (row_or tables.Options d h)

@@ -9,7 +9,7 @@ mod servers;
 use crate::servers::{is_server, wire_to};
 use ak_base::Memory;
 use ak_cli::{KEEPER_FAILED, NO_MEMORY, print_usage, run};
-use ak_filters::{FieldFilter, HintFilter, TextFilter};
+use ak_filters::{FieldFilter, FuriganaFilter, HintFilter, KanaFilter, KanjiFilter, TextFilter};
 use ak_io::{Clock, Sink, Source, StdChance, StdClock, StdSink, StdSource};
 use ak_keep::{KeepFault, Keeper};
 use ak_loops::Log;
@@ -84,7 +84,8 @@ fn run_over<I: Source, O: Sink>(
     Ok(run_with(rt, &mut keeper, server, words, input, out)?)
 }
 
-/// Runs the command over a keeper, and answers its status. Pages have the filters `text` and `hint`.
+/// Runs the command over a keeper, and answers its status. Pages have the filters `text`, `hint`, `kanji`, `kana` and
+/// `furigana`.
 fn run_with<K: Keeper, I: Source, O: Sink>(
     rt: &HostRuntime,
     keeper: &mut K,
@@ -99,6 +100,9 @@ fn run_with<K: Keeper, I: Source, O: Sink>(
     let mut filters: Vec<Box<dyn FieldFilter>> = Vec::new(alloc);
     filters.push(Box::new(alloc, TextFilter::new(alloc))?)?;
     filters.push(Box::new(alloc, HintFilter::new(alloc))?)?;
+    filters.push(Box::new(alloc, KanjiFilter::new(alloc))?)?;
+    filters.push(Box::new(alloc, KanaFilter::new(alloc))?)?;
+    filters.push(Box::new(alloc, FuriganaFilter::new(alloc))?)?;
     let mut wire = wire_to(rt, server)?;
     let mut clock = StdClock::new(rt);
     let mut chance = StdChance::new(clock.now() as u64);

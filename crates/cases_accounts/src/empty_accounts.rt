@@ -1,9 +1,12 @@
-ghost use Rattle.std.specs.Prelude.{◌≡◌, [], IfOk};
+ghost use Rattle.std.specs.Prelude.{◌≡◌, false, [], IfOk};
+ghost use Rattle.ak_base.specs.Heads.{IsHeadInRange};
+ghost use Rattle.ak_keep.specs.Keepers.{all_known, is_marked};
 ghost use Rattle.ak_loops.specs.Entries.{collection_in};
 ghost use Rattle.ak_merge.specs.Commits.{IsCommitted};
 
 use ak_base::{Conf, Head, HostKey, List, Memory, Rest, Text};
-use ak_loops::LoggedServer;
+use ak_loops::{LoggedServer, keeper_with};
+use ak_memory::MemoryKeeper;
 use ak_openings::Opening;
 use cases_lines::Unread;
 use std::alloc::Global;
@@ -17,6 +20,15 @@ pub fn empty_account(alloc: Global, at: i64) -> Result<LoggedServer, Unread> {
     Ok(LoggedServer::new(alloc, name, host_key()?, opening)?)
 }
 
+/// A keeper of a collection that holds no row, and was made and changed last at this moment, in milliseconds.
+#[tactic(auto, using(crate::proofs::Empty::are_distinct))]
+pub fn empty_keeper(alloc: Global, at: i64) -> Result<MemoryKeeper, Unread>
+    ensures unmarked { IfOk result (λ keeper. is_marked (all_known keeper.kept) ≡ false) }
+{
+    let opening = empty_opening(alloc, at)?;
+    Ok(keeper_with(alloc, opening)?)
+}
+
 /// The host key of the one account: 32 letters `a`.
 pub fn host_key() -> Result<HostKey, Unread> {
     HostKey::of("aaaaaaaaaaaaaaaaaaaaaaaaaaaaaaaa").ok_or(Unread::Bad)
@@ -25,6 +37,7 @@ pub fn host_key() -> Result<HostKey, Unread> {
 /// A collection without rows.
 fn empty_opening(alloc: Global, at: i64) -> Result<Opening, Unread>
     ensures rows { IfOk result (λ it. it.rows ≡ []) }
+    ensures range { IfOk result (λ it. IsHeadInRange it.head) }
     ensures committed { IfOk result (λ it. IsCommitted (collection_in it)) }
 {
     let head = Head {
@@ -42,6 +55,7 @@ fn empty_opening(alloc: Global, at: i64) -> Result<Opening, Unread>
 fn opening_of(alloc: Global, head: Head) -> Result<Opening, Unread>
     requires { head.tags ≡ [] }
     ensures rows { IfOk result (λ it. it.rows ≡ []) }
+    ensures range { IfOk result (λ it. IsHeadInRange it.head) }
     ensures committed { IfOk result (λ it. IsCommitted (collection_in it)) }
 {
     if !head.is_in_range() {

@@ -4,5 +4,5 @@
 mod empty_accounts;
 mod moments;
 
-pub use empty_accounts::{empty_account, host_key};
+pub use empty_accounts::{empty_account, empty_keeper, host_key};
 pub use moments::moment_at;

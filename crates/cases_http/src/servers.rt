@@ -1,17 +1,13 @@
-ghost use Rattle.ak_base.specs.Heads.{IsHeadInRange};
-
 use crate::bytes::bytes_of;
 use crate::fails::fails;
 use crate::fronts::{cuts, fronts};
 use crate::links::{ROOM, end_of, link_of, told, told_written};
 use crate::moments::{moment_in, moment_of, number_in};
 use crate::wires::{asks, calls};
-use ak_base::{Conf, Head, HostKey, List, Memory, Rest, Text};
-use ak_keep::Keeper;
-use ak_loops::keeper_with;
+use ak_base::{HostKey, Text};
 use ak_memory::MemoryKeeper;
-use ak_openings::Opening;
 use ak_server::Server;
+use cases_accounts::empty_keeper;
 use cases_lines::{Answers, Unread};
 use std::alloc::Global;
 
@@ -106,52 +102,9 @@ fn add(
 ) -> Result<(), Unread> {
     let host_key = HostKey::of(host).ok_or(Unread::Bad)?;
     let name = Text::of(alloc, host)?;
-    let keeper = keeper_at(alloc, moment_of(moment)?)?;
-    if keeper.marked() {
-        return Err(Unread::Bad);
-    }
+    let keeper = empty_keeper(alloc, moment_of(moment)?)?;
     match server.add(name, host_key, keeper) {
         Ok(()) => Ok(()),
         Err(_) => Err(Unread::Ended),
     }
-}
-
-/// A keeper of a collection without rows, which was made and changed last at a moment.
-fn keeper_at(alloc: Global, moment: i64) -> Result<MemoryKeeper, Unread> {
-    let head = Head {
-        crt: 0,
-        moment,
-        schema: moment,
-        usn: 1,
-        last_sync: 0,
-        conf: settings(alloc)?,
-        tags: List::new(alloc),
-    };
-    if !head.is_in_range() {
-        return Err(Unread::Bad);
-    }
-    keeper_of(alloc, head)
-}
-
-/// A keeper without rows.
-#[tactic(auto, using(crate::proofs::Empty::are_distinct))]
-fn keeper_of(alloc: Global, head: Head) -> Result<MemoryKeeper, Unread>
-    requires { IsHeadInRange head }
-{
-    let opening = Opening {
-        rows: List::new(alloc),
-        head,
-    };
-    Ok(keeper_with(alloc, opening)?)
-}
-
-fn settings(alloc: Global) -> Result<Conf, Memory> {
-    Ok(Conf {
-        new_spread: 0,
-        collapse: 1_200,
-        day_learn_first: false,
-        next_pos: 1,
-        last_unburied: 0,
-        rest: Rest::empty(alloc)?,
-    })
 }

@@ -1,7 +1,7 @@
 use crate::times::{chance_at, clock_at};
 use ak_base::List;
 use ak_cli::run;
-use ak_filters::{FieldFilter, HintFilter, TextFilter};
+use ak_filters::{FieldFilter, FuriganaFilter, HintFilter, KanaFilter, KanjiFilter, TextFilter};
 use ak_io::{End, MemorySink, MemorySource, Sink, Source};
 use ak_keep::Keeper;
 use ak_loops::Log;
@@ -33,6 +33,9 @@ pub fn run_text<K: Keeper, W: Wire>(
     let mut filters: Vec<Box<dyn FieldFilter>> = Vec::new(alloc);
     filters.push(Box::new(alloc, TextFilter::new(alloc))?)?;
     filters.push(Box::new(alloc, HintFilter::new(alloc))?)?;
+    filters.push(Box::new(alloc, KanjiFilter::new(alloc))?)?;
+    filters.push(Box::new(alloc, KanaFilter::new(alloc))?)?;
+    filters.push(Box::new(alloc, FuriganaFilter::new(alloc))?)?;
     let mut log = Log::new(alloc);
     let status = run(
         alloc,

@@ -9,8 +9,8 @@ use crate::requests::request;
 use crate::rows::{about, check, conf, row, same};
 use crate::schedules::{answered, can_be_answered, fuzz, leech};
 use crate::texts::{
-    blank, clozes, cut_at, day, decimal, empty, hidden, hinted, host_key, number, permille, plain,
-    stripped,
+    bases, blank, clozes, cut_at, day, decimal, empty, hidden, hinted, host_key, insides, number,
+    permille, plain, rubies, stripped,
 };
 use cases_lines::{Answers, Unread};
 use serde_json::Value;
@@ -92,6 +92,9 @@ fn answer_of_texts(alloc: Global, word: &str, arguments: &Value) -> Result<Strin
         "cut" => cut_at(alloc, arguments),
         "hint" => hinted(alloc, arguments),
         "text" => plain(alloc, arguments),
+        "kanji" => bases(alloc, arguments),
+        "kana" => insides(alloc, arguments),
+        "furigana" => rubies(alloc, arguments),
         "clozes" => clozes(alloc, arguments),
         "cloze" => hidden(alloc, arguments),
         _ => Err(Unread::Bad),

@@ -60,6 +60,10 @@ fn said(alloc: Global, line: &DeskLine) -> Result<String, Unread> {
             let side = if *back { "back" } else { "front" };
             Ok(format!(in alloc; "page {card} {side}")?)
         },
+        DeskLine::Mute(filter) => {
+            let filter = quoted(alloc, filter.as_str())?;
+            Ok(format!(in alloc; "mute {filter}")?)
+        },
         DeskLine::Undo => Ok(String::from_str(alloc, "undo")?),
         DeskLine::Check => Ok(String::from_str(alloc, "check")?),
         DeskLine::DeleteDeck(deck) => numbered(alloc, "drop", *deck),

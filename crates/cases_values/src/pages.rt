@@ -1,6 +1,6 @@
 use crate::words::{page_fault, push_quoted, template_fault};
 use ak_base::{List, Text};
-use ak_filters::{FieldFilter, HintFilter, TextFilter};
+use ak_filters::{FieldFilter, FuriganaFilter, HintFilter, KanaFilter, KanjiFilter, TextFilter};
 use ak_template::{Face, PageFault, Pair, Step, TemplateFault, parse, render, shows};
 use cases_lines::{Unread, list_at, number_at, quoted, text_at, texts_at, truth};
 use serde_json::Value;
@@ -83,7 +83,7 @@ fn push_pair(alloc: Global, fields: &mut List<Pair>, pair: &Value) -> Result<(),
 }
 
 /// `pages [NUMBER, FIELDS, FRONT, TEMPLATES]`: the page of each template for the card of this number, one after the other
-/// with the same filters `text` and `hint`. FRONT is null on a front, else the page of the front.
+/// with the same five filters. FRONT is null on a front, else the page of the front.
 pub fn pages(alloc: Global, arguments: &Value) -> Result<String, Unread> {
     let front = front_at(arguments)?;
     let face = face_at(alloc, arguments, front, number_at(arguments, 0)?)?;
@@ -106,6 +106,9 @@ fn pages_of(alloc: Global, face: &Face, arguments: &Value) -> Result<String, Unr
     let mut filters: Vec<Box<dyn FieldFilter>> = Vec::new(alloc);
     filters.push(Box::new(alloc, TextFilter::new(alloc))?)?;
     filters.push(Box::new(alloc, HintFilter::new(alloc))?)?;
+    filters.push(Box::new(alloc, KanjiFilter::new(alloc))?)?;
+    filters.push(Box::new(alloc, KanaFilter::new(alloc))?)?;
+    filters.push(Box::new(alloc, FuriganaFilter::new(alloc))?)?;
     let mut made = String::new(alloc);
     for text in texts_at(alloc, arguments, 3)?.as_slice() {
         match parse(alloc, text.as_str()) {

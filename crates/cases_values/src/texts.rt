@@ -1,7 +1,10 @@
 use crate::schedules::day_at;
 use crate::words::push_quoted;
 use ak_base::{HostKey, cut, read_number};
-use ak_filters::{FieldFilter, HintFilter, TextFilter, is_blank, is_empty_value, strip};
+use ak_filters::{
+    FieldFilter, FuriganaFilter, HintFilter, KanaFilter, KanjiFilter, TextFilter, is_blank,
+    is_empty_value, strip,
+};
 use ak_json::{read_decimal, write_decimal};
 use ak_template::{cloze_numbers, show_clozes};
 use cases_lines::{Unread, listed, natural_at, number_at, quoted, text_at, truth};
@@ -95,6 +98,24 @@ pub fn hinted(alloc: Global, arguments: &Value) -> Result<String, Unread> {
 /// `text [TEXT, ..]`: the filter `text` applied to each.
 pub fn plain(alloc: Global, arguments: &Value) -> Result<String, Unread> {
     let mut filter = TextFilter::new(alloc);
+    applied(alloc, &mut filter, arguments)
+}
+
+/// `kanji [TEXT, ..]`: the filter `kanji` applied to each.
+pub fn bases(alloc: Global, arguments: &Value) -> Result<String, Unread> {
+    let mut filter = KanjiFilter::new(alloc);
+    applied(alloc, &mut filter, arguments)
+}
+
+/// `kana [TEXT, ..]`: the filter `kana` applied to each.
+pub fn insides(alloc: Global, arguments: &Value) -> Result<String, Unread> {
+    let mut filter = KanaFilter::new(alloc);
+    applied(alloc, &mut filter, arguments)
+}
+
+/// `furigana [TEXT, ..]`: the filter `furigana` applied to each.
+pub fn rubies(alloc: Global, arguments: &Value) -> Result<String, Unread> {
+    let mut filter = FuriganaFilter::new(alloc);
     applied(alloc, &mut filter, arguments)
 }
 

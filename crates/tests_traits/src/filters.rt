@@ -1,7 +1,7 @@
-// Filters behind boxes: those of every desk and one of the caller's own.
+// Filters behind boxes: those of every desk and some of the caller's own.
 
 use ak_base::{List, Memory, Text};
-use ak_filters::{FieldFilter, HintFilter, TextFilter};
+use ak_filters::{FieldFilter, HintFilter, TextFilter, drop_filter};
 use ak_template::{Face, PageFault, Pair, parse, render};
 use std::alloc::Global;
 
@@ -24,6 +24,31 @@ impl FieldFilter for LoudFilter {
 
     fn apply(&mut self, text: &str) -> Result<Text, Memory> {
         let made = format!(in self.alloc; "<b>{text}</b>")?;
+        let made = Text::of(self.alloc, &made)?;
+        self.turn = self.turn.saturating_add(1);
+        Ok(made)
+    }
+}
+
+/// A filter of the caller's own, under a name that every desk has.
+#[derive(Debug, Drop)]
+struct OpenHintFilter {
+    alloc: Global,
+    turn: u64,
+}
+
+impl FieldFilter for OpenHintFilter {
+    ghost use Rattle.std.specs.Prelude.{codes};
+    ghost use Rattle.ak_filters.specs.Meanings.{Meaning, Wrap};
+
+    ghost meaning = { λ filter. record { name = codes "hint"; form = Wrap (codes "(") (codes ")"); turn = filter.turn } };
+
+    fn name(&self) -> &str {
+        "hint"
+    }
+
+    fn apply(&mut self, text: &str) -> Result<Text, Memory> {
+        let made = format!(in self.alloc; "({text})")?;
         let made = Text::of(self.alloc, &made)?;
         self.turn = self.turn.saturating_add(1);
         Ok(made)
@@ -90,5 +115,22 @@ fn pages_go_through_filters_behind_boxes(rt: HostRuntime) -> Result<(), Memory> 
     for (text, wanted) in PAGES {
         assert!(rt; makes(rt.alloc(), &mut filters, text, wanted)?);
     }
+    Ok(())
+}
+
+#[test]
+fn a_filter_that_is_dropped_gives_place_to_the_callers_own(rt: HostRuntime) -> Result<(), Memory> {
+    let alloc = rt.alloc();
+    let mut filters = filters(alloc)?;
+    assert!(rt; drop_filter(&mut filters, "hint"));
+    filters.push(Box::new(alloc, OpenHintFilter { alloc, turn: 0 })?)?;
+    assert!(rt;
+        makes(
+            alloc,
+            &mut filters,
+            "{{hint:loud:Front}}",
+            Some("(<b><i>a</i></b>)")
+        )?
+    );
     Ok(())
 }

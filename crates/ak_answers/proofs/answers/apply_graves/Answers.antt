@@ -7,7 +7,7 @@ use Rattle.ak_answers.proofs.answers.apply_graves.Goals as goal
 
 pub returns-clause-ok : goal.returns-clause-ok
 returns-clause-ok g c =
-    let usn : SFits w64 c.args.head.now.usn = search rules in
+    let usn : SFits w64 c.args.numbers.usn = search rules in
     if_ok c.take_given_graves.result _ _
-    (rows_received c.args.head.now (graves_from c.args.ids.now) (g.K.Lookup.keeping c.args.keeper.now) (g.K.Lookup.keeping c.take_given_graves.new.keeper) c.requires.held.told)
-    (rw (to_z-of_z w64 c.args.head.now.usn usn) at c.take_given_graves.ensures.ok)
+    (rows_received c.args.numbers (graves_from c.args.ids.now) (g.K.Lookup.keeping c.args.keeper.now) (g.K.Lookup.keeping c.take_given_graves.new.keeper) c.requires.held.told)
+    (rw (to_z-of_z w64 c.args.numbers.usn usn) at c.take_given_graves.ensures.ok)

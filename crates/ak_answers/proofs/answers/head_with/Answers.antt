@@ -1,10 +1,9 @@
 use Rattle.std.specs.FinMap.{empty}
 use Rattle.std.specs.Option.{option_map, unwrap_or}
-use Rattle.std.specs.Prelude.{◌≡◌, ℤ, List}
-use Rattle.std.proofs.Common.{sym, ap, subst, ◌∙◌, rules, w64, SFits}
+use Rattle.std.specs.Prelude.{◌≡◌}
+use Rattle.std.proofs.Common.{sym, subst, ◌∙◌, rules, w64, SFits}
 use Rattle.std.proofs.lemmas.Int.{to_z-of_z}
 use Rattle.ak_base.specs.Heads.{IsHeadInRange}
-use Rattle.ak_keep.specs.Collections.{Rows}
 use Rattle.ak_merge.specs.Commits.{settings_of}
 use Rattle.ak_messages.specs.declared.requests.Ask.TheVariants as asks
 use Rattle.ak_session.specs.Asks.{brought}

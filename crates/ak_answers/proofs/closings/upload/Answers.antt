@@ -1,7 +1,7 @@
 use Rattle.std.specs.List.{All, IsDistinct}
 use Rattle.std.specs.Ordering.{eq_by_cmp}
-use Rattle.std.specs.Prelude.{◌≡◌, List, map}
-use Rattle.std.proofs.Common.{sym, ap, subst, ◌∙◌, rules, w64, SFits}
+use Rattle.std.specs.Prelude.{List, map}
+use Rattle.std.proofs.Common.{sym, ap, subst, ◌∙◌, w64}
 use Rattle.std.proofs.lemmas.Int.{to_z-of_z}
 use Rattle.ak_base.specs.Names.{name_cmp}
 use Rattle.ak_base.specs.Rows.{IsChecked, name_of}
@@ -30,7 +30,7 @@ returns-clause-gives g c =
 
 pub returns-clause-ok : goal.returns-clause-ok
 returns-clause-ok g c =
-    upload_puts c.in_ok-rows.rows c.args.whole.now.rows c.in_ok-made.made (uploaded_head c.args.head.now c.args.whole.now c.args.now)
+    upload_puts c.in_ok-rows.rows c.args.whole.now.rows c.in_ok-made.made (uploaded_head c.args.numbers.now c.args.whole.now c.args.now)
     (marked_here (g.K.Lookup.keeping c.args.keeper.now)) (g.K.Lookup.keeping c.replace_marked.new.keeper)
     (c.in_ok-rows.ensures ∙ ap uploaded_rows c.as_slice.ensures) (rw (to_z-of_z w64 c.args.now c.ranges.now) at c.in_ok-made.ensures.ok)
     c.in_ok-replace_marked.ensures.ok

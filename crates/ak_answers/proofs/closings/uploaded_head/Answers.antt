@@ -1,4 +1,4 @@
-use Rattle.std.specs.Prelude.{◌≡◌, ℤ, List, pos, []}
+use Rattle.std.specs.Prelude.{List, pos, []}
 use Rattle.std.proofs.Common.{sym, ap, subst, ◌∙◌, rules, w64, SFits}
 use Rattle.std.proofs.lemmas.Int.{to_z-of_z}
 use Rattle.ak_base.specs.Heads.{IsHeadInRange, tag_names}

@@ -1,6 +1,5 @@
-use Rattle.std.proofs.Common.{pos, false, ◌≡◌, ◌++◌, ◌∙◌, refl, sym, subst, ap}
+use Rattle.std.proofs.Common.{◌≡◌, ◌++◌, ◌∙◌, refl, sym, subst}
 use Rattle.ak_faults.proofs.Healths.{goes_nowhere, goes_further}
-use Rattle.ak_keep.specs.Collections.{Holding}
 use Rattle.ak_keep.specs.Keepers.{WhereTold}
 use Rattle.ak_keep.specs.Walks.{ahead}
 use Rattle.ak_keep.specs.declared.walks.Walk.{Walk}

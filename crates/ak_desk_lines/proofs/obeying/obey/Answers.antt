@@ -168,6 +168,13 @@ returns-in-Page-clause-filters g c =
     let card : SFits w64 c.in-Page.card = search rules in
     filters_as _ _ _ _ _ _ c.in-Page.is (rw (to_z-of_z w64 c.in-Page.card card) at c.show_page.ensures.shows)
 
+pub returns-in-Mute-clause-ends : goal.returns-in-Mute-clause-ends
+returns-in-Mute-clause-ends g c =
+    ends_as _ _ _ _ _ _ c.in-Mute.is c.mute_filter.ensures.ends
+
+pub returns-in-Mute-clause-filters : goal.returns-in-Mute-clause-filters
+returns-in-Mute-clause-filters g c = filters_as _ _ _ _ _ _ c.in-Mute.is c.mute_filter.ensures.drops
+
 pub returns-in-Suspend-clause-ends : goal.returns-in-Suspend-clause-ends
 returns-in-Suspend-clause-ends g c =
     ends_as _ _ _ _ _ _ c.in-Suspend.is c.suspend.ensures.ends

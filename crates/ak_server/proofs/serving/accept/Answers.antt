@@ -12,4 +12,5 @@ returns-in_default g c = record {
   status = c.go_on.ensures.status;
   err = c.go_on.ensures.err;
   cause = c.go_on.ensures.cause;
+  spares = λ _ is. absurd (c.in_default.not-Finish is);
 }

@@ -24,6 +24,7 @@ returns-in-Some g c = record {
   status = decided_granted c.in-Some.reply (of_some c.in_ok-reply.field-0 (λ (reply : Reply). reply.status ≡ 200) c.in-Some.reply c.in_ok-reply.ensures.status c.in-Some.is);
   err = tt;
   cause = cause-ok c.in-Some.reply c.in_ok-reply.ensures.cause.goes;
+  spares = λ _ _ h. cc;
 }
 
 pub returns-in-None : goal.returns-in-None
@@ -37,4 +38,5 @@ returns-in-None g c = record {
   status = c.decide.ensures.status;
   err = err_so c.decide.result _ _ (λ leaves. leaves_read g.K.Lookup.keeping c.args.account.now c.repeat.new.account c.decide.new.account c.repeat.ensures.same leaves) c.decide.ensures.err;
   cause = cause_after c.in_ok-reply.ensures.cause.goes c.decide.ensures.cause;
+  spares = c.decide.ensures.spares;
 }

@@ -1,11 +1,12 @@
-use Rattle.std.specs.FinMap.{empty}
 use Rattle.std.specs.Option.{option_map}
 use Rattle.std.specs.Prelude.{◌≡◌, Some}
 use Rattle.std.proofs.Common.{refl, sym, ap, ◌∙◌, w64}
 use Rattle.std.proofs.lemmas.Int.{to_z-of_z}
 use Rattle.ak_answers.specs.declared.answers.Basis.{Basis}
 use Rattle.ak_faults.proofs.Healths.{cause_after}
+use Rattle.ak_keep.proofs.HeadNumbers.{some_collection}
 use Rattle.ak_keep.specs.Collections.{Collection}
+use Rattle.ak_keep.specs.HeadNumbers.{numbered}
 use Rattle.ak_machine.specs.Decisions.{declined_so, refusal_of}
 use Rattle.ak_machine.specs.Sessions.{session_seen}
 use Rattle.ak_messages.specs.declared.replies.Reply.{Reply}
@@ -19,50 +20,50 @@ returns-in-Some-clause-does g c =
     let read : Account g.row.K.Denot = record {
       name = c.args.account.now.name;
       host = c.args.account.now.host;
-      keeper = c.head_of.new.keeper;
+      keeper = c.held_numbers.new.keeper;
       live = c.args.account.now.live;
       kept = c.args.account.now.kept;
     } in
-    refused_does g.K.Lookup.keeping c.args.account.now read c.args.request.now c.args.now c.in_ok-head.head c.declined_reply.result
-    c.requires.right c.in_ok-head.ensures.known c.in_ok-head.ensures.reads.told (record { rest = refl; keeper = c.in_ok-head.ensures.reads.same })
+    refused_does g.K.Lookup.keeping c.args.account.now read c.args.request.now c.args.now c.in_ok-numbers.numbers c.declined_reply.result
+    c.requires.right c.in_ok-numbers.ensures.known c.in_ok-numbers.ensures.reads.told (record { rest = refl; keeper = c.in_ok-numbers.ensures.reads.same })
     c.requires.later c.requires.first
-    (λ rows tables. ap Some c.declined_reply.ensures ∙ sym (ap (option_map declined_so) c.in-Some.is) ∙ c.in_ok-why.ensures.why rows tables)
+    (λ k tables. ap Some c.declined_reply.ensures ∙ sym (ap (option_map declined_so) c.in-Some.is) ∙ c.in_ok-why.ensures.why k tables)
 
 pub returns-in-Some-clause-status : goal.returns-in-Some-clause-status
 returns-in-Some-clause-status g c =
-    let none : Collection = record { rows = empty; head = c.in_ok-head.head } in
+    let none : Collection = numbered c.in_ok-numbers.numbers some_collection in
     decided_refused (refusal_of none (option_map (session_seen none) c.args.account.now.live) c.args.request.now) c.declined_reply.result
-    (ap Some c.declined_reply.ensures ∙ sym (ap (option_map declined_so) c.in-Some.is) ∙ c.in_ok-why.ensures.why empty none)
+    (ap Some c.declined_reply.ensures ∙ sym (ap (option_map declined_so) c.in-Some.is) ∙ c.in_ok-why.ensures.why some_collection none)
 
 pub accept-requires-clause-accepted : goal.accept-requires-clause-accepted
 accept-requires-clause-accepted g c =
-    taken_read g.K.Lookup.keeping c.args.account.now _ c.args.request.now c.in_ok-head.head c.in-Some-live.live (record { rest = refl; keeper = c.in_ok-head.ensures.reads.same })
-    c.requires.right c.in_ok-head.ensures.known c.in_ok-head.ensures.reads.told c.in_ok-head.ensures.range c.in-Some-live.is
-    (λ rows tables. sym (ap (option_map declined_so) c.in_default.is) ∙ c.in_ok-why.ensures.why rows tables)
+    taken_read g.K.Lookup.keeping c.args.account.now _ c.args.request.now c.in_ok-numbers.numbers c.in-Some-live.live (record { rest = refl; keeper = c.in_ok-numbers.ensures.reads.same })
+    c.requires.right c.in_ok-numbers.ensures.known c.in_ok-numbers.ensures.reads.told c.in_ok-numbers.ensures.range c.in-Some-live.is
+    (λ k tables. sym (ap (option_map declined_so) c.in_default.is) ∙ c.in_ok-why.ensures.why k tables)
 
 pub returns-clause-does : goal.returns-clause-does
 returns-clause-does g c =
     let read : Account g.row.K.Denot = record {
       name = c.args.account.now.name;
       host = c.args.account.now.host;
-      keeper = c.head_of.new.keeper;
+      keeper = c.held_numbers.new.keeper;
       live = c.args.account.now.live;
       kept = c.args.account.now.kept;
     } in
-    let basis : Basis = record { head = c.in_ok-head.head; live = c.in-Some-live.live } in
+    let basis : Basis = record { numbers = c.in_ok-numbers.numbers; live = c.in-Some-live.live } in
     ok_so c.accept.result _ _
     (λ reply did. accepted_does g.K.Lookup.keeping c.args.account.now read c.accept.new.account c.args.request.now c.args.now basis reply
-    c.requires.right c.in_ok-head.ensures.known c.in_ok-head.ensures.reads.told (record { rest = refl; keeper = c.in_ok-head.ensures.reads.same }) c.requires.later c.requires.first
-    (taken_read g.K.Lookup.keeping c.args.account.now read c.args.request.now c.in_ok-head.head c.in-Some-live.live (record { rest = refl; keeper = c.in_ok-head.ensures.reads.same })
-    c.requires.right c.in_ok-head.ensures.known c.in_ok-head.ensures.reads.told c.in_ok-head.ensures.range c.in-Some-live.is
-    (λ rows tables. sym (ap (option_map declined_so) c.in_default.is) ∙ c.in_ok-why.ensures.why rows tables)) did)
+    c.requires.right c.in_ok-numbers.ensures.known c.in_ok-numbers.ensures.reads.told (record { rest = refl; keeper = c.in_ok-numbers.ensures.reads.same }) c.requires.later c.requires.first
+    (taken_read g.K.Lookup.keeping c.args.account.now read c.args.request.now c.in_ok-numbers.numbers c.in-Some-live.live (record { rest = refl; keeper = c.in_ok-numbers.ensures.reads.same })
+    c.requires.right c.in_ok-numbers.ensures.known c.in_ok-numbers.ensures.reads.told c.in_ok-numbers.ensures.range c.in-Some-live.is
+    (λ k tables. sym (ap (option_map declined_so) c.in_default.is) ∙ c.in_ok-why.ensures.why k tables)) did)
     (rw (to_z-of_z w64 c.args.now c.ranges.now) at c.accept.ensures.does)
 
 pub returns-clause-status : goal.returns-clause-status
 returns-clause-status g c = ok_so c.accept.result (λ (x : Reply). x.status ≡ 200) _ (λ reply is. decided_granted reply is) c.accept.ensures.status
 
 pub returns-clause-err : goal.returns-clause-err
-returns-clause-err g c = err_so c.accept.result _ _ (λ leaves. leaves_read g.K.Lookup.keeping c.args.account.now _ _ (record { rest = refl; keeper = c.in_ok-head.ensures.reads.same }) leaves) c.accept.ensures.err
+returns-clause-err g c = err_so c.accept.result _ _ (λ leaves. leaves_read g.K.Lookup.keeping c.args.account.now _ _ (record { rest = refl; keeper = c.in_ok-numbers.ensures.reads.same }) leaves) c.accept.ensures.err
 
 pub returns-clause-cause : goal.returns-clause-cause
-returns-clause-cause g c = cause_after c.in_ok-head.ensures.reads.cause.goes c.accept.ensures.cause
+returns-clause-cause g c = cause_after c.in_ok-numbers.ensures.reads.cause.goes c.accept.ensures.cause
