@@ -37,8 +37,6 @@ use Rattle.ak_keep.specs.Keepers.{IsRightlyKnown, Keeping, WhereTold}
 use Rattle.ak_keep.specs.declared.keepers.Wanted.TheVariants.{From, Unsent}
 use Rattle.ak_merge.specs.Edits.{second_of}
 use Rattle.ak_merge.specs.Exchanges.{AreExchanged, HoldsJoin}
-use Rattle.ak_merge.specs.Holdings.{row_under}
-use Rattle.ak_merge.specs.Joins.{AreApart}
 use Rattle.ak_merge.specs.Links.{AreLinked}
 use Rattle.ak_messages.specs.declared.replies.Reply.{Reply}
 use Rattle.ak_messages.specs.declared.requests.Ask.{Ask}
@@ -69,12 +67,12 @@ synced_unmet ids stop c account old now growth left grown timely unused fair = r
   base = c;
   at_meta = inl refl;
   shown = inl (refl, unused);
-  front = λ apart. (planned c c, refl);
-  short = λ apart. omega arith;
+  front = (planned c c, refl);
+  short = omega arith;
   once = stays_unused (asker ids) c c (pos 0) account now unused;
   early = λ early. unused_keys_commit_nothing ids.host.digits ids.session.0 account now unused;
   finished = λ is. absurd (not_finished stop is);
-  fair = λ apart. fair;
+  fair = fair;
 }
 
 -- a meta alone asks for no chunk
@@ -132,7 +130,7 @@ module _ (ids : Ids) (met : Met) (c s : Collection) (account : AccountState) (as
     (may : MayBegin (asker ids) c account old)
     (fresh : EachNewer (HasFreshSchema c) (world_at (asker ids) account old) (world_at (asker ids) account (with_growth mid later)))
     (over : IsMetOver (asker ids) account old mid s) (both : IsMet c s met)
-    (syncs : AreApart (row_under c) (row_under s) → MaySync c s)
+    (syncs : MaySync c s)
     (end : Ended c s account (asker ids) asks (Some (with_growth mid later)) left outcome) where
   abbrev now : Log
   now = with_growth mid later
@@ -166,15 +164,14 @@ module _ (ids : Ids) (met : Met) (c s : Collection) (account : AccountState) (as
   once : StaysOnce who c s met.meta.moment asks account now
   once =
       subst (λ (moment : ℤ). StaysOnce who c s moment asks account now) (sym both.moment)
-      (stays_once who c s account asks syncs end.shown.front now under_way)
+      (stays_once who c s account asks syncs (end.shown.front syncs) now under_way)
 
   -- a front of the plan is at most as long
-  short : AreApart (row_under c) (row_under s) → length asks + 1 ≤ 8 + length (wanted_graves Unsent c.rows) / 250
+  short : length asks + 1 ≤ 8 + length (wanted_graves Unsent c.rows) / 250
       + length (wanted_in_chunks (From c.head.usn) s.rows) / 250 + length (wanted_in_chunks Unsent c.rows) / 250
-  short apart =
-      let so = syncs apart in
-      let ahead = end.shown.front so in
-      let most = plans_are_short who c s so.committed.head.usn.low in
+  short =
+      let ahead = end.shown.front syncs in
+      let most = plans_are_short who c s syncs.committed.head.usn.low in
       let count = requests_count who s.head.moment 1 (planned c s) in
       let both = length-append asks ahead.0 in
       let whole = ap (λ (l : List Ask). length l) ahead.1 in
@@ -183,8 +180,8 @@ module _ (ids : Ids) (met : Met) (c s : Collection) (account : AccountState) (as
   -- the join that the one commit holds
   joined : (after : Collection) → commits_of who.session.0 (world_at who account now).commits
       ≡ record { key = who.session.0; before = s; after = after } ∷ []
-      → AreApart (row_under c) (row_under s) → HoldsJoin c s after
-  joined after only apart = by (at_most_once who c s account asks syncs end.shown.front now under_way)
+      → HoldsJoin c s after
+  joined after only = by (at_most_once who c s account asks syncs (end.shown.front syncs) now under_way)
     where
       by : CommitsAtMostOnce who.session.0 c s (world_at who account now).commits → HoldsJoin c s after
       by (inl none) = absurd (one_is_none (record { key = who.session.0; before = s; after = after }) (sym only ∙ none))
@@ -194,15 +191,14 @@ module _ (ids : Ids) (met : Met) (c s : Collection) (account : AccountState) (as
       by (inr one) =
           subst (λ (t : Collection). HoldsJoin c s t)
           (ap (λ (l : List Commit). elim l as (λ _. Collection) [ [] ↦ after | x ∷ xs ↦ x.after ]) (sym one.only ∙ only))
-          (one.joins apart)
+          one.joins
 
   ended : IsEnded c s account who (Some now) left → IsSyncFinished who c s account now left
   ended it =
       let same : now ≡ it.committed.log = same_Some now it.committed.log it.committed.is in
       let only : commits_of who.session.0 (world_at who account now).commits ≡ record { key = who.session.0; before = s; after = it.after } ∷ [] =
       ap (λ (log : Log). commits_of who.session.0 (world_at who account log).commits) same ∙ it.committed.only in
-      let halves : AreApart (row_under c) (row_under s) → AreExchanged c s it.device it.after =
-      λ apart. it.half (syncs apart) (joined it.after only apart) in
+      let halves : AreExchanged c s it.device it.after = it.half syncs (joined it.after only) in
       record {
         after = it.after;
         device = it.device;
@@ -212,9 +208,9 @@ module _ (ids : Ids) (met : Met) (c s : Collection) (account : AccountState) (as
         last_sync = it.last_sync;
         usn = it.usn;
         schema = it.schema;
-        sound = λ apart. it.sound (syncs apart);
+        sound = it.sound syncs;
         exchanged = halves;
-        linked = λ apart. linked_now it.device it.after only it.schema (inr (halves apart).linked);
+        linked = linked_now it.device it.after only it.schema (inr halves.linked);
       }
     where
       grown_world : world_at who account now ≡ world_after (world_at who account old) (events_of who.host.digits growth)
@@ -241,12 +237,12 @@ module _ (ids : Ids) (met : Met) (c s : Collection) (account : AccountState) (as
     base = s;
     at_meta = inr (record { front = over.front; rest = over.rest ++ later; parts = refl; place = over.place });
     shown = shown;
-    front = λ apart. end.shown.front (syncs apart);
+    front = end.shown.front syncs;
     short = short;
     once = once;
     early = λ early. plain_commits_nothing who s account asks now (end.early early) under_way;
     finished = λ is. ended (end.finished is);
-    fair = λ apart. end.fair (syncs apart);
+    fair = end.fair syncs;
   }
 
 -- what a keeper tells is true of the collection that it holds

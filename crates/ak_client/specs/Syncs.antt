@@ -24,7 +24,7 @@ use Rattle.ak_keep.specs.declared.keepers.Wanted.TheVariants.{From, Unsent}
 use Rattle.ak_merge.specs.Edits.{second_of}
 use Rattle.ak_merge.specs.Exchanges.{HoldsJoin, AreExchanged}
 use Rattle.ak_merge.specs.Holdings.{row_under}
-use Rattle.ak_merge.specs.Joins.{AreApart, joined_under}
+use Rattle.ak_merge.specs.Joins.{joined_under}
 use Rattle.ak_merge.specs.Links.{AreLinked}
 use Rattle.ak_merge.specs.Soundness.{IsSound, first_fault}
 use Rattle.ak_merge.specs.declared.checks.CheckFault.{CheckFault}
@@ -58,11 +58,11 @@ pub record MayBegin (who : Asker) (c : Collection) (account : AccountState) (log
   pub linked : AreLinked c (world_at who account log).state.committed
 
 -- ---- what it leaves on the server
--- the one commit of a session whose meta was answered over this collection. If the device and that were apart, it holds the join of both
+-- the one commit of a session whose meta was answered over this collection: it holds the join of the device and that
 pub record JoinedAt (key : ℕ) (c base : Collection) (past : List Commit) : Type 0 where
   pub after : Collection
   pub only : commits_of key past ≡ record { key = key; before = base; after = after } ∷ []
-  pub joins : AreApart (row_under c) (row_under base) → HoldsJoin c base after
+  pub joins : HoldsJoin c base after
 
 -- a session committed nothing, or once, the join
 abbrev pub CommitsAtMostOnce : ℕ → Collection → Collection → List Commit → Type 0
@@ -87,7 +87,7 @@ StaysOnce who c base moment asks account now = (later : List Event)
 
 -- ---- what it leaves if it reports that it is finished
 -- the session committed once. The device holds d, whose moment and last sync are at that commit, and whose number is the one after the
--- server's. If device and server were apart, their join is sound, both hold it and are linked, and the device is linked with what is committed now
+-- server's. The join of device and server is sound, both hold it and are linked, and the device is linked with what is committed now
 pub record IsSyncFinished (who : Asker) (c base : Collection) (account : AccountState) (now : Log)
     (left : Keeping) : Type 0 where
   pub after : Collection
@@ -99,9 +99,9 @@ pub record IsSyncFinished (who : Asker) (c base : Collection) (account : Account
   pub last_sync : device.head.last_sync ≡ after.head.moment
   pub usn : device.head.usn ≡ base.head.usn +ℤ pos 1
   pub schema : device.head.schema ≡ c.head.schema
-  pub sound : AreApart (row_under c) (row_under base) → IsSound (joined_under (row_under c) (row_under base))
-  pub exchanged : AreApart (row_under c) (row_under base) → AreExchanged c base device after
-  pub linked : AreApart (row_under c) (row_under base) → AreLinked device (world_at who account now).state.committed
+  pub sound : IsSound (joined_under (row_under c) (row_under base))
+  pub exchanged : AreExchanged c base device after
+  pub linked : AreLinked device (world_at who account now).state.committed
 
 -- ---- a sync
 -- whether an outcome is told only of a sync that did not ask its finish. A keeper that refused may have refused the commit after it
@@ -152,17 +152,17 @@ pub record Synced (who : Asker) (moment : ℤ) (asks : List Ask) (c : Collection
   pub base : Collection
   pub at_meta : (asks ≡ []) ⊎ IsCommittedIn who account old growth base
   pub shown : IsShown who account base moment asks now
-  -- it asked its plan up to some place, if the device and that collection are apart
-  pub front : AreApart (row_under c) (row_under base) → (rest : List Ask) × (asks ++ rest ≡ planned c base)
+  -- it asked its plan up to some place
+  pub front : (rest : List Ask) × (asks ++ rest ≡ planned c base)
   -- that is at most 8 requests, its meta counted, and one more for each 250 of the graves that the device did not send yet, of the reviews,
   -- cards and notes of the server with at least the device's number, and of those that the device did not send yet
-  pub short : AreApart (row_under c) (row_under base) → length asks + 1 ≤ 8 + length (wanted_graves Unsent c.rows) / 250
+  pub short : length asks + 1 ≤ 8 + length (wanted_graves Unsent c.rows) / 250
       + length (wanted_in_chunks (From c.head.usn) base.rows) / 250 + length (wanted_in_chunks Unsent c.rows) / 250
   pub once : StaysOnce who c base moment asks account now
   -- it committed nothing, if it ended before its finish
   pub early : ends_before_finish outcome ≡ true → commits_of who.session.0 (world_at who account now).commits ≡ []
   pub finished : outcome ≡ outcomes.Finished → IsSyncFinished who c base account now left
-  pub fair : AreApart (row_under c) (row_under base) → IsFairEnd c base outcome
+  pub fair : IsFairEnd c base outcome
 
 -- the same wherever the keeper tells a collection with which the sync may begin, and the wire a log
 abbrev pub Syncs : Ids → ℤ → List Ask → Keeping → Keeping → Log → Log → Outcome → Type 0

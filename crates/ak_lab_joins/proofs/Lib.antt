@@ -1,4 +1,3 @@
-mod Apart
 mod Devices
 mod Edits
 mod Ends

@@ -30,7 +30,7 @@ use Rattle.ak_keep.specs.declared.keepers.KeepFault.TheVariants as faults
 use Rattle.ak_merge.specs.Commits.{IsCommitted}
 use Rattle.ak_merge.specs.Edits.{second_of}
 use Rattle.ak_merge.specs.Holdings.{row_under}
-use Rattle.ak_merge.specs.Joins.{AreApart, joined_under}
+use Rattle.ak_merge.specs.Joins.{joined_under}
 use Rattle.ak_merge.specs.Links.{AreLinked}
 use Rattle.ak_merge.specs.Soundness.{IsLeastFault, first_fault}
 use Rattle.ak_merge.specs.declared.checks.CheckFault.{CheckFault}
@@ -273,10 +273,9 @@ module _ (ids : Ids) (c : Collection) (account : AccountState) (before after : S
     may_sync : MaySync c s
     may_sync =
         sides_may_sync c s it.formed schema_is linked (committed_over s first_call.0 over)
-        (subst (λ (k : Collection). AreApart (row_under c) (row_under k)) same it.apart)
 
     asked_of : IsAskedOf c s own.moment asked
-    asked_of = inr (moment_is, subst (λ (k : Collection). (more : List Ask) × (asked ++ more ≡ planned c k)) same (it.synced.front it.apart))
+    asked_of = inr (moment_is, subst (λ (k : Collection). (more : List Ask) × (asked ++ more ≡ planned c k)) same it.synced.front)
 
     last_tried : TriedLast later_requests (answers_in rest) last.answer own.tried.0 after.health own.tried.1 after.wire
     last_tried =

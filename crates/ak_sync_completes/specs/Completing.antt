@@ -15,7 +15,7 @@ use Rattle.ak_keep.specs.Keepers.{Keeping}
 use Rattle.ak_keep.specs.declared.keepers.Wanted.TheVariants.{From, Unsent}
 use Rattle.ak_merge.specs.Edits.{second_of}
 use Rattle.ak_merge.specs.Holdings.{row_under}
-use Rattle.ak_merge.specs.Joins.{AreApart, joined_under}
+use Rattle.ak_merge.specs.Joins.{joined_under}
 use Rattle.ak_merge.specs.Soundness.{IsSound}
 use Rattle.ak_protocol.specs.Accounts.{AccountState}
 use Rattle.ak_protocol.specs.Logs.{Event, View, Asked, Log, with_growth}
@@ -49,8 +49,6 @@ pub record IsSyncOver (ids : Ids) (before after : SyncEnds) (outcome : Outcome) 
 pub record AreJoinable (c s : Collection) : Type 0 where
   -- c is one that a keeper may hold
   pub formed : IsWellFormed (held_by c)
-  -- no two rows of one name and stamp differ
-  pub apart : AreApart (row_under c) (row_under s)
   -- they have one schema moment, and were not changed last at the same moment
   pub schema : c.head.schema ≡ s.head.schema
   pub differ : c.head.moment ≢ s.head.moment
