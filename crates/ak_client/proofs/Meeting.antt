@@ -33,7 +33,7 @@ is_met c s met ready by_meta = record {
   head = sym (same_Some c.head met.head ready.head);
 }
 
-linked_parts : (c s : Collection) → c.head.schema ≡ s.head.schema → AreLinked c s → AreLinkedParts c s
+pub linked_parts : (c s : Collection) → c.head.schema ≡ s.head.schema → AreLinked c s → AreLinkedParts c s
 linked_parts c s same (inl other) = absurd (other same)
 linked_parts c s same (inr parts) = parts
 

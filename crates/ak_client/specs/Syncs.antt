@@ -1,9 +1,8 @@
 -- What a sync asks and what it leaves, over a keeper that tells the device's collection c and a wire that tells the log of a server.
 use Rattle.std.specs.List.{AllByRecursion}
-use Rattle.std.specs.Option.{option_map, option_or}
-use Rattle.std.specs.Prelude.{◌≡◌, ℕ, zero, suc, ℤ, pos, ◌+◌, ◌/◌, ◌≤◌, ◌+ℤ◌, ◌==◌, Bool, true, false, if◌then◌else◌, List, [], ◌∷◌, ◌++◌, length, Option, Some, None, IfSome, option_and_then, Result, Ok, Err, ⊤, ◌⊎◌}
+use Rattle.std.specs.Prelude.{◌≡◌, ℕ, zero, suc, ℤ, pos, ◌+◌, ◌/◌, ◌≤◌, ◌+ℤ◌, ◌==◌, Bool, true, false, if◌then◌else◌, List, [], ◌∷◌, ◌++◌, length, Option, Some, None, IfSome, Result, Ok, Err, ⊤, ◌⊎◌}
 use Rattle.ak_base.specs.declared.heads.Head.{Head}
-use Rattle.ak_client.specs.Greetings.{clock_stop, head_stop, meta_of}
+use Rattle.ak_client.specs.Greetings.{clock_stop, device_stop, meta_of}
 use Rattle.ak_client.specs.Outcomes.{is_told_by_meta, outcome_at}
 use Rattle.ak_client.specs.declared.outcomes.Outcome.{Outcome}
 use Rattle.ak_client.specs.declared.outcomes.Outcome.TheVariants as outcomes
@@ -23,11 +22,10 @@ use Rattle.ak_keep.specs.declared.keepers.KeepFault.{KeepFault}
 use Rattle.ak_keep.specs.declared.keepers.Wanted.TheVariants.{From, Unsent}
 use Rattle.ak_merge.specs.Edits.{second_of}
 use Rattle.ak_merge.specs.Exchanges.{HoldsJoin, AreExchanged}
-use Rattle.ak_merge.specs.Holdings.{row_under}
+use Rattle.ak_merge.specs.Holdings.{SameContent, content_of, row_under}
 use Rattle.ak_merge.specs.Joins.{joined_under}
 use Rattle.ak_merge.specs.Links.{AreLinked}
-use Rattle.ak_merge.specs.Soundness.{IsSound, first_fault}
-use Rattle.ak_merge.specs.declared.checks.CheckFault.{CheckFault}
+use Rattle.ak_merge.specs.Soundness.{IsSound}
 use Rattle.ak_messages.specs.declared.replies.Reply.{Reply}
 use Rattle.ak_messages.specs.declared.requests.Ask.{Ask}
 use Rattle.ak_messages.specs.declared.requests.Ask.TheVariants as asks
@@ -163,6 +161,9 @@ pub record Synced (who : Asker) (moment : ℤ) (asks : List Ask) (c : Collection
   pub early : ends_before_finish outcome ≡ true → commits_of who.session.0 (world_at who account now).commits ≡ []
   pub finished : outcome ≡ outcomes.Finished → IsSyncFinished who c base account now left
   pub fair : IsFairEnd c base outcome
+  -- if it found nothing to sync, the device has the content of the collection that was committed at its meta
+  pub unchanged : outcome ≡ outcomes.NoChanges
+      → IsCommittedIn who account old growth base × SameContent (content_of c) (content_of base)
 
 -- the same wherever the keeper tells a collection with which the sync may begin, and the wire a log
 abbrev pub Syncs : Ids → ℤ → List Ask → Keeping → Keeping → Log → Log → Outcome → Type 0
@@ -248,11 +249,6 @@ pub record IsSync (ids : Ids) (before left : Keeping) (health_before health_now 
 abbrev pub told_by : Result Reply WireEnd → Option MetaSaid
 told_by (Ok reply) = if reply.status == 200 then meta_in reply.give else None
 told_by (Err end) = None
-
--- why a sync ends by the device, once the server and the clocks let it go on: by the two heads, or else by the first fault of its own rows
-abbrev pub device_stop : MetaSaid → Holding → Option Stop
-device_stop meta h = option_and_then (λ (head : Head). option_or (head_stop meta head)
-    (option_map (λ (fault : CheckFault). stops.OwnCheck fault) (first_fault h.rows))) h.head
 
 -- how a sync ends by what its meta said and the moment that the clock gave then. The server and the clocks come first, then the two heads,
 -- then the device's own rows
