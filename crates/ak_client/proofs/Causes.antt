@@ -71,8 +71,8 @@ ok_told (Ok reply) said is = by (reply.status == 200) is
 -- ---- what the device says
 by_head : (meta : MetaSaid) (h : Holding) (head : Head) (unchanged : Bool) (stop : Stop) → Finds meta head unchanged h → head_stop meta head unchanged ≡ Some stop → device_stop meta h ≡ Some stop
 by_head meta h head unchanged stop found is =
-    ap (option_and_then (λ (own : Head). option_or (head_stop meta own (is_unchanged meta own h.rows)) (option_map (λ (fault : CheckFault). stops.OwnCheck fault) (first_fault h.rows)))) found.head
-    ∙ ap (λ (o : Option Stop). option_or o (option_map (λ (fault : CheckFault). stops.OwnCheck fault) (first_fault h.rows))) (ap (head_stop meta head) (sym found.unchanged) ∙ is)
+    ap (option_and_then (λ (own : Head). option_or (head_stop meta own (is_unchanged meta own h.rows)) (option_map (λ (fault : CheckFault). stops.OwnCheck fault) (first_fault h.rows)))) found.holds
+    ∙ ap (λ (o : Option Stop). option_or o (option_map (λ (fault : CheckFault). stops.OwnCheck fault) (first_fault h.rows))) (ap (head_stop meta head) (sym found.tells) ∙ is)
 
 by_rows : (meta : MetaSaid) (h : Holding) (head : Head) (found : Option CheckFault) → h.head ≡ Some head → head_stop meta head (is_unchanged meta head h.rows) ≡ None → first_fault h.rows ≡ found
     → device_stop meta h ≡ option_map (λ (fault : CheckFault). stops.OwnCheck fault) found
@@ -139,7 +139,7 @@ module _ (keeping : Keeping) (stop : Stop) (meta : MetaSaid) (at : ℤ) (pass : 
       found (where_so keeping (Finds meta head unchanged) (λ h. device_stop meta h ≡ Some stop) (λ h own. by_head meta h head unchanged stop own is) finds.told)
   by_device (inr (head, unchanged, finds, inr (passed, unsound))) =
       found (where_both keeping (Finds meta head unchanged) (λ h. first_fault h.rows ≡ Some unsound.0) (λ h. device_stop meta h ≡ Some stop)
-      (λ h own bad. by_rows meta h head (Some unsound.0) own.head (ap (head_stop meta head) (sym own.unchanged) ∙ passed) bad ∙ ap (λ (s : Stop). Some s) (sym unsound.1)) finds.told unsound.2)
+      (λ h own bad. by_rows meta h head (Some unsound.0) own.holds (ap (head_stop meta head) (sym own.tells) ∙ passed) bad ∙ ap (λ (s : Stop). Some s) (sym unsound.1)) finds.told unsound.2)
 
 pub unmet_because : (ids : Ids) (h0 h1 : Health) (w0 w1 : WireState) (old new : Option (List ℤ)) (keeping : Keeping) (stop : Stop)
     → (it : IsGreeting ids h0 h1 w0 w1 old new keeping (Err stop)) → (moment : ℤ) → EndsBecause it.heard.answer moment [] keeping old (outcome_at stop)

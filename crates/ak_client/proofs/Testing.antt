@@ -127,7 +127,7 @@ finds_told keeping read meta head unchanged same held known found = record {
         → IfSome told (λ (w : WithMark Holding). unchanged ≡ is_unchanged meta head w.current.rows)
         → IfSome told (λ (w : WithMark Holding). Finds meta head unchanged w.current)
     by None one other = tt
-    by (Some w) one other = record { head = one; unchanged = other }
+    by (Some w) one other = record { holds = one; tells = other }
 
 -- and passed
 pub ready_where : (keeping : Keeping) (meta : MetaSaid) (head : Head) (unchanged : Bool) → head_stop meta head unchanged ≡ None → IsWithin (pos 0) last_head_usn meta.usn
@@ -141,7 +141,7 @@ ready_where keeping meta head unchanged pass usn finds = by keeping.told finds.t
     by None held sound = tt
     by (Some w) held sound =
         let heads = heads_pass meta head unchanged pass in
-        record { head = held.head; pass = ap (head_stop meta head) (sym held.unchanged) ∙ pass; schema = heads.0; number = below_last meta.usn usn heads.1; sound = sound }
+        record { head = held.holds; pass = ap (head_stop meta head) (sym held.tells) ∙ pass; schema = heads.0; number = below_last meta.usn usn heads.1; sound = sound }
 
 -- the head that was read is that of the device
 pub heads_told : (before now : Keeping) (met : Met) → now ≡ before → WhereTold before (λ h. IsReady h met) → WhereTold now (λ h. h.head ≡ Some met.head)

@@ -96,10 +96,10 @@ module _ (who : Asker) (c s : Collection) (account : AccountState) (old now : Lo
   found = subst (λ (k : Keeping). WhereTold k (Finds meta head true)) holds finds.told
 
   head_is : c.head ≡ head
-  head_is = same_Some c.head head found.head
+  head_is = same_Some c.head head found.holds
 
   unchanged : (have_equal_heads meta head ≡ true) × (has_unsent c.rows head.tags ≡ false)
-  unchanged = both (have_equal_heads meta head) (has_unsent c.rows head.tags) (sym found.unchanged)
+  unchanged = both (have_equal_heads meta head) (has_unsent c.rows head.tags) (sym found.tells)
 
   equal : (int_eq head.moment meta.moment ≡ true) × (int_eq head.schema meta.scm ≡ true) × (int_eq head.usn meta.usn ≡ true)
   equal = three (int_eq head.moment meta.moment) (int_eq head.schema meta.scm) (int_eq head.usn meta.usn) unchanged.0

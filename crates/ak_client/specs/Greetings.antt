@@ -72,8 +72,8 @@ device_stop meta h = option_and_then (λ (head : Head). option_or (head_stop met
 -- ---- why a greeting ends
 -- what a greeting finds on a device: this head, and whether there is nothing to sync
 pub record Finds (meta : MetaSaid) (head : Head) (unchanged : Bool) (h : Holding) : Type 0 where
-  pub head : h.head ≡ Some head
-  pub unchanged : unchanged ≡ is_unchanged meta head h.rows
+  pub holds : h.head ≡ Some head
+  pub tells : unchanged ≡ is_unchanged meta head h.rows
 
 -- the same of a keeper that tells what it holds, which is well formed
 pub record FindsTold (meta : MetaSaid) (head : Head) (unchanged : Bool) (keeping : Keeping) : Type 0 where

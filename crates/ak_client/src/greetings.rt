@@ -112,11 +112,7 @@ fn are_far_apart(device: i64, server: i64) -> bool
 }
 
 /// Whether there is nothing to sync. No row is read if moments, schema moments or numbers differ.
-fn is_unchanged<K: Keeper>(
-    keeper: &mut K,
-    meta: MetaSaid,
-    head: &Head,
-) -> Result<bool, KeepFault>
+fn is_unchanged<K: Keeper>(keeper: &mut K, meta: MetaSaid, head: &Head) -> Result<bool, KeepFault>
     ensures reads { ReadsBy K.Lookup keeper.old keeper.new result (λ h unchanged. unchanged ≡ is_unchanged meta head.now h.rows) }
     ensures unread { have_equal_heads meta head.now ≡ false → keeper.new ≡ keeper.old }
     ensures known { IsRightlyKnown (K.keeping keeper.old) }
