@@ -1,10 +1,10 @@
--- What is still to be sent: it is found by the first row of a table, and one table after the other.
-use Rattle.std.specs.Cmp.{signed_Decides}
+-- What is still to be sent: it is found one table after the other.
+use Rattle.std.specs.Cmp.{signed_Decides, unsigned_Decides}
 use Rattle.std.specs.Cmp.Lexicographic.{pointwise}
 use Rattle.std.specs.List.{Contains, list_any}
 use Rattle.std.specs.Option.{option_map}
 use Rattle.std.specs.Ordering.{int_eq}
-use Rattle.std.specs.Prelude.{◌≡◌, ◌≢◌, ◌==◌, ◌+◌, ◌<◌, ◌||◌, ℕ, ℤ, pos, negsuc, Bool, true, false, not, if◌then◌else◌, List, [], ◌∷◌, length, drop, find, get_or, take, Option, Some, None, IfSome}
+use Rattle.std.specs.Prelude.{◌≡◌, ◌≢◌, ◌==◌, ◌+◌, ◌<◌, ◌||◌, ℕ, suc, ℤ, pos, negsuc, Bool, true, false, not, if◌then◌else◌, List, [], ◌∷◌, length, drop, find, get_or, Option, Some, None, IfSome}
 use Rattle.std.proofs.Common.{refl, sym, ap, ◌∙◌, arith}
 use Rattle.std.proofs.lemmas.List.{drop_more}
 use Rattle.ak_base.specs.Rows.{name_of, usn_of}
@@ -23,10 +23,8 @@ use Rattle.ak_merge.specs.Holdings.{row_under, tag_usn, AreNamed, AreChecked}
 use Rattle.ak_merge.specs.Links.{IsAllSent}
 use Rattle.ak_protocol.proofs.Commits.{not_both}
 
--- a list is empty exactly if its first item is missing
-pub first_tells : {X : Type 0} (xs : List X) → (length (take 1 xs) == 0) ≡ (length xs == 0)
-first_tells [] = refl
-first_tells (x ∷ xs) = refl
+not_empty : (n : ℕ) → (suc n == 0) ≡ false
+not_empty n = elim (suc n == 0) as (λ b. (suc n == 0) ≡ b → b ≡ false) [ true ↦ λ is. absurd (omega (arith, (unsigned_Decides (suc n) 0).0 is)) | false ↦ λ _. refl ] refl
 
 -- what holds of the item at this place holds of one of those from there on
 pub any_here : {X : Type 0} (f : X → Bool) (xs : List X) (i : ℕ) (d : X) → i < length xs → f (get_or xs i d) ≡ true → list_any f (drop i xs) ≡ true
@@ -84,7 +82,7 @@ none_of_table f none table = by table
 
 has_some : (xs : List Row) (row : Row) → Contains xs row → not (length xs == 0) ≡ true
 has_some [] row (k, within, is) = absurd (omega (arith, within))
-has_some (x ∷ xs) row has = refl
+has_some (x ∷ xs) row has = ap not (not_empty (length xs))
 
 -- a row that was not sent yet is found
 row_sent : (c : Collection) → AreNamed (row_under c) → AreChecked (row_under c) → has_unsent_row c.rows ≡ false → (name : Name) (row : Row) → row_under c name ≡ Some row → usn_of row ≢ negsuc 0

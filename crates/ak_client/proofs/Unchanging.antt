@@ -75,7 +75,7 @@ found_unchanged old new keeping meta stop (at, given, inr (pass, ends)) none = b
     by : EndsAtDevice meta keeping stop → (head : Head) × FindsTold meta head true keeping
     by (inl (fault, is)) = absurd (not_both (ap is_told_by_meta none) (ap (λ (s : Stop). is_told_by_meta (outcome_at s)) is ∙ fault_told fault))
     by (inr (head, unchanged, finds, inl is)) = (head, subst (λ (b : Bool). FindsTold meta head b keeping) (by_heads meta head unchanged stop is none) finds)
-    by (inr (head, unchanged, finds, inr (passed, fault, is, unsound))) = absurd (unsound_not (stops.OwnCheck fault) is (λ same. grind (arith, same)))
+    by (inr (head, unchanged, finds, inr (passed, unsound))) = absurd (unsound_not (stops.OwnCheck unsound.0) unsound.1 (λ same. grind (arith, same)))
 
 -- ---- equal heads
 three : (a b c : Bool) → (a && b && c) ≡ true → (a ≡ true) × (b ≡ true) × (c ≡ true)

@@ -2,7 +2,7 @@ ghost use Rattle.std.specs.Prelude.{◌≡◌, ◌≤ℤ◌, ◌<ℤ◌, ℤ, po
 ghost use Rattle.ak_base.specs.Heads.{IsHeadInRange, IsWithin};
 ghost use Rattle.ak_base.specs.Limits.{last_head_usn};
 ghost use Rattle.ak_client.specs.Endings.{IsOfGreeting};
-ghost use Rattle.ak_client.specs.Greetings.{GreetsTold, IsGreeting, IsReady, are_far_apart, clock_stop, have_equal_heads, head_stop, is_unchanged};
+ghost use Rattle.ak_client.specs.Greetings.{EndsAtDevice, GreetsTold, IsGreeting, IsReady, are_far_apart, clock_stop, have_equal_heads, head_stop, is_unchanged};
 ghost use Rattle.ak_client.specs.Outcomes.{outcome_at};
 ghost use Rattle.ak_client.specs.Syncs.{HasGiven, TakesMoments};
 ghost use Rattle.ak_exchange.specs.Stops.{is_keep, keep_stop, shows_bad_check, stop_or_go};
@@ -68,10 +68,7 @@ pub(crate) fn greet<K: Keeper, W: Wire, C: Clock>(
     let at = clock.now();
     let second = second_of(at);
     test_clocks(meta, second)?;
-    let head = head_of(keeper)?;
-    let unchanged = is_unchanged(keeper, meta, &head)?;
-    test_heads(meta, &head, unchanged)?;
-    test_rows(keeper)?;
+    let head = test_device(keeper, meta)?;
     Ok(Met { meta, head })
 }
 
@@ -109,6 +106,27 @@ fn are_far_apart(device: i64, server: i64) -> bool
     ensures { result ≡ are_far_apart device server }
 {
     server < device - MOST_APART || device + MOST_APART < server
+}
+
+/// Reads the device's head, and tests whether there is something to sync, no need to send the whole collection, and
+/// whether the device's own collection is sound.
+fn test_device<K: Keeper>(keeper: &mut K, meta: MetaSaid) -> Result<Head, Stop>
+    requires held { (K.keeping keeper.old).headed.current ≡ true }
+    requires usn { IsWithin (pos 0) last_head_usn meta.usn }
+    ensures ready { IfOk result (λ head. WhereTold (K.keeping keeper.old) (λ h. IsReady h (record { meta = meta; head = head }))) }
+    ensures number { IfOk result (λ head. meta.usn <ℤ last_head_usn) }
+    ensures head { IfOk result IsHeadInRange }
+    ensures known { IfOk result (λ head. IsRightlyKnown (K.keeping keeper.old)) }
+    ensures same { K.keeping keeper.new ≡ K.keeping keeper.old }
+    ensures ends { IfErr result (EndsAtDevice meta (K.keeping keeper.old)) }
+    ensures early { IfErr result IsOfGreeting }
+    ensures keeper { HasCauseOf stops.Keep (K.health keeper.old) (K.health keeper.new) result }
+{
+    let head = head_of(keeper)?;
+    let unchanged = is_unchanged(keeper, meta, &head)?;
+    test_heads(meta, &head, unchanged)?;
+    test_rows(keeper)?;
+    Ok(head)
 }
 
 /// Whether there is nothing to sync. No row is read if moments, schema moments or numbers differ.

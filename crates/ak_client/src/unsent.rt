@@ -41,7 +41,6 @@ fn has_unsent_row<K: Keeper>(keeper: &mut K) -> Result<bool, KeepFault>
 }
 
 /// Whether a row of this table was not sent yet.
-#[tactic(auto, using(crate::proofs::Pending::first_tells))]
 fn has_unsent_in<K: Keeper>(keeper: &mut K, table: Table) -> Result<bool, KeepFault>
     ensures reads { ReadsBy K.Lookup keeper.old keeper.new result (λ h has. has ≡ has_unsent_in h.rows table) }
 {
