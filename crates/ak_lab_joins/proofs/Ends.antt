@@ -108,14 +108,16 @@ module _ (account : AccountState) (name : List ℕ) (s t : LabState) (outcome : 
       ends.syncs.of.session quiet
       (subst Committed same_host
       (synced.committed account s.sessions s.clock (s.clock +ℤ ends.d.shift) ends.d ends.made ends.met t.server outcome room ends.syncs enough
-      (law_lines.met_server account name s t outcome linked room ends enough) (law_lines.device_met account name s t outcome linked room ends enough)))
+      (law_lines.met_server account name s t outcome linked room ends enough) (law_lines.device_met account name s t outcome linked room ends enough)
+      (law_lines.apart_met account name s t outcome linked room ends enough)))
 
   -- ---- not finished
   kept : ends_before_finish outcome ≡ true → KeepsCommitted (world_in lab_host account s.server) (world_in lab_host account t.server)
   kept early =
       let stays = subst (λ (h : List ℕ). StaysQuiet (world_in h account ends.met) (world_in h account t.server)) same_host
       (synced.early_quiet account s.sessions s.clock (s.clock +ℤ ends.d.shift) ends.d ends.made ends.met t.server outcome room ends.syncs enough
-      (law_lines.met_server account name s t outcome linked room ends enough) (law_lines.device_met account name s t outcome linked room ends enough) early) in
+      (law_lines.met_server account name s t outcome linked room ends enough) (law_lines.device_met account name s t outcome linked room ends enough)
+      (law_lines.apart_met account name s t outcome linked room ends enough) early) in
       (stays.committed ∙ quiet.committed, stays.commits ∙ quiet.commits)
 
   -- the server after any end but a finished one
@@ -144,7 +146,8 @@ module _ (account : AccountState) (name : List ℕ) (s t : LabState) (outcome : 
     device = λ d found. subst (λ (x : Device). StillHolds (s.clock +ℤ x.shift) own.c outcome x) (same_Some ends.made d (sym now_found ∙ found))
         (subst (λ (m : ℤ). StillHolds (s.clock +ℤ m) own.c outcome ends.made) (sym own_shift)
         (synced.still_holds account s.sessions s.clock (s.clock +ℤ ends.d.shift) ends.d ends.made ends.met t.server outcome room ends.syncs enough
-        (law_lines.met_server account name s t outcome linked room ends enough) (law_lines.device_met account name s t outcome linked room ends enough) other));
+        (law_lines.met_server account name s t outcome linked room ends enough) (law_lines.device_met account name s t outcome linked room ends enough)
+        (law_lines.apart_met account name s t outcome linked room ends enough) other));
     server = still_commits other outcome refl;
     linked = lab_now;
     keeps = keeps_others;
@@ -154,7 +157,8 @@ module _ (account : AccountState) (name : List ℕ) (s t : LabState) (outcome : 
   pub finishes : outcome ≡ outcomes.Finished → Finishes account name s t
   finishes is =
       let it = synced.finished_now account s.sessions s.clock (s.clock +ℤ ends.d.shift) ends.d ends.made ends.met t.server outcome room ends.syncs enough
-      (law_lines.met_server account name s t outcome linked room ends enough) (law_lines.device_met account name s t outcome linked room ends enough) is in
+      (law_lines.met_server account name s t outcome linked room ends enough) (law_lines.device_met account name s t outcome linked room ends enough)
+      (law_lines.apart_met account name s t outcome linked room ends enough) is in
       let exchanged : AreExchanged own.c (base_of account s) it.device (base_of account t) =
       subst (λ (h : List ℕ). AreExchanged own.c (base_of account s) it.device (world_in h account t.server).state.committed) same_host
       (subst (λ (base : Collection). AreExchanged own.c base it.device (world_in host account t.server).state.committed)

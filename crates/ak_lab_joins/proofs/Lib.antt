@@ -1,3 +1,4 @@
+mod Apart
 mod Devices
 mod Edits
 mod Ends

@@ -16,17 +16,18 @@ use Rattle.ak_faults.specs.Causes.{one_more}
 use Rattle.ak_io.specs.declared.lines.Line.{Line}
 use Rattle.ak_keep.specs.Collections.{Collection}
 use Rattle.ak_keep.specs.Keepers.{Keeping, WhereHeld}
+use Rattle.ak_lab_joins.proofs.Apart.{apart_by_other}
 use Rattle.ak_lab_joins.proofs.Devices.{changed_or_old, new_or_old}
 use Rattle.ak_lab_joins.proofs.Edits.{finished_so, reviews_are_admitted, stepped_so}
 use Rattle.ak_lab_joins.proofs.Servers.{committed_is, opened_server, viewed_grows, viewed_server, views_stay_quiet}
 use Rattle.ak_lab_joins.proofs.Synced as synced
-use Rattle.ak_lab_joins.proofs.Synced.{device_linked, linked_device}
+use Rattle.ak_lab_joins.proofs.Synced.{device_linked, held_once, linked_device}
 use Rattle.ak_lab.specs.LabDesks.{EndsDo, EndsReview, desk_of, turn_of}
 use Rattle.ak_lab_joins.specs.LabJoins.{HasSession, IsLinkedDevice, IsLinkedLab, IsLinkedServer, world_in}
 use Rattle.ak_lab.specs.LabRuns.{AllGo, IsLabOpening}
 use Rattle.ak_lab.specs.LabStates.{LabState, at_line, lab_host, opened_lab, with_changed}
 use Rattle.ak_lab.specs.LabSteps.{Accepts, AddsDevice, Shifts, SideHolds, plan_of}
-use Rattle.ak_lab.specs.LabSyncs.{EndsSync}
+use Rattle.ak_lab.specs.LabSyncs.{EndsSync, TestsTie}
 use Rattle.ak_lab.specs.LineOutcomes.{Accepted, EndsAs}
 use Rattle.ak_lab_devices.specs.Devices.{as_downloaded, device_of, keeping_of, new_device}
 use Rattle.ak_lab_devices.specs.declared.devices.Device.{Device}
@@ -40,7 +41,10 @@ use Rattle.ak_loops.specs.Entries.{LoggedState, account_opened}
 use Rattle.ak_merge.proofs.EditBuildingLaws.{unedited_is_admitted}
 use Rattle.ak_merge.proofs.FirstLinks.{copies_are_linked}
 use Rattle.ak_merge.specs.Commits.{IsCommitted}
+use Rattle.ak_merge.specs.Conflicts.{first_conflict}
 use Rattle.ak_merge.specs.EditBuilding.{unedited}
+use Rattle.ak_merge.specs.Holdings.{row_under}
+use Rattle.ak_merge.specs.Joins.{AreApart}
 use Rattle.ak_merge.specs.Undoing.{StepFits}
 use Rattle.ak_openings.specs.declared.whole_collections.Opening.{Opening}
 use Rattle.ak_outcomes.specs.OutcomeTexts.{outcome_text}
@@ -168,6 +172,15 @@ looked account sides.Server s t c linked (committed, viewed, left) =
 looked account (sides.Device name) s t c linked holds = subst (IsLinkedLab account) (sym holds.0) linked
 
 -- ---- a sync
+-- the device of a sync and what the server committed are apart
+pub tested_apart : (account : AccountState) (s : LabState) (d : Device) → IsLinkedServer lab_host account s.sessions s.server → (it : IsLinkedDevice (base_of account s) d)
+    → TestsTie d s.server None → AreApart (row_under it.c) (row_under (base_of account s))
+tested_apart account s d server it (c, base, holds, committed, none) =
+    let own : c ≡ it.c = held_once d it.c c it.holds holds in
+    let theirs : base ≡ base_of account s = same_Some base (base_of account s) (sym committed ∙ committed_is lab_host account s.sessions s.server server) in
+    apart_by_other it.c.rows (base_of account s).rows it.named server.lawful.committed.named server.lawful.committed.checked
+    (sym (none ∙ ap (λ (x : Collection). first_conflict x.rows base.rows) own ∙ ap (λ (y : Collection). first_conflict it.c.rows y.rows) theirs))
+
 -- a sync that is told has an outcome with a text
 pub told_enough : (outcome : Outcome) (text : List ℕ) → outcome_text outcome ≡ Some text → outcome ≢ client_outcomes.Memory
 told_enough outcome text told is = none-some text (sym (ap outcome_text is) ∙ told)
@@ -206,20 +219,25 @@ module _ (account : AccountState) (name : List ℕ) (s t : LabState) (outcome : 
     schema = subst (λ (base : Collection). base.head.schema ≤ℤ own.c.head.schema) (sym met_base) own.schema;
   }
 
+  pub apart_met : AreApart (row_under own.c) (row_under (world_in host account ends.met).state.committed)
+  apart_met =
+      subst (λ (base : Collection). AreApart (row_under own.c) (row_under base)) (sym met_base)
+      (tested_apart account s ends.d linked.server own ends.apart)
+
   server_left : IsLinkedServer lab_host account (one_more s.sessions) t.server
   server_left =
       subst (λ (h : List ℕ). IsLinkedServer h account (one_more s.sessions) t.server) (sym same_host)
-      (synced.server_now account s.sessions s.clock (s.clock +ℤ ends.d.shift) ends.d ends.made ends.met t.server outcome room ends.syncs enough met_server device_met)
+      (synced.server_now account s.sessions s.clock (s.clock +ℤ ends.d.shift) ends.d ends.made ends.met t.server outcome room ends.syncs enough met_server device_met apart_met)
 
   made_left : IsLinkedDevice (world_in lab_host account t.server).state.committed ends.made
   made_left =
       subst (λ (h : List ℕ). IsLinkedDevice (world_in h account t.server).state.committed ends.made) (sym same_host)
-      (synced.device_now account s.sessions s.clock (s.clock +ℤ ends.d.shift) ends.d ends.made ends.met t.server outcome room ends.syncs enough met_server device_met)
+      (synced.device_now account s.sessions s.clock (s.clock +ℤ ends.d.shift) ends.d ends.made ends.met t.server outcome room ends.syncs enough met_server device_met apart_met)
 
   other_left : (e : Device) → IsLinkedDevice (base_of account s) e → IsLinkedDevice (world_in lab_host account t.server).state.committed e
   other_left e it =
       subst (λ (h : List ℕ). IsLinkedDevice (world_in h account t.server).state.committed e) (sym same_host)
-      (synced.others_now account s.sessions s.clock (s.clock +ℤ ends.d.shift) ends.d ends.made ends.met t.server outcome room ends.syncs enough met_server device_met
+      (synced.others_now account s.sessions s.clock (s.clock +ℤ ends.d.shift) ends.d ends.made ends.met t.server outcome room ends.syncs enough met_server device_met apart_met
       e (met_device e it))
 
   pub sync_linked : IsLinkedLab account t

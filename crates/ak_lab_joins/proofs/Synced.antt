@@ -37,6 +37,7 @@ use Rattle.ak_merge.specs.Edits.{Reversal}
 use Rattle.ak_merge.specs.Exchanges.{AreExchanged}
 use Rattle.ak_keep.specs.Graves.{RowsByName}
 use Rattle.ak_merge.specs.Holdings.{AreNamed, IsSingle, row_under}
+use Rattle.ak_merge.specs.Joins.{AreApart}
 use Rattle.ak_merge.specs.Links.{AreLinked}
 use Rattle.ak_merge.specs.Undoing.{StepFits, StepsSuit}
 use Rattle.ak_protocol.proofs.ContentLaws.{some_of_all}
@@ -123,7 +124,8 @@ no_more a b low = omega (arith, ints, low)
 module _ (account : AccountState) (sessions : ℕ) (at device_at : ℤ) (d made : Device) (met new : LoggedState) (outcome : Outcome) (room : sessions < 18_446_744_073_709_551_615)
     (sync : IsLabSync (one_more sessions) at device_at d made met new outcome) (enough : outcome ≢ outcomes.Memory)
     (server : IsLinkedServer sync.ids.host.digits account sessions met)
-    (linked : IsLinkedDevice (world_in sync.ids.host.digits account met).state.committed d) where
+    (linked : IsLinkedDevice (world_in sync.ids.host.digits account met).state.committed d)
+    (apart : AreApart (row_under linked.c) (row_under (world_in sync.ids.host.digits account met).state.committed)) where
   abbrev pub host : List ℕ
   host = sync.ids.host.digits
 
@@ -159,22 +161,22 @@ module _ (account : AccountState) (sessions : ℕ) (at device_at : ℤ) (d made 
   pub committed : CommitsNoneOrJoin sync.ids.session.0 c was is_now
   committed =
       syncs.committed sync.ids account (log_in met) (log_in new) (keeping_of d) (keeping_of made) (health_over no_calls []) sync.health (state_over met no_calls at true) sync.wire
-      (Some (device_at ∷ [])) outcome c refl refl sync.log known sync.ended.sync ended sync.unfailed enough may
+      (Some (device_at ∷ [])) outcome c refl refl sync.log known sync.ended.sync ended sync.unfailed enough may apart
 
   schema_stays : is_now.state.committed.head.schema ≡ was.state.committed.head.schema
   schema_stays =
       syncs.schema_stays sync.ids account (log_in met) (log_in new) (keeping_of d) (keeping_of made) (health_over no_calls []) sync.health (state_over met no_calls at true) sync.wire
-      (Some (device_at ∷ [])) outcome c refl refl sync.log known sync.ended.sync ended sync.unfailed enough may server.number
+      (Some (device_at ∷ [])) outcome c refl refl sync.log known sync.ended.sync ended sync.unfailed enough may apart server.number
 
   linked_now : (e : Collection) → AreLinked e was.state.committed → AreLinked e is_now.state.committed
   linked_now e is =
       syncs.linked_now sync.ids account (log_in met) (log_in new) (keeping_of d) (keeping_of made) (health_over no_calls []) sync.health (state_over met no_calls at true) sync.wire
-      (Some (device_at ∷ [])) outcome c refl refl sync.log known sync.ended.sync ended sync.unfailed enough may server.number e is
+      (Some (device_at ∷ [])) outcome c refl refl sync.log known sync.ended.sync ended sync.unfailed enough may apart server.number e is
 
   fits_now : (e : Collection) (step : Reversal) → StepFits e step was.state.committed → StepFits e step is_now.state.committed
   fits_now e step is =
       syncs.fits_now sync.ids account (log_in met) (log_in new) (keeping_of d) (keeping_of made) (health_over no_calls []) sync.health (state_over met no_calls at true) sync.wire
-      (Some (device_at ∷ [])) outcome c refl refl sync.log known sync.ended.sync ended sync.unfailed enough may server.number e step is
+      (Some (device_at ∷ [])) outcome c refl refl sync.log known sync.ended.sync ended sync.unfailed enough may apart server.number e step is
 
   abbrev own_growth : syncs.GrowsOwn sync.ids.session.0 (log_in met) (log_in new)
   own_growth =
@@ -202,10 +204,10 @@ module _ (account : AccountState) (sessions : ℕ) (at device_at : ℤ) (d made 
     unused = unused_now;
     lawful =
         syncs.lawful_now sync.ids account (log_in met) (log_in new) (keeping_of d) (keeping_of made) (health_over no_calls []) sync.health (state_over met no_calls at true) sync.wire
-        (Some (device_at ∷ [])) outcome c refl refl sync.log known sync.ended.sync ended sync.unfailed enough may server.number;
+        (Some (device_at ∷ [])) outcome c refl refl sync.log known sync.ended.sync ended sync.unfailed enough may apart server.number;
     number =
         syncs.number_stays sync.ids account (log_in met) (log_in new) (keeping_of d) (keeping_of made) (health_over no_calls []) sync.health (state_over met no_calls at true) sync.wire
-        (Some (device_at ∷ [])) outcome c refl refl sync.log known sync.ended.sync ended sync.unfailed enough may server.number;
+        (Some (device_at ∷ [])) outcome c refl refl sync.log known sync.ended.sync ended sync.unfailed enough may apart server.number;
     schema = subst (λ (schema : ℤ). schema <ℤ last_moment) (sym schema_stays) server.schema;
   }
 
@@ -278,7 +280,7 @@ module _ (account : AccountState) (sessions : ℕ) (at device_at : ℤ) (d made 
   pub finished_now : outcome ≡ outcomes.Finished → FinishedSo
   finished_now is =
       let it = syncs.finished sync.ids account (log_in met) (log_in new) (keeping_of d) (keeping_of made) (health_over no_calls []) sync.health (state_over met no_calls at true) sync.wire
-      (Some (device_at ∷ [])) outcome c refl refl sync.log known sync.ended.sync ended sync.unfailed enough may is in
+      (Some (device_at ∷ [])) outcome c refl refl sync.log known sync.ended.sync ended sync.unfailed enough may apart is in
       let device : Collection = it.0.device in
       let kept : made.collection ≡ kept_of device = kept_is made device it.0.holds in
       record {

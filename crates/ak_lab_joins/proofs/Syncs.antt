@@ -22,6 +22,8 @@ use Rattle.ak_lab_joins.proofs.Metas.{asks_nothing, schema_is}
 use Rattle.ak_lab_joins.proofs.Worlds.{commit_as, GrowsSo, IsOfSession, IsQuiet, StaysQuiet, grows_so, quiet_after, requests_of_session, world_grown}
 use Rattle.ak_merge.specs.Edits.{Reversal}
 use Rattle.ak_merge.specs.Exchanges.{AreExchanged, HoldsJoin}
+use Rattle.ak_merge.specs.Holdings.{row_under}
+use Rattle.ak_merge.specs.Joins.{AreApart}
 use Rattle.ak_merge.specs.Links.{AreLinked}
 use Rattle.ak_merge.specs.Undoing.{StepFits}
 use Rattle.ak_protocol.proofs.ContentLaws.{commits_are_made, fits_stay, old_schemas_stay_old, some_of_all}
@@ -134,110 +136,113 @@ module _ (ids : Ids) (account : AccountState) (old now : Log) (before left : Kee
       record { committed = commits.stays none; commits = commits.commits ∙ ap (λ (l : List Commit). l ++ was.commits) none }
 
   -- what is committed now is what was, or the join
-  once_now : CommitsAtMostOnce ids.session.0 c synced.base is_now.commits
-  once_now =
-      subst (λ (log : Log). CommitsAtMostOnce ids.session.0 c synced.base (world_at who account log).commits)
-      (ap (λ (events : List Event). record now { events = events }) (append-nil now.events))
-      (synced.once [] tt tt)
+  module _ (apart : AreApart (row_under c) (row_under was.state.committed)) where
+    once_now : CommitsAtMostOnce ids.session.0 c synced.base is_now.commits
+    once_now =
+        subst (λ (log : Log). CommitsAtMostOnce ids.session.0 c synced.base (world_at who account log).commits)
+        (ap (λ (events : List Event). record now { events = events }) (append-nil now.events))
+        (synced.once [] tt tt)
 
-  committed_by : CommitsAtMostOnce ids.session.0 c synced.base is_now.commits → CommitsNoneOrJoin ids.session.0 c was is_now
-  committed_by (inl none) =
-      inl (record { committed = commits.stays none; commits = commits.commits ∙ ap (λ (l : List Commit). l ++ was.commits) none })
-  committed_by (inr joined) =
-      let one = commits.one (commit_as ids.session.0 synced.base joined.after) joined.only in
-      let joins : HoldsJoin c was.state.committed joined.after =
-      subst (λ (s : Collection). HoldsJoin c s joined.after) one.0
-      joined.joins in
-      inr (
-        commits.commits ∙ ap (λ (l : List Commit). l ++ was.commits) joined.only
-            ∙ ap (λ (s : Collection). commit_as ids.session.0 s joined.after ∷ was.commits) one.0
-            ∙ ap (λ (t : Collection). commit_as ids.session.0 was.state.committed t ∷ was.commits) one.1,
-        subst (λ (t : Collection). HoldsJoin c was.state.committed t) one.1 joins,
-      )
+    committed_by : CommitsAtMostOnce ids.session.0 c synced.base is_now.commits → CommitsNoneOrJoin ids.session.0 c was is_now
+    committed_by (inl none) =
+        inl (record { committed = commits.stays none; commits = commits.commits ∙ ap (λ (l : List Commit). l ++ was.commits) none })
+    committed_by (inr joined) =
+        let one = commits.one (commit_as ids.session.0 synced.base joined.after) joined.only in
+        let joins : HoldsJoin c was.state.committed joined.after =
+        subst (λ (s : Collection). HoldsJoin c s joined.after) one.0
+        (joined.joins (subst (λ (s : Collection). AreApart (row_under c) (row_under s)) (sym one.0) apart)) in
+        inr (
+          commits.commits ∙ ap (λ (l : List Commit). l ++ was.commits) joined.only
+              ∙ ap (λ (s : Collection). commit_as ids.session.0 s joined.after ∷ was.commits) one.0
+              ∙ ap (λ (t : Collection). commit_as ids.session.0 was.state.committed t ∷ was.commits) one.1,
+          subst (λ (t : Collection). HoldsJoin c was.state.committed t) one.1 joins,
+        )
 
-  pub committed : CommitsNoneOrJoin ids.session.0 c was is_now
-  committed = committed_by once_now
+    pub committed : CommitsNoneOrJoin ids.session.0 c was is_now
+    committed = committed_by once_now
 
-  -- ---- the schema moment stays: a finish leaves it, and an upload would set the number back to 1
-  module _ (number : pos 0 <ℤ was.state.committed.head.usn) where
-    grown : is_now ≡ world_after was (events_of who.host.digits synced.growth)
-    grown = ap (world_at who account) synced.grown ∙ world_grown who.host.digits account old synced.growth
+    -- ---- the schema moment stays: a finish leaves it, and an upload would set the number back to 1
+    module _ (number : pos 0 <ℤ was.state.committed.head.usn) where
+      grown : is_now ≡ world_after was (events_of who.host.digits synced.growth)
+      grown = ap (world_at who account) synced.grown ∙ world_grown who.host.digits account old synced.growth
 
-    made : EachNewer IsMade was is_now
-    made = subst (EachNewer IsMade was) (sym grown)
-        (commits_are_made was (events_of who.host.digits synced.growth) (some_of_all IsTimely who.host.digits synced.growth synced.timely) may.lawful)
+      made : EachNewer IsMade was is_now
+      made = subst (EachNewer IsMade was) (sym grown)
+          (commits_are_made was (events_of who.host.digits synced.growth) (some_of_all IsTimely who.host.digits synced.growth synced.timely) may.lawful)
 
-    leaves : HoldsJoin c was.state.committed is_now.state.committed
-        → IsMade (commit_as ids.session.0 was.state.committed is_now.state.committed)
-        → is_now.state.committed.head.schema ≡ was.state.committed.head.schema
-    leaves joins (inl (came, finish)) = finish.commits.schema
-    leaves joins (inr (came, upload)) =
-        absurd (not_zero was.state.committed.head.usn (sym upload.uploads.usn ∙ joins.usn) number)
+      leaves : HoldsJoin c was.state.committed is_now.state.committed
+          → IsMade (commit_as ids.session.0 was.state.committed is_now.state.committed)
+          → is_now.state.committed.head.schema ≡ was.state.committed.head.schema
+      leaves joins (inl (came, finish)) = finish.commits.schema
+      leaves joins (inr (came, upload)) =
+          absurd (not_zero was.state.committed.head.usn (sym upload.uploads.usn ∙ joins.usn) number)
 
-    schema_by : CommitsNoneOrJoin ids.session.0 c was is_now → is_now.state.committed.head.schema ≡ was.state.committed.head.schema
-    schema_by (inl quiet) = ap (λ (s : Collection). s.head.schema) quiet.committed
-    schema_by (inr (one, joins)) =
-        leaves joins (made (commit_as ids.session.0 was.state.committed is_now.state.committed ∷ []) one).0
+      schema_by : CommitsNoneOrJoin ids.session.0 c was is_now → is_now.state.committed.head.schema ≡ was.state.committed.head.schema
+      schema_by (inl quiet) = ap (λ (s : Collection). s.head.schema) quiet.committed
+      schema_by (inr (one, joins)) =
+          leaves joins (made (commit_as ids.session.0 was.state.committed is_now.state.committed ∷ []) one).0
 
-    pub schema_stays : is_now.state.committed.head.schema ≡ was.state.committed.head.schema
-    schema_stays = schema_by committed
+      pub schema_stays : is_now.state.committed.head.schema ≡ was.state.committed.head.schema
+      schema_stays = schema_by committed
 
-    number_by : CommitsNoneOrJoin ids.session.0 c was is_now → pos 0 <ℤ is_now.state.committed.head.usn
-    number_by (inl quiet) = subst (λ (s : Collection). pos 0 <ℤ s.head.usn) (sym quiet.committed) number
-    number_by (inr (one, joins)) = up was.state.committed.head.usn is_now.state.committed.head.usn number joins.usn
-      where
-        up : (a b : ℤ) → pos 0 <ℤ a → b ≡ a +ℤ pos 1 → pos 0 <ℤ b
-        up a b low is = omega (arith, ints, low, is)
+      number_by : CommitsNoneOrJoin ids.session.0 c was is_now → pos 0 <ℤ is_now.state.committed.head.usn
+      number_by (inl quiet) = subst (λ (s : Collection). pos 0 <ℤ s.head.usn) (sym quiet.committed) number
+      number_by (inr (one, joins)) = up was.state.committed.head.usn is_now.state.committed.head.usn number joins.usn
+        where
+          up : (a b : ℤ) → pos 0 <ℤ a → b ≡ a +ℤ pos 1 → pos 0 <ℤ b
+          up a b low is = omega (arith, ints, low, is)
 
-    pub number_stays : pos 0 <ℤ is_now.state.committed.head.usn
-    number_stays = number_by committed
+      pub number_stays : pos 0 <ℤ is_now.state.committed.head.usn
+      number_stays = number_by committed
 
-    each_by : CommitsNoneOrJoin ids.session.0 c was is_now → EachNewer LeavesSchema was is_now
-    each_by (inl quiet) newer is = none_newer quiet LeavesSchema newer is
-    each_by (inr (one, joins)) newer is =
-        subst (AllByRecursion LeavesSchema)
-        (append_cancel_right (commit_as ids.session.0 was.state.committed is_now.state.committed ∷ []) newer was.commits (sym one ∙ is))
-        (schema_stays, tt)
+      each_by : CommitsNoneOrJoin ids.session.0 c was is_now → EachNewer LeavesSchema was is_now
+      each_by (inl quiet) newer is = none_newer quiet LeavesSchema newer is
+      each_by (inr (one, joins)) newer is =
+          subst (AllByRecursion LeavesSchema)
+          (append_cancel_right (commit_as ids.session.0 was.state.committed is_now.state.committed ∷ []) newer was.commits (sym one ∙ is))
+          (schema_stays, tt)
 
-    each_fresh : (e : Collection) → EachNewer (HasFreshSchema e) was is_now
-    each_fresh e newer is = all_leave newer e (each_by committed newer is)
+      each_fresh : (e : Collection) → EachNewer (HasFreshSchema e) was is_now
+      each_fresh e newer is = all_leave newer e (each_by committed newer is)
 
-    -- ---- whoever was linked is linked
-    pub lawful_now : IsLawfulAccount is_now.state
-    lawful_now =
-        subst (λ (log : Log). IsLawfulAccount (world_at who account log).state) (sym synced.grown)
-        (lawful_grown who account old synced.growth synced.timely may.lawful)
+      -- ---- whoever was linked is linked
+      pub lawful_now : IsLawfulAccount is_now.state
+      lawful_now =
+          subst (λ (log : Log). IsLawfulAccount (world_at who account log).state) (sym synced.grown)
+          (lawful_grown who account old synced.growth synced.timely may.lawful)
 
-    pub linked_now : (e : Collection) → AreLinked e was.state.committed → AreLinked e is_now.state.committed
-    linked_now e linked =
-        subst (λ (log : Log). AreLinked e (world_at who account log).state.committed) (sym synced.grown)
-        (linked_grown who account old synced.growth synced.timely may.lawful e
-        (subst (λ (log : Log). EachNewer (HasFreshSchema e) was (world_at who account log)) synced.grown (each_fresh e)) linked)
+      pub linked_now : (e : Collection) → AreLinked e was.state.committed → AreLinked e is_now.state.committed
+      linked_now e linked =
+          subst (λ (log : Log). AreLinked e (world_at who account log).state.committed) (sym synced.grown)
+          (linked_grown who account old synced.growth synced.timely may.lawful e
+          (subst (λ (log : Log). EachNewer (HasFreshSchema e) was (world_at who account log)) synced.grown (each_fresh e)) linked)
 
-    pub fits_now : (e : Collection) (step : Reversal) → StepFits e step was.state.committed → StepFits e step is_now.state.committed
-    fits_now e step fits =
-        subst (λ (w : World). StepFits e step w.state.committed) (sym grown)
-        (fits_stay was (events_of who.host.digits synced.growth) e step
-        (subst (EachNewer (HasFreshSchema e) was) grown (each_fresh e)) fits)
+      pub fits_now : (e : Collection) (step : Reversal) → StepFits e step was.state.committed → StepFits e step is_now.state.committed
+      fits_now e step fits =
+          subst (λ (w : World). StepFits e step w.state.committed) (sym grown)
+          (fits_stay was (events_of who.host.digits synced.growth) e step
+          (subst (EachNewer (HasFreshSchema e) was) grown (each_fresh e)) fits)
 
-  -- ---- a sync that finished
-  pub finished : outcome ≡ outcomes.Finished
-      → (it : IsSyncFinished who c synced.base account now left)
-      × AreExchanged c was.state.committed it.device is_now.state.committed
-      × (it.device.head.moment ≡ is_now.state.committed.head.moment)
-      × (is_now.commits ≡ commit_as ids.session.0 was.state.committed is_now.state.committed ∷ was.commits)
-      × AreLinked it.device is_now.state.committed
-      × (it.device.head.usn ≡ was.state.committed.head.usn +ℤ pos 1)
-  finished is =
-      let it = synced.finished is in
-      let one = commits.one (commit_as ids.session.0 synced.base it.after) it.only in (
-        it,
-        subst (λ (s : Collection). AreExchanged c s it.device is_now.state.committed) one.0
-            (subst (λ (t : Collection). AreExchanged c synced.base it.device t) one.1 it.exchanged),
-        it.moment ∙ ap (λ (t : Collection). t.head.moment) one.1,
-        commits.commits ∙ ap (λ (l : List Commit). l ++ was.commits) it.only
-            ∙ ap (λ (s : Collection). commit_as ids.session.0 s it.after ∷ was.commits) one.0
-            ∙ ap (λ (t : Collection). commit_as ids.session.0 was.state.committed t ∷ was.commits) one.1,
-        it.linked,
-        it.usn ∙ ap (λ (s : Collection). s.head.usn +ℤ pos 1) one.0,
-      )
+    -- ---- a sync that finished
+    pub finished : outcome ≡ outcomes.Finished
+        → (it : IsSyncFinished who c synced.base account now left)
+        × AreExchanged c was.state.committed it.device is_now.state.committed
+        × (it.device.head.moment ≡ is_now.state.committed.head.moment)
+        × (is_now.commits ≡ commit_as ids.session.0 was.state.committed is_now.state.committed ∷ was.commits)
+        × AreLinked it.device is_now.state.committed
+        × (it.device.head.usn ≡ was.state.committed.head.usn +ℤ pos 1)
+    finished is =
+        let it = synced.finished is in
+        let one = commits.one (commit_as ids.session.0 synced.base it.after) it.only in
+        let apart_at : AreApart (row_under c) (row_under synced.base) =
+        subst (λ (s : Collection). AreApart (row_under c) (row_under s)) (sym one.0) apart in (
+          it,
+          subst (λ (s : Collection). AreExchanged c s it.device is_now.state.committed) one.0
+              (subst (λ (t : Collection). AreExchanged c synced.base it.device t) one.1 (it.exchanged apart_at)),
+          it.moment ∙ ap (λ (t : Collection). t.head.moment) one.1,
+          commits.commits ∙ ap (λ (l : List Commit). l ++ was.commits) it.only
+              ∙ ap (λ (s : Collection). commit_as ids.session.0 s it.after ∷ was.commits) one.0
+              ∙ ap (λ (t : Collection). commit_as ids.session.0 was.state.committed t ∷ was.commits) one.1,
+          it.linked apart_at,
+          it.usn ∙ ap (λ (s : Collection). s.head.usn +ℤ pos 1) one.0,
+        )
