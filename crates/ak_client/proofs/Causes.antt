@@ -5,9 +5,9 @@ use Rattle.std.proofs.Common.{refl, sym, ap, subst, ◌∙◌, inl, inr, arith}
 use Rattle.std.proofs.lemmas.Option.{none-some, same_Some}
 use Rattle.ak_base.specs.declared.heads.Head.{Head}
 use Rattle.ak_client.proofs.Clocks.{fault_told, unanswered_told}
-use Rattle.ak_client.specs.Greetings.{EndsAtDevice, EndsGreeting, IsGreeting, IsReady, clock_stop, head_stop, meta_of}
+use Rattle.ak_client.specs.Greetings.{EndsAtDevice, EndsGreeting, Finds, IsGreeting, IsReady, clock_stop, device_stop, head_stop, is_unchanged, meta_of}
 use Rattle.ak_client.specs.Outcomes.{is_told_by_meta, outcome_at}
-use Rattle.ak_client.specs.Syncs.{EndsBecause, EndsByMeta, device_stop, told_by}
+use Rattle.ak_client.specs.Syncs.{EndsBecause, EndsByMeta, told_by}
 use Rattle.ak_client.specs.declared.outcomes.Outcome.{Outcome}
 use Rattle.ak_exchange.specs.Asked.{TriedAsk}
 use Rattle.ak_exchange.specs.Stops.{keep_stop, wire_stop}
@@ -69,15 +69,15 @@ ok_told (Ok reply) said is = by (reply.status == 200) is
     by false is = absurd (err-ok (unanswered.Refused reply.status reply.word reply.seen) said is)
 
 -- ---- what the device says
-by_head : (meta : MetaSaid) (h : Holding) (head : Head) (stop : Stop) → h.head ≡ Some head → head_stop meta head ≡ Some stop → device_stop meta h ≡ Some stop
-by_head meta h head stop held is =
-    ap (option_and_then (λ (own : Head). option_or (head_stop meta own) (option_map (λ (fault : CheckFault). stops.OwnCheck fault) (first_fault h.rows)))) held
-    ∙ ap (λ (o : Option Stop). option_or o (option_map (λ (fault : CheckFault). stops.OwnCheck fault) (first_fault h.rows))) is
+by_head : (meta : MetaSaid) (h : Holding) (head : Head) (unchanged : Bool) (stop : Stop) → Finds meta head unchanged h → head_stop meta head unchanged ≡ Some stop → device_stop meta h ≡ Some stop
+by_head meta h head unchanged stop found is =
+    ap (option_and_then (λ (own : Head). option_or (head_stop meta own (is_unchanged meta own h.rows)) (option_map (λ (fault : CheckFault). stops.OwnCheck fault) (first_fault h.rows)))) found.holds
+    ∙ ap (λ (o : Option Stop). option_or o (option_map (λ (fault : CheckFault). stops.OwnCheck fault) (first_fault h.rows))) (ap (head_stop meta head) (sym found.tells) ∙ is)
 
-by_rows : (meta : MetaSaid) (h : Holding) (head : Head) (found : Option CheckFault) → h.head ≡ Some head → head_stop meta head ≡ None → first_fault h.rows ≡ found
+by_rows : (meta : MetaSaid) (h : Holding) (head : Head) (found : Option CheckFault) → h.head ≡ Some head → head_stop meta head (is_unchanged meta head h.rows) ≡ None → first_fault h.rows ≡ found
     → device_stop meta h ≡ option_map (λ (fault : CheckFault). stops.OwnCheck fault) found
 by_rows meta h head found held pass is =
-    ap (option_and_then (λ (own : Head). option_or (head_stop meta own) (option_map (λ (fault : CheckFault). stops.OwnCheck fault) (first_fault h.rows)))) held
+    ap (option_and_then (λ (own : Head). option_or (head_stop meta own (is_unchanged meta own h.rows)) (option_map (λ (fault : CheckFault). stops.OwnCheck fault) (first_fault h.rows)))) held
     ∙ ap (λ (o : Option Stop). option_or o (option_map (λ (fault : CheckFault). stops.OwnCheck fault) (first_fault h.rows))) pass
     ∙ ap (option_map (λ (fault : CheckFault). stops.OwnCheck fault)) is
 
@@ -135,11 +135,11 @@ module _ (keeping : Keeping) (stop : Stop) (meta : MetaSaid) (at : ℤ) (pass : 
     by_device = λ passed. where_all keeping ByDevice (λ h other found. inr (fault, ap outcome_at is));
     only = λ told. absurd (not_both (sym (ap (λ (s : Stop). is_told_by_meta (outcome_at s)) is) ∙ told) (fault_told fault));
   }
-  by_device (inr (head, held, inl is)) =
-      found (where_so keeping (λ h. h.head ≡ Some head) (λ h. device_stop meta h ≡ Some stop) (λ h own. by_head meta h head stop own is) held)
-  by_device (inr (head, held, inr (passed, unsound))) =
-      found (where_both keeping (λ h. h.head ≡ Some head) (λ h. first_fault h.rows ≡ Some unsound.0) (λ h. device_stop meta h ≡ Some stop)
-      (λ h own bad. by_rows meta h head (Some unsound.0) own passed bad ∙ ap (λ (s : Stop). Some s) (sym unsound.1)) held unsound.2)
+  by_device (inr (head, unchanged, finds, inl is)) =
+      found (where_so keeping (Finds meta head unchanged) (λ h. device_stop meta h ≡ Some stop) (λ h own. by_head meta h head unchanged stop own is) finds.told)
+  by_device (inr (head, unchanged, finds, inr (passed, unsound))) =
+      found (where_both keeping (Finds meta head unchanged) (λ h. first_fault h.rows ≡ Some unsound.0) (λ h. device_stop meta h ≡ Some stop)
+      (λ h own bad. by_rows meta h head (Some unsound.0) own.holds (ap (head_stop meta head) (sym own.tells) ∙ passed) bad ∙ ap (λ (s : Stop). Some s) (sym unsound.1)) finds.told unsound.2)
 
 pub unmet_because : (ids : Ids) (h0 h1 : Health) (w0 w1 : WireState) (old new : Option (List ℤ)) (keeping : Keeping) (stop : Stop)
     → (it : IsGreeting ids h0 h1 w0 w1 old new keeping (Err stop)) → (moment : ℤ) → EndsBecause it.heard.answer moment [] keeping old (outcome_at stop)

@@ -8,8 +8,6 @@ use Rattle.ak_exchange.proofs.Tried.{requests_append}
 use Rattle.ak_keep.specs.Collections.{Collection}
 use Rattle.ak_merge.proofs.ExchangeLaws.{server_half_joins}
 use Rattle.ak_merge.specs.Exchanges.{HoldsJoin}
-use Rattle.ak_merge.specs.Holdings.{row_under}
-use Rattle.ak_merge.specs.Joins.{AreApart}
 use Rattle.ak_messages.specs.declared.requests.Ask.{Ask}
 use Rattle.ak_messages.specs.declared.requests.Request.{Request}
 use Rattle.ak_protocol.proofs.Commits.{not_both}
@@ -57,26 +55,23 @@ plain_commits_nothing who s account asks log plain under =
     by past (inr one) = absurd (not_both one.commits (each_place (λ (request : Request). asks_commit request.ask ≡ false) one.asked.before one.request one.asked.after
         (subst (AllByRecursion (λ (request : Request). asks_commit request.ask ≡ false)) (sym one.asked.place) (plain_requests who s.head.moment 1 asks plain))))
 
--- ---- a device's collection c and a committed one s that may sync if they are apart, and a front of what is planned
+-- ---- a device's collection c and a committed one s that may sync, and a front of what is planned
 module _ (who : Asker) (c s : Collection) (account : AccountState) (asks : List Ask)
-    (may : AreApart (row_under c) (row_under s) → MaySync c s)
-    (front : MaySync c s → (rest : List Ask) × (asks ++ rest ≡ planned c s)) where
+    (so : MaySync c s) (front : (rest : List Ask) × (asks ++ rest ≡ planned c s)) where
   abbrev asked : List Request
   asked = requests_from who s.head.moment 1 asks
 
-  in_plan : MaySync c s → (rest : List Request) × (asked ++ rest ≡ plan who c s)
-  in_plan so =
-      let more = front so in (
-        requests_from who s.head.moment (1 + length asks) more.0,
-        sym (requests_append who s.head.moment 1 asks more.0) ∙ ap (requests_from who s.head.moment 1) more.1,
-      )
+  in_plan : (rest : List Request) × (asked ++ rest ≡ plan who c s)
+  in_plan = (
+    requests_from who s.head.moment (1 + length asks) front.0,
+    sym (requests_append who s.head.moment 1 asks front.0) ∙ ap (requests_from who s.head.moment 1) front.1,
+  )
 
   -- the commit of a request that was asked holds the join
   joins : (request : Request) (at : IsAsked asked s.head.moment request) (now : ℤ) → asks_commit request.ask ≡ true
-      → AreApart (row_under c) (row_under s) → HoldsJoin c s (closed s at.before request now)
-  joins request at now commits apart =
-      let so = may apart in
-      let rest = in_plan so in
+      → HoldsJoin c s (closed s at.before request now)
+  joins request at now commits =
+      let rest = in_plan in
       let place : at.before ++ request ∷ (at.after ++ rest.0) ≡ plan who c s =
       sym (append_assoc at.before (request ∷ at.after) rest.0) ∙ ap (λ (l : List Request). l ++ rest.0) at.place ∙ rest.1 in
       let last = finish_is_last who c s at.before request (at.after ++ rest.0) place commits in

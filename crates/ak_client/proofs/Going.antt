@@ -11,8 +11,6 @@ use Rattle.ak_client.specs.Syncs.{IsSyncFinished, MayBegin, world_at}
 use Rattle.ak_device.specs.Devices.{advanced_moment}
 use Rattle.ak_keep.specs.Collections.{Collection}
 use Rattle.ak_keep.specs.Keepers.{Keeping}
-use Rattle.ak_merge.specs.Holdings.{row_under}
-use Rattle.ak_merge.specs.Joins.{AreApart}
 use Rattle.ak_merge.specs.Links.{AreLinked}
 use Rattle.ak_protocol.specs.Accounts.{AccountState}
 use Rattle.ak_protocol.specs.Commits.{EachNewer, HasFreshSchema}
@@ -40,8 +38,8 @@ module _ (who next : Asker) (account : AccountState) (old : Log) (growth : List 
   begins_unfinished c may fresh = begins c c may (linked_grown who account old growth timely may.lawful c fresh may.linked)
 
   pub begins_finished : (c base : Collection) (left : Keeping) → MayBegin who c account old → (it : IsSyncFinished who c base account now left)
-      → AreApart (row_under c) (row_under base) → MayBegin next it.device account now
-  begins_finished c base left may it apart = begins c it.device may (it.linked apart)
+      → MayBegin next it.device account now
+  begins_finished c base left may it = begins c it.device may it.linked
 
   pub begins_parted : (c : Collection) (head : Head) → MayBegin who c account old
       → head.schema ≢ (world_at who account now).state.committed.head.schema → MayBegin next (record c { head = head }) account now

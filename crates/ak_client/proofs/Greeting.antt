@@ -58,7 +58,7 @@ met_by s now met is =
     }
 
 module _ (ids : Ids) (account : AccountState) (old : Log) (unused : IsUnused ids.host.digits ids.session.0 account old) where
-  abbrev IsMetBySome : Log → MetaSaid → Type 0
+  abbrev pub IsMetBySome : Log → MetaSaid → Type 0
   IsMetBySome new met = (s : Collection) × IsMetOver (asker ids) account old new s × IsMetBy met s
 
   still_unused : (new : Log) (answer : Result Reply WireEnd) → Grows old new (meta_of ids) answer → IsUnused ids.host.digits ids.session.0 account new
@@ -105,7 +105,7 @@ module _ (ids : Ids) (account : AccountState) (old : Log) (unused : IsUnused ids
   answered new (Err ends.Memory) grows = tt
 
   -- the meta of a sync whose key is unused: it stays so, and a granted reply tells what was committed at its place
-  greeted : (before now : Health) (was is : WireState) (result : Result MetaSaid Unanswered) → was.log ≡ Some old
+  pub greeted : (before now : Health) (was is : WireState) (result : Result MetaSaid Unanswered) → was.log ≡ Some old
       → Answered before now was is (meta_of ids) meta_in result
       → (new : Log) × (is.log ≡ Some new) × IsUnused ids.host.digits ids.session.0 account new × IfOk result (IsMetBySome new)
   greeted before now was is result told call =
@@ -143,9 +143,9 @@ clock_ends tries now meta second stop = by (not meta.cont) (are_far_apart second
     by false true is = is_so (stops.ClockOff second meta.ts) tt is
     by false false is = absurd (none-some stop is)
 
-head_ends : (tries : List TriedAsk) (now : WireState) (meta : MetaSaid) (head : Head) (stop : Stop) → head_stop meta head ≡ Some stop
+head_ends : (tries : List TriedAsk) (now : WireState) (meta : MetaSaid) (head : Head) (unchanged : Bool) (stop : Stop) → head_stop meta head unchanged ≡ Some stop
     → EndsAt tries now (outcome_at stop)
-head_ends tries now meta head stop = by (int_eq head.moment meta.moment) (not (int_eq head.schema meta.scm)) (int_eq meta.usn last_head_usn)
+head_ends tries now meta head unchanged stop = by unchanged (not (int_eq head.schema meta.scm)) (int_eq meta.usn last_head_usn)
   where
     is_so : (one : Stop) → EndsAt tries now (outcome_at one) → Some one ≡ Some stop → EndsAt tries now (outcome_at stop)
     is_so one ends is = subst (λ (s : Stop). EndsAt tries now (outcome_at s)) (same_Some one stop is) ends
@@ -161,8 +161,8 @@ head_ends tries now meta head stop = by (int_eq head.moment meta.moment) (not (i
 device_ends : (tries : List TriedAsk) (now : WireState) (meta : MetaSaid) (keeping : Keeping) (stop : Stop) → EndsAtDevice meta keeping stop
     → EndsAt tries now (outcome_at stop)
 device_ends tries now meta keeping stop (inl (fault, is)) = subst (λ (s : Stop). EndsAt tries now (outcome_at s)) (sym is) (fault_ends tries now fault)
-device_ends tries now meta keeping stop (inr (head, held, inl is)) = head_ends tries now meta head stop is
-device_ends tries now meta keeping stop (inr (head, held, inr (pass, unsound))) = subst (λ (s : Stop). EndsAt tries now (outcome_at s)) (sym unsound.1) tt
+device_ends tries now meta keeping stop (inr (head, unchanged, found, inl is)) = head_ends tries now meta head unchanged stop is
+device_ends tries now meta keeping stop (inr (head, unchanged, found, inr (pass, unsound))) = subst (λ (s : Stop). EndsAt tries now (outcome_at s)) (sym unsound.1) tt
 
 pub greeting_ends : (ids : Ids) (h0 h1 : Health) (w0 w1 : WireState) (old new : Option (List ℤ)) (keeping : Keeping) (stop : Stop)
     → (it : IsGreeting ids h0 h1 w0 w1 old new keeping (Err stop)) → EndsAt (meta_tried it.heard.answer ∷ []) w1 (outcome_at stop)

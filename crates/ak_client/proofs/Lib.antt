@@ -13,6 +13,8 @@ pub mod Keeping
 pub mod Leading
 pub mod Losing
 pub mod Meeting
+pub mod Pending
 pub mod Stating
 pub mod Syncing
 pub mod Testing
+pub mod Unchanging

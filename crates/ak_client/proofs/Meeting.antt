@@ -17,8 +17,6 @@ use Rattle.ak_keep.proofs.RowsByName.{all_gets, named-get}
 use Rattle.ak_keep.specs.Collections.{Collection, IsWellFormed}
 use Rattle.ak_keep.specs.Keepers.{IsRightlyKnown, Keeping}
 use Rattle.ak_merge.specs.Commits.{IsCommitted}
-use Rattle.ak_merge.specs.Holdings.{row_under}
-use Rattle.ak_merge.specs.Joins.{AreApart}
 use Rattle.ak_merge.specs.Links.{AreLinked, AreLinkedParts}
 use Rattle.ak_protocol.proofs.Syncs.{all_front, own_append, world_append}
 use Rattle.ak_protocol.specs.Accounts.{AccountState}
@@ -35,7 +33,7 @@ is_met c s met ready by_meta = record {
   head = sym (same_Some c.head met.head ready.head);
 }
 
-linked_parts : (c s : Collection) → c.head.schema ≡ s.head.schema → AreLinked c s → AreLinkedParts c s
+pub linked_parts : (c s : Collection) → c.head.schema ≡ s.head.schema → AreLinked c s → AreLinkedParts c s
 linked_parts c s same (inl other) = absurd (other same)
 linked_parts c s same (inr parts) = parts
 
@@ -70,9 +68,9 @@ module _ (who : Asker) (c s : Collection) (account : AccountState) (old mid : Lo
   linked_at_meta =
       subst (AreLinked c) over.place (linked_grown who account old over.front timely_front may.lawful c fresh_front may.linked)
 
-  -- a device whose keeper tells it may sync with what was committed at its meta, if the two are apart
-  pub may_sync : IsWellFormed (held_by c) → IsReady (held_by c) met → IsMetBy met.meta s → AreApart (row_under c) (row_under s) → MaySync c s
-  may_sync formed ready by_meta apart = record {
+  -- a device whose keeper tells it may sync with what was committed at its meta
+  pub may_sync : IsWellFormed (held_by c) → IsReady (held_by c) met → IsMetBy met.meta s → MaySync c s
+  may_sync formed ready by_meta = record {
     linked = linked_parts c s (ap (λ (h : Head). h.schema) (same_Some c.head met.head ready.head) ∙ ready.schema ∙ by_meta.schema) linked_at_meta;
     named = λ name row at. named-get c.rows name row formed.named at;
     checked = λ name row at. all_gets (λ (entry : Name × Row). IsChecked entry.1) c.rows name row formed.checked at;

@@ -1,22 +1,23 @@
 -- What a whole sync asks and leaves.
 use Rattle.std.specs.List.{AllByRecursion}
-use Rattle.std.specs.Prelude.{◌≡◌, ℤ, pos, ◌+◌, ◌/◌, ◌≤◌, false, List, [], ◌∷◌, ◌++◌, length, Option, Some, None, Result, Ok, Err}
+use Rattle.std.specs.Prelude.{◌≡◌, ℤ, pos, ◌+◌, ◌/◌, ◌≤◌, false, List, [], ◌∷◌, ◌++◌, length, Option, Some, None, Result, Ok, Err, IfOk}
 use Rattle.std.proofs.Common.{refl, sym, ap, subst, ◌∙◌, append_assoc, inl, inr, arith}
 use Rattle.std.proofs.lemmas.List.{length-append}
 use Rattle.std.proofs.lemmas.Option.{same_Some}
 use Rattle.ak_client.proofs.Alone.{alone_stays, commits_alone, made_with_stays, requests_are_of}
 use Rattle.ak_client.proofs.Causes.{met_because, unmet_because}
-use Rattle.ak_client.proofs.Clocks.{good_end, not_finished}
+use Rattle.ak_client.proofs.Clocks.{good_end, not_finished, unanswered_told}
 use Rattle.ak_client.proofs.Ending.{no_graves}
 use Rattle.ak_client.proofs.Fates.{at_most_once, plain_commits_nothing, stays_once, stays_unused}
-use Rattle.ak_client.proofs.Greeting.{asked_meta, greeting_ends, meta_granted}
+use Rattle.ak_client.proofs.Greeting.{IsMetBySome, asked_meta, greeted, greeting_ends, meta_granted}
 use Rattle.ak_client.proofs.Growing.{commits_grown, tried_grows, world_grown, own_timely}
 use Rattle.ak_client.proofs.Leading.{linked_after}
 use Rattle.ak_client.proofs.Meeting.{formed_by, is_met, may_sync}
+use Rattle.ak_client.proofs.Unchanging.{found_unchanged, same_content}
 use Rattle.ak_client.specs.Endings.{Ended, Ends, IsEnded}
-use Rattle.ak_client.specs.Greetings.{GreetsTold, IsGreeting, IsMetOver, IsReady, clock_stop, meta_of}
-use Rattle.ak_client.specs.Outcomes.{outcome_at}
-use Rattle.ak_client.specs.Syncs.{CommitsAtMostOnce, EndsAt, IsFairEnd, IsShown, IsSync, IsSyncEnded, IsSyncFinished, MayBegin, StaysOnce, Synced, meta_tried, world_at}
+use Rattle.ak_client.specs.Greetings.{EndsGreeting, GreetsTold, IsGreeting, IsMetBy, IsMetOver, IsReady, clock_stop, meta_of}
+use Rattle.ak_client.specs.Outcomes.{is_told_by_meta, outcome_at}
+use Rattle.ak_client.specs.Syncs.{CommitsAtMostOnce, EndsAt, IsCommittedIn, IsFairEnd, IsShown, IsSync, IsSyncEnded, IsSyncFinished, MayBegin, StaysOnce, Synced, meta_tried, world_at}
 use Rattle.ak_client.specs.declared.outcomes.Outcome.{Outcome}
 use Rattle.ak_client.specs.declared.outcomes.Outcome.TheVariants as outcomes
 use Rattle.ak_exchange.proofs.Replying.{requests_count}
@@ -37,12 +38,12 @@ use Rattle.ak_keep.specs.Keepers.{IsRightlyKnown, Keeping, WhereTold}
 use Rattle.ak_keep.specs.declared.keepers.Wanted.TheVariants.{From, Unsent}
 use Rattle.ak_merge.specs.Edits.{second_of}
 use Rattle.ak_merge.specs.Exchanges.{AreExchanged, HoldsJoin}
-use Rattle.ak_merge.specs.Holdings.{row_under}
-use Rattle.ak_merge.specs.Joins.{AreApart}
+use Rattle.ak_merge.specs.Holdings.{SameContent, content_of}
 use Rattle.ak_merge.specs.Links.{AreLinked}
 use Rattle.ak_messages.specs.declared.replies.Reply.{Reply}
 use Rattle.ak_messages.specs.declared.requests.Ask.{Ask}
 use Rattle.ak_messages.specs.declared.requests.Request.{Request}
+use Rattle.ak_protocol.proofs.Commits.{not_both}
 use Rattle.ak_protocol.proofs.Syncs.{all_append, unused_keys_commit_nothing}
 use Rattle.ak_protocol.specs.Accounts.{AccountState}
 use Rattle.ak_protocol.specs.Commits.{CommitsGrow, EachNewer, HasFreshSchema}
@@ -53,39 +54,59 @@ use Rattle.ak_session.specs.Plans.{Asker, planned, requests_from}
 use Rattle.ak_session.specs.Sessions.{MaySync}
 use Rattle.ak_session.specs.Slices.{wanted_graves, wanted_in_chunks}
 use Rattle.ak_wires.specs.Wires.{WireState}
+use Rattle.ak_wires.specs.declared.asks.Unanswered.{Unanswered}
 use Rattle.ak_wires.specs.declared.asks.Unanswered.TheVariants as unanswered
+use Rattle.ak_wires.specs.declared.wires.MetaSaid.{MetaSaid}
 use Rattle.ak_wires.specs.declared.wires.WireEnd.{WireEnd}
 
 -- ---- a sync whose meta was not answered, or that was ended by it
-synced_unmet : (ids : Ids) (stop : Stop) (c : Collection) (account : AccountState) (old now : Log) (growth : List Event) (left : Keeping)
-    → now ≡ with_growth old growth → AllByRecursion IsTimely growth → IsUnused ids.host.digits ids.session.0 account now → IsFairEnd c c (outcome_at stop)
+synced_unmet : (ids : Ids) (stop : Stop) (c base : Collection) (account : AccountState) (old now : Log) (growth : List Event) (left : Keeping)
+    → now ≡ with_growth old growth → AllByRecursion IsTimely growth → IsUnused ids.host.digits ids.session.0 account now → IsFairEnd c base (outcome_at stop)
+    → (outcome_at stop ≡ outcomes.NoChanges → IsCommittedIn (asker ids) account old growth base × SameContent (content_of c) (content_of base))
     → Synced (asker ids) (pos 0) [] c account old now left (outcome_at stop)
-synced_unmet ids stop c account old now growth left grown timely unused fair = record {
+synced_unmet ids stop c base account old now growth left grown timely unused fair unchanged = record {
   growth = growth;
   grown = grown;
   timely = timely;
   server = subst (λ (log : Log). CommitsGrow (world_at (asker ids) account old) (world_at (asker ids) account log)) (sym grown)
       (commits_grown (asker ids) account old growth);
-  base = c;
+  base = base;
   at_meta = inl refl;
   shown = inl (refl, unused);
-  front = λ apart. (planned c c, refl);
-  short = λ apart. omega arith;
-  once = stays_unused (asker ids) c c (pos 0) account now unused;
+  front = (planned c base, refl);
+  short = omega arith;
+  once = stays_unused (asker ids) c base (pos 0) account now unused;
   early = λ early. unused_keys_commit_nothing ids.host.digits ids.session.0 account now unused;
   finished = λ is. absurd (not_finished stop is);
-  fair = λ apart. fair;
+  fair = fair;
+  unchanged = unchanged;
 }
+
+-- by what the meta was answered
+synced_greeted : (ids : Ids) (stop : Stop) (c : Collection) (account : AccountState) (old now : Log) (growth : List Event) (before left : Keeping) (old_moments new_moments : Option (List ℤ))
+    → now ≡ with_growth old growth → AllByRecursion IsTimely growth → IsUnused ids.host.digits ids.session.0 account now → before ≡ holding c → MayBegin (asker ids) c account old
+    → EachNewer (HasFreshSchema c) (world_at (asker ids) account old) (world_at (asker ids) account now) → ((base : Collection) → IsFairEnd c base (outcome_at stop))
+    → (answer : Result MetaSaid Unanswered) → IfOk answer (λ meta. (s : Collection) × IsMetOver (asker ids) account old now s × IsMetBy meta s)
+    → EndsGreeting answer old_moments new_moments before stop → Synced (asker ids) (pos 0) [] c account old now left (outcome_at stop)
+synced_greeted ids stop c account old now growth before left old_moments new_moments grown timely unused holds may fresh fair (Err why) met ends =
+    synced_unmet ids stop c c account old now growth left grown timely unused (fair c)
+    (λ none. absurd (not_both (ap is_told_by_meta none) (ap (λ (s : Stop). is_told_by_meta (outcome_at s)) ends ∙ unanswered_told why)))
+synced_greeted ids stop c account old now growth before left old_moments new_moments grown timely unused holds may fresh fair (Ok meta) (s, over, by_meta) ends =
+    synced_unmet ids stop c s account old now (over.front ++ over.rest) left over.grown over.timely unused (fair s) (λ none.
+    let found = found_unchanged old_moments new_moments before meta stop ends none in (
+      record { front = over.front; rest = over.rest; parts = refl; place = over.place },
+      same_content (asker ids) c s account old now before meta found.0 holds may over by_meta fresh found.1,
+    ))
 
 -- a meta alone asks for no chunk
 meta_is_one : (answer : Result Reply WireEnd) → AreTooMany (meta_tried answer ∷ []) → ⊥
 meta_is_one answer (inl came) = omega (arith, came)
 meta_is_one answer (inr sent) = omega (arith, sent)
 
-pub unmet : (ids : Ids) (stop : Stop) (before left : Keeping) (h0 h1 : Health) (w0 w1 : WireState) (old_moments new_moments : Option (List ℤ)) (read : Keeping)
-    → IsGreeting ids h0 h1 w0 w1 old_moments new_moments read (Err stop) → shows_bad_check stop ≡ false
+pub unmet : (ids : Ids) (stop : Stop) (before left : Keeping) (h0 h1 : Health) (w0 w1 : WireState) (old_moments new_moments : Option (List ℤ))
+    → IsGreeting ids h0 h1 w0 w1 old_moments new_moments before (Err stop) → shows_bad_check stop ≡ false
     → GreetsTold ids w0.log w1.log (Err stop) → IsSync ids before left h0 h1 w0 w1 (outcome_at stop)
-unmet ids stop before left h0 h1 w0 w1 old_moments new_moments read it good greets =
+unmet ids stop before left h0 h1 w0 w1 old_moments new_moments it good greets =
     let tried : AreTried (meta_of ids ∷ []) (it.heard.answer ∷ []) h0 h1 w0 w1 = asked_meta ids h0 h1 w0 w1 it.answer it.heard in
     record {
       meta = it.heard.answer;
@@ -98,18 +119,19 @@ unmet ids stop before left h0 h1 w0 w1 old_moments new_moments read it good gree
       graves_most = no_graves before;
       few = few_none 40_000 39_999 (5 + 0);
       rows = tt;
-      ends = greeting_ends ids h0 h1 w0 w1 old_moments new_moments read stop it;
+      ends = greeting_ends ids h0 h1 w0 w1 old_moments new_moments before stop it;
       told = λ old told.
           let grown = tried_grows (meta_of ids ∷ []) (it.heard.answer ∷ []) h0 h1 w0 w1 old tried told in (
             grown.now,
             grown.is,
             λ c account holds may fresh.
-                let greeted = greets account old told may.unused in
-                synced_unmet ids stop c account old grown.now grown.growth left grown.grown grown.timely
-                (subst (λ (log : Log). IsUnused ids.host.digits ids.session.0 account log)
-                (same_Some greeted.0 grown.now (sym greeted.1 ∙ grown.is)) greeted.2.unused)
-                (good_end c c stop (meta_tried it.heard.answer ∷ []) w1 good (meta_is_one it.heard.answer)
-                (greeting_ends ids h0 h1 w0 w1 old_moments new_moments read stop it)),
+                let greeted_so = greeted ids account old may.unused h0 h1 w0 w1 it.answer told it.heard in
+                let same : greeted_so.0 ≡ grown.now = same_Some greeted_so.0 grown.now (sym greeted_so.1 ∙ grown.is) in
+                synced_greeted ids stop c account old grown.now grown.growth before left old_moments new_moments grown.grown grown.timely
+                (subst (λ (log : Log). IsUnused ids.host.digits ids.session.0 account log) same greeted_so.2) holds may fresh
+                (λ base. good_end c base stop (meta_tried it.heard.answer ∷ []) w1 good (meta_is_one it.heard.answer)
+                (greeting_ends ids h0 h1 w0 w1 old_moments new_moments before stop it))
+                it.answer (subst (λ (log : Log). IfOk it.answer (IsMetBySome ids account old may.unused log)) same greeted_so.3) it.ends,
           );
       alone = alone_stays (meta_of ids ∷ []) (it.heard.answer ∷ []) h0 h1 w0 w1 tried;
       made_with = made_with_stays (meta_of ids ∷ []) (it.heard.answer ∷ []) h0 h1 w0 w1 tried;
@@ -122,7 +144,7 @@ pub unmet_ended : (ids : Ids) (stop : Stop) (before left : Keeping) (h0 h1 : Hea
     → GreetsTold ids w0.log w1.log (Err stop) → IsSyncEnded ids before left h0 h1 w0 w1 old_moments (outcome_at stop)
 unfolding unmet
 unmet_ended ids stop before left h0 h1 w0 w1 old_moments new_moments it good greets = record {
-  sync = unmet ids stop before left h0 h1 w0 w1 old_moments new_moments before it good greets;
+  sync = unmet ids stop before left h0 h1 w0 w1 old_moments new_moments it good greets;
   because = unmet_because ids h0 h1 w0 w1 old_moments new_moments before stop it (pos 0);
 }
 
@@ -132,7 +154,7 @@ module _ (ids : Ids) (met : Met) (c s : Collection) (account : AccountState) (as
     (may : MayBegin (asker ids) c account old)
     (fresh : EachNewer (HasFreshSchema c) (world_at (asker ids) account old) (world_at (asker ids) account (with_growth mid later)))
     (over : IsMetOver (asker ids) account old mid s) (both : IsMet c s met)
-    (syncs : AreApart (row_under c) (row_under s) → MaySync c s)
+    (syncs : MaySync c s) (untold : is_told_by_meta outcome ≡ false)
     (end : Ended c s account (asker ids) asks (Some (with_growth mid later)) left outcome) where
   abbrev now : Log
   now = with_growth mid later
@@ -166,15 +188,14 @@ module _ (ids : Ids) (met : Met) (c s : Collection) (account : AccountState) (as
   once : StaysOnce who c s met.meta.moment asks account now
   once =
       subst (λ (moment : ℤ). StaysOnce who c s moment asks account now) (sym both.moment)
-      (stays_once who c s account asks syncs end.shown.front now under_way)
+      (stays_once who c s account asks syncs (end.shown.front syncs) now under_way)
 
   -- a front of the plan is at most as long
-  short : AreApart (row_under c) (row_under s) → length asks + 1 ≤ 8 + length (wanted_graves Unsent c.rows) / 250
+  short : length asks + 1 ≤ 8 + length (wanted_graves Unsent c.rows) / 250
       + length (wanted_in_chunks (From c.head.usn) s.rows) / 250 + length (wanted_in_chunks Unsent c.rows) / 250
-  short apart =
-      let so = syncs apart in
-      let ahead = end.shown.front so in
-      let most = plans_are_short who c s so.committed.head.usn.low in
+  short =
+      let ahead = end.shown.front syncs in
+      let most = plans_are_short who c s syncs.committed.head.usn.low in
       let count = requests_count who s.head.moment 1 (planned c s) in
       let both = length-append asks ahead.0 in
       let whole = ap (λ (l : List Ask). length l) ahead.1 in
@@ -183,8 +204,8 @@ module _ (ids : Ids) (met : Met) (c s : Collection) (account : AccountState) (as
   -- the join that the one commit holds
   joined : (after : Collection) → commits_of who.session.0 (world_at who account now).commits
       ≡ record { key = who.session.0; before = s; after = after } ∷ []
-      → AreApart (row_under c) (row_under s) → HoldsJoin c s after
-  joined after only apart = by (at_most_once who c s account asks syncs end.shown.front now under_way)
+      → HoldsJoin c s after
+  joined after only = by (at_most_once who c s account asks syncs (end.shown.front syncs) now under_way)
     where
       by : CommitsAtMostOnce who.session.0 c s (world_at who account now).commits → HoldsJoin c s after
       by (inl none) = absurd (one_is_none (record { key = who.session.0; before = s; after = after }) (sym only ∙ none))
@@ -194,15 +215,14 @@ module _ (ids : Ids) (met : Met) (c s : Collection) (account : AccountState) (as
       by (inr one) =
           subst (λ (t : Collection). HoldsJoin c s t)
           (ap (λ (l : List Commit). elim l as (λ _. Collection) [ [] ↦ after | x ∷ xs ↦ x.after ]) (sym one.only ∙ only))
-          (one.joins apart)
+          one.joins
 
   ended : IsEnded c s account who (Some now) left → IsSyncFinished who c s account now left
   ended it =
       let same : now ≡ it.committed.log = same_Some now it.committed.log it.committed.is in
       let only : commits_of who.session.0 (world_at who account now).commits ≡ record { key = who.session.0; before = s; after = it.after } ∷ [] =
       ap (λ (log : Log). commits_of who.session.0 (world_at who account log).commits) same ∙ it.committed.only in
-      let halves : AreApart (row_under c) (row_under s) → AreExchanged c s it.device it.after =
-      λ apart. it.half (syncs apart) (joined it.after only apart) in
+      let halves : AreExchanged c s it.device it.after = it.half syncs (joined it.after only) in
       record {
         after = it.after;
         device = it.device;
@@ -212,9 +232,9 @@ module _ (ids : Ids) (met : Met) (c s : Collection) (account : AccountState) (as
         last_sync = it.last_sync;
         usn = it.usn;
         schema = it.schema;
-        sound = λ apart. it.sound (syncs apart);
+        sound = it.sound syncs;
         exchanged = halves;
-        linked = λ apart. linked_now it.device it.after only it.schema (inr (halves apart).linked);
+        linked = linked_now it.device it.after only it.schema (inr halves.linked);
       }
     where
       grown_world : world_at who account now ≡ world_after (world_at who account old) (events_of who.host.digits growth)
@@ -241,12 +261,13 @@ module _ (ids : Ids) (met : Met) (c s : Collection) (account : AccountState) (as
     base = s;
     at_meta = inr (record { front = over.front; rest = over.rest ++ later; parts = refl; place = over.place });
     shown = shown;
-    front = λ apart. end.shown.front (syncs apart);
+    front = end.shown.front syncs;
     short = short;
     once = once;
     early = λ early. plain_commits_nothing who s account asks now (end.early early) under_way;
     finished = λ is. ended (end.finished is);
-    fair = λ apart. end.fair (syncs apart);
+    fair = end.fair syncs;
+    unchanged = λ none. absurd (not_both (ap is_told_by_meta none) untold);
   }
 
 -- what a keeper tells is true of the collection that it holds
@@ -305,7 +326,7 @@ went_on ids met before kept left h0 h1 h2 w0 w1 w2 old_moments new_moments read 
                 let ready_so : IsReady (held_by c) met = told_of before c (λ h. IsReady h met) holds ready in
                 let both : IsMet c greeted.2.met.0 met = is_met c greeted.2.met.0 met ready_so greeted.2.met.2 in
                 synced_met ids met c greeted.2.met.0 account (asks_in ends.tries) old first.now then_on.growth left outcome then_on.timely may fresh met_over both
-                (may_sync (asker ids) c greeted.2.met.0 account old first.now then_on.growth met may met_over fresh (formed_by c before holds known) ready_so greeted.2.met.2)
+                (may_sync (asker ids) c greeted.2.met.0 account old first.now then_on.growth met may met_over fresh (formed_by c before holds known) ready_so greeted.2.met.2) ends.ends.2
                 (subst (λ (o : Option Log). Ended c greeted.2.met.0 account (asker ids) (asks_in ends.tries) o left outcome)
                 (then_on.is ∙ ap (λ (log : Log). Some log) then_on.grown)
                 (ends.told c greeted.2.met.0 account both (first.now, first.is, met_over.under_way) (same ∙ holds))),

@@ -7,7 +7,7 @@ use Rattle.std.proofs.lemmas.Option.{same_Some}
 use Rattle.ak_base.specs.Heads.{IsWithin}
 use Rattle.ak_base.specs.Limits.{last_head_usn}
 use Rattle.ak_base.specs.declared.heads.Head.{Head}
-use Rattle.ak_client.specs.Greetings.{EndsAtDevice, IsGreeting, IsReady, clock_stop, head_stop, meta_of}
+use Rattle.ak_client.specs.Greetings.{EndsAtDevice, Finds, FindsTold, IsGreeting, IsReady, clock_stop, head_stop, is_unchanged, meta_of}
 use Rattle.ak_exchange.specs.Stops.{keep_stop, stop_or_go, wire_stop}
 use Rattle.ak_exchange.specs.declared.envelopes.Ids.{Ids}
 use Rattle.ak_exchange.specs.declared.envelopes.Met.{Met}
@@ -16,7 +16,7 @@ use Rattle.ak_exchange.specs.declared.stops.Stop.TheVariants as stops
 use Rattle.ak_faults.specs.Causes.{Health}
 use Rattle.ak_io.specs.Arrivals.{GivesNext}
 use Rattle.ak_keep.specs.Collections.{Holding, Rows}
-use Rattle.ak_keep.specs.Keepers.{Keeping, WhereTold}
+use Rattle.ak_keep.specs.Keepers.{IsRightlyKnown, Keeping, WhereTold}
 use Rattle.ak_keep.specs.Marks.{WithMark}
 use Rattle.ak_keep.specs.declared.keepers.KeepFault.{KeepFault}
 use Rattle.ak_merge.specs.Edits.{second_of}
@@ -51,24 +51,22 @@ pub exits : {T : Type 0} (result : Result T Stop) (stop : Stop) (P : Result T St
 exits (Ok value) stop P is so = absurd is
 exits (Err other) stop P is so = subst (λ (s : Stop). P (Err s)) (sym is) so
 
--- the moments differ, the schema moments agree, and the server's number is not the last one
-pub heads_pass : (meta : MetaSaid) (head : Head) → head_stop meta head ≡ None
-    → (head.moment ≢ meta.moment) × (head.schema ≡ meta.scm) × (meta.usn ≢ last_head_usn)
-heads_pass meta head is =
-    by (int_eq head.moment meta.moment) (int_eq head.schema meta.scm) (int_eq meta.usn last_head_usn) refl refl refl is
+-- there is something to sync, the schema moments agree, and the server's number is not the last one
+pub heads_pass : (meta : MetaSaid) (head : Head) (unchanged : Bool) → head_stop meta head unchanged ≡ None
+    → (head.schema ≡ meta.scm) × (meta.usn ≢ last_head_usn)
+heads_pass meta head unchanged is =
+    by unchanged (int_eq head.schema meta.scm) (int_eq meta.usn last_head_usn) refl refl is
   where
-    by : (moments schemas last : Bool) → int_eq head.moment meta.moment ≡ moments → int_eq head.schema meta.scm ≡ schemas
-        → int_eq meta.usn last_head_usn ≡ last
-        → (if moments then Some stops.NoChanges
+    by : (same schemas last : Bool) → int_eq head.schema meta.scm ≡ schemas → int_eq meta.usn last_head_usn ≡ last
+        → (if same then Some stops.NoChanges
         else if not schemas then Some (stops.FullSchema head.schema meta.scm)
         else if last then Some (stops.FullSequence meta.usn)
         else None) ≡ None
-        → (head.moment ≢ meta.moment) × (head.schema ≡ meta.scm) × (meta.usn ≢ last_head_usn)
-    by true schemas last one two three is = absurd (none_of (stops.NoChanges) is)
-    by false false last one two three is = absurd (none_of (stops.FullSchema head.schema meta.scm) is)
-    by false true true one two three is = absurd (none_of (stops.FullSequence meta.usn) is)
-    by false true false one two three is =
-        (λ same. grind (arith, ints, one, same), grind (arith, ints, two), λ same. grind (arith, ints, three, same))
+        → (head.schema ≡ meta.scm) × (meta.usn ≢ last_head_usn)
+    by true schemas last two three is = absurd (none_of (stops.NoChanges) is)
+    by false false last two three is = absurd (none_of (stops.FullSchema head.schema meta.scm) is)
+    by false true true two three is = absurd (none_of (stops.FullSequence meta.usn) is)
+    by false true false two three is = (grind (arith, ints, two), λ same. grind (arith, ints, three, same))
 
 -- a number in the range of a head that is not the last one is below it
 pub below_last : (usn : ℤ) → IsWithin (pos 0) last_head_usn usn → usn ≢ last_head_usn → usn <ℤ last_head_usn
@@ -117,19 +115,33 @@ usn_within request before now was is met call =
     subst (λ (r : Result MetaSaid Unanswered). IfOk r (λ (m : MetaSaid). IsWithin (pos 0) last_head_usn m.usn)) (sym call.came) (usn_answered call.answer)
 
 -- ---- the device
--- what was read of the device, and passed
-pub ready_where : (keeping : Keeping) (meta : MetaSaid) (head : Head) → head_stop meta head ≡ None → IsWithin (pos 0) last_head_usn meta.usn
-    → WhereTold keeping (λ h. h.head ≡ Some head) → WhereTold keeping (λ h. first_fault h.rows ≡ None)
-    → WhereTold keeping (λ h. IsReady h (record { meta = meta; head = head }))
-ready_where keeping meta head pass usn = by keeping.told
+-- what was read of the device
+pub finds_told : (keeping read : Keeping) (meta : MetaSaid) (head : Head) (unchanged : Bool) → read ≡ keeping → WhereTold keeping (λ h. h.head ≡ Some head)
+    → IsRightlyKnown read → WhereTold read (λ h. unchanged ≡ is_unchanged meta head h.rows) → FindsTold meta head unchanged keeping
+finds_told keeping read meta head unchanged same held known found = record {
+  known = subst IsRightlyKnown same known;
+  told = by keeping.told held (subst (λ (k : Keeping). WhereTold k (λ h. unchanged ≡ is_unchanged meta head h.rows)) same found);
+}
   where
     by : (told : Option (WithMark Holding)) → IfSome told (λ (w : WithMark Holding). w.current.head ≡ Some head)
+        → IfSome told (λ (w : WithMark Holding). unchanged ≡ is_unchanged meta head w.current.rows)
+        → IfSome told (λ (w : WithMark Holding). Finds meta head unchanged w.current)
+    by None one other = tt
+    by (Some w) one other = record { holds = one; tells = other }
+
+-- and passed
+pub ready_where : (keeping : Keeping) (meta : MetaSaid) (head : Head) (unchanged : Bool) → head_stop meta head unchanged ≡ None → IsWithin (pos 0) last_head_usn meta.usn
+    → FindsTold meta head unchanged keeping → WhereTold keeping (λ h. first_fault h.rows ≡ None)
+    → WhereTold keeping (λ h. IsReady h (record { meta = meta; head = head }))
+ready_where keeping meta head unchanged pass usn finds = by keeping.told finds.told
+  where
+    by : (told : Option (WithMark Holding)) → IfSome told (λ (w : WithMark Holding). Finds meta head unchanged w.current)
         → IfSome told (λ (w : WithMark Holding). first_fault w.current.rows ≡ None)
         → IfSome told (λ (w : WithMark Holding). IsReady w.current (record { meta = meta; head = head }))
     by None held sound = tt
     by (Some w) held sound =
-        let heads = heads_pass meta head pass in
-        record { head = held; pass = pass; differ = heads.0; schema = heads.1; number = below_last meta.usn usn heads.2; sound = sound }
+        let heads = heads_pass meta head unchanged pass in
+        record { head = held.holds; pass = ap (head_stop meta head) (sym held.tells) ∙ pass; schema = heads.0; number = below_last meta.usn usn heads.1; sound = sound }
 
 -- the head that was read is that of the device
 pub heads_told : (before now : Keeping) (met : Met) → now ≡ before → WhereTold before (λ h. IsReady h met) → WhereTold now (λ h. h.head ≡ Some met.head)
@@ -146,18 +158,18 @@ stopped_by None stop is = grind (arith, is)
 stopped_by (Some own) stop is = grind (arith, is)
 
 -- what the heads and the rows say
-pub ends_by_heads : (keeping : Keeping) (meta : MetaSaid) (head : Head) (stop : Stop) → WhereTold keeping (λ h. h.head ≡ Some head)
-    → Err stop ≡ stop_or_go (head_stop meta head) → EndsAtDevice meta keeping stop
-ends_by_heads keeping meta head stop told is = inr (head, told, inl (stopped_by (head_stop meta head) stop (sym is)))
+pub ends_by_heads : (keeping : Keeping) (meta : MetaSaid) (head : Head) (unchanged : Bool) (stop : Stop) → FindsTold meta head unchanged keeping
+    → Err stop ≡ stop_or_go (head_stop meta head unchanged) → EndsAtDevice meta keeping stop
+ends_by_heads keeping meta head unchanged stop finds is = inr (head, unchanged, finds, inl (stopped_by (head_stop meta head unchanged) stop (sym is)))
 
-pub ends_by_rows : (keeping read : Keeping) (meta : MetaSaid) (head : Head) (stop : Stop) → read ≡ keeping → WhereTold keeping (λ h. h.head ≡ Some head)
-    → head_stop meta head ≡ None
+pub ends_by_rows : (keeping read : Keeping) (meta : MetaSaid) (head : Head) (unchanged : Bool) (stop : Stop) → read ≡ keeping → FindsTold meta head unchanged keeping
+    → head_stop meta head unchanged ≡ None
     → ((fault : KeepFault) × (stop ≡ keep_stop fault))
     ⊎ ((fault : CheckFault) × (stop ≡ stops.OwnCheck fault) × WhereTold read (λ h. first_fault h.rows ≡ Some fault))
     → EndsAtDevice meta keeping stop
-ends_by_rows keeping read meta head stop same told pass (inl refused) = inl refused
-ends_by_rows keeping read meta head stop same told pass (inr (fault, own, unsound)) =
-    inr (head, told, inr (pass, (fault, own, subst (λ (k : Keeping). WhereTold k (λ h. first_fault h.rows ≡ Some fault)) same unsound)))
+ends_by_rows keeping read meta head unchanged stop same finds pass (inl refused) = inl refused
+ends_by_rows keeping read meta head unchanged stop same finds pass (inr (fault, own, unsound)) =
+    inr (head, unchanged, finds, inr (pass, (fault, own, subst (λ (k : Keeping). WhereTold k (λ h. first_fault h.rows ≡ Some fault)) same unsound)))
 
 -- the greeting, once its meta was granted and the clock gave this moment
 module _ (ids : Ids) (h0 h1 : Health) (w0 w1 : WireState) (old new : Option (List ℤ)) (keeping : Keeping) (meta : MetaSaid) (stop : Stop)

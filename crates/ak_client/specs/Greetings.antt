@@ -1,9 +1,11 @@
 -- How a sync begins: what it tests once its meta was answered, and what it knows then.
 use Rattle.std.specs.List.{AllByRecursion}
+use Rattle.std.specs.Option.{option_map, option_or}
 use Rattle.std.specs.Ordering.{int_eq}
-use Rattle.std.specs.Prelude.{◌≡◌, ◌≢◌, ℤ, pos, ◌+ℤ◌, ◌<ℤ◌, ◌||◌, Bool, not, int_lt, if◌then◌else◌, List, [], ◌++◌, Option, Some, None, Result, Ok, Err, IfOk, IfErr, ◌⊎◌}
+use Rattle.std.specs.Prelude.{◌≡◌, ℤ, pos, ◌+ℤ◌, ◌<ℤ◌, ◌||◌, ◌&&◌, Bool, not, int_lt, if◌then◌else◌, List, [], ◌++◌, Option, Some, None, option_and_then, Result, Ok, Err, IfOk, IfErr, ◌⊎◌}
 use Rattle.ak_base.specs.Limits.{last_head_usn}
 use Rattle.ak_base.specs.declared.heads.Head.{Head}
+use Rattle.ak_client.specs.Unsent.{has_unsent}
 use Rattle.ak_exchange.specs.Asked.{asker}
 use Rattle.ak_exchange.specs.Stops.{keep_stop, wire_stop}
 use Rattle.ak_exchange.specs.declared.envelopes.Ids.{Ids}
@@ -12,8 +14,8 @@ use Rattle.ak_exchange.specs.declared.stops.Stop.{Stop}
 use Rattle.ak_exchange.specs.declared.stops.Stop.TheVariants as stops
 use Rattle.ak_faults.specs.Causes.{Health}
 use Rattle.ak_io.specs.Arrivals.{GivesNext}
-use Rattle.ak_keep.specs.Collections.{Collection, Holding}
-use Rattle.ak_keep.specs.Keepers.{Keeping, WhereTold}
+use Rattle.ak_keep.specs.Collections.{Collection, Holding, Rows}
+use Rattle.ak_keep.specs.Keepers.{IsRightlyKnown, Keeping, WhereTold}
 use Rattle.ak_keep.specs.declared.keepers.KeepFault.{KeepFault}
 use Rattle.ak_merge.specs.Edits.{second_of}
 use Rattle.ak_merge.specs.Soundness.{first_fault}
@@ -46,23 +48,45 @@ clock_stop meta second =
     else if are_far_apart second meta.ts then Some (stops.ClockOff second meta.ts)
     else None
 
--- why it ends by the two heads: nothing changed, or the whole collection has to be sent
-abbrev pub head_stop : MetaSaid → Head → Option Stop
-head_stop meta head =
-    if int_eq head.moment meta.moment then Some stops.NoChanges
+-- whether the moments, the schema moments and the numbers of device and server are equal
+abbrev pub have_equal_heads : MetaSaid → Head → Bool
+have_equal_heads meta head = int_eq head.moment meta.moment && int_eq head.schema meta.scm && int_eq head.usn meta.usn
+
+-- whether there is nothing to sync: the heads are equal so, and the device, which holds these rows, has nothing to send
+abbrev pub is_unchanged : MetaSaid → Head → Rows → Bool
+is_unchanged meta head held = have_equal_heads meta head && not (has_unsent held head.tags)
+
+-- why it ends by the two heads: there is nothing to sync, or the whole collection has to be sent
+abbrev pub head_stop : MetaSaid → Head → Bool → Option Stop
+head_stop meta head unchanged =
+    if unchanged then Some stops.NoChanges
     else if not (int_eq head.schema meta.scm) then Some (stops.FullSchema head.schema meta.scm)
     else if int_eq meta.usn last_head_usn then Some (stops.FullSequence meta.usn)
     else None
 
+-- why it ends by the device, once the server and the clocks let it go on: by the two heads, or else by the first fault of its own rows
+abbrev pub device_stop : MetaSaid → Holding → Option Stop
+device_stop meta h = option_and_then (λ (head : Head). option_or (head_stop meta head (is_unchanged meta head h.rows))
+    (option_map (λ (fault : CheckFault). stops.OwnCheck fault) (first_fault h.rows))) h.head
+
 -- ---- why a greeting ends
--- once the clocks let it go on: the keeper refused; or the two heads do not let it, by the one that the device holds; or else the device's rows
--- are not sound
+-- what a greeting finds on a device: this head, and whether there is nothing to sync
+pub record Finds (meta : MetaSaid) (head : Head) (unchanged : Bool) (h : Holding) : Type 0 where
+  pub holds : h.head ≡ Some head
+  pub tells : unchanged ≡ is_unchanged meta head h.rows
+
+-- the same of a keeper that tells what it holds, which is well formed
+pub record FindsTold (meta : MetaSaid) (head : Head) (unchanged : Bool) (keeping : Keeping) : Type 0 where
+  pub known : IsRightlyKnown keeping
+  pub told : WhereTold keeping (Finds meta head unchanged)
+
+-- once the clocks let it go on: the keeper refused; or what it finds does not let it; or else the device's rows are not sound
 abbrev pub EndsAtDevice : MetaSaid → Keeping → Stop → Type 0
 EndsAtDevice meta keeping stop =
     ((fault : KeepFault) × (stop ≡ keep_stop fault))
-    ⊎ ((head : Head) × WhereTold keeping (λ h. h.head ≡ Some head)
-    × ((head_stop meta head ≡ Some stop)
-    ⊎ ((head_stop meta head ≡ None) × ((fault : CheckFault) × (stop ≡ stops.OwnCheck fault)
+    ⊎ ((head : Head) × (unchanged : Bool) × FindsTold meta head unchanged keeping
+    × ((head_stop meta head unchanged ≡ Some stop)
+    ⊎ ((head_stop meta head unchanged ≡ None) × ((fault : CheckFault) × (stop ≡ stops.OwnCheck fault)
     × WhereTold keeping (λ h. first_fault h.rows ≡ Some fault)))))
 
 -- the meta was not granted; or the server or the clocks, by the moment that the clock gave, do not let it go on; or else the device does not
@@ -111,8 +135,7 @@ GreetsTold ids told_before told_now result = (account : AccountState) (old : Log
 -- what a greeting knows of the device once the sync may go on: the head that it holds, and that it may sync by the meta
 pub record IsReady (h : Holding) (met : Met) : Type 0 where
   pub head : h.head ≡ Some met.head
-  pub pass : head_stop met.meta met.head ≡ None
-  pub differ : met.head.moment ≢ met.meta.moment
+  pub pass : head_stop met.meta met.head (is_unchanged met.meta met.head h.rows) ≡ None
   pub schema : met.head.schema ≡ met.meta.scm
   pub number : met.meta.usn <ℤ last_head_usn
   pub sound : first_fault h.rows ≡ None

@@ -3,3 +3,4 @@ pub mod Greetings
 pub mod Outcomes
 pub mod States
 pub mod Syncs
+pub mod Unsent

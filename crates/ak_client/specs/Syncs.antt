@@ -1,9 +1,8 @@
 -- What a sync asks and what it leaves, over a keeper that tells the device's collection c and a wire that tells the log of a server.
 use Rattle.std.specs.List.{AllByRecursion}
-use Rattle.std.specs.Option.{option_map, option_or}
-use Rattle.std.specs.Prelude.{◌≡◌, ℕ, zero, suc, ℤ, pos, ◌+◌, ◌/◌, ◌≤◌, ◌+ℤ◌, ◌==◌, Bool, true, false, if◌then◌else◌, List, [], ◌∷◌, ◌++◌, length, Option, Some, None, IfSome, option_and_then, Result, Ok, Err, ⊤, ◌⊎◌}
+use Rattle.std.specs.Prelude.{◌≡◌, ℕ, zero, suc, ℤ, pos, ◌+◌, ◌/◌, ◌≤◌, ◌+ℤ◌, ◌==◌, Bool, true, false, if◌then◌else◌, List, [], ◌∷◌, ◌++◌, length, Option, Some, None, IfSome, Result, Ok, Err, ⊤, ◌⊎◌}
 use Rattle.ak_base.specs.declared.heads.Head.{Head}
-use Rattle.ak_client.specs.Greetings.{clock_stop, head_stop, meta_of}
+use Rattle.ak_client.specs.Greetings.{clock_stop, device_stop, meta_of}
 use Rattle.ak_client.specs.Outcomes.{is_told_by_meta, outcome_at}
 use Rattle.ak_client.specs.declared.outcomes.Outcome.{Outcome}
 use Rattle.ak_client.specs.declared.outcomes.Outcome.TheVariants as outcomes
@@ -23,11 +22,10 @@ use Rattle.ak_keep.specs.declared.keepers.KeepFault.{KeepFault}
 use Rattle.ak_keep.specs.declared.keepers.Wanted.TheVariants.{From, Unsent}
 use Rattle.ak_merge.specs.Edits.{second_of}
 use Rattle.ak_merge.specs.Exchanges.{HoldsJoin, AreExchanged}
-use Rattle.ak_merge.specs.Holdings.{row_under}
-use Rattle.ak_merge.specs.Joins.{AreApart, joined_under}
+use Rattle.ak_merge.specs.Holdings.{SameContent, content_of, row_under}
+use Rattle.ak_merge.specs.Joins.{joined_under}
 use Rattle.ak_merge.specs.Links.{AreLinked}
-use Rattle.ak_merge.specs.Soundness.{IsSound, first_fault}
-use Rattle.ak_merge.specs.declared.checks.CheckFault.{CheckFault}
+use Rattle.ak_merge.specs.Soundness.{IsSound}
 use Rattle.ak_messages.specs.declared.replies.Reply.{Reply}
 use Rattle.ak_messages.specs.declared.requests.Ask.{Ask}
 use Rattle.ak_messages.specs.declared.requests.Ask.TheVariants as asks
@@ -58,11 +56,11 @@ pub record MayBegin (who : Asker) (c : Collection) (account : AccountState) (log
   pub linked : AreLinked c (world_at who account log).state.committed
 
 -- ---- what it leaves on the server
--- the one commit of a session whose meta was answered over this collection. If the device and that were apart, it holds the join of both
+-- the one commit of a session whose meta was answered over this collection: it holds the join of the device and that
 pub record JoinedAt (key : ℕ) (c base : Collection) (past : List Commit) : Type 0 where
   pub after : Collection
   pub only : commits_of key past ≡ record { key = key; before = base; after = after } ∷ []
-  pub joins : AreApart (row_under c) (row_under base) → HoldsJoin c base after
+  pub joins : HoldsJoin c base after
 
 -- a session committed nothing, or once, the join
 abbrev pub CommitsAtMostOnce : ℕ → Collection → Collection → List Commit → Type 0
@@ -87,7 +85,7 @@ StaysOnce who c base moment asks account now = (later : List Event)
 
 -- ---- what it leaves if it reports that it is finished
 -- the session committed once. The device holds d, whose moment and last sync are at that commit, and whose number is the one after the
--- server's. If device and server were apart, their join is sound, both hold it and are linked, and the device is linked with what is committed now
+-- server's. The join of device and server is sound, both hold it and are linked, and the device is linked with what is committed now
 pub record IsSyncFinished (who : Asker) (c base : Collection) (account : AccountState) (now : Log)
     (left : Keeping) : Type 0 where
   pub after : Collection
@@ -99,9 +97,9 @@ pub record IsSyncFinished (who : Asker) (c base : Collection) (account : Account
   pub last_sync : device.head.last_sync ≡ after.head.moment
   pub usn : device.head.usn ≡ base.head.usn +ℤ pos 1
   pub schema : device.head.schema ≡ c.head.schema
-  pub sound : AreApart (row_under c) (row_under base) → IsSound (joined_under (row_under c) (row_under base))
-  pub exchanged : AreApart (row_under c) (row_under base) → AreExchanged c base device after
-  pub linked : AreApart (row_under c) (row_under base) → AreLinked device (world_at who account now).state.committed
+  pub sound : IsSound (joined_under (row_under c) (row_under base))
+  pub exchanged : AreExchanged c base device after
+  pub linked : AreLinked device (world_at who account now).state.committed
 
 -- ---- a sync
 -- whether an outcome is told only of a sync that did not ask its finish. A keeper that refused may have refused the commit after it
@@ -152,17 +150,20 @@ pub record Synced (who : Asker) (moment : ℤ) (asks : List Ask) (c : Collection
   pub base : Collection
   pub at_meta : (asks ≡ []) ⊎ IsCommittedIn who account old growth base
   pub shown : IsShown who account base moment asks now
-  -- it asked its plan up to some place, if the device and that collection are apart
-  pub front : AreApart (row_under c) (row_under base) → (rest : List Ask) × (asks ++ rest ≡ planned c base)
+  -- it asked its plan up to some place
+  pub front : (rest : List Ask) × (asks ++ rest ≡ planned c base)
   -- that is at most 8 requests, its meta counted, and one more for each 250 of the graves that the device did not send yet, of the reviews,
   -- cards and notes of the server with at least the device's number, and of those that the device did not send yet
-  pub short : AreApart (row_under c) (row_under base) → length asks + 1 ≤ 8 + length (wanted_graves Unsent c.rows) / 250
+  pub short : length asks + 1 ≤ 8 + length (wanted_graves Unsent c.rows) / 250
       + length (wanted_in_chunks (From c.head.usn) base.rows) / 250 + length (wanted_in_chunks Unsent c.rows) / 250
   pub once : StaysOnce who c base moment asks account now
   -- it committed nothing, if it ended before its finish
   pub early : ends_before_finish outcome ≡ true → commits_of who.session.0 (world_at who account now).commits ≡ []
   pub finished : outcome ≡ outcomes.Finished → IsSyncFinished who c base account now left
-  pub fair : AreApart (row_under c) (row_under base) → IsFairEnd c base outcome
+  pub fair : IsFairEnd c base outcome
+  -- if it found nothing to sync, the device has the content of the collection that was committed at its meta
+  pub unchanged : outcome ≡ outcomes.NoChanges
+      → IsCommittedIn who account old growth base × SameContent (content_of c) (content_of base)
 
 -- the same wherever the keeper tells a collection with which the sync may begin, and the wire a log
 abbrev pub Syncs : Ids → ℤ → List Ask → Keeping → Keeping → Log → Log → Outcome → Type 0
@@ -248,11 +249,6 @@ pub record IsSync (ids : Ids) (before left : Keeping) (health_before health_now 
 abbrev pub told_by : Result Reply WireEnd → Option MetaSaid
 told_by (Ok reply) = if reply.status == 200 then meta_in reply.give else None
 told_by (Err end) = None
-
--- why a sync ends by the device, once the server and the clocks let it go on: by the two heads, or else by the first fault of its own rows
-abbrev pub device_stop : MetaSaid → Holding → Option Stop
-device_stop meta h = option_and_then (λ (head : Head). option_or (head_stop meta head)
-    (option_map (λ (fault : CheckFault). stops.OwnCheck fault) (first_fault h.rows))) h.head
 
 -- how a sync ends by what its meta said and the moment that the clock gave then. The server and the clocks come first, then the two heads,
 -- then the device's own rows

@@ -2,7 +2,7 @@ ghost use Rattle.std.specs.Prelude.{◌≡◌, ◌≤ℤ◌, ◌<ℤ◌, ℤ, po
 ghost use Rattle.ak_base.specs.Heads.{IsHeadInRange, IsWithin};
 ghost use Rattle.ak_base.specs.Limits.{last_head_usn};
 ghost use Rattle.ak_client.specs.Endings.{IsOfGreeting};
-ghost use Rattle.ak_client.specs.Greetings.{GreetsTold, IsGreeting, IsReady, are_far_apart, clock_stop, head_stop};
+ghost use Rattle.ak_client.specs.Greetings.{EndsAtDevice, GreetsTold, IsGreeting, IsReady, are_far_apart, clock_stop, have_equal_heads, head_stop, is_unchanged};
 ghost use Rattle.ak_client.specs.Outcomes.{outcome_at};
 ghost use Rattle.ak_client.specs.Syncs.{HasGiven, TakesMoments};
 ghost use Rattle.ak_exchange.specs.Stops.{is_keep, keep_stop, shows_bad_check, stop_or_go};
@@ -10,15 +10,16 @@ ghost use Rattle.ak_exchange.specs.declared.stops.Stop.TheVariants as stops;
 ghost use Rattle.ak_faults.specs.Causes.{HasCauseOf};
 ghost use Rattle.ak_io.specs.Arrivals.{GivesNext, IsClockMoment};
 ghost use Rattle.ak_keep.specs.Keepers.{IsRightlyKnown, WhereTold};
-ghost use Rattle.ak_keep.specs.declared.keepers.KeepFault.{KeepFault};
+ghost use Rattle.ak_keep.specs.Readings.{ReadsBy};
 ghost use Rattle.ak_merge.specs.Edits.{second_of};
 ghost use Rattle.ak_merge.specs.Soundness.{first_fault};
 ghost use Rattle.ak_merge.specs.declared.checks.CheckFault.{CheckFault};
 
+use crate::unsent::has_unsent;
 use ak_base::{Head, LAST_HEAD_USN};
 use ak_exchange::{Ids, Met, Stop, meta_request};
 use ak_io::Clock;
-use ak_keep::Keeper;
+use ak_keep::{KeepFault, Keeper};
 use ak_merge::check;
 use ak_parts::head_of;
 use ak_wires::{MetaSaid, Wire, ask_meta};
@@ -26,8 +27,8 @@ use ak_wires::{MetaSaid, Wire, ask_meta};
 /// The most seconds that two clocks may be apart.
 const MOST_APART: i64 = 300;
 
-/// Sends the meta, and tests what it says: whether the sync may go on, the clocks, the moments, the schema moments, the
-/// server's number, and the device's own check. Nothing is marked or changed.
+/// Sends the meta, and tests what it says: whether the sync may go on, the clocks, whether there is something to sync, the
+/// schema moments, the server's number, and the device's own check. Nothing is marked or changed.
 pub(crate) fn greet<K: Keeper, W: Wire, C: Clock>(
     keeper: &mut K,
     wire: &mut W,
@@ -67,12 +68,7 @@ pub(crate) fn greet<K: Keeper, W: Wire, C: Clock>(
     let at = clock.now();
     let second = second_of(at);
     test_clocks(meta, second)?;
-    // For the proof alone: they say that what the keeper tells is well formed.
-    let _checks = keeper.marked();
-    let _formed = keeper.held();
-    let head = head_of(keeper)?;
-    test_heads(meta, &head)?;
-    test_rows(keeper)?;
+    let head = test_device(keeper, meta)?;
     Ok(Met { meta, head })
 }
 
@@ -112,13 +108,56 @@ fn are_far_apart(device: i64, server: i64) -> bool
     server < device - MOST_APART || device + MOST_APART < server
 }
 
+/// Reads the device's head, and tests whether there is something to sync, no need to send the whole collection, and
+/// whether the device's own collection is sound.
+fn test_device<K: Keeper>(keeper: &mut K, meta: MetaSaid) -> Result<Head, Stop>
+    requires held { (K.keeping keeper.old).headed.current ≡ true }
+    requires usn { IsWithin (pos 0) last_head_usn meta.usn }
+    ensures ready { IfOk result (λ head. WhereTold (K.keeping keeper.old) (λ h. IsReady h (record { meta = meta; head = head }))) }
+    ensures number { IfOk result (λ head. meta.usn <ℤ last_head_usn) }
+    ensures head { IfOk result IsHeadInRange }
+    ensures known { IfOk result (λ head. IsRightlyKnown (K.keeping keeper.old)) }
+    ensures same { K.keeping keeper.new ≡ K.keeping keeper.old }
+    ensures ends { IfErr result (EndsAtDevice meta (K.keeping keeper.old)) }
+    ensures early { IfErr result IsOfGreeting }
+    ensures keeper { HasCauseOf stops.Keep (K.health keeper.old) (K.health keeper.new) result }
+{
+    let head = head_of(keeper)?;
+    let unchanged = is_unchanged(keeper, meta, &head)?;
+    test_heads(meta, &head, unchanged)?;
+    test_rows(keeper)?;
+    Ok(head)
+}
+
+/// Whether there is nothing to sync. No row is read if moments, schema moments or numbers differ.
+fn is_unchanged<K: Keeper>(keeper: &mut K, meta: MetaSaid, head: &Head) -> Result<bool, KeepFault>
+    ensures reads { ReadsBy K.Lookup keeper.old keeper.new result (λ h unchanged. unchanged ≡ is_unchanged meta head.now h.rows) }
+    ensures unread { have_equal_heads meta head.now ≡ false → keeper.new ≡ keeper.old }
+    ensures known { IsRightlyKnown (K.keeping keeper.old) }
+{
+    // For the proof alone: they say that what the keeper tells is well formed.
+    let _checks = keeper.marked();
+    let _formed = keeper.held();
+    if !have_equal_heads(meta, head) {
+        return Ok(false);
+    }
+    Ok(!has_unsent(keeper, head.tags.as_slice())?)
+}
+
+/// Whether moments, schema moments and numbers of device and server are equal.
+fn have_equal_heads(meta: MetaSaid, head: &Head) -> bool
+    ensures { result ≡ have_equal_heads meta head.now }
+{
+    head.moment == meta.moment && head.schema == meta.scm && head.usn == meta.usn
+}
+
 /// Whether there is something to sync, and no need to send the whole collection.
-fn test_heads(meta: MetaSaid, head: &Head) -> Result<(), Stop>
-    ensures stop { result ≡ stop_or_go (head_stop meta head.now) }
+fn test_heads(meta: MetaSaid, head: &Head, unchanged: bool) -> Result<(), Stop>
+    ensures stop { result ≡ stop_or_go (head_stop meta head.now unchanged) }
     ensures early { IfErr result IsOfGreeting }
     ensures unkept { IfErr result (λ stop. is_keep stop ≡ false) }
 {
-    if head.moment == meta.moment {
+    if unchanged {
         return Err(Stop::NoChanges);
     }
     if head.schema != meta.scm {

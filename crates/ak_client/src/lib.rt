@@ -7,6 +7,7 @@ mod outcomes;
 mod states;
 mod sync_laws;
 mod syncs;
+mod unsent;
 
 pub use ak_exchange::Ids;
 pub use outcomes::Outcome;

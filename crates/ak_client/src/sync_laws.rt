@@ -8,8 +8,8 @@ ghost use Rattle.ak_device.specs.Devices.{advanced_moment};
 ghost use Rattle.ak_keep.specs.Collections.{Collection};
 ghost use Rattle.ak_keep.specs.Keepers.{Keeping};
 ghost use Rattle.ak_merge.specs.Exchanges.{AreExchanged, HoldsJoin};
-ghost use Rattle.ak_merge.specs.Holdings.{SameContent, content_of, row_under};
-ghost use Rattle.ak_merge.specs.Joins.{AreApart, join};
+ghost use Rattle.ak_merge.specs.Holdings.{SameContent, content_of};
+ghost use Rattle.ak_merge.specs.Joins.{join};
 ghost use Rattle.ak_protocol.specs.Accounts.{AccountState};
 ghost use Rattle.ak_protocol.specs.Commits.{EachNewer, HasFreshSchema};
 ghost use Rattle.ak_protocol.specs.Logs.{Event, Log, IsTimely, with_growth};
@@ -26,7 +26,7 @@ pub fn lost_finishes_heal()
 {}
 
 /// After a sync the next one may begin, with a session key that nothing but metas bears: with the device as it was, if it is not
-/// finished; with what a finished one left, if the two were apart; and after a bad sanity check with a device whose schema moment is not
+/// finished; with what a finished one left; and after a bad sanity check with a device whose schema moment is not
 /// that of what is committed. So it is not, if that is still the device's old one and this was not the last moment.
 pub fn syncs_may_go_on()
     ensures unfinished { (who next : Asker) (c : Collection) (account : AccountState) (old : Log) (growth : List Event)
@@ -38,7 +38,7 @@ pub fn syncs_may_go_on()
         → (growth : List Event) (left : Keeping) → MayBegin who c account old → AllByRecursion IsTimely growth → next.host ≡ who.host
         → IsUnused next.host.digits next.session.0 account (with_growth old growth)
         → (it : IsSyncFinished who c base account (with_growth old growth) left)
-        → AreApart (row_under c) (row_under base) → MayBegin next it.device account (with_growth old growth) }
+        → MayBegin next it.device account (with_growth old growth) }
     ensures parted { (who next : Asker) (c : Collection) (head : Head) (account : AccountState) (old : Log)
         → (growth : List Event) → MayBegin who c account old → AllByRecursion IsTimely growth → next.host ≡ who.host
         → IsUnused next.host.digits next.session.0 account (with_growth old growth)

@@ -9,9 +9,9 @@ use Rattle.std.proofs.lemmas.List.{append_cancel_left}
 use Rattle.std.proofs.lemmas.Option.{none-some, same_Some}
 use Rattle.ak_base.specs.Limits.{last_head_usn}
 use Rattle.ak_base.specs.declared.heads.Head.{Head}
-use Rattle.ak_client.specs.Greetings.{are_far_apart, clock_stop, head_stop, meta_of}
+use Rattle.ak_client.specs.Greetings.{are_far_apart, clock_stop, device_stop, head_stop, is_unchanged, meta_of}
 use Rattle.ak_client.specs.Outcomes.{is_told_by_meta, outcome_at}
-use Rattle.ak_client.specs.Syncs.{EndsBecause, EndsByMeta, device_stop, told_by}
+use Rattle.ak_client.specs.Syncs.{EndsBecause, EndsByMeta, told_by}
 use Rattle.ak_client.specs.declared.outcomes.Outcome.{Outcome}
 use Rattle.ak_client.specs.declared.outcomes.Outcome.TheVariants as outcomes
 use Rattle.ak_exchange.specs.Asked.{TriedAsk}
@@ -110,13 +110,13 @@ clock_told meta second stop = by (not meta.cont) (are_far_apart second meta.ts)
     by false false is = absurd (none-some stop is)
 
 -- heads of two schema moments end it too
-head_told : (meta : MetaSaid) (head : Head) → head.schema ≢ meta.scm
-    → (stop : Stop) × (head_stop meta head ≡ Some stop) × (is_told_by_meta (outcome_at stop) ≡ true)
-head_told meta head differ =
-    by (int_eq head.moment meta.moment) (int_eq head.schema meta.scm) (int_eq meta.usn last_head_usn) refl
+head_told : (meta : MetaSaid) (head : Head) (unchanged : Bool) → head.schema ≢ meta.scm
+    → (stop : Stop) × (head_stop meta head unchanged ≡ Some stop) × (is_told_by_meta (outcome_at stop) ≡ true)
+head_told meta head unchanged differ =
+    by unchanged (int_eq head.schema meta.scm) (int_eq meta.usn last_head_usn) refl
   where
-    by : (moments schemas last : Bool) → int_eq head.schema meta.scm ≡ schemas
-        → (stop : Stop) × ((if moments then Some stops.NoChanges else if not schemas then Some (stops.FullSchema head.schema meta.scm)
+    by : (same schemas last : Bool) → int_eq head.schema meta.scm ≡ schemas
+        → (stop : Stop) × ((if same then Some stops.NoChanges else if not schemas then Some (stops.FullSchema head.schema meta.scm)
         else if last then Some (stops.FullSequence meta.usn) else None) ≡ Some stop) × (is_told_by_meta (outcome_at stop) ≡ true)
     by true schemas last is = (stops.NoChanges, refl, refl)
     by false false last is = (stops.FullSchema head.schema meta.scm, refl, refl)
@@ -135,12 +135,12 @@ module _ (meta : MetaSaid) (at : ℤ) (c : Collection) (outcome : Outcome) (ends
   by_clock : (o : Option Stop) → clock_stop meta (second_of at) ≡ o → c.head.schema ≢ meta.scm → ⊥
   by_clock (Some stop) is differ = told_so stop (clock_told meta (second_of at) stop is) (ends.by_clocks stop is)
   by_clock None is differ =
-      let told = head_told meta c.head differ in
+      let told = head_told meta c.head (is_unchanged meta c.head c.rows) differ in
       let stop_is : device_stop meta (held_by c) ≡ Some told.0 =
       ap (λ (o : Option Stop). option_or o (option_map (λ (fault : CheckFault). stops.OwnCheck fault) (first_fault c.rows))) told.1 in
       either told (ends.by_device is told.0 stop_is)
     where
-      either : (told : (stop : Stop) × (head_stop meta c.head ≡ Some stop) × (is_told_by_meta (outcome_at stop) ≡ true))
+      either : (told : (stop : Stop) × (head_stop meta c.head (is_unchanged meta c.head c.rows) ≡ Some stop) × (is_told_by_meta (outcome_at stop) ≡ true))
           → (outcome ≡ outcome_at told.0) ⊎ ((fault : KeepFault) × (outcome ≡ outcome_at (keep_stop fault))) → ⊥
       either told (inl is) = told_so told.0 told.2 is
       either told (inr kept) = not_kept kept.0 kept.1

@@ -20,8 +20,6 @@ use Rattle.ak_keep.specs.Collections.{Collection}
 use Rattle.ak_keep.specs.declared.keepers.Wanted.TheVariants.{From, Unsent}
 use Rattle.ak_merge.proofs.SoundLaws.{sound_has_no_fault}
 use Rattle.ak_merge.specs.Commits.{IsCommitted}
-use Rattle.ak_merge.specs.Holdings.{row_under}
-use Rattle.ak_merge.specs.Joins.{AreApart}
 use Rattle.ak_merge.specs.Links.{AreLinked}
 use Rattle.ak_merge.specs.Soundness.{first_fault}
 use Rattle.ak_merge.specs.declared.checks.CheckFault.{CheckFault}
@@ -52,7 +50,7 @@ use Rattle.ak_wires.specs.declared.wires.MetaSaid.{MetaSaid}
 -- ---- the two sides
 module _ (c s : Collection) (joinable : AreJoinable c s) (lawful : IsCommitted s) (linked : AreLinked c s) where
   may_sync : MaySync c s
-  may_sync = sides_may_sync c s joinable.formed joinable.schema linked lawful joinable.apart
+  may_sync = sides_may_sync c s joinable.formed joinable.schema linked lawful
 
   device_sound : first_fault c.rows ≡ None
   device_sound = (sound_has_no_fault c.rows (named_of c joinable.formed) (checked_of c joinable.formed)).1 joinable.sound
@@ -154,7 +152,7 @@ module _ (ids : Ids) (c : Collection) (account : AccountState) (before after : S
       inr (
         same,
         subst (λ (k : Collection). (rest : List Ask) × (asked ++ rest ≡ planned c k)) base
-            (synced.front (subst (λ (k : Collection). AreApart (row_under c) (row_under k)) (sym base) it.joinable.apart)),
+            synced.front,
       )
 
   -- a refusal is want of memory
@@ -198,7 +196,7 @@ module _ (ids : Ids) (c : Collection) (account : AccountState) (before after : S
       by (inl none) = inl none
       by (inr (same, base)) =
           inr (subst (λ (k : Collection). IsFairEnd c k outcome) base
-          (synced.fair (subst (λ (k : Collection). AreApart (row_under c) (row_under k)) (sym base) it.joinable.apart)))
+          synced.fair)
 
   bad_row : (fault : CheckFault) → outcome ≡ outcomes.BadRow fault → (own.tries ≡ [] ⊎ IsFairEnd c held outcome) → ⊥
   bad_row fault is (inl none) =

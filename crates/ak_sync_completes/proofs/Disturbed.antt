@@ -9,9 +9,9 @@ use Rattle.std.proofs.lemmas.Option.{same_Some}
 use Rattle.ak_base.specs.Limits.{last_head_usn}
 use Rattle.ak_client.proofs.Growing.{HasGrown, lawful_grown, timely_growth, tried_grows}
 use Rattle.ak_client.proofs.Meeting.{linked_at_meta}
-use Rattle.ak_client.specs.Greetings.{IsMetOver, are_far_apart, clock_stop, meta_of}
+use Rattle.ak_client.specs.Greetings.{IsMetOver, are_far_apart, clock_stop, device_stop, is_unchanged, meta_of}
 use Rattle.ak_client.specs.Outcomes.{HasOutcomeCause, is_told_by_meta, outcome_at}
-use Rattle.ak_client.specs.Syncs.{EndsAt, EndsByMeta, IsCommittedIn, IsShown, IsSync, device_stop, meta_tried, told_by, world_at}
+use Rattle.ak_client.specs.Syncs.{EndsAt, EndsByMeta, IsCommittedIn, IsShown, IsSync, meta_tried, told_by, world_at}
 use Rattle.ak_client.specs.declared.outcomes.Outcome.{Outcome}
 use Rattle.ak_client.specs.declared.outcomes.Outcome.TheVariants as outcomes
 use Rattle.ak_exchange.proofs.Tried.{answers_append, tried_reads}
@@ -30,7 +30,7 @@ use Rattle.ak_keep.specs.declared.keepers.KeepFault.TheVariants as faults
 use Rattle.ak_merge.specs.Commits.{IsCommitted}
 use Rattle.ak_merge.specs.Edits.{second_of}
 use Rattle.ak_merge.specs.Holdings.{row_under}
-use Rattle.ak_merge.specs.Joins.{AreApart, joined_under}
+use Rattle.ak_merge.specs.Joins.{joined_under}
 use Rattle.ak_merge.specs.Links.{AreLinked}
 use Rattle.ak_merge.specs.Soundness.{IsLeastFault, first_fault}
 use Rattle.ak_merge.specs.declared.checks.CheckFault.{CheckFault}
@@ -118,7 +118,7 @@ clocks_pass said second outcome later = by said.cont (are_far_apart second said.
 schemas_agree : (said : MetaSaid) (c : Collection) (outcome : Outcome) → is_later outcome ≡ true
     → ((stop : Stop) → device_stop said (held_by c) ≡ Some stop → (outcome ≡ outcome_at stop) ⊎ ((fault : KeepFault) × (outcome ≡ outcome_at (keep_stop fault))))
     → c.head.schema ≡ said.scm
-schemas_agree said c outcome later = by (int_eq c.head.moment said.moment) (int_eq c.head.schema said.scm) refl
+schemas_agree said c outcome later = by (is_unchanged said c.head c.rows) (int_eq c.head.schema said.scm) refl
   where
     never : (stop : Stop) → is_later (outcome_at stop) ≡ false
         → (outcome ≡ outcome_at stop) ⊎ ((fault : KeepFault) × (outcome ≡ outcome_at (keep_stop fault))) → ⊥
@@ -126,8 +126,8 @@ schemas_agree said c outcome later = by (int_eq c.head.moment said.moment) (int_
     never stop other (inr (faults.Failed, is)) = not_both later (ap is_later is)
     never stop other (inr (faults.Memory, is)) = not_both later (ap is_later is)
 
-    by : (moments schemas : Bool) → int_eq c.head.schema said.scm ≡ schemas
-        → ((stop : Stop) → option_or (if moments then Some stops.NoChanges
+    by : (unchanged schemas : Bool) → int_eq c.head.schema said.scm ≡ schemas
+        → ((stop : Stop) → option_or (if unchanged then Some stops.NoChanges
         else if not schemas then Some (stops.FullSchema c.head.schema said.scm)
         else if int_eq said.usn last_head_usn then Some (stops.FullSequence said.usn)
         else None) (option_map (λ (fault : CheckFault). stops.OwnCheck fault) (first_fault c.rows)) ≡ Some stop
@@ -273,10 +273,9 @@ module _ (ids : Ids) (c : Collection) (account : AccountState) (before after : S
     may_sync : MaySync c s
     may_sync =
         sides_may_sync c s it.formed schema_is linked (committed_over s first_call.0 over)
-        (subst (λ (k : Collection). AreApart (row_under c) (row_under k)) same it.apart)
 
     asked_of : IsAskedOf c s own.moment asked
-    asked_of = inr (moment_is, subst (λ (k : Collection). (more : List Ask) × (asked ++ more ≡ planned c k)) same (it.synced.front it.apart))
+    asked_of = inr (moment_is, subst (λ (k : Collection). (more : List Ask) × (asked ++ more ≡ planned c k)) same it.synced.front)
 
     last_tried : TriedLast later_requests (answers_in rest) last.answer own.tried.0 after.health own.tried.1 after.wire
     last_tried =

@@ -2,15 +2,16 @@
 use Rattle.std.specs.List.{AllByRecursion}
 use Rattle.std.specs.Option.{option_map, option_or}
 use Rattle.std.specs.Ordering.{int_eq}
-use Rattle.std.specs.Prelude.{◌≡◌, ◌≢◌, ◌<ℤ◌, ℤ, not, if◌then◌else◌, Bool, true, false, List, [], ◌∷◌, ◌++◌, Option, Some, None, Ok, Err, ◌⊎◌}
+use Rattle.std.specs.Prelude.{◌≡◌, ◌<ℤ◌, ◌&&◌, ℤ, not, if◌then◌else◌, Bool, true, false, List, [], ◌∷◌, ◌++◌, Option, Some, None, Ok, Err, ◌⊎◌}
 use Rattle.std.proofs.Common.{refl, sym, ap, subst, ◌∙◌, inl, inr, arith, append_assoc}
 use Rattle.std.proofs.lemmas.Int.{ints}
 use Rattle.std.proofs.lemmas.Option.{none-some, same_Some}
 use Rattle.ak_base.specs.Limits.{last_head_usn}
 use Rattle.ak_client.proofs.Growing.{HasGrown, tried_grows, world_grown}
-use Rattle.ak_client.specs.Greetings.{are_far_apart, clock_stop, head_stop, meta_of}
+use Rattle.ak_client.specs.Greetings.{are_far_apart, clock_stop, device_stop, head_stop, is_unchanged, meta_of}
+use Rattle.ak_client.specs.Unsent.{has_unsent}
 use Rattle.ak_client.specs.Outcomes.{is_told_by_meta}
-use Rattle.ak_client.specs.Syncs.{EndsBecause, EndsByMeta, device_stop, told_by, world_at}
+use Rattle.ak_client.specs.Syncs.{EndsBecause, EndsByMeta, told_by, world_at}
 use Rattle.ak_client.specs.declared.outcomes.Outcome.{Outcome}
 use Rattle.ak_exchange.specs.Asked.{AreTried, TriedAsk, asker}
 use Rattle.ak_exchange.specs.Phases.{held_by, holding}
@@ -35,7 +36,7 @@ use Rattle.ak_protocol.specs.Logs.{Event, View, Asked, IsReplyIn, Log, World, wi
 use Rattle.ak_protocol.specs.Replies.{granted, meta_reply}
 use Rattle.ak_protocol.specs.Serving.{Setback, Undisturbed, KeeperFault, OutOfMemory, served}
 use Rattle.ak_sync_completes.proofs.Serving.{Answer, all_own, same_growth, reply_at_place, served_alone, servings_are_of}
-use Rattle.ak_sync_completes.specs.Completing.{IsMetaNear}
+use Rattle.ak_sync_completes.specs.Completing.{IsMetaNear, have_nothing_to_sync}
 use Rattle.ak_wires.specs.Forms.{is_meta_in_range, meta_told}
 use Rattle.ak_wires.specs.Wires.{IsServing, WireState}
 use Rattle.ak_wires.specs.declared.wires.MetaSaid.{MetaSaid}
@@ -134,17 +135,21 @@ clocks_pass s at said says =
     ap (λ (b : Bool). if not b then Some stops.Stopped else if are_far_apart (second_of at) said.ts then Some (stops.ClockOff (second_of at) said.ts) else None) says.cont
     ∙ ap (λ (b : Bool). if b then Some (stops.ClockOff (second_of at) said.ts) else None) says.near
 
-module _ (c s : Collection) (schema : c.head.schema ≡ s.head.schema) (differ : c.head.moment ≢ s.head.moment) (room : s.head.usn <ℤ last_head_usn)
+module _ (c s : Collection) (schema : c.head.schema ≡ s.head.schema) (differ : have_nothing_to_sync c s ≡ false) (room : s.head.usn <ℤ last_head_usn)
     (sound : first_fault c.rows ≡ None) (at : ℤ) (said : MetaSaid) (says : Says s at said) where
-  heads_pass : head_stop said c.head ≡ None
+  heads_pass : head_stop said c.head (is_unchanged said c.head c.rows) ≡ None
   heads_pass =
       ap (λ (b : Bool). if b then Some stops.NoChanges else if not (int_eq c.head.schema said.scm) then Some (stops.FullSchema c.head.schema said.scm)
-      else if int_eq said.usn last_head_usn then Some (stops.FullSequence said.usn) else None) moments
+      else if int_eq said.usn last_head_usn then Some (stops.FullSequence said.usn) else None) changed
       ∙ ap (λ (b : Bool). if not b then Some (stops.FullSchema c.head.schema said.scm) else if int_eq said.usn last_head_usn then Some (stops.FullSequence said.usn) else None) schemas
       ∙ ap (λ (b : Bool). if b then Some (stops.FullSequence said.usn) else None) numbers
     where
-      moments : int_eq c.head.moment said.moment ≡ false
-      moments = let is = says.moment in grind (arith, ints, is, differ)
+      changed : is_unchanged said c.head c.rows ≡ false
+      changed =
+          ap (λ (moment : ℤ). (int_eq c.head.moment moment && int_eq c.head.schema said.scm && int_eq c.head.usn said.usn) && not (has_unsent c.rows c.head.tags)) says.moment
+          ∙ ap (λ (scm : ℤ). (int_eq c.head.moment s.head.moment && int_eq c.head.schema scm && int_eq c.head.usn said.usn) && not (has_unsent c.rows c.head.tags)) says.schema
+          ∙ ap (λ (usn : ℤ). (int_eq c.head.moment s.head.moment && int_eq c.head.schema s.head.schema && int_eq c.head.usn usn) && not (has_unsent c.rows c.head.tags)) says.usn
+          ∙ differ
 
       schemas : int_eq c.head.schema said.scm ≡ true
       schemas = let is = says.schema in grind (arith, ints, is, schema)
@@ -165,7 +170,7 @@ gives_told at other (next ∷ later) new given = given.0
 -- a sync does not end at such a meta
 pub goes_on_after : (ids : Ids) (c s : Collection) (answer : Answer) (moment at : ℤ) (later : List ℤ) (tries : List TriedAsk) (before : Keeping) (moments : Option (List ℤ)) (outcome : Outcome)
     → ((said : MetaSaid) → told_by answer ≡ Some said → Says s at said)
-    → c.head.schema ≡ s.head.schema → c.head.moment ≢ s.head.moment → s.head.usn <ℤ last_head_usn → first_fault c.rows ≡ None
+    → c.head.schema ≡ s.head.schema → have_nothing_to_sync c s ≡ false → s.head.usn <ℤ last_head_usn → first_fault c.rows ≡ None
     → before ≡ holding c → moments ≡ Some (at ∷ later) → EndsBecause answer moment tries before moments outcome
     → is_told_by_meta outcome ≡ true → ⊥
 goes_on_after ids c s answer moment at later tries before moments outcome says schema differ room sound holds clock because told = by (told_by answer) refl

@@ -9,7 +9,6 @@ use Rattle.ak_keep.proofs.RowsByName.{all_gets, named-get}
 use Rattle.ak_keep.specs.Collections.{Collection, IsWellFormed}
 use Rattle.ak_merge.specs.Commits.{IsCommitted}
 use Rattle.ak_merge.specs.Holdings.{AreChecked, AreNamed, row_under}
-use Rattle.ak_merge.specs.Joins.{AreApart}
 use Rattle.ak_merge.specs.Links.{AreLinked, AreLinkedParts}
 use Rattle.ak_session.specs.Sessions.{MaySync}
 
@@ -25,10 +24,9 @@ linked_parts : (c s : Collection) → c.head.schema ≡ s.head.schema → AreLin
 linked_parts c s same (inl other) = absurd (other same)
 linked_parts c s same (inr all) = all
 
--- two sides of one schema moment that are linked and apart may sync
-pub sides_may_sync : (c s : Collection) → IsWellFormed (held_by c) → c.head.schema ≡ s.head.schema → AreLinked c s → IsCommitted s
-    → AreApart (row_under c) (row_under s) → MaySync c s
-sides_may_sync c s formed schema linked lawful apart = record {
+-- two sides of one schema moment that are linked may sync
+pub sides_may_sync : (c s : Collection) → IsWellFormed (held_by c) → c.head.schema ≡ s.head.schema → AreLinked c s → IsCommitted s → MaySync c s
+sides_may_sync c s formed schema linked lawful = record {
   linked = linked_parts c s schema linked;
   named = named_of c formed;
   checked = checked_of c formed;

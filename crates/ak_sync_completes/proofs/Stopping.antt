@@ -5,9 +5,9 @@ use Rattle.std.specs.Prelude.{◌≡◌, ◌⊎◌, ℤ, not, if◌then◌else�
 use Rattle.std.proofs.Common.{refl, sym, ap, subst, ◌∙◌, inl, inr}
 use Rattle.std.proofs.lemmas.Option.{none-some, same_Some}
 use Rattle.ak_base.specs.Limits.{last_head_usn}
-use Rattle.ak_client.specs.Greetings.{are_far_apart, clock_stop, meta_of}
+use Rattle.ak_client.specs.Greetings.{are_far_apart, clock_stop, device_stop, is_unchanged, meta_of}
 use Rattle.ak_client.specs.Outcomes.{is_told_by_meta, outcome_at}
-use Rattle.ak_client.specs.Syncs.{IsSyncEnded, device_stop, told_by}
+use Rattle.ak_client.specs.Syncs.{IsSyncEnded, told_by}
 use Rattle.ak_client.specs.declared.outcomes.Outcome.{Outcome}
 use Rattle.ak_client.specs.declared.outcomes.Outcome.TheVariants as outcomes
 use Rattle.ak_exchange.specs.Asked.{AreTried, answers_in, asker, asks_in}
@@ -54,14 +54,14 @@ clocks_other said second stop goes is =
 
 -- and neither does the device
 device_other : (said : MetaSaid) (c : Collection) (stop : Stop) → device_stop said (held_by c) ≡ Some stop → is_stopped (outcome_at stop) ≡ false
-device_other said c stop = by (int_eq c.head.moment said.moment) (int_eq c.head.schema said.scm) (int_eq said.usn last_head_usn)
+device_other said c stop = by (is_unchanged said c.head c.rows) (int_eq c.head.schema said.scm) (int_eq said.usn last_head_usn)
   where
     own : (o : Option CheckFault) → option_map (λ (fault : CheckFault). stops.OwnCheck fault) o ≡ Some stop → is_stopped (outcome_at stop) ≡ false
     own None found = absurd (none-some stop found)
     own (Some fault) found = ap (λ (s : Stop). is_stopped (outcome_at s)) (sym (same_Some (stops.OwnCheck fault) stop found))
 
-    by : (moments schemas last : Bool)
-        → option_or (if moments then Some stops.NoChanges
+    by : (unchanged schemas last : Bool)
+        → option_or (if unchanged then Some stops.NoChanges
         else if not schemas then Some (stops.FullSchema c.head.schema said.scm)
         else if last then Some (stops.FullSequence said.usn)
         else None) (option_map (λ (fault : CheckFault). stops.OwnCheck fault) (first_fault c.rows)) ≡ Some stop → is_stopped (outcome_at stop) ≡ false

@@ -6,16 +6,14 @@ use Rattle.ak_exchange.specs.Asked.{asker, asks_in}
 use Rattle.ak_exchange.specs.Phases.{held_by, holding}
 use Rattle.ak_exchange.specs.declared.envelopes.Ids.{Ids}
 use Rattle.ak_keep.specs.Collections.{Collection, IsWellFormed}
-use Rattle.ak_merge.specs.Holdings.{row_under}
-use Rattle.ak_merge.specs.Joins.{AreApart}
 use Rattle.ak_protocol.specs.Accounts.{AccountState}
 use Rattle.ak_protocol.specs.Commits.{EachNewer, HasFreshSchema}
 use Rattle.ak_protocol.specs.Logs.{Log}
 use Rattle.ak_sync_completes.specs.Completing.{SyncEnds}
 
 -- a sync of a device's c, which its keeper tells, ended so. It might begin over the log that its wire told: an account has its host key and is
--- lawful, nothing but metas has its session key so far, and the device is linked. No upload meanwhile gave just the device's schema moment, and
--- the device was apart from the collection that was committed at its meta. Others may use the server too
+-- lawful, nothing but metas has its session key so far, and the device is linked. No upload meanwhile gave just the device's schema moment. Others
+-- may use the server too
 pub record IsSyncTold (ids : Ids) (c : Collection) (account : AccountState) (before after : SyncEnds) (outcome : Outcome) : Type 0 where
   pub old : Log
   pub now : Log
@@ -29,4 +27,3 @@ pub record IsSyncTold (ids : Ids) (c : Collection) (account : AccountState) (bef
   -- what is promised of it, and what that makes of this log: this follows from the others, and stands here to name the collection at its meta
   pub ended : IsSyncEnded ids before.keeping after.keeping before.health after.health before.wire after.wire before.moments outcome
   pub synced : Synced (asker ids) ended.sync.moment (asks_in ended.sync.tries) c account old now after.keeping outcome
-  pub apart : AreApart (row_under c) (row_under synced.base)

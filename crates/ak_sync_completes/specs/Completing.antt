@@ -1,9 +1,11 @@
 -- When nothing stops a sync, and how it ends then.
 use Rattle.std.specs.List.{AllByRecursion}
-use Rattle.std.specs.Prelude.{◌≡◌, ◌≢◌, ◌⊎◌, ◌<◌, ℤ, true, false, List, [], ◌∷◌, length, Option, Some, ⊤}
+use Rattle.std.specs.Ordering.{int_eq}
+use Rattle.std.specs.Prelude.{◌≡◌, ◌≢◌, ◌⊎◌, ◌<◌, ◌&&◌, ℤ, Bool, true, false, not, List, [], ◌∷◌, length, Option, Some, ⊤}
 use Rattle.ak_client.specs.Greetings.{are_far_apart}
 use Rattle.ak_client.specs.Outcomes.{HasOutcomeCause}
 use Rattle.ak_client.specs.Syncs.{IsSyncEnded, MayBegin, world_at}
+use Rattle.ak_client.specs.Unsent.{has_unsent}
 use Rattle.ak_client.specs.declared.outcomes.Outcome.{Outcome}
 use Rattle.ak_client.specs.declared.outcomes.Outcome.TheVariants as outcomes
 use Rattle.ak_exchange.specs.Asked.{asker}
@@ -15,7 +17,7 @@ use Rattle.ak_keep.specs.Keepers.{Keeping}
 use Rattle.ak_keep.specs.declared.keepers.Wanted.TheVariants.{From, Unsent}
 use Rattle.ak_merge.specs.Edits.{second_of}
 use Rattle.ak_merge.specs.Holdings.{row_under}
-use Rattle.ak_merge.specs.Joins.{AreApart, joined_under}
+use Rattle.ak_merge.specs.Joins.{joined_under}
 use Rattle.ak_merge.specs.Soundness.{IsSound}
 use Rattle.ak_protocol.specs.Accounts.{AccountState}
 use Rattle.ak_protocol.specs.Logs.{Event, View, Asked, Log, with_growth}
@@ -45,15 +47,19 @@ pub record IsSyncOver (ids : Ids) (before after : SyncEnds) (outcome : Outcome) 
   pub lost : HasOutcomeCause outcomes.Lost before.health after.health outcome
 
 -- ---- when nothing stops it
+-- a device's collection c and a server's s have equal moments, schema moments and numbers, and the device has nothing to send
+abbrev pub have_nothing_to_sync : Collection → Collection → Bool
+have_nothing_to_sync c s =
+    (int_eq c.head.moment s.head.moment && int_eq c.head.schema s.head.schema && int_eq c.head.usn s.head.usn)
+    && not (has_unsent c.rows c.head.tags)
+
 -- a device's collection c and a committed one s that two sides may join by their rows
 pub record AreJoinable (c s : Collection) : Type 0 where
   -- c is one that a keeper may hold
   pub formed : IsWellFormed (held_by c)
-  -- no two rows of one name and stamp differ
-  pub apart : AreApart (row_under c) (row_under s)
-  -- they have one schema moment, and were not changed last at the same moment
+  -- they have one schema moment, and there is something to sync
   pub schema : c.head.schema ≡ s.head.schema
-  pub differ : c.head.moment ≢ s.head.moment
+  pub differ : have_nothing_to_sync c s ≡ false
   -- neither moment is the last one, and neither is the server's number
   pub room : HaveRoom c s
   -- the device is sound, and so is what both make

@@ -11,8 +11,6 @@ use Rattle.ak_faults.specs.Causes.{Health}
 use Rattle.ak_keep.specs.Collections.{Collection}
 use Rattle.ak_keep.specs.Keepers.{Keeping}
 use Rattle.ak_merge.specs.Exchanges.{AreExchanged}
-use Rattle.ak_merge.specs.Holdings.{row_under}
-use Rattle.ak_merge.specs.Joins.{AreApart}
 use Rattle.ak_protocol.specs.Accounts.{AccountState}
 use Rattle.ak_protocol.specs.Logs.{Log}
 use Rattle.ak_sync_ends.specs.Alone.{BeginsAlone, LeavesTheJoin}
@@ -36,11 +34,10 @@ module _ (ids : Ids) (c : Collection) (account : AccountState) (old now : Log) (
   early is = alone.stays (synced.early is)
 
   pub finished : outcome ≡ outcomes.Finished → LeavesTheJoin c (world_at (asker ids) account old) (world_at (asker ids) account now) left
-  finished is apart =
+  finished is =
       let it : IsSyncFinished (asker ids) c synced.base account now left = synced.finished is in
       let one = alone.one (record { key = ids.session.0; before = synced.base; after = it.after }) it.only in
-      let there : AreExchanged c synced.base it.device it.after =
-      it.exchanged (subst (λ (s : Collection). AreApart (row_under c) (row_under s)) (sym one.0) apart) in (
+      let there : AreExchanged c synced.base it.device it.after = it.exchanged in (
         it.device,
         it.holds,
         subst (λ (s : Collection). AreExchanged c s it.device (world_at (asker ids) account now).state.committed) one.0

@@ -7,8 +7,6 @@ use Rattle.ak_exchange.specs.declared.envelopes.Ids.{Ids}
 use Rattle.ak_keep.specs.Collections.{Collection}
 use Rattle.ak_keep.specs.Keepers.{Keeping}
 use Rattle.ak_merge.specs.Exchanges.{AreExchanged}
-use Rattle.ak_merge.specs.Holdings.{row_under}
-use Rattle.ak_merge.specs.Joins.{AreApart}
 use Rattle.ak_protocol.specs.Accounts.{AccountState}
 use Rattle.ak_protocol.specs.Commits.{EachNewer, HasFreshSchema}
 use Rattle.ak_protocol.specs.Logs.{Log, World}
@@ -25,8 +23,8 @@ pub record BeginsAlone (ids : Ids) (c : Collection) (account : AccountState) (ol
   pub may : MayBegin (asker ids) c account old
   pub fresh : EachNewer (HasFreshSchema c) (world_at (asker ids) account old) (world_at (asker ids) account now)
 
--- if the device's c and what was committed before were apart, the device holds the other half of their exchange with what is committed now:
--- both hold the join of the two
+-- the device holds the other half of the exchange of its c and what was committed before, with what is committed now: both hold the join of
+-- the two
 abbrev pub LeavesTheJoin : Collection → World → World → Keeping → Type 0
-LeavesTheJoin c old now left = AreApart (row_under c) (row_under old.state.committed)
-    → (device : Collection) × (left ≡ holding device) × AreExchanged c old.state.committed device now.state.committed
+LeavesTheJoin c old now left =
+    (device : Collection) × (left ≡ holding device) × AreExchanged c old.state.committed device now.state.committed

@@ -14,7 +14,7 @@ ghost use Rattle.ak_sync_ends.specs.Alone.{BeginsAlone, LeavesTheJoin};
 ghost use Rattle.ak_wires.specs.Wires.{WireState};
 
 /// If nothing else comes to the server, a sync that reports that it is finished leaves both sides with the join of what
-/// they held before it, if these were apart. One that ended before its finish leaves what is committed.
+/// they held before it. One that ended before its finish leaves what is committed.
 pub fn syncs_alone_join()
     ensures finished { (ids : Ids) (c : Collection) (account : AccountState) (old now : Log) (before left : Keeping)
         → (h0 h1 : Health) (w0 w1 : WireState) → BeginsAlone ids c account old now before w0 w1

@@ -3,7 +3,7 @@ use Rattle.std.proofs.Common.{refl, sym, subst, ◌∙◌, inl, rules, w64, SFit
 use Rattle.std.proofs.lemmas.Int.{to_z-of_z}
 use Rattle.ak_client.proofs.Clocks.{greeting_takes, keep_of_greeting, unanswered_takes}
 use Rattle.ak_client.proofs.Greeting.{greets_on, greets_stop}
-use Rattle.ak_client.proofs.Testing.{below_last, ends_by_heads, ends_by_rows, exits, greeting_by_clocks, greeting_by_device, greeting_goes_on, greeting_unheard, heads_pass, passed, ready_where, usn_within}
+use Rattle.ak_client.proofs.Testing.{below_last, ends_by_heads, ends_by_rows, exits, finds_told, greeting_by_clocks, greeting_by_device, greeting_goes_on, greeting_unheard, heads_pass, passed, ready_where, usn_within}
 use Rattle.ak_client.specs.Greetings.{GreetsTold, IsGreeting, clock_stop, head_stop}
 use Rattle.ak_client.specs.Outcomes.{outcome_at}
 use Rattle.ak_client.specs.Syncs.{TakesMoments}
@@ -19,6 +19,10 @@ use Rattle.ak_messages.specs.declared.requests.Request.{Request}
 use Rattle.ak_wires.specs.Forms.{meta_in}
 use Rattle.ak_wires.specs.Tries.{Answered}
 use Rattle.ak_client.proofs.greetings.greet.Goals as goal
+
+pub test_device-requires-clause-usn : goal.test_device-requires-clause-usn
+test_device-requires-clause-usn g c =
+    usn_within c.meta_request-request.result (g.W.End.health c.args.wire.now) (g.W.End.health c.ask_meta.new.wire) (g.W.Wire.state c.args.wire.now) (g.W.Wire.state c.ask_meta.new.wire) c.in_ok-meta.meta c.in_ok-meta.ensures
 
 pub returns-in_err-meta-clause-greets : goal.returns-in_err-meta-clause-greets
 returns-in_err-meta-clause-greets g c =
@@ -44,61 +48,28 @@ returns-in_err-test_clocks-clause-clock g c =
 
 pub returns-in_err-head-clause-greets : goal.returns-in_err-head-clause-greets
 returns-in_err-head-clause-greets g c =
-    exits c.from_residual-in_err-head.result (keep_stop c.in_err-head.field-0.0) (λ (r : Result Met Stop). GreetsTold c.args.ids (g.W.Wire.state c.args.wire.now).log (g.W.Wire.state c.ask_meta.new.wire).log r) c.from_residual-in_err-head.ensures.1
-    (greets_stop c.args.ids (g.W.End.health c.args.wire.now) (g.W.End.health c.ask_meta.new.wire) (g.W.Wire.state c.args.wire.now) (g.W.Wire.state c.ask_meta.new.wire) (Ok c.in_ok-meta.meta) (keep_stop c.in_err-head.field-0.0)
+    exits c.from_residual-in_err-head.result c.in_err-head.field-0.0 (λ (r : Result Met Stop). GreetsTold c.args.ids (g.W.Wire.state c.args.wire.now).log (g.W.Wire.state c.ask_meta.new.wire).log r) c.from_residual-in_err-head.ensures.1
+    (greets_stop c.args.ids (g.W.End.health c.args.wire.now) (g.W.End.health c.ask_meta.new.wire) (g.W.Wire.state c.args.wire.now) (g.W.Wire.state c.ask_meta.new.wire) (Ok c.in_ok-meta.meta) c.in_err-head.field-0.0
     (subst (λ (request : Request). Answered (g.W.End.health c.args.wire.now) (g.W.End.health c.ask_meta.new.wire) (g.W.Wire.state c.args.wire.now) (g.W.Wire.state c.ask_meta.new.wire) request meta_in (Ok c.in_ok-meta.meta)) c.meta_request-request.ensures c.in_ok-meta.ensures))
 
 pub returns-in_err-head-clause-early : goal.returns-in_err-head-clause-early
 returns-in_err-head-clause-early g c =
-    exits c.from_residual-in_err-head.result (keep_stop c.in_err-head.field-0.0) (λ (r : Result Met Stop). IfErr r (λ (stop : Stop). shows_bad_check stop ≡ false)) c.from_residual-in_err-head.ensures.1
-    (keep_of_greeting c.in_err-head.field-0.0).good
+    exits c.from_residual-in_err-head.result c.in_err-head.field-0.0 (λ (r : Result Met Stop). IfErr r (λ (stop : Stop). shows_bad_check stop ≡ false)) c.from_residual-in_err-head.ensures.1
+    c.in_err-head.ensures.early.good
 
 pub returns-in_err-head-clause-clock : goal.returns-in_err-head-clause-clock
 returns-in_err-head-clause-clock g c =
-    exits c.from_residual-in_err-head.result (keep_stop c.in_err-head.field-0.0) (λ (r : Result Met Stop). IfErr r (λ (stop : Stop). TakesMoments 0 (g.C.Clock.to_come c.args.clock.now) (g.C.Clock.to_come c.now-at.new.self) (outcome_at stop))) c.from_residual-in_err-head.ensures.1
-    (greeting_takes (keep_stop c.in_err-head.field-0.0) (g.C.Clock.to_come c.args.clock.now) (g.C.Clock.to_come c.now-at.new.self) (keep_of_greeting c.in_err-head.field-0.0) (c.now-at.result, c.now-at.ensures.given))
-
-pub returns-in_err-test_heads-clause-greets : goal.returns-in_err-test_heads-clause-greets
-returns-in_err-test_heads-clause-greets g c =
-    exits c.from_residual-in_err-test_heads.result c.in_err-test_heads.field-0.0 (λ (r : Result Met Stop). GreetsTold c.args.ids (g.W.Wire.state c.args.wire.now).log (g.W.Wire.state c.ask_meta.new.wire).log r) c.from_residual-in_err-test_heads.ensures.1
-    (greets_stop c.args.ids (g.W.End.health c.args.wire.now) (g.W.End.health c.ask_meta.new.wire) (g.W.Wire.state c.args.wire.now) (g.W.Wire.state c.ask_meta.new.wire) (Ok c.in_ok-meta.meta) c.in_err-test_heads.field-0.0
-    (subst (λ (request : Request). Answered (g.W.End.health c.args.wire.now) (g.W.End.health c.ask_meta.new.wire) (g.W.Wire.state c.args.wire.now) (g.W.Wire.state c.ask_meta.new.wire) request meta_in (Ok c.in_ok-meta.meta)) c.meta_request-request.ensures c.in_ok-meta.ensures))
-
-pub returns-in_err-test_heads-clause-clock : goal.returns-in_err-test_heads-clause-clock
-returns-in_err-test_heads-clause-clock g c =
-    exits c.from_residual-in_err-test_heads.result c.in_err-test_heads.field-0.0 (λ (r : Result Met Stop). IfErr r (λ (stop : Stop). TakesMoments 0 (g.C.Clock.to_come c.args.clock.now) (g.C.Clock.to_come c.now-at.new.self) (outcome_at stop))) c.from_residual-in_err-test_heads.ensures.1
-    (greeting_takes c.in_err-test_heads.field-0.0 (g.C.Clock.to_come c.args.clock.now) (g.C.Clock.to_come c.now-at.new.self) c.in_err-test_heads.ensures.early (c.now-at.result, c.now-at.ensures.given))
-
-pub returns-in_err-test_rows-clause-greets : goal.returns-in_err-test_rows-clause-greets
-returns-in_err-test_rows-clause-greets g c =
-    exits c.from_residual-in_err-test_rows.result c.in_err-test_rows.field-0.0 (λ (r : Result Met Stop). GreetsTold c.args.ids (g.W.Wire.state c.args.wire.now).log (g.W.Wire.state c.ask_meta.new.wire).log r) c.from_residual-in_err-test_rows.ensures.1
-    (greets_stop c.args.ids (g.W.End.health c.args.wire.now) (g.W.End.health c.ask_meta.new.wire) (g.W.Wire.state c.args.wire.now) (g.W.Wire.state c.ask_meta.new.wire) (Ok c.in_ok-meta.meta) c.in_err-test_rows.field-0.0
-    (subst (λ (request : Request). Answered (g.W.End.health c.args.wire.now) (g.W.End.health c.ask_meta.new.wire) (g.W.Wire.state c.args.wire.now) (g.W.Wire.state c.ask_meta.new.wire) request meta_in (Ok c.in_ok-meta.meta)) c.meta_request-request.ensures c.in_ok-meta.ensures))
-
-pub returns-in_err-test_rows-clause-clock : goal.returns-in_err-test_rows-clause-clock
-returns-in_err-test_rows-clause-clock g c =
-    exits c.from_residual-in_err-test_rows.result c.in_err-test_rows.field-0.0 (λ (r : Result Met Stop). IfErr r (λ (stop : Stop). TakesMoments 0 (g.C.Clock.to_come c.args.clock.now) (g.C.Clock.to_come c.now-at.new.self) (outcome_at stop))) c.from_residual-in_err-test_rows.ensures.1
-    (greeting_takes c.in_err-test_rows.field-0.0 (g.C.Clock.to_come c.args.clock.now) (g.C.Clock.to_come c.now-at.new.self) c.in_err-test_rows.ensures.early (c.now-at.result, c.now-at.ensures.given))
+    exits c.from_residual-in_err-head.result c.in_err-head.field-0.0 (λ (r : Result Met Stop). IfErr r (λ (stop : Stop). TakesMoments 0 (g.C.Clock.to_come c.args.clock.now) (g.C.Clock.to_come c.now-at.new.self) (outcome_at stop))) c.from_residual-in_err-head.ensures.1
+    (greeting_takes c.in_err-head.field-0.0 (g.C.Clock.to_come c.args.clock.now) (g.C.Clock.to_come c.now-at.new.self) c.in_err-head.ensures.early (c.now-at.result, c.now-at.ensures.given))
 
 pub returns-clause-greets : goal.returns-clause-greets
 returns-clause-greets g c =
     greets_on c.args.ids (g.W.End.health c.args.wire.now) (g.W.End.health c.ask_meta.new.wire) (g.W.Wire.state c.args.wire.now) (g.W.Wire.state c.ask_meta.new.wire) c.in_ok-meta.meta c.in_ok-head.head
     (subst (λ (request : Request). Answered (g.W.End.health c.args.wire.now) (g.W.End.health c.ask_meta.new.wire) (g.W.Wire.state c.args.wire.now) (g.W.Wire.state c.ask_meta.new.wire) request meta_in (Ok c.in_ok-meta.meta)) c.meta_request-request.ensures c.in_ok-meta.ensures)
 
-pub returns-clause-ready : goal.returns-clause-ready
-returns-clause-ready g c =
-    ready_where (g.K.Lookup.keeping c.args.keeper.now) c.in_ok-meta.meta c.in_ok-head.head (passed (head_stop c.in_ok-meta.meta c.in_ok-head.head) (sym c.in_ok-test_heads.ensures.stop))
-    (usn_within c.meta_request-request.result (g.W.End.health c.args.wire.now) (g.W.End.health c.ask_meta.new.wire) (g.W.Wire.state c.args.wire.now) (g.W.Wire.state c.ask_meta.new.wire) c.in_ok-meta.meta c.in_ok-meta.ensures)
-    c.in_ok-head.ensures.reads.told
-    (subst (λ (k : Keeping). WhereTold k (λ h. first_fault h.rows ≡ None)) c.in_ok-head.ensures.reads.same c.in_ok-test_rows.ensures.sound)
-
 pub returns-clause-low : goal.returns-clause-low
 returns-clause-low g c =
     (usn_within c.meta_request-request.result (g.W.End.health c.args.wire.now) (g.W.End.health c.ask_meta.new.wire) (g.W.Wire.state c.args.wire.now) (g.W.Wire.state c.ask_meta.new.wire) c.in_ok-meta.meta c.in_ok-meta.ensures).low
-
-pub returns-clause-number : goal.returns-clause-number
-returns-clause-number g c =
-    below_last c.in_ok-meta.meta.usn (usn_within c.meta_request-request.result (g.W.End.health c.args.wire.now) (g.W.End.health c.ask_meta.new.wire) (g.W.Wire.state c.args.wire.now) (g.W.Wire.state c.ask_meta.new.wire) c.in_ok-meta.meta c.in_ok-meta.ensures) (heads_pass c.in_ok-meta.meta c.in_ok-head.head (passed (head_stop c.in_ok-meta.meta c.in_ok-head.head) (sym c.in_ok-test_heads.ensures.stop))).2
 
 pub returns-clause-clocks : goal.returns-clause-clocks
 returns-clause-clocks g c =
@@ -133,36 +104,11 @@ returns-in_err-head-clause-heard g c =
     let moment : SFits w64 c.now-at.result = search rules in
     let fits : SFits w64 c.second_of-second.result = search rules in
     let second : c.second_of-second.result ≡ second_of c.now-at.result = rw (to_z-of_z w64 c.now-at.result moment) at c.second_of-second.ensures.second in
-    exits c.from_residual-in_err-head.result (keep_stop c.in_err-head.field-0.0) (λ (r : Result Met Stop). IsGreeting c.args.ids (g.W.End.health c.args.wire.now) (g.W.End.health c.ask_meta.new.wire) (g.W.Wire.state c.args.wire.now) (g.W.Wire.state c.ask_meta.new.wire) (g.C.Clock.to_come c.args.clock.now) (g.C.Clock.to_come c.now-at.new.self) (g.K.Lookup.keeping c.args.keeper.now) r) c.from_residual-in_err-head.ensures.1
-    (greeting_by_device c.args.ids (g.W.End.health c.args.wire.now) (g.W.End.health c.ask_meta.new.wire) (g.W.Wire.state c.args.wire.now) (g.W.Wire.state c.ask_meta.new.wire) (g.C.Clock.to_come c.args.clock.now) (g.C.Clock.to_come c.now-at.new.self) (g.K.Lookup.keeping c.args.keeper.now) c.in_ok-meta.meta (keep_stop c.in_err-head.field-0.0)
+    exits c.from_residual-in_err-head.result c.in_err-head.field-0.0 (λ (r : Result Met Stop). IsGreeting c.args.ids (g.W.End.health c.args.wire.now) (g.W.End.health c.ask_meta.new.wire) (g.W.Wire.state c.args.wire.now) (g.W.Wire.state c.ask_meta.new.wire) (g.C.Clock.to_come c.args.clock.now) (g.C.Clock.to_come c.now-at.new.self) (g.K.Lookup.keeping c.args.keeper.now) r) c.from_residual-in_err-head.ensures.1
+    (greeting_by_device c.args.ids (g.W.End.health c.args.wire.now) (g.W.End.health c.ask_meta.new.wire) (g.W.Wire.state c.args.wire.now) (g.W.Wire.state c.ask_meta.new.wire) (g.C.Clock.to_come c.args.clock.now) (g.C.Clock.to_come c.now-at.new.self) (g.K.Lookup.keeping c.args.keeper.now) c.in_ok-meta.meta c.in_err-head.field-0.0
     (subst (λ (request : Request). Answered (g.W.End.health c.args.wire.now) (g.W.End.health c.ask_meta.new.wire) (g.W.Wire.state c.args.wire.now) (g.W.Wire.state c.ask_meta.new.wire) request meta_in (Ok c.in_ok-meta.meta)) c.meta_request-request.ensures c.in_ok-meta.ensures)
     c.now-at.result _ c.now-at.ensures.given (to_z-of_z w64 c.second_of-second.result fits ∙ second)
-    c.in_ok-test_clocks.ensures.stop (inl (c.in_err-head.field-0.0, refl)))
-
-pub returns-in_err-test_heads-clause-heard : goal.returns-in_err-test_heads-clause-heard
-returns-in_err-test_heads-clause-heard g c =
-    let moment : SFits w64 c.now-at.result = search rules in
-    let fits : SFits w64 c.second_of-second.result = search rules in
-    let second : c.second_of-second.result ≡ second_of c.now-at.result = rw (to_z-of_z w64 c.now-at.result moment) at c.second_of-second.ensures.second in
-    exits c.from_residual-in_err-test_heads.result c.in_err-test_heads.field-0.0 (λ (r : Result Met Stop). IsGreeting c.args.ids (g.W.End.health c.args.wire.now) (g.W.End.health c.ask_meta.new.wire) (g.W.Wire.state c.args.wire.now) (g.W.Wire.state c.ask_meta.new.wire) (g.C.Clock.to_come c.args.clock.now) (g.C.Clock.to_come c.now-at.new.self) (g.K.Lookup.keeping c.args.keeper.now) r) c.from_residual-in_err-test_heads.ensures.1
-    (greeting_by_device c.args.ids (g.W.End.health c.args.wire.now) (g.W.End.health c.ask_meta.new.wire) (g.W.Wire.state c.args.wire.now) (g.W.Wire.state c.ask_meta.new.wire) (g.C.Clock.to_come c.args.clock.now) (g.C.Clock.to_come c.now-at.new.self) (g.K.Lookup.keeping c.args.keeper.now) c.in_ok-meta.meta c.in_err-test_heads.field-0.0
-    (subst (λ (request : Request). Answered (g.W.End.health c.args.wire.now) (g.W.End.health c.ask_meta.new.wire) (g.W.Wire.state c.args.wire.now) (g.W.Wire.state c.ask_meta.new.wire) request meta_in (Ok c.in_ok-meta.meta)) c.meta_request-request.ensures c.in_ok-meta.ensures)
-    c.now-at.result _ c.now-at.ensures.given (to_z-of_z w64 c.second_of-second.result fits ∙ second)
-    c.in_ok-test_clocks.ensures.stop
-    (ends_by_heads (g.K.Lookup.keeping c.args.keeper.now) c.in_ok-meta.meta c.in_ok-head.head c.in_err-test_heads.field-0.0 c.in_ok-head.ensures.reads.told c.in_err-test_heads.ensures.stop))
-
-pub returns-in_err-test_rows-clause-heard : goal.returns-in_err-test_rows-clause-heard
-returns-in_err-test_rows-clause-heard g c =
-    let moment : SFits w64 c.now-at.result = search rules in
-    let fits : SFits w64 c.second_of-second.result = search rules in
-    let second : c.second_of-second.result ≡ second_of c.now-at.result = rw (to_z-of_z w64 c.now-at.result moment) at c.second_of-second.ensures.second in
-    exits c.from_residual-in_err-test_rows.result c.in_err-test_rows.field-0.0 (λ (r : Result Met Stop). IsGreeting c.args.ids (g.W.End.health c.args.wire.now) (g.W.End.health c.ask_meta.new.wire) (g.W.Wire.state c.args.wire.now) (g.W.Wire.state c.ask_meta.new.wire) (g.C.Clock.to_come c.args.clock.now) (g.C.Clock.to_come c.now-at.new.self) (g.K.Lookup.keeping c.args.keeper.now) r) c.from_residual-in_err-test_rows.ensures.1
-    (greeting_by_device c.args.ids (g.W.End.health c.args.wire.now) (g.W.End.health c.ask_meta.new.wire) (g.W.Wire.state c.args.wire.now) (g.W.Wire.state c.ask_meta.new.wire) (g.C.Clock.to_come c.args.clock.now) (g.C.Clock.to_come c.now-at.new.self) (g.K.Lookup.keeping c.args.keeper.now) c.in_ok-meta.meta c.in_err-test_rows.field-0.0
-    (subst (λ (request : Request). Answered (g.W.End.health c.args.wire.now) (g.W.End.health c.ask_meta.new.wire) (g.W.Wire.state c.args.wire.now) (g.W.Wire.state c.ask_meta.new.wire) request meta_in (Ok c.in_ok-meta.meta)) c.meta_request-request.ensures c.in_ok-meta.ensures)
-    c.now-at.result _ c.now-at.ensures.given (to_z-of_z w64 c.second_of-second.result fits ∙ second)
-    c.in_ok-test_clocks.ensures.stop
-    (ends_by_rows (g.K.Lookup.keeping c.args.keeper.now) (g.K.Lookup.keeping c.head_of.new.keeper) c.in_ok-meta.meta c.in_ok-head.head c.in_err-test_rows.field-0.0 c.in_ok-head.ensures.reads.same
-    c.in_ok-head.ensures.reads.told (passed (head_stop c.in_ok-meta.meta c.in_ok-head.head) (sym c.in_ok-test_heads.ensures.stop)) c.in_err-test_rows.ensures.fault))
+    c.in_ok-test_clocks.ensures.stop c.in_err-head.ensures.ends)
 
 pub returns-clause-heard : goal.returns-clause-heard
 returns-clause-heard g c =
@@ -177,15 +123,7 @@ returns-in_err-test_clocks-clause-keeper g c =
     cause_passed {U = Unit {0}} _ _ (cause_unkept _ (goes_nowhere _) c.in_err-test_clocks.ensures.unkept) c.from_residual-in_err-test_clocks.ensures.1
 
 pub returns-in_err-head-clause-keeper : goal.returns-in_err-head-clause-keeper
-returns-in_err-head-clause-keeper g c = cause_keeper _ _ c.in_err-head.ensures.reads.cause c.from_residual-in_err-head.ensures.1
-
-pub returns-in_err-test_heads-clause-keeper : goal.returns-in_err-test_heads-clause-keeper
-returns-in_err-test_heads-clause-keeper g c =
-    cause_passed {U = Unit {0}} _ _ (cause_unkept _ c.in_ok-head.ensures.reads.cause.goes c.in_err-test_heads.ensures.unkept) c.from_residual-in_err-test_heads.ensures.1
-
-pub returns-in_err-test_rows-clause-keeper : goal.returns-in_err-test_rows-clause-keeper
-returns-in_err-test_rows-clause-keeper g c =
-    cause_after c.in_ok-head.ensures.reads.cause.goes (cause_passed _ _ c.in_err-test_rows.ensures.keeper c.from_residual-in_err-test_rows.ensures.1)
+returns-in_err-head-clause-keeper g c = cause_passed _ _ c.in_err-head.ensures.keeper c.from_residual-in_err-head.ensures.1
 
 pub returns-clause-keeper : goal.returns-clause-keeper
-returns-clause-keeper g c = cause_ok _ (goes_further c.in_ok-head.ensures.reads.cause.goes c.in_ok-test_rows.ensures.keeper.goes)
+returns-clause-keeper g c = cause_ok _ c.in_ok-head.ensures.keeper.goes
