@@ -105,7 +105,7 @@ pub record JoinsSides (name : List ℕ) (s t : LabState) : Type 0 where
   -- the number of each is one more than the server's was
   pub device_number : device_now.head.usn ≡ server.head.usn +ℤ pos 1
   pub server_number : server_now.head.usn ≡ server.head.usn +ℤ pos 1
-  -- and the device is linked with the server, by all five parts
+  -- and the device is linked with the server, by all six parts
   pub linked : AreLinkedParts device_now server_now
 
 -- a sync of the device of this name finished: the two sides hold the join, the server committed once, every device is linked with it, and all else
