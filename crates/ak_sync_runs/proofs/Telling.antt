@@ -10,7 +10,7 @@ use Rattle.ak_client.specs.declared.outcomes.Outcome.TheVariants as outcomes
 use Rattle.ak_faults.specs.Causes.{Health}
 use Rattle.ak_keep.specs.Keepers.{Keeping}
 use Rattle.ak_outcomes.specs.OutcomeTexts.{has_fixed_text, outcome_text, outcome_status}
-use Rattle.ak_sync_runs.specs.SyncRuns.{CommitsNextOnce, EndsPrinting, EndsSync, EndsSyncOn, FinishesNext, HasStatusCause, IsSyncRun, SyncOutside, TellsOutcome, is_early_status, is_sync_status}
+use Rattle.ak_sync_runs.specs.SyncRuns.{AgreesNext, CommitsNextOnce, EndsPrinting, EndsSync, EndsSyncOn, FinishesNext, HasStatusCause, IsSyncRun, SyncOutside, TellsOutcome, is_early_status, is_sync_status}
 
 -- the line of a sync that is finished
 abbrev pub finished_line : List ℕ
@@ -118,6 +118,36 @@ finished_on false host before after old (same, inr (status, part)) = absurd (sea
 pub printed_finish : (host : HostKey) (before after : SyncOutside) (old : List ℕ)
     → EndsSync host 0 before after (Some old) (Some (old ++ (codes "finished" ++ 10 ∷ []))) → FinishesNext host before after
 printed_finish host before after old ends = finished_on before.keeping.headed.current host before after old ends
+
+-- a run that found nothing to sync
+run_agreed : (host : HostKey) (before after : SyncOutside) (old : List ℕ)
+    → IsSyncRun host 0 before after (Some old) (Some (old ++ unchanged_line)) → AgreesNext host before after
+run_agreed host before after old run =
+    let unchanged : run.outcome ≡ outcomes.NoChanges = unchanged_by run.outcome old run.told in (
+      run.word,
+      run.drawn,
+      λ c account log holds tells may.
+          let (now, grown, synced) = run.ended.sync.told log tells in (
+            now,
+            grown,
+            λ newer. let it = synced c account holds may newer in
+                let agreed = it.unchanged unchanged in
+                (it.growth, it.grown, it.base, agreed.0, agreed.1),
+          ),
+    )
+
+-- a sync that ended so, by whether a collection was held
+agreed_on : (held : Bool) (host : HostKey) (before after : SyncOutside) (old : List ℕ)
+    → EndsSyncOn held host 0 before after (Some old) (Some (old ++ unchanged_line)) → AgreesNext host before after
+agreed_on true host before after old (inl run) = run_agreed host before after old run
+agreed_on true host before after old (inr (same, (status, nothing))) = absurd (search (status, rules))
+agreed_on false host before after old (same, inl (status, written)) = absurd (search (status, rules))
+agreed_on false host before after old (same, inr (status, part)) = absurd (search (status, rules))
+
+-- what `no changes` tells
+pub printed_agreement : (host : HostKey) (before after : SyncOutside) (old : List ℕ)
+    → EndsSync host 0 before after (Some old) (Some (old ++ (codes "no changes" ++ 10 ∷ []))) → AgreesNext host before after
+printed_agreement host before after old ends = agreed_on before.keeping.headed.current host before after old ends
 
 -- an outcome with another status leaves the device as it was
 kept_by : (outcome : Outcome) (status : ℕ) (before left : Keeping) (moments to_come : Option (List ℤ))

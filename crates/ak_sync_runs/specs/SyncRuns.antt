@@ -13,6 +13,7 @@ use Rattle.ak_io.specs.Arrivals.{GivesNext}
 use Rattle.ak_io.specs.Scripts.{AppendsPart}
 use Rattle.ak_keep.specs.Collections.{Collection}
 use Rattle.ak_keep.specs.Keepers.{Keeping}
+use Rattle.ak_merge.specs.Holdings.{SameContent, content_of}
 use Rattle.ak_messages.specs.declared.requests.Ask.{Ask}
 use Rattle.ak_outcomes.specs.OutcomeTexts.{has_fixed_text, outcome_text, outcome_status}
 use Rattle.ak_protocol.specs.Accounts.{AccountState}
@@ -103,7 +104,7 @@ EndsSync host status before after old new =
 
 -- ---- what `finished` means
 -- where the keeper told a collection with which this sync could begin, and the wire a log, and no upload in between gave just the device's
--- schema moment: the session committed once. Device and commit hold the join of what both held, if these were apart. If nothing else used
+-- schema moment: the session committed once. Device and commit hold the join of what both held. If nothing else used
 -- the wire, that was over what was committed before the sync, and is what is committed after it
 abbrev pub HasFinished : Ids → SyncOutside → SyncOutside → Type 0
 HasFinished ids before after = let who = asker ids in (c : Collection) (account : AccountState) (log : Log)
@@ -118,6 +119,21 @@ HasFinished ids before after = let who = asker ids in (c : Collection) (account 
 abbrev pub FinishesNext : HostKey → SyncOutside → SyncOutside → Type 0
 FinishesNext host before after =
     (word : ℕ) × GivesNext before.words after.words word × HasFinished (ids_of host word) before after
+
+-- ---- what `no changes` means
+-- under the same premises: the device holds the content of what was committed when its meta was answered
+abbrev pub HasAgreed : Ids → SyncOutside → SyncOutside → Type 0
+HasAgreed ids before after = let who = asker ids in (c : Collection) (account : AccountState) (log : Log)
+    → before.keeping ≡ holding c → before.wire.log ≡ Some log → MayBegin who c account log
+    → (now : Log) × (after.wire.log ≡ Some now)
+    × (EachNewer (HasFreshSchema c) (world_at who account log) (world_at who account now)
+    → (growth : List Event) × (now ≡ with_growth log growth)
+    × (base : Collection) × IsCommittedIn who account log growth base × SameContent (content_of c) (content_of base))
+
+-- a sync of the session whose key was the next word of chance has agreed
+abbrev pub AgreesNext : HostKey → SyncOutside → SyncOutside → Type 0
+AgreesNext host before after =
+    (word : ℕ) × GivesNext before.words after.words word × HasAgreed (ids_of host word) before after
 
 -- ---- what any end leaves on the server
 -- under the same premises, however the sync ended: the session committed at most once, the join of the device and what was committed when its

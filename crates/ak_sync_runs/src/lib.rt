@@ -7,5 +7,8 @@ mod run_laws;
 mod sync_runs;
 
 pub use no_servers::NoServer;
-pub use run_laws::{a_printed_finish_joins, a_sync_commits_once, other_ends_keep_the_device};
+pub use run_laws::{
+    a_printed_finish_joins, a_printed_no_changes_agrees, a_sync_commits_once,
+    other_ends_keep_the_device,
+};
 pub use sync_runs::run_sync;

@@ -2,7 +2,7 @@
 ghost use Rattle.std.specs.Prelude.{◌≡◌, ◌≢◌, ◌⊎◌, ℕ, List, [], ◌∷◌, ◌++◌, Option, Some, codes};
 ghost use Rattle.ak_base.specs.declared.keys.HostKey.{HostKey};
 ghost use Rattle.ak_client.specs.Syncs.{HasRaised};
-ghost use Rattle.ak_sync_runs.specs.SyncRuns.{CommitsNextOnce, EndsSync, FinishesNext, SyncOutside};
+ghost use Rattle.ak_sync_runs.specs.SyncRuns.{AgreesNext, CommitsNextOnce, EndsSync, FinishesNext, SyncOutside};
 
 /// If `finished` is what was printed, and the status is 0, then the device holds the join of what it and the server held, and so
 /// does what the server committed for this sync, once.
@@ -10,6 +10,14 @@ pub fn a_printed_finish_joins()
     ensures { (host : HostKey) (before after : SyncOutside) (old : List ℕ)
         → EndsSync host 0 before after (Some old) (Some (old ++ (codes "finished" ++ 10 ∷ [])))
         → FinishesNext host before after }
+{}
+
+/// If `no changes` is what was printed, and the status is 0, then the device holds the content of what the server had committed when it
+/// was asked: nothing was to be sent or fetched.
+pub fn a_printed_no_changes_agrees()
+    ensures { (host : HostKey) (before after : SyncOutside) (old : List ℕ)
+        → EndsSync host 0 before after (Some old) (Some (old ++ (codes "no changes" ++ 10 ∷ [])))
+        → AgreesNext host before after }
 {}
 
 /// The device is as it was if `no changes` is what was printed and the status is 0, or if the status is none of 0, 5, 8 and 11. With 8 it
