@@ -16,7 +16,7 @@ use Rattle.ak_lab_joins.proofs.Syncs.{CommitsNoneOrJoin}
 use Rattle.ak_lab_joins.proofs.Synced as synced
 use Rattle.ak_lab_joins.proofs.Synced.{holds_is}
 use Rattle.ak_lab_joins.proofs.Worlds.{commit_as, StaysQuiet}
-use Rattle.ak_lab_joins.specs.LabJoins.{CommitsOnceIn, Finishes, HasSession, IsLinkedDevice, IsLinkedLab, KeepsCommitted, KeepsOthers, KeepsSides, MayHoldJoin, RunsToSync, StillCommits, StillHolds, world_in}
+use Rattle.ak_lab_joins.specs.LabJoins.{Agrees, CommitsOnceIn, Finishes, HasSession, IsLinkedDevice, IsLinkedLab, KeepsCommitted, KeepsOthers, KeepsSides, MayHoldJoin, RunsToSync, StillCommits, StillHolds, world_in}
 use Rattle.ak_lab.specs.LabRuns.{AllGo, IsLabOpening}
 use Rattle.ak_lab.specs.LabStates.{LabState, at_line, lab_host, opened_lab}
 use Rattle.ak_lab.specs.LabSyncs.{EndsSync}
@@ -26,6 +26,7 @@ use Rattle.ak_lab_devices.specs.declared.devices.Device.{Device}
 use Rattle.ak_lab_keepers.specs.RestingKeepers.{Holds}
 use Rattle.ak_loops.specs.Entries.{account_opened}
 use Rattle.ak_merge.specs.Exchanges.{AreExchanged, HoldsJoin}
+use Rattle.ak_merge.specs.Holdings.{SameContent, content_of}
 use Rattle.ak_openings.specs.declared.whole_collections.Opening.{Opening}
 use Rattle.ak_protocol.specs.Accounts.{AccountState}
 use Rattle.ak_protocol.specs.Logs.{Commit, World}
@@ -55,7 +56,7 @@ module _ (account : AccountState) (name : List ℕ) (s t : LabState) (outcome : 
   server_here = law_lines.server_here account name s t outcome linked room ends enough
 
   abbrev device_here : IsLinkedDevice (world_in ends.syncs.ids.host.digits account s.server).state.committed ends.d
-  device_here = law_lines.device_here account name s t outcome linked room ends enough ends.d own
+  device_here = law_lines.device_here account name s t outcome linked room ends enough
 
   lab_now : IsLinkedLab account t
   lab_now = sync_linked account name s t outcome linked room ends enough
@@ -143,6 +144,16 @@ module _ (account : AccountState) (name : List ℕ) (s t : LabState) (outcome : 
     keeps = keeps_others;
   }
 
+  -- ---- nothing to sync
+  pub agrees : outcome ≡ outcomes.NoChanges → Agrees account name s
+  agrees is = record {
+    c = own.c;
+    held = was_held;
+    same = subst (λ (h : List ℕ). SameContent (content_of own.c) (content_of (world_in h account s.server).state.committed)) same_host
+        (synced.agreed_now account s.sessions s.clock (s.clock +ℤ ends.d.shift) ends.d ends.made s.server t.server outcome room ends.syncs enough
+        server_here device_here is);
+  }
+
   -- ---- finished
   pub finishes : outcome ≡ outcomes.Finished → Finishes account name s t
   finishes is =
@@ -188,6 +199,13 @@ module _ (account : AccountState) (name : List ℕ) (s t : LabState) (outcome : 
 -- ---- one line
 not_memory : outcomes.Finished ≢ outcomes.Memory
 not_memory is = absurd (search (is, rules))
+
+unchanged_enough : outcomes.NoChanges ≢ outcomes.Memory
+unchanged_enough is = absurd (search (is, rules))
+
+pub unchanged_agrees : (account : AccountState) (name : List ℕ) (s t : LabState) → IsLinkedLab account s → HasSession s → EndsSync name s t outcomes.NoChanges
+    → Agrees account name s
+unchanged_agrees account name s t linked room ends = agrees account name s t outcomes.NoChanges linked room ends unchanged_enough refl
 
 pub finished_joins : (account : AccountState) (name : List ℕ) (s t : LabState) → IsLinkedLab account s → HasSession s → EndsSync name s t outcomes.Finished
     → Finishes account name s t

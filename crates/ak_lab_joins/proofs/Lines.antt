@@ -190,24 +190,38 @@ module _ (account : AccountState) (name : List ℕ) (s t : LabState) (outcome : 
   pub server_here : IsLinkedServer host account s.sessions s.server
   server_here = subst (λ (h : List ℕ). IsLinkedServer h account s.sessions s.server) same_host linked.server
 
-  abbrev pub device_here : (d : Device) → IsLinkedDevice (base_of account s) d → IsLinkedDevice (world_in host account s.server).state.committed d
-  device_here d it = subst (λ (h : List ℕ). IsLinkedDevice (world_in h account s.server).state.committed d) same_host it
+  linked_here : (d : Device) → IsLinkedDevice (base_of account s) d → IsLinkedDevice (world_in host account s.server).state.committed d
+  linked_here d it = subst (λ (h : List ℕ). IsLinkedDevice (world_in h account s.server).state.committed d) same_host it
+
+  base_here : (world_in host account s.server).state.committed ≡ base_of account s
+  base_here = ap (λ (h : List ℕ). (world_in h account s.server).state.committed) (sym same_host)
+
+  -- the device that syncs
+  abbrev pub device_here : IsLinkedDevice (world_in host account s.server).state.committed ends.d
+  device_here = record {
+    c = own.c;
+    holds = own.holds;
+    named = own.named;
+    links = subst (λ (base : Collection). LinksWith own.c ends.d.undo base) (sym base_here) own.links;
+    suits = own.suits;
+    schema = subst (λ (base : Collection). base.head.schema ≤ℤ own.c.head.schema) (sym base_here) own.schema;
+  }
 
   server_left : IsLinkedServer lab_host account (one_more s.sessions) t.server
   server_left =
       subst (λ (h : List ℕ). IsLinkedServer h account (one_more s.sessions) t.server) (sym same_host)
-      (synced.server_now account s.sessions s.clock (s.clock +ℤ ends.d.shift) ends.d ends.made s.server t.server outcome room ends.syncs enough server_here (device_here ends.d own))
+      (synced.server_now account s.sessions s.clock (s.clock +ℤ ends.d.shift) ends.d ends.made s.server t.server outcome room ends.syncs enough server_here device_here)
 
   made_left : IsLinkedDevice (world_in lab_host account t.server).state.committed ends.made
   made_left =
       subst (λ (h : List ℕ). IsLinkedDevice (world_in h account t.server).state.committed ends.made) (sym same_host)
-      (synced.device_now account s.sessions s.clock (s.clock +ℤ ends.d.shift) ends.d ends.made s.server t.server outcome room ends.syncs enough server_here (device_here ends.d own))
+      (synced.device_now account s.sessions s.clock (s.clock +ℤ ends.d.shift) ends.d ends.made s.server t.server outcome room ends.syncs enough server_here device_here)
 
   other_left : (e : Device) → IsLinkedDevice (base_of account s) e → IsLinkedDevice (world_in lab_host account t.server).state.committed e
   other_left e it =
       subst (λ (h : List ℕ). IsLinkedDevice (world_in h account t.server).state.committed e) (sym same_host)
-      (synced.others_now account s.sessions s.clock (s.clock +ℤ ends.d.shift) ends.d ends.made s.server t.server outcome room ends.syncs enough server_here (device_here ends.d own)
-      e (device_here e it))
+      (synced.others_now account s.sessions s.clock (s.clock +ℤ ends.d.shift) ends.d ends.made s.server t.server outcome room ends.syncs enough server_here device_here
+      e (linked_here e it))
 
   pub sync_linked : IsLinkedLab account t
   sync_linked =

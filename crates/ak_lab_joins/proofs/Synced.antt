@@ -36,7 +36,7 @@ use Rattle.ak_loops.specs.LoopWires.{health_over, state_over}
 use Rattle.ak_merge.specs.Edits.{Reversal}
 use Rattle.ak_merge.specs.Exchanges.{AreExchanged}
 use Rattle.ak_keep.specs.Graves.{RowsByName}
-use Rattle.ak_merge.specs.Holdings.{AreNamed, IsSingle, row_under}
+use Rattle.ak_merge.specs.Holdings.{AreNamed, IsSingle, SameContent, content_of, row_under}
 use Rattle.ak_merge.specs.Links.{AreLinked}
 use Rattle.ak_merge.specs.Undoing.{StepFits, StepsSuit}
 use Rattle.ak_protocol.proofs.ContentLaws.{some_of_all}
@@ -317,6 +317,12 @@ module _ (account : AccountState) (sessions : ℕ) (at device_at : ℤ) (d made 
 
   pub still_holds : outcome ≢ outcomes.Finished → StillHolds device_at c outcome made
   still_holds other = (device_by outcome refl sync.device).1 other
+
+  -- a device that found nothing to sync has the content of what is committed
+  pub agreed_now : outcome ≡ outcomes.NoChanges → SameContent (content_of c) (content_of was.state.committed)
+  agreed_now is =
+      syncs.agreed sync.ids account (log_in met) (log_in new) (keeping_of d) (keeping_of made) (health_over no_calls []) sync.health (state_over met no_calls at true) sync.wire
+      (Some (device_at ∷ [])) outcome c refl refl sync.log known sync.ended.sync ended sync.unfailed enough may is
 
   -- an end before the finish leaves what is committed
   pub early_quiet : ends_before_finish outcome ≡ true → StaysQuiet was is_now

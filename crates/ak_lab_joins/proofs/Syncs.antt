@@ -5,11 +5,12 @@ use Rattle.std.specs.Cmp.{signed_Decides}
 use Rattle.std.specs.Prelude.{◌≡◌, ◌≢◌, ◌⊎◌, ℕ, ℤ, pos, ◌+ℤ◌, ◌≤ℤ◌, ◌<ℤ◌, Bool, true, false, List, [], ◌∷◌, ◌++◌, Option, Some}
 use Rattle.std.proofs.Common.{refl, sym, ap, subst, ◌∙◌, append-nil, inl, inr, arith}
 use Rattle.std.proofs.lemmas.Int.{ints}
-use Rattle.std.proofs.lemmas.List.{append_cancel_right}
+use Rattle.std.proofs.lemmas.List.{append_cancel_left, append_cancel_right}
 use Rattle.std.proofs.lemmas.Option.{same_Some}
 use Rattle.ak_client.proofs.Growing.{lawful_grown, linked_grown}
 use Rattle.ak_client.specs.Greetings.{meta_of}
-use Rattle.ak_client.specs.Syncs.{CommitsAlone, CommitsAtMostOnce, EndsBecause, IsSync, IsSyncFinished, MayBegin, Synced, Syncs, ends_before_finish, world_at}
+use Rattle.ak_client.specs.Outcomes.{is_told_by_meta}
+use Rattle.ak_client.specs.Syncs.{CommitsAlone, CommitsAtMostOnce, EndsBecause, IsCommittedIn, IsSync, IsSyncFinished, MayBegin, Synced, Syncs, ends_before_finish, told_by, world_at}
 use Rattle.ak_client.specs.declared.outcomes.Outcome.{Outcome}
 use Rattle.ak_client.specs.declared.outcomes.Outcome.TheVariants as outcomes
 use Rattle.ak_exchange.specs.Asked.{AreTried, TriedAsk, answers_in, asker, asks_in}
@@ -22,6 +23,7 @@ use Rattle.ak_lab_joins.proofs.Metas.{asks_nothing, schema_is}
 use Rattle.ak_lab_joins.proofs.Worlds.{commit_as, GrowsSo, IsOfSession, IsQuiet, StaysQuiet, grows_so, quiet_after, requests_of_session, world_grown}
 use Rattle.ak_merge.specs.Edits.{Reversal}
 use Rattle.ak_merge.specs.Exchanges.{AreExchanged, HoldsJoin}
+use Rattle.ak_merge.specs.Holdings.{SameContent, content_of}
 use Rattle.ak_merge.specs.Links.{AreLinked}
 use Rattle.ak_merge.specs.Undoing.{StepFits}
 use Rattle.ak_protocol.proofs.ContentLaws.{commits_are_made, fits_stay, old_schemas_stay_old, some_of_all}
@@ -31,6 +33,7 @@ use Rattle.ak_protocol.specs.LawfulServers.{IsLawfulAccount}
 use Rattle.ak_protocol.specs.Logs.{Commit, Event, IsTimely, Log, World, events_of, world_after}
 use Rattle.ak_session.specs.Plans.{Asker, requests_from}
 use Rattle.ak_wires.specs.Wires.{WireState}
+use Rattle.ak_wires.specs.declared.wires.MetaSaid.{MetaSaid}
 
 -- a log grows by requests of one session
 abbrev pub GrowsOwn : ℕ → Log → Log → Type 0
@@ -50,6 +53,10 @@ CommitsNoneOrJoin key c before after =
 all_leave : (commits : List Commit) (c : Collection) → AllByRecursion LeavesSchema commits → AllByRecursion (HasFreshSchema c) commits
 all_leave [] c all = tt
 all_leave (commit ∷ commits) c all = (inl all.0, all_leave commits c all.1)
+
+all_front : (P : Event → Type 0) (front rest : List Event) → AllByRecursion P (front ++ rest) → AllByRecursion P front
+all_front P [] rest all = tt
+all_front P (event ∷ front) rest all = (all.0, all_front P front rest all.1)
 
 not_zero : (usn : ℤ) → pos 1 ≡ usn +ℤ pos 1 → pos 0 <ℤ usn → ⊥
 not_zero usn is over = omega (arith, ints, is, over)
@@ -76,13 +83,17 @@ module _ (ids : Ids) (account : AccountState) (old now : Log) (before left : Kee
       (λ said is. schema_is ids account old may.unused said h0 sync.tried.0 w0 sync.tried.1 sync.meta sync.tried.2 alone told is)
       unfailed enough differ
 
-  only_meta : c.head.schema ≢ was.state.committed.head.schema → StaysQuiet was is_now
-  only_meta differ =
+  -- after which nothing but metas came
+  metas_came : sync.tries ≡ [] → GrowsSo IsQuiet old now
+  metas_came none =
       let tried : AreTried (meta_of ids ∷ []) (sync.meta ∷ []) h0 h1 w0 w1 =
       subst (λ (tries : List TriedAsk). AreTried (meta_of ids ∷ requests_from (asker ids) sync.moment 1 (asks_in tries)) (sync.meta ∷ answers_in tries) h0 h1 w0 w1)
-      (nothing_asked differ) sync.tried in
-      let grows : GrowsSo IsQuiet old now =
-      grows_so IsQuiet (meta_of ids ∷ []) (sync.meta ∷ []) h0 h1 w0 w1 old now tried ((λ at setback. refl), tt) alone told told_now in
+      none sync.tried in
+      grows_so IsQuiet (meta_of ids ∷ []) (sync.meta ∷ []) h0 h1 w0 w1 old now tried ((λ at setback. refl), tt) alone told told_now
+
+  only_meta : c.head.schema ≢ was.state.committed.head.schema → StaysQuiet was is_now
+  only_meta differ =
+      let grows = metas_came (nothing_asked differ) in
       subst (λ (w : World). StaysQuiet was w)
       (sym (ap (world_at who account) grows.grown ∙ world_grown who.host.digits account old grows.growth))
       (quiet_after was (events_of who.host.digits grows.growth) (some_of_all IsQuiet who.host.digits grows.growth grows.all))
@@ -132,6 +143,34 @@ module _ (ids : Ids) (account : AccountState) (old now : Log) (before left : Kee
   quiet_if_early early =
       let none = synced.early early in
       record { committed = commits.stays none; commits = commits.commits ∙ ap (λ (l : List Commit). l ++ was.commits) none }
+
+  -- ---- nothing to sync
+  nothing_more : outcome ≡ outcomes.NoChanges → sync.tries ≡ []
+  nothing_more is = by because.more
+    where
+      never : {b : Bool} → b ≡ true → b ≡ false → ⊥
+      never yes no = grind (arith, yes, no)
+
+      by : (sync.tries ≡ []) ⊎ ((said : MetaSaid) × (told_by sync.meta ≡ Some said) × (sync.moment ≡ said.moment) × (is_told_by_meta outcome ≡ false)) → sync.tries ≡ []
+      by (inl none) = none
+      by (inr (said, answered, same, untold)) = absurd (never (ap is_told_by_meta is) untold)
+
+  -- what was committed when the meta was answered is what was committed before
+  base_stays : outcome ≡ outcomes.NoChanges → IsCommittedIn who account old synced.growth synced.base → synced.base ≡ was.state.committed
+  base_stays is committed =
+      let grows = metas_came (nothing_more is) in
+      let same : grows.growth ≡ synced.growth =
+      append_cancel_left old.events grows.growth synced.growth (ap (λ (log : Log). log.events) (sym grows.grown ∙ synced.grown)) in
+      let quiet : AllByRecursion IsQuiet committed.front =
+      all_front IsQuiet committed.front committed.rest (subst (AllByRecursion IsQuiet) (same ∙ committed.parts) grows.all) in
+      sym committed.place
+      ∙ ap (λ (w : World). w.state.committed) (world_grown who.host.digits account old committed.front)
+      ∙ (quiet_after was (events_of who.host.digits committed.front) (some_of_all IsQuiet who.host.digits committed.front quiet)).committed
+
+  pub agreed : outcome ≡ outcomes.NoChanges → SameContent (content_of c) (content_of was.state.committed)
+  agreed is =
+      let it = synced.unchanged is in
+      subst (λ (base : Collection). SameContent (content_of c) (content_of base)) (base_stays is it.0) it.1
 
   -- what is committed now is what was, or the join
   once_now : CommitsAtMostOnce ids.session.0 c synced.base is_now.commits

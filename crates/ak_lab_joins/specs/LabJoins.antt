@@ -157,6 +157,12 @@ pub record KeepsSides (account : AccountState) (name : List ℕ) (s t : LabState
   pub linked : IsLinkedLab account t
   pub keeps : KeepsOthers name s t
 
+-- the device of this name holds the content of what the server has committed
+pub record Agrees (account : AccountState) (name : List ℕ) (s : LabState) : Type 0 where
+  pub c : Collection
+  pub held : (d : Device) → device_of name s.devices ≡ Some d → Holds d.collection c
+  pub same : SameContent (content_of c) (content_of (lab_world account s).state.committed)
+
 -- the line of this number syncs the device of this name, and comes to this outcome
 abbrev pub ComesTo : ℕ → List ℕ → LabState → LabState → Outcome → Type 0
 ComesTo number name s t outcome = EndsSync name (at_line number s) t outcome

@@ -3,7 +3,7 @@ ghost use Rattle.std.specs.Prelude.{◌≡◌, ◌≢◌, ◌+◌, ◌<◌, ◌�
 ghost use Rattle.ak_client.specs.declared.outcomes.Outcome.{Outcome};
 ghost use Rattle.ak_client.specs.declared.outcomes.Outcome.TheVariants as outcomes;
 ghost use Rattle.ak_io.specs.declared.lines.Line.{Line};
-ghost use Rattle.ak_lab_joins.specs.LabJoins.{Finishes, HasSession, IsLinkedLab, KeepsSides, RunsToSync};
+ghost use Rattle.ak_lab_joins.specs.LabJoins.{Agrees, Finishes, HasSession, IsLinkedLab, KeepsSides, RunsToSync};
 ghost use Rattle.ak_lab.specs.LabRuns.{AllGo, IsLabOpening};
 ghost use Rattle.ak_lab.specs.LabStates.{LabState, opened_lab};
 ghost use Rattle.ak_lab.specs.LabSyncs.{EndsSync};
@@ -47,6 +47,12 @@ pub fn runs_keep_labs_linked()
 pub fn finished_syncs_join()
     ensures { (account : AccountState) (name : List ℕ) (s t : LabState) → IsLinkedLab account s → HasSession s
         → EndsSync name s t outcomes.Finished → Finishes account name s t }
+{}
+
+/// A sync that found nothing to sync was between a device and a server of one content. So both still are, by the next law.
+pub fn unchanged_syncs_agree()
+    ensures { (account : AccountState) (name : List ℕ) (s t : LabState) → IsLinkedLab account s → HasSession s
+        → EndsSync name s t outcomes.NoChanges → Agrees account name s }
 {}
 
 /// A sync that came to another outcome leaves what the device held, but that its moments rise after a bad sanity check, and what the
