@@ -1,0 +1,4 @@
+pub mod CsvTexts
+pub mod NoteRecords
+pub mod NotesAgain
+pub mod RecordRows
