@@ -10,9 +10,9 @@ use Rattle.ak_lab.proofs.lab_syncs.sync.Goals as goal
 
 pub sync_at-lab-requires-clause-there : goal.sync_at-lab-requires-clause-there
 sync_at-lab-requires-clause-there c = (
-    c.args.name.now,
-    subst (λ (devices : List Device). IsPlaceOf c.args.name.now devices c.in-Some.place) c.as_slice.ensures.value c.in-Some.ensures,
-  )
+  c.args.name.now,
+  subst (λ (devices : List Device). IsPlaceOf c.args.name.now devices c.in-Some.place) c.as_slice.ensures.value c.in-Some.ensures,
+)
 
 pub returns-in-Ok-clause-ends : goal.returns-in-Ok-clause-ends
 returns-in-Ok-clause-ends c =
