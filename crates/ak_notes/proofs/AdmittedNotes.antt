@@ -63,7 +63,7 @@ additions_are_admitted at new c made named is =
     tags_are_admitted c _ new.tags (settings_are_admitted c _ made.conf cards)
 
 -- ---- a note that is edited
-pub found_is : (found : Option Row) (note : Note) → option_and_then as_note found ≡ Some note → found ≡ Some (rows.Note note)
+found_is : (found : Option Row) (note : Note) → option_and_then as_note found ≡ Some note → found ≡ Some (rows.Note note)
 found_is None note is = absurd (none-some note is)
 found_is (Some (rows.Note n)) note is = ap (λ (m : Note). Some (rows.Note m)) (same_Some n note is)
 found_is (Some (rows.Card x)) note is = absurd (none-some note is)

@@ -14,11 +14,11 @@ use Rattle.ak_merge.specs.Edits.{Edit}
 use Rattle.ak_notes.specs.MadeNotes.{RefusesMade, cards_over, made_edit, made_over, tags_over, with_cards}
 use Rattle.ak_notes.specs.declared.made_notes.MadeNote.{MadeNote}
 
-pub cards_asked : (cards : List Card) (o : Overlay) (c : Collection) → edit_of (cards_over cards o) c ≡ with_cards cards (edit_of o c)
+cards_asked : (cards : List Card) (o : Overlay) (c : Collection) → edit_of (cards_over cards o) c ≡ with_cards cards (edit_of o c)
 cards_asked [] o c = refl
 cards_asked (card ∷ cards) o c = cards_asked cards (put_over (rows.Card card) o) c ∙ ap (with_cards cards) (put_asked c o (rows.Card card))
 
-pub tags_asked : (tags : List (List ℕ)) (o : Overlay) (c : Collection) → edit_of (tags_over tags o) c ≡ with_tags tags (edit_of o c)
+tags_asked : (tags : List (List ℕ)) (o : Overlay) (c : Collection) → edit_of (tags_over tags o) c ≡ with_tags tags (edit_of o c)
 tags_asked [] o c = ap (λ (names : List (List ℕ)). let e : Edit = record (edit_of o c) { tags = names } in e) (sym (append-nil o.tags))
 tags_asked (tag ∷ tags) o c =
     tags_asked tags (tag_over tag o) c

@@ -14,7 +14,7 @@ ghost use Rattle.ak_notes.specs.NewCards.{RefusesIds, at_least_one};
 
 use crate::given_texts::check_given;
 use crate::made_notes::{MadeNote, put_made};
-use crate::new_cards::{CardPlace, at_least_one, conf_after, held_conf, make_cards, told_ords};
+use crate::new_cards::{CardPlace, at_least_one, conf_after, held_conf, new_cards, told_ords};
 use crate::note_rows::{blank_note, guid_of, with_texts};
 use ak_base::{Conf, Deck, List, Memory, Name, Note, NoteType, Table, Text};
 use ak_calls::{first_name, new_name};
@@ -263,7 +263,7 @@ fn make_told<K: Keeper>(
     let place = place_for(making.new, name, &before);
     let note = note_of(alloc, making.note_type, making.new, name)?;
     let start = first_name(Table::Card, making.at);
-    match make_cards(keeper, &ords, place, start) {
+    match new_cards(keeper, &ords, place, start) {
         Ok(made) => {
             let cards = made.cards;
             let conf = conf_after(cards.as_slice(), before);

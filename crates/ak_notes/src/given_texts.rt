@@ -10,7 +10,7 @@ use ak_edit::DeskFault;
 
 /// Tests the fields and the tags that a note of this type is to have: their number, then each tag, then each field. It takes no
 /// memory.
-pub fn check_given(
+pub(crate) fn check_given(
     note_type: &NoteType,
     fields: &List<Text>,
     tags: &List<Text>,

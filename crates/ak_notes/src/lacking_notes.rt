@@ -10,7 +10,7 @@ ghost use Rattle.ak_keep.specs.Readings.{ReadsBy};
 ghost use Rattle.ak_notes.specs.LackingNotes.{AreMissingIn, IsReady, RefusesMissingIds, cards_held, deck_in, first_deck, held_ord, held_ords, lacked_ords, missing_from, missing_place, next_after, next_at, or_first};
 ghost use Rattle.ak_notes.specs.MadeNotes.{AnswersIn, MakesIn};
 
-use crate::new_cards::{CardPlace, at_least_one, conf_after, held_conf, make_cards};
+use crate::new_cards::{CardPlace, at_least_one, conf_after, held_conf, new_cards};
 use ak_base::{Card, Conf, List, Memory, Name, Table};
 use ak_calls::first_name;
 use ak_edit::DeskFault;
@@ -70,7 +70,7 @@ pub fn missing_cards<K: Keeper>(
     let ords = lacked_ords(lacking)?;
     let place = missing_place(lacking, &next);
     let NextCards { first, conf } = next;
-    match make_cards(keeper, &ords, place, first) {
+    match new_cards(keeper, &ords, place, first) {
         Ok(made) => {
             let conf = conf_after(made.cards.as_slice(), conf);
             Ok(MissingCards {

@@ -1,5 +1,4 @@
-// The editing calls on notes: a note is added, edited or deleted, with its cards. The parts of which these calls are made are
-// for other calls that make notes.
+// The editing calls on notes: a note is added, edited or deleted, with its cards.
 #![tactic(auto)]
 
 mod additions;
@@ -14,12 +13,11 @@ mod note_rows;
 
 pub use additions::{Added, NewNote, add_note, held_type};
 pub use deletions::{delete_notes, remove_cards};
-pub use given_texts::check_given;
 pub use lacking_notes::{
     HeldCards, LackingNote, MissingCards, NextCards, held_cards, missing_cards, next_cards,
 };
-pub use made_notes::{MadeNote, put_cards, put_made};
-pub use new_cards::{CardPlace, MadeCards, at_least_one, conf_after, make_cards, told_ords};
+pub use made_notes::put_cards;
+pub use new_cards::told_ords;
 pub use note_edits::{NoteEdit, edit_note};
 pub use note_laws::{additions_are_admitted, deletions_are_admitted, note_edits_are_admitted};
-pub use note_rows::{blank_note, with_fields, with_texts};
+pub use note_rows::with_fields;

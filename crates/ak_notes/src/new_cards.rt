@@ -18,10 +18,10 @@ use std::alloc::Global;
 
 /// Of which note new cards are, in which deck, and at which place among the new cards.
 #[derive(Clone, Copy, Debug)]
-pub struct CardPlace {
-    pub note: i64,
-    pub deck: i64,
-    pub due: i64,
+pub(crate) struct CardPlace {
+    pub(crate) note: i64,
+    pub(crate) deck: i64,
+    pub(crate) due: i64,
 }
 
 /// The ords of the cards that a note of the type has, refused if a front is no template.
@@ -43,13 +43,13 @@ pub fn told_ords(
 
 /// New cards, and the name from which on the next one looks for its own.
 #[derive(Drop)]
-pub struct MadeCards {
-    pub cards: List<Card>,
-    pub next: Name,
+pub(crate) struct MadeCards {
+    pub(crate) cards: List<Card>,
+    pub(crate) next: Name,
 }
 
 /// These ords, and ord 0 if there are none.
-pub fn at_least_one(ords: List<i64>) -> Result<List<i64>, Memory>
+pub(crate) fn at_least_one(ords: List<i64>) -> Result<List<i64>, Memory>
     ensures { IfOk result (λ made. made ≡ at_least_one ords) }
 {
     let mut made = ords;
@@ -61,7 +61,7 @@ pub fn at_least_one(ords: List<i64>) -> Result<List<i64>, Memory>
 
 /// A new card for each of the ords, the first with the first free id from `start` on and each other with the first free one
 /// after the one before, refused if there are too few.
-pub fn make_cards<K: Keeper>(
+pub(crate) fn new_cards<K: Keeper>(
     keeper: &mut K,
     ords: &List<i64>,
     place: CardPlace,
@@ -131,7 +131,7 @@ pub(crate) fn held_conf<K: Keeper>(keeper: &mut K, alloc: Global) -> Result<Conf
 }
 
 /// The settings after these cards came at the next place among the new cards.
-pub fn conf_after(cards: &[Card], conf: Conf) -> Conf
+pub(crate) fn conf_after(cards: &[Card], conf: Conf) -> Conf
     requires { IsConfInRange conf }
     ensures conf { result ≡ conf_after cards.now conf }
     ensures range { IsConfInRange result }

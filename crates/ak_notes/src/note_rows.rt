@@ -11,7 +11,7 @@ use ak_cardgen::{csum, sort_text};
 use std::alloc::Global;
 
 /// The note with these fields and tags, as one of this type.
-pub fn with_texts(
+pub(crate) fn with_texts(
     note: Note,
     note_type: &NoteType,
     fields: &List<Text>,
@@ -86,7 +86,7 @@ fn first_field(fields: &[Text]) -> &str
 }
 
 /// A note of this id, type and name for all devices, without texts.
-pub fn blank_note(alloc: Global, id: i64, note_type: i64, guid: Text) -> Result<Note, Memory>
+pub(crate) fn blank_note(alloc: Global, id: i64, note_type: i64, guid: Text) -> Result<Note, Memory>
     ensures { IfOk result (λ note. note ≡ blank_note id note_type guid) }
 {
     let tags = Text::of(alloc, "")?;
