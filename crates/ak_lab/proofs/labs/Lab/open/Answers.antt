@@ -9,18 +9,18 @@ within : IsClockMoment (pos 1_700_000_000_000)
 within = record { low = omega arith; high = omega arith }
 
 pub new-requires-clause-checked : goal.new-requires-clause-checked
-new-requires-clause-checked c = opening_is_checked (pos 1_700_000_000_000) c.in_ok-made.made within c.in_ok-made.ensures
+new-requires-clause-checked c = opening_is_checked (pos 1_700_000_000_000) c.in_ok-made.made within c.in_ok-made.ensures.is
 
 pub new-requires-clause-distinct : goal.new-requires-clause-distinct
-new-requires-clause-distinct c = opening_is_distinct (pos 1_700_000_000_000) c.in_ok-made.made c.in_ok-made.ensures
+new-requires-clause-distinct c = opening_is_distinct (pos 1_700_000_000_000) c.in_ok-made.made c.in_ok-made.ensures.is
 
 pub new-requires-clause-lawful : goal.new-requires-clause-lawful
-new-requires-clause-lawful c = opening_is_committed (pos 1_700_000_000_000) c.in_ok-made.made within c.in_ok-made.ensures
+new-requires-clause-lawful c = opening_is_committed (pos 1_700_000_000_000) c.in_ok-made.made within c.in_ok-made.ensures.is
 
 pub returns-clause-opened : goal.returns-clause-opened
 returns-clause-opened c = (
   c.in_ok-made.made,
-  c.in_ok-made.ensures,
+  c.in_ok-made.ensures.is,
   ap (λ (devices : List Device). let s : LabState = record { clock = pos 1_700_000_000_000; server = c.in_ok-server.server; sessions = 0; devices = devices } in s) c.new-2.ensures.items
       ∙ lab_opened c.lab_key.result.digits c.in_ok-made.made c.in_ok-server.server c.in_ok-server.ensures c.lab_key.ensures,
 )
