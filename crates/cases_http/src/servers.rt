@@ -4,7 +4,7 @@ use crate::fronts::{cuts, fronts};
 use crate::links::{ROOM, end_of, link_of, told, told_written};
 use crate::moments::{moment_in, moment_of, number_in};
 use crate::wires::{asks, calls};
-use ak_base::{HostKey, Text};
+use ak_base::{HostKey, List, Text};
 use ak_memory::MemoryKeeper;
 use ak_server::Server;
 use cases_accounts::empty_keeper;
