@@ -16,7 +16,7 @@ use Rattle.ak_lab_joins.proofs.Syncs.{CommitsNoneOrJoin}
 use Rattle.ak_lab_joins.proofs.Synced as synced
 use Rattle.ak_lab_joins.proofs.Synced.{holds_is}
 use Rattle.ak_lab_joins.proofs.Worlds.{commit_as, StaysQuiet}
-use Rattle.ak_lab_joins.specs.LabJoins.{Agrees, CommitsOnceIn, Finishes, HasSession, IsLinkedDevice, IsLinkedLab, KeepsCommitted, KeepsOthers, KeepsSides, MayHoldJoin, RunsToSync, StillCommits, StillHolds, world_in}
+use Rattle.ak_lab_joins.specs.LabJoins.{Agrees, CommitsOnceIn, Finishes, HasSession, IsLinkedDevice, IsLinkedLab, IsLinkedServer, KeepsCommitted, KeepsOthers, KeepsSides, MayHoldJoin, RunsToSync, StillCommits, StillHolds, world_in}
 use Rattle.ak_lab.specs.LabRuns.{AllGo, IsLabOpening}
 use Rattle.ak_lab.specs.LabStates.{LabState, at_line, lab_host, opened_lab}
 use Rattle.ak_lab.specs.LabSyncs.{EndsSync}

@@ -193,7 +193,7 @@ module _ (account : AccountState) (name : List ℕ) (s t : LabState) (outcome : 
   linked_here : (d : Device) → IsLinkedDevice (base_of account s) d → IsLinkedDevice (world_in host account s.server).state.committed d
   linked_here d it = subst (λ (h : List ℕ). IsLinkedDevice (world_in h account s.server).state.committed d) same_host it
 
-  base_here : (world_in host account s.server).state.committed ≡ base_of account s
+  pub base_here : (world_in host account s.server).state.committed ≡ base_of account s
   base_here = ap (λ (h : List ℕ). (world_in h account s.server).state.committed) (sym same_host)
 
   -- the device that syncs

@@ -149,7 +149,7 @@ module _ (ids : Ids) (account : AccountState) (old now : Log) (before left : Kee
   nothing_more is = by because.more
     where
       never : {b : Bool} → b ≡ true → b ≡ false → ⊥
-      never yes no = grind (arith, yes, no)
+      never is_so is_not = grind (arith, is_so, is_not)
 
       by : (sync.tries ≡ []) ⊎ ((said : MetaSaid) × (told_by sync.meta ≡ Some said) × (sync.moment ≡ said.moment) × (is_told_by_meta outcome ≡ false)) → sync.tries ≡ []
       by (inl none) = none
