@@ -9,14 +9,14 @@ use ak_edit::Change;
 
 /// What a call makes of a note: the note, its new cards by ord, and the settings after them.
 #[derive(Drop)]
-pub(crate) struct MadeNote {
-    pub(crate) note: Note,
-    pub(crate) cards: List<Card>,
-    pub(crate) conf: Conf,
+pub struct MadeNote {
+    pub note: Note,
+    pub cards: List<Card>,
+    pub conf: Conf,
 }
 
 /// Puts the note, its new cards and the settings, and adds the tags.
-pub(crate) fn put_made(change: &mut Change, made: MadeNote, tags: &List<Text>) -> Result<(), Memory>
+pub fn put_made(change: &mut Change, made: MadeNote, tags: &List<Text>) -> Result<(), Memory>
     requires range { IsConfInRange made.conf }
     requires names { AllByRecursion IsTagName tags.now }
     ensures { OnOk result (change.new ≡ made_over tags.now made change.old) }
