@@ -97,7 +97,11 @@ fn added_of(alloc: Global, made: &MadeNote) -> Result<Added, Memory>
 
 /// What is made of the note, refused for the first of its tests that holds. Nothing is put yet, and the tests of rows
 /// and stamps are left to the edit's end.
-pub fn read_addition<K: Keeper>(keeper: &mut K, new: &NewNote, at: i64) -> Result<MadeNote, DeskFault>
+pub fn read_addition<K: Keeper>(
+    keeper: &mut K,
+    new: &NewNote,
+    at: i64,
+) -> Result<MadeNote, DeskFault>
     requires held { (K.keeping keeper.old).headed.current ≡ true }
     ensures same { K.keeping keeper.new ≡ K.keeping keeper.old }
     ensures made { IfOk result (λ made. WhereTold (K.keeping keeper.old) (IsMadeOf at new.now made)) }

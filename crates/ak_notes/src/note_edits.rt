@@ -66,7 +66,11 @@ pub fn edit_note<K: Keeper>(
 
 /// What is made of the note, refused for the first of its tests that holds. Nothing is put yet, and the tests of rows
 /// and stamps are left to the edit's end.
-pub fn read_edit<K: Keeper>(keeper: &mut K, given: &NoteEdit, at: i64) -> Result<MadeNote, DeskFault>
+pub fn read_edit<K: Keeper>(
+    keeper: &mut K,
+    given: &NoteEdit,
+    at: i64,
+) -> Result<MadeNote, DeskFault>
     requires held { (K.keeping keeper.old).headed.current ≡ true }
     ensures same { K.keeping keeper.new ≡ K.keeping keeper.old }
     ensures made { MakesIn K.Lookup keeper.old result (IsChangedOf at given.now) }
