@@ -1,12 +1,14 @@
-"""How bin/try-edits --together judges an edit by what a check says. The words are those of checks of a crate with three functions: `low`, and
-`high` and `higher`, which call it.
+"""How bin/try-edits --together judges an edit by what a check says, and the log of tries. The words are those of checks of a crate with
+three functions: `low`, and `high` and `higher`, which call it.
 
     python3 -m unittest discover -s bin/tests
 """
 import os
+import subprocess
 import sys
 import unittest
 
+TOP = os.path.dirname(os.path.dirname(os.path.dirname(os.path.realpath(__file__))))
 sys.path.insert(0, os.path.dirname(os.path.dirname(os.path.realpath(__file__))))
 import edit_rounds
 
@@ -81,6 +83,23 @@ class Rounds(unittest.TestCase):
         crate = Crate("fn spike::high: no proof: it calls `spike::low`, which is not proved")
         self.assertEqual([it for it, _ in self.tried(crate, "high")], [True])
         self.assertEqual(crate.asked, [["spike::high"], "the crate"])
+
+
+class Log(unittest.TestCase):
+    def run_script(self, *words):
+        return subprocess.run([f"{TOP}/bin/edits-tried", *words], stdout=subprocess.PIPE, stderr=subprocess.PIPE, text=True)
+
+    def test_each_row_is_of_a_crate_and_of_edits_that_stand(self):
+        ran = self.run_script("--check")
+        self.assertEqual((ran.stdout, ran.stderr, ran.returncode), ("", "", 0))
+
+    def test_the_last_tries_of_a_crate_are_told(self):
+        ran = self.run_script("ak_undo")
+        self.assertTrue(ran.stdout.startswith("ak_undo: "), ran.stdout)
+        self.assertIn("2026-11-29, together", ran.stdout)
+
+    def test_an_unknown_crate_and_an_unknown_word_are_refused(self):
+        self.assertEqual([self.run_script(it).returncode for it in ("ak_nothing", "--nothing")], [2, 2])
 
 
 if __name__ == "__main__":
