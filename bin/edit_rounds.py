@@ -12,6 +12,8 @@ from edit_files import pairs_of, text_of
 
 # What is said of a proof file that names what an edit took away, and of what cites that file.
 NAMES = re.compile(r"has no field|is not in scope|has no `|was not admitted|projects from a record")
+# What is said of a function that calls one without a proof.
+CALLS = re.compile(r"it calls .*")
 HEAD = r"(?:pub(?:\(\w+\))? )?"
 
 
@@ -56,13 +58,24 @@ def rounds_of(crate, edits):
     return rounds
 
 
+def is_within(name, function):
+    """Tells whether a name of a check is this function's or that of a closure in it."""
+    return f"::{function}::" in f"::{name}::".replace("::fn::", "::")
+
+
+def waits(told, function):
+    """Tells whether a function calls another one that has no proof in this check: what is told of it then need not come of its own edit."""
+    names = [name for it in told for name in re.findall("`([^`]+)`", "".join(CALLS.findall(it)))]
+    return any(not is_within(it, function) for it in names)
+
+
 def judged(crate, said, function):
-    """Returns whether a check's words mean that an edit in a function was refused, and why; None if they tell nothing of it or of its closures."""
+    """Returns whether a check's words mean that an edit in a function was refused, and why; None if nothing is told of it or of its closures, or it waits."""
     told, own, block = [], [], []
     folder = re.sub(rf"\A{crate.name}::", "", function).replace("::", "/")
     for line in said.split("\n"):
         found = re.match(r"fn (\S+): (.*)", line)
-        if found and f"::{function}::" in f"::{found[1]}::".replace("::fn::", "::"):
+        if found and is_within(found[1], function):
             told.append(found[2])
             own += [it for it in block if it.startswith("note: src/") and "not proved" in it]
         block = [] if found else [*block, line]
@@ -70,11 +83,13 @@ def judged(crate, said, function):
             own.append(line)
     if told and all(it.startswith("proved") for it in told):
         return False, "NOT REFUSED: its function is still proved with this edit"
+    # (one that calls another edited one of its round is tried by itself, whatever is told of it)
+    if waits(told, function):
+        return None
     if own:
         return True, f"refused, as it must be: {own[0][:160]}"
     if any(it.startswith("could not tell") for it in told):
         return True, "refused, as it must be (only by a limit of the prover, which gave no verdict)"
-    # (a function without a verdict of its own, since one that it calls is not proved in this round, is judged by itself)
     if not told or any("it calls" in it for it in told):
         return None
     return True, f"refused, as it must be (only since a proof names what it takes away: change a value and keep the names): {told[0][:100]}"
