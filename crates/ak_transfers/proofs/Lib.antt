@@ -1,0 +1,10 @@
+pub mod Downloaded
+pub mod Downloading
+pub mod Ends
+pub mod Greeted
+pub mod Heads
+pub mod Logs
+pub mod Preparing
+pub mod Rows
+pub mod Sending
+pub mod Uploaded

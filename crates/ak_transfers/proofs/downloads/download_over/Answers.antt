@@ -1,0 +1,58 @@
+use Rattle.std.proofs.Common.{sym, ap, subst, ◌∙◌}
+use Rattle.ak_client.proofs.Keeping.{kept_cause}
+use Rattle.ak_client.specs.Outcomes.{HasLostThrice, HasOutcomeCause, ShowsRefusal, outcome_of}
+use Rattle.ak_client.specs.declared.outcomes.Outcome.{Outcome}
+use Rattle.ak_client.specs.declared.outcomes.Outcome.TheVariants as outcomes
+use Rattle.ak_transfers.proofs.Ends.{goes, lost_cause, lost_thrice, shows_refusal, stays, download_may, download_plain}
+use Rattle.ak_transfers.proofs.Downloaded.{downloads_told}
+use Rattle.ak_transfers.specs.Transfers.{IsDownload, StaysUnlessFinished, download_errand, may_end_download}
+use Rattle.ak_transfers.proofs.downloads.download_over.Goals as goal
+
+pub returns-clause-downloads : goal.returns-clause-downloads
+returns-clause-downloads g c =
+    subst (λ (outcome : Outcome). IsDownload c.args.ids (g.K.Lookup.keeping c.args.keeper.now) (g.K.Lookup.keeping c.download_device.new.keeper) (record { line = record { health = g.W.End.health c.args.wire.now; wire = g.W.Wire.state c.args.wire.now }; moments = g.C.Clock.to_come c.args.clock.now }) (record { line = record { health = g.W.End.health c.download_device.new.wire; wire = g.W.Wire.state c.download_device.new.wire }; moments = g.C.Clock.to_come c.download_device.new.clock }) outcome)
+    (sym c.outcome_of.ensures) (record {
+      asked = c.download_device.ensures.transfer.0;
+      transfer = c.download_device.ensures.transfer.1;
+      told = downloads_told c.args.ids (g.K.Lookup.keeping c.args.keeper.now) (g.K.Lookup.keeping c.download_device.new.keeper) (record { line = record { health = g.W.End.health c.args.wire.now; wire = g.W.Wire.state c.args.wire.now }; moments = g.C.Clock.to_come c.args.clock.now }) (record { line = record { health = g.W.End.health c.download_device.new.wire; wire = g.W.Wire.state c.download_device.new.wire }; moments = g.C.Clock.to_come c.download_device.new.clock }) (outcome_of c.download_device.result) c.download_device.ensures.transfer.0 c.download_device.ensures.transfer.1;
+    })
+
+pub returns-clause-device : goal.returns-clause-device
+returns-clause-device g c =
+    subst (λ (outcome : Outcome). StaysUnlessFinished (g.K.Lookup.keeping c.args.keeper.now) (g.K.Lookup.keeping c.download_device.new.keeper) outcome) (sym c.outcome_of.ensures)
+    (stays (g.K.Lookup.keeping c.args.keeper.now) (g.K.Lookup.keeping c.download_device.new.keeper) c.download_device.result c.download_device.ensures.device)
+
+pub returns-clause-ends : goal.returns-clause-ends
+returns-clause-ends g c =
+    ap may_end_download c.outcome_of.ensures ∙ download_may (g.K.Lookup.keeping c.args.keeper.now) (g.K.Lookup.keeping c.download_device.new.keeper) c.args.ids c.download_device.ensures.transfer.0 (record { line = record { health = g.W.End.health c.args.wire.now; wire = g.W.Wire.state c.args.wire.now }; moments = g.C.Clock.to_come c.args.clock.now }) (record { line = record { health = g.W.End.health c.download_device.new.wire; wire = g.W.Wire.state c.download_device.new.wire }; moments = g.C.Clock.to_come c.download_device.new.clock }) (outcome_of c.download_device.result) c.download_device.ensures.transfer.1
+
+pub returns-clause-keeper : goal.returns-clause-keeper
+returns-clause-keeper g c = c.download_device.ensures.keeper.goes
+
+pub returns-clause-kept : goal.returns-clause-kept
+returns-clause-kept g c =
+    subst (λ (outcome : Outcome). HasOutcomeCause outcomes.Keep (g.K.Lookup.health c.args.keeper.now) (g.K.Lookup.health c.download_device.new.keeper) outcome)
+    (sym c.outcome_of.ensures) (kept_cause c.download_device.result c.download_device.ensures.keeper)
+
+pub returns-clause-lost : goal.returns-clause-lost
+returns-clause-lost g c =
+    subst (λ (outcome : Outcome). HasOutcomeCause outcomes.Lost (g.W.End.health c.args.wire.now) (g.W.End.health c.download_device.new.wire) outcome)
+    (sym c.outcome_of.ensures) (lost_cause (download_errand (g.K.Lookup.keeping c.args.keeper.now) (g.K.Lookup.keeping c.download_device.new.keeper)) c.args.ids c.download_device.ensures.transfer.0 (record { line = record { health = g.W.End.health c.args.wire.now; wire = g.W.Wire.state c.args.wire.now }; moments = g.C.Clock.to_come c.args.clock.now }) (record { line = record { health = g.W.End.health c.download_device.new.wire; wire = g.W.Wire.state c.download_device.new.wire }; moments = g.C.Clock.to_come c.download_device.new.clock }) (outcome_of c.download_device.result) c.download_device.ensures.transfer.1 (download_plain (g.K.Lookup.keeping c.args.keeper.now) (g.K.Lookup.keeping c.download_device.new.keeper)))
+
+pub returns-clause-thrice : goal.returns-clause-thrice
+returns-clause-thrice g c =
+    subst (λ (outcome : Outcome). HasLostThrice (g.W.End.health c.args.wire.now) (g.W.End.health c.download_device.new.wire)
+    (g.W.Wire.state c.args.wire.now).silence (g.W.Wire.state c.download_device.new.wire).silence outcome)
+    (sym c.outcome_of.ensures) (lost_thrice (download_errand (g.K.Lookup.keeping c.args.keeper.now) (g.K.Lookup.keeping c.download_device.new.keeper)) c.args.ids c.download_device.ensures.transfer.0 (record { line = record { health = g.W.End.health c.args.wire.now; wire = g.W.Wire.state c.args.wire.now }; moments = g.C.Clock.to_come c.args.clock.now }) (record { line = record { health = g.W.End.health c.download_device.new.wire; wire = g.W.Wire.state c.download_device.new.wire }; moments = g.C.Clock.to_come c.download_device.new.clock }) (outcome_of c.download_device.result) c.download_device.ensures.transfer.1 (download_plain (g.K.Lookup.keeping c.args.keeper.now) (g.K.Lookup.keeping c.download_device.new.keeper)))
+
+pub returns-clause-shown : goal.returns-clause-shown
+returns-clause-shown g c =
+    subst (λ (outcome : Outcome). ShowsRefusal (g.W.Wire.state c.args.wire.now).reading (g.W.Wire.state c.download_device.new.wire).reading
+    (g.W.Wire.state c.download_device.new.wire).said outcome)
+    (sym c.outcome_of.ensures) (shows_refusal (download_errand (g.K.Lookup.keeping c.args.keeper.now) (g.K.Lookup.keeping c.download_device.new.keeper)) c.args.ids c.download_device.ensures.transfer.0 (record { line = record { health = g.W.End.health c.args.wire.now; wire = g.W.Wire.state c.args.wire.now }; moments = g.C.Clock.to_come c.args.clock.now }) (record { line = record { health = g.W.End.health c.download_device.new.wire; wire = g.W.Wire.state c.download_device.new.wire }; moments = g.C.Clock.to_come c.download_device.new.clock }) (outcome_of c.download_device.result) c.download_device.ensures.transfer.1 (download_plain (g.K.Lookup.keeping c.args.keeper.now) (g.K.Lookup.keeping c.download_device.new.keeper)))
+
+pub returns-clause-wire : goal.returns-clause-wire
+returns-clause-wire g c = (goes (download_errand (g.K.Lookup.keeping c.args.keeper.now) (g.K.Lookup.keeping c.download_device.new.keeper)) c.args.ids c.download_device.ensures.transfer.0 (record { line = record { health = g.W.End.health c.args.wire.now; wire = g.W.Wire.state c.args.wire.now }; moments = g.C.Clock.to_come c.args.clock.now }) (record { line = record { health = g.W.End.health c.download_device.new.wire; wire = g.W.Wire.state c.download_device.new.wire }; moments = g.C.Clock.to_come c.download_device.new.clock }) (outcome_of c.download_device.result) c.download_device.ensures.transfer.1).0
+
+pub returns-clause-reading : goal.returns-clause-reading
+returns-clause-reading g c = (goes (download_errand (g.K.Lookup.keeping c.args.keeper.now) (g.K.Lookup.keeping c.download_device.new.keeper)) c.args.ids c.download_device.ensures.transfer.0 (record { line = record { health = g.W.End.health c.args.wire.now; wire = g.W.Wire.state c.args.wire.now }; moments = g.C.Clock.to_come c.args.clock.now }) (record { line = record { health = g.W.End.health c.download_device.new.wire; wire = g.W.Wire.state c.download_device.new.wire }; moments = g.C.Clock.to_come c.download_device.new.clock }) (outcome_of c.download_device.result) c.download_device.ensures.transfer.1).1

@@ -1,0 +1,100 @@
+// What a whole collection must pass before a device holds it.
+ghost use Rattle.std.specs.List.{All, IsDistinct, list_all, list_any};
+ghost use Rattle.std.specs.Ordering.{eq_by_cmp};
+ghost use Rattle.std.specs.Prelude.{◌≡◌, cond, true, map, IfOk, IfErr, OnOk, Decides, ◌⊎◌};
+ghost use Rattle.ak_base.specs.Heads.{IsHeadInRange};
+ghost use Rattle.ak_base.specs.Names.{name_cmp};
+ghost use Rattle.ak_base.specs.Rows.{IsChecked, name_of};
+ghost use Rattle.ak_base.specs.declared.names.Name.{Name as Named};
+ghost use Rattle.ak_exchange.specs.declared.stops.Stop.TheVariants as stops;
+ghost use Rattle.ak_session.specs.Refusals.{has_twins, is_checked, same_names};
+ghost use Rattle.ak_transfers.specs.Forms.{MayBeHeld, downloaded_head};
+
+use ak_base::{Head, List, Memory, Name, Row};
+use ak_exchange::Stop;
+use ak_messages::Whole;
+use std::alloc::Global;
+use std::collections::BTreeSet;
+
+/// The rows and the head of a whole collection that a device may hold. The last sync is at its moment.
+#[derive(Drop)]
+pub(crate) struct Held {
+    pub(crate) rows: List<Row>,
+    pub(crate) head: Head,
+}
+
+/// What a device holds once a whole collection was given. One that may not be held is a bad reply.
+pub(crate) fn held_of(alloc: Global, whole: Whole) -> Result<Held, Stop>
+    ensures held { IfOk result (λ held. MayBeHeld whole) }
+    ensures rows { IfOk result (λ held. held.rows ≡ whole.rows) }
+    ensures head { IfOk result (λ held. held.head ≡ downloaded_head whole) }
+    ensures refused { IfErr result (λ stop. (stop ≡ stops.Memory)
+        ⊎ ((stop ≡ stops.BadReply) × (MayBeHeld whole → ⊥))) }
+{
+    let held = parts_of(whole);
+    if !may_be_held(alloc, &held)? {
+        return Err(Stop::BadReply);
+    }
+    Ok(held)
+}
+
+/// The rows and the head of a whole collection.
+fn parts_of(whole: Whole) -> Held
+    ensures { result ≡ record { rows = whole.rows; head = downloaded_head whole } }
+{
+    Held {
+        rows: whole.rows,
+        head: Head {
+            crt: whole.crt,
+            moment: whole.moment,
+            schema: whole.schema,
+            usn: whole.usn,
+            last_sync: whole.moment,
+            conf: whole.conf,
+            tags: whole.tags,
+        },
+    }
+}
+
+/// Whether each row passes its check, no two share a name, and the head is in its ranges.
+fn may_be_held(alloc: Global, held: &Held) -> Result<bool, Memory>
+    ensures { IfOk result (λ so. Decides so (All IsChecked held.now.rows
+        × IsDistinct (eq_by_cmp name_cmp) (map name_of held.now.rows) × IsHeadInRange held.now.head)) }
+{
+    if !held.head.is_in_range() {
+        return Ok(false);
+    }
+    if !are_checked(held.rows.as_slice()) {
+        return Ok(false);
+    }
+    Ok(!has_twin_rows(alloc, held.rows.as_slice())?)
+}
+
+/// Whether each of these rows passes its check.
+fn are_checked(rows: &[Row]) -> bool
+    ensures { result ≡ list_all is_checked rows.now }
+{
+    rows.iter().all(|row| row.check().is_ok())
+}
+
+/// Whether two of these rows share a name.
+fn has_twin_rows(alloc: Global, rows: &[Row]) -> Result<bool, Memory>
+    ensures { IfOk result (λ found. found ≡ has_twins same_names rows.now) }
+{
+    let mut names = BTreeSet::new(alloc);
+    for row in rows {
+        if add_name(&mut names, row.name())? {
+            return Ok(true);
+        }
+    }
+    Ok(false)
+}
+
+/// Adds a name, and answers whether it was there already.
+fn add_name(names: &mut BTreeSet<Name>, name: Name) -> Result<bool, Memory>
+    ensures found { IfOk result (λ found. found ≡ list_any (eq_by_cmp name_cmp name) names.old.keys) }
+    ensures added { OnOk result ((other : Named) → list_any (eq_by_cmp name_cmp other) names.new.keys
+        ≡ cond (eq_by_cmp name_cmp name other) true (list_any (eq_by_cmp name_cmp other) names.old.keys)) }
+{
+    Ok(!names.insert(name)?)
+}
