@@ -8,7 +8,7 @@ _anki() {
     fi
     # If the second word is - or host:port, all words go to the program.
     if [ "$COMP_CWORD" -ge 3 ] && { [ "$second" = - ] || [[ $second == *:* ]] || [[ ${COMP_WORDS[3]} == : ]]; }; then
-        [ "$COMP_CWORD" -eq 3 ] && COMPREPLY=($(compgen -W "init desk sync lab" -- "$word"))
+        [ "$COMP_CWORD" -eq 3 ] && COMPREPLY=($(compgen -W "init desk sync upload download lab" -- "$word"))
         return
     fi
     case $first in

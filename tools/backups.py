@@ -69,7 +69,6 @@ SYNC_WORDS = [
     "If you sync this collection, decide before the next sync which side is to win, since the server knows nothing of this step back:",
     "  `download` takes the server's collection, and throws away what this copy has and the server has not. Do so if the server has the later state.",
     "  `upload` puts this copy in the server's place, and throws away what the server and the other devices have that it has not. Do so if this copy is to win.",
-    "This version has neither yet: copy the file of the side that is to win (docs/OPERATORS.md, Backup and restore).",
 ]
 
 

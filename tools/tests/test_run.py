@@ -297,7 +297,7 @@ class NoFiles(Case):
     """No file is left where there was none."""
 
     def test_on_a_name_where_there_is_none(self):
-        for words in (["desk"], ["lab"], ["sync", "0" * 32], ["dekc"], []):
+        for words in (["desk"], ["lab"], ["sync", "0" * 32], ["upload", "0" * 32], ["download", "0" * 32], ["dekc"], []):
             for environment in (dict(os.environ), dict(os.environ, ANKI_QUIET="1")):
                 alone = run([self.program, self.path("alone"), "-"] + words, input=b"")
                 ran = self.around(self.path("new"), "-", *words, env=environment)

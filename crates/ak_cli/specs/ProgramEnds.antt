@@ -2,7 +2,7 @@
 use Rattle.std.specs.Io.KnownBytes.{Appends, Keeps}
 use Rattle.std.specs.Prelude.{◌≡◌, ◌⊎◌, ℕ, ℤ, Bool, true, false, List, Option, Some, None}
 use Rattle.ak_base.specs.declared.keys.HostKey.{HostKey}
-use Rattle.ak_cli.specs.Programs.{Named, Lab, Init, Desk, Sync, command_status, status_of, usage_line}
+use Rattle.ak_cli.specs.Programs.{Named, Lab, Init, Desk, Sync, Upload, Download, command_status, status_of, usage_line}
 use Rattle.ak_desk_runs.specs.DeskRuns.{EndsDesk, input_lines}
 use Rattle.ak_desk_runs.specs.Inits.{EndsInit}
 use Rattle.ak_desk_runs.specs.RunStates.{Outside, outside_of}
@@ -18,6 +18,7 @@ use Rattle.ak_keep.specs.Keepers.{Keeping}
 use Rattle.ak_lab.specs.LabRuns.{RunsLab}
 use Rattle.ak_loops.specs.declared.logs.Entry.{Entry}
 use Rattle.ak_sync_runs.specs.SyncRuns.{EndsSync, SyncOutside, sync_outside}
+use Rattle.ak_transfer_runs.specs.TransferRuns.{EndsDownload, EndsUpload}
 use Rattle.ak_wires.specs.Wires.{WireState}
 
 -- what is known of what a command is given: the bytes to read, those that were written, the keeper, the wire, the moments and words of
@@ -62,6 +63,8 @@ reads_input (Some Lab) = true
 reads_input (Some Init) = false
 reads_input (Some Desk) = true
 reads_input (Some (Sync digits)) = false
+reads_input (Some (Upload digits)) = false
+reads_input (Some (Download digits)) = false
 reads_input None = false
 
 -- whether a command works on the keeper's collection
@@ -70,6 +73,8 @@ uses_keeper (Some Lab) = false
 uses_keeper (Some Init) = true
 uses_keeper (Some Desk) = true
 uses_keeper (Some (Sync digits)) = true
+uses_keeper (Some (Upload digits)) = true
+uses_keeper (Some (Download digits)) = true
 uses_keeper None = false
 
 -- how `lab` ends over these lines: a lab ran them, and its server's log is handed out. Or memory was out before the first of them, and
@@ -79,19 +84,34 @@ EndsLab end all a b =
     RunsLab end all b.log a.written b.written ⊎ (end ≡ ends.Memory) × Keeps a.written b.written × (b.log ≡ a.log)
 
 -- how a command ends with a status. `lab` runs the lines of the input in a lab of its own, and ends with 0, 3, 4, 5 or 8; `init` puts the
--- opening collection of the next moment; `desk` does the lines of the input; `sync` syncs with the account of its key; and if there is
--- none, `usage` is printed
-abbrev pub EndsBy : Option Named → ℕ → ProgramOutside → ProgramOutside → Type 0
-EndsBy (Some Lab) status a b = (end : ScriptEnd) × (status ≡ status_of end) × EndsLab end (input_lines a.left) a b
-EndsBy (Some Init) status a b = (at : ℤ) × (end : CommandEnd)
+-- opening collection of the next moment; `desk` does the lines of the input; `sync` syncs with the account of its key, and `upload` and
+-- `download` send and fetch the whole collection, an upload over a keeper that spares memory or not; and if there is none, `usage` is printed
+abbrev pub EndsBy : Bool → Option Named → ℕ → ProgramOutside → ProgramOutside → Type 0
+EndsBy spares (Some Lab) status a b = (end : ScriptEnd) × (status ≡ status_of end) × EndsLab end (input_lines a.left) a b
+EndsBy spares (Some Init) status a b = (at : ℤ) × (end : CommandEnd)
     × IsClockMoment at × GivesNext a.moments b.moments at × EndsInit at end a.keeping b.keeping a.written b.written
     × (status ≡ command_status end)
-EndsBy (Some Desk) status a b = (end : CommandEnd)
+EndsBy spares (Some Desk) status a b = (end : CommandEnd)
     × EndsDesk end (input_lines a.left) (desk_of a) (desk_of b) a.written b.written × (status ≡ command_status end)
-EndsBy (Some (Sync digits)) status a b = (host : HostKey)
+EndsBy spares (Some (Sync digits)) status a b = (host : HostKey)
     × (host.digits ≡ digits) × EndsSync host status (sync_of a) (sync_of b) a.written b.written
-EndsBy None status a b =
+EndsBy spares (Some (Upload digits)) status a b = (host : HostKey)
+    × (host.digits ≡ digits) × EndsUpload spares host status (sync_of a) (sync_of b) a.written b.written
+EndsBy spares (Some (Download digits)) status a b = (host : HostKey)
+    × (host.digits ≡ digits) × EndsDownload host status (sync_of a) (sync_of b) a.written b.written
+EndsBy spares None status a b =
     (status ≡ 2) × Appends a.written b.written usage_line ⊎ (status ≡ 5) × AppendsPart a.written b.written usage_line
+
+-- what a sync leaves alone, and what sends or fetches the whole collection: all but what is named here
+abbrev pub KeepsButSync : ProgramOutside → ProgramOutside → Type 0
+KeepsButSync a b = b ≡ record a {
+  written = b.written;
+  keeping = b.keeping;
+  health = b.health;
+  wire = b.wire;
+  moments = b.moments;
+  words = b.words;
+}
 
 -- what a command leaves alone: all but what is named here. So a log that was empty stays so, but that of `lab`
 abbrev pub LeavesBy : Option Named → ProgramOutside → ProgramOutside → Type 0
@@ -105,12 +125,7 @@ LeavesBy (Some Desk) a b = b ≡ record a {
   words = b.words;
   filters = b.filters;
 }
-LeavesBy (Some (Sync digits)) a b = b ≡ record a {
-  written = b.written;
-  keeping = b.keeping;
-  health = b.health;
-  wire = b.wire;
-  moments = b.moments;
-  words = b.words;
-}
+LeavesBy (Some (Sync digits)) a b = KeepsButSync a b
+LeavesBy (Some (Upload digits)) a b = KeepsButSync a b
+LeavesBy (Some (Download digits)) a b = KeepsButSync a b
 LeavesBy None a b = b ≡ record a { written = b.written }

@@ -12,12 +12,14 @@ use Rattle.ak_faults.specs.Causes.{Health}
 use Rattle.ak_io.specs.declared.endings.ScriptEnd.{ScriptEnd}
 use Rattle.ak_io.specs.declared.endings.ScriptEnd.TheVariants as ends
 
--- the commands as words name them. That of a sync has the digits of its host key
+-- the commands as words name them. Those of a sync and of whole collections have the digits of their host key
 pub data Named : Type 0 where
   Lab : Named
   Init : Named
   Desk : Named
   Sync : List ℕ → Named
+  Upload : List ℕ → Named
+  Download : List ℕ → Named
 
 -- how a command is named
 abbrev pub named_by : ProgramCommand → Named
@@ -25,6 +27,8 @@ named_by programs.Lab = Lab
 named_by programs.Init = Init
 named_by programs.Desk = Desk
 named_by (programs.Sync host) = Sync host.digits
+named_by (programs.Upload host) = Upload host.digits
+named_by (programs.Download host) = Download host.digits
 
 -- the two texts are one
 abbrev pub same_text : List ℕ → List ℕ → Bool
@@ -38,15 +42,19 @@ command_named word =
     else if same_text word (codes "desk") then Some Desk
     else None
 
--- the command of two words: `sync` and 32 lower-case hexadecimal digits
-abbrev pub sync_named : List ℕ → List ℕ → Option Named
-sync_named word key = if same_text word (codes "sync") then option_map Sync (host_digits key) else None
+-- the command of two words: `sync`, `upload` or `download`, and 32 lower-case hexadecimal digits
+abbrev pub keyed_named : List ℕ → List ℕ → Option Named
+keyed_named word key =
+    if same_text word (codes "sync") then option_map Sync (host_digits key)
+    else if same_text word (codes "upload") then option_map Upload (host_digits key)
+    else if same_text word (codes "download") then option_map Download (host_digits key)
+    else None
 
 -- the command that the words name
 abbrev pub command_of : List (String Global) → Option Named
 command_of [] = None
 command_of (word ∷ []) = command_named (string_bytes word)
-command_of (word ∷ key ∷ []) = sync_named (string_bytes word) (string_bytes key)
+command_of (word ∷ key ∷ []) = keyed_named (string_bytes word) (string_bytes key)
 command_of (word ∷ key ∷ other ∷ others) = None
 
 -- `usage` and a line feed

@@ -1,6 +1,6 @@
 ghost use Rattle.std.specs.Prelude.{◌≡◌};
 ghost use Rattle.std.specs.Option.{option_map};
-ghost use Rattle.ak_cli.specs.Programs.{command_named, command_of, named_by, sync_named};
+ghost use Rattle.ak_cli.specs.Programs.{command_named, command_of, keyed_named, named_by};
 
 use ak_base::HostKey;
 
@@ -15,6 +15,10 @@ pub enum ProgramCommand {
     Desk,
     /// `sync KEY`: a sync of the collection that is held with the account of the key.
     Sync(HostKey),
+    /// `upload KEY`: the collection that is held takes the place of the account's.
+    Upload(HostKey),
+    /// `download KEY`: the account's collection takes the place of the one that is held.
+    Download(HostKey),
 }
 
 /// The command that the words name.
@@ -26,7 +30,7 @@ pub(crate) fn command_of(words: &[String]) -> Option<ProgramCommand>
         None => command_named(word.as_str()),
         Some((key, more)) => {
             if more.is_empty() {
-                sync_named(word.as_str(), key.as_str())
+                keyed_named(word.as_str(), key.as_str())
             } else {
                 None
             }
@@ -50,13 +54,21 @@ fn command_named(word: &str) -> Option<ProgramCommand>
     None
 }
 
-/// The command of two words: `sync`, and a host key.
-fn sync_named(word: &str, key: &str) -> Option<ProgramCommand>
-    ensures { option_map named_by result ≡ sync_named word.now key.now }
+/// The command of two words: `sync`, `upload` or `download`, and a host key.
+fn keyed_named(word: &str, key: &str) -> Option<ProgramCommand>
+    ensures { option_map named_by result ≡ keyed_named word.now key.now }
 {
     if word == "sync" {
         let host = HostKey::of(key)?;
         return Some(ProgramCommand::Sync(host));
+    }
+    if word == "upload" {
+        let host = HostKey::of(key)?;
+        return Some(ProgramCommand::Upload(host));
+    }
+    if word == "download" {
+        let host = HostKey::of(key)?;
+        return Some(ProgramCommand::Download(host));
     }
     None
 }

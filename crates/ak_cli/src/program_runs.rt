@@ -15,12 +15,13 @@ use ak_keep::Keeper;
 use ak_lab::run_lab;
 use ak_loops::Log;
 use ak_sync_runs::run_sync;
+use ak_transfer_runs::{run_download, run_upload};
 use ak_wires::Wire;
 use std::alloc::Global;
 
-/// Does the command that the words name, and answers the status with which the program ends. `init`, `desk` and `sync` work on
-/// the collection of the keeper, and `sync` on the server to which the wire leads; `lab` has collections of its own, and hands
-/// out the log of what came to its server.
+/// Does the command that the words name, and answers the status with which the program ends. All but `lab` work on the collection
+/// of the keeper, and `sync`, `upload` and `download` on the server to which the wire leads; `lab` has collections of its own, and
+/// hands out the log of what came to its server.
 pub fn run<I: Source, O: Sink, K: Keeper, W: Wire, C: Clock, R: Chance>(
     alloc: Global,
     words: &[String],
@@ -38,7 +39,7 @@ pub fn run<I: Source, O: Sink, K: Keeper, W: Wire, C: Clock, R: Chance>(
 
     // What the command does and prints, and the status that tells it: 5 in its place if the output counted a fault meanwhile,
     // also one that only a flush met. Of words that name no command `usage` is printed.
-    ensures ends { (status : ℕ) × EndsBy (command_of words.now) status
+    ensures ends { (status : ℕ) × EndsBy K.spares_memory (command_of words.now) status
         (program_outside (I.left input.old) (O.written out.old) (K.keeping keeper.old) (W.health wire.old) (W.state wire.old)
         (C.to_come clock.old) (R.to_come chance.old) log.old.entries (map (λ b. meaning b) filters.old.items))
         (program_outside (I.left input.new) (O.written out.new) (K.keeping keeper.new) (W.health wire.new) (W.state wire.new)
@@ -101,7 +102,7 @@ fn run_words<I: Source, O: Sink, K: Keeper, W: Wire, C: Clock, R: Chance>(
     filters: &mut Vec<Box<dyn FieldFilter>>,
 ) -> u8
     requires unmarked { is_marked (K.keeping keeper.old) ≡ false }
-    ensures ends { EndsBy (command_of words.now) result
+    ensures ends { EndsBy K.spares_memory (command_of words.now) result
         (program_outside (I.left input.old) (O.written out.old) (K.keeping keeper.old) (W.health wire.old) (W.state wire.old)
         (C.to_come clock.old) (R.to_come chance.old) log.old.entries (map (λ b. meaning b) filters.old.items))
         (program_outside (I.left input.new) (O.written out.new) (K.keeping keeper.new) (W.health wire.new) (W.state wire.new)
@@ -146,7 +147,7 @@ fn run_command<I: Source, O: Sink, K: Keeper, W: Wire, C: Clock, R: Chance>(
     filters: &mut Vec<Box<dyn FieldFilter>>,
 ) -> u8
     requires unmarked { is_marked (K.keeping keeper.old) ≡ false }
-    ensures ends { EndsBy (Some (named_by command)) result
+    ensures ends { EndsBy K.spares_memory (Some (named_by command)) result
         (program_outside (I.left input.old) (O.written out.old) (K.keeping keeper.old) (W.health wire.old) (W.state wire.old)
         (C.to_come clock.old) (R.to_come chance.old) log.old.entries (map (λ b. meaning b) filters.old.items))
         (program_outside (I.left input.new) (O.written out.new) (K.keeping keeper.new) (W.health wire.new) (W.state wire.new)
@@ -176,6 +177,10 @@ fn run_command<I: Source, O: Sink, K: Keeper, W: Wire, C: Clock, R: Chance>(
             command_status(end)
         }
         ProgramCommand::Sync(host) => run_sync(alloc, keeper, wire, clock, chance, host, out),
+        ProgramCommand::Upload(host) => run_upload(alloc, keeper, wire, clock, chance, host, out),
+        ProgramCommand::Download(host) => {
+            run_download(alloc, keeper, wire, clock, chance, host, out)
+        }
     }
 }
 

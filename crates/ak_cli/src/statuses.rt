@@ -10,8 +10,8 @@ pub const DONE: u8 = 0;
 /// The words name no command.
 pub const USAGE: u8 = 2;
 
-/// A line of the input breaks a named rule, or `init` found a collection, or `desk` or `sync` none; the last line that was printed
-/// tells which.
+/// A line of the input breaks a named rule, or `init` found a collection, or a command that works on one found none; the
+/// last line that was printed tells which.
 pub const REFUSED: u8 = 3;
 
 /// The input failed.

@@ -1,5 +1,5 @@
-// The command `sync`, over any keeper, wire, clock, chance and output: how it ends, what it leaves and what it writes. Nothing here
-// knows of the program's words.
+// The command `sync`, over any keeper, wire, clock, chance and output: how it ends, what it leaves and what it writes; and how a
+// command tells its end. Nothing here knows of the program's words.
 #![tactic(auto)]
 
 mod no_servers;
@@ -11,4 +11,4 @@ pub use run_laws::{
     a_printed_finish_joins, a_printed_no_changes_agrees, a_sync_commits_once,
     other_ends_keep_the_device,
 };
-pub use sync_runs::run_sync;
+pub use sync_runs::{NO_COLLECTION, print_ending, run_sync, tell_outcome};

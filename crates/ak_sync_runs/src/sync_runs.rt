@@ -12,8 +12,8 @@ use ak_undo::UndoList;
 use ak_wires::Wire;
 use std::alloc::Global;
 
-/// No collection is held.
-const NO_COLLECTION: u8 = 3;
+/// The status of a command that finds no collection.
+pub const NO_COLLECTION: u8 = 3;
 
 /// The output failed.
 const WRITE_FAILED: u8 = 5;
@@ -61,7 +61,7 @@ pub fn run_sync<K: Keeper, W: Wire, C: Clock, R: Chance, O: Sink>(
 
 /// Prints the line of an outcome, and answers its status. It takes no memory for a fixed text, so that memory never runs out
 /// after a finished sync.
-fn tell_outcome<O: Sink>(alloc: Global, outcome: &Outcome, out: &mut O) -> u8
+pub fn tell_outcome<O: Sink>(alloc: Global, outcome: &Outcome, out: &mut O) -> u8
     ensures told { TellsOutcome outcome.now result (O.written out.old) (O.written out.new) }
     ensures cause { HasStatusCause 5 (O.health out.old) (O.health out.new) result }
 {
@@ -76,7 +76,7 @@ fn tell_outcome<O: Sink>(alloc: Global, outcome: &Outcome, out: &mut O) -> u8
 }
 
 /// Prints the text as a line, and answers the status, or 5 if the output failed.
-fn print_ending<O: Sink>(out: &mut O, text: &str, status: u8) -> u8
+pub fn print_ending<O: Sink>(out: &mut O, text: &str, status: u8) -> u8
     requires other { status ≢ 5 }
     ensures printed { EndsPrinting text.now status result (O.written out.old) (O.written out.new) }
     ensures cause { HasStatusCause 5 (O.health out.old) (O.health out.new) result }

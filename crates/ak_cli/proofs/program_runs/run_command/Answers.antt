@@ -16,6 +16,12 @@ returns-in-Desk-clause-ends g c = rw c.in-Desk.is (_, c.run_desk-end.ensures.end
 pub returns-in-Sync-clause-ends : goal.returns-in-Sync-clause-ends
 returns-in-Sync-clause-ends g c = rw c.in-Sync.is (_, refl, c.run_sync.ensures.ends)
 
+pub returns-in-Upload-clause-ends : goal.returns-in-Upload-clause-ends
+returns-in-Upload-clause-ends g c = rw c.in-Upload.is (_, refl, c.run_upload.ensures.ends)
+
+pub returns-in-Download-clause-ends : goal.returns-in-Download-clause-ends
+returns-in-Download-clause-ends g c = rw c.in-Download.is (_, refl, c.run_download.ensures.ends)
+
 pub returns-in-Lab-clause-leaves : goal.returns-in-Lab-clause-leaves
 returns-in-Lab-clause-leaves g c = rw c.in-Lab.is refl
 
@@ -27,3 +33,9 @@ returns-in-Desk-clause-leaves g c = rw c.in-Desk.is refl
 
 pub returns-in-Sync-clause-leaves : goal.returns-in-Sync-clause-leaves
 returns-in-Sync-clause-leaves g c = rw c.in-Sync.is refl
+
+pub returns-in-Upload-clause-leaves : goal.returns-in-Upload-clause-leaves
+returns-in-Upload-clause-leaves g c = rw c.in-Upload.is refl
+
+pub returns-in-Download-clause-leaves : goal.returns-in-Download-clause-leaves
+returns-in-Download-clause-leaves g c = rw c.in-Download.is refl
