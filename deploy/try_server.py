@@ -5,7 +5,7 @@
 
 Without a trial all are done but the last three. Each prints what it saw, and `<trial>: passed` or why not. Trials:
 
-    days        two devices, a day of answers, edits and deletes on each, syncs in both orders
+    days        two devices that begin by an upload and a download, a day of answers, edits and deletes on each, syncs in both orders
     routes      each route, and each refusal that a client can cause, by curl
     clients     clients that are silent, drip, reset, send too much: others are served after them
     hunger      a server that may take 200 MiB of memory, and a body of 256 MiB
@@ -14,6 +14,7 @@ Without a trial all are done but the last three. Each prints what it saw, and `<
     schema      devices that each began by `init`, a changed note type and both ways out
     restore     the server's file is put back to an older copy, both ways out, and a restore that no sync shows
     kills       `kill -9` of the server or the client in the middle of syncs, again and again
+    wholes      the same in the middle of uploads and downloads, a tenth as often
     full        a full disk at the server (root: it mounts a small disk of its own)
     many        many syncs in a row, and the server's memory meanwhile
     sessions    as many syncs as requests alone, each of one changed note, and the server's memory meanwhile
@@ -49,7 +50,7 @@ sys.path.insert(0, HERE)
 
 import servers as parting  # noqa: E402
 
-TRIALS = ("days", "routes", "clients", "hunger", "second", "begin", "schema", "restore", "kills", "full", "many", "sessions", "speed", "memory")
+TRIALS = ("days", "routes", "clients", "hunger", "second", "begin", "schema", "restore", "kills", "wholes", "full", "many", "sessions", "speed", "memory")
 ON_REQUEST = ("drip", "tls", "servers")
 UNKNOWN = "f" * 32
 
@@ -172,6 +173,28 @@ class Device:
         ran = self.run("127.0.0.1:%d" % port, "sync", self.key)
         return ran.returncode, ran.stdout.strip()
 
+    def begin(self):
+        """A new collection in its file, as a learner begins."""
+        expect("init of " + self.path, self.run("-", "init").returncode, 0)
+
+    def upload(self, port):
+        """The server takes this device's collection."""
+        self.send_whole(port, "upload")
+
+    def download(self, port):
+        """This device takes the server's collection."""
+        self.send_whole(port, "download")
+
+    def send_whole(self, port, word):
+        ran = self.run("127.0.0.1:%d" % port, word, self.key)
+        expect("%s of %s" % (word, self.path), (ran.returncode, ran.stdout), (0, "finished\n"))
+
+    def needs_whole(self, port):
+        """A sync that can't join the two sides: what it prints."""
+        status, line = self.sync(port)
+        expect("a sync of %s, which says %s" % (self.path, line), (status, line.split(":")[0]), (10, "full needed"))
+        return line
+
     def finish(self, port):
         """Syncs until a sync finishes; at once, unless another device came between."""
         for _ in range(5):
@@ -237,23 +260,33 @@ def content(path):
 
 
 def devices_of(tools, server, names=("one", "two"), n=0):
-    """Devices in step with an account: ankid makes the collection, is stopped, and each device begins with a copy."""
+    """Devices in step with an account whose collection ankid makes: each begins by init, the first uploads and the others download. An anki without these
+    commands gets a copy of the account's file."""
     if server.process is None or server.process.poll() is not None:
         server.start()
-    server.end()
-    found = []
-    for name in names:
-        path = os.path.join(os.path.dirname(server.room), name + ".anki")
-        copy_files(server.file(n), path)
-        found.append(Device(tools, path, server.key(n)))
-    server.start()
+    found = [Device(tools, os.path.join(os.path.dirname(server.room), name + ".anki"), server.key(n)) for name in names]
+    if not tools.has_transfers():
+        server.end()
+        for device in found:
+            copy_files(server.file(n), device.path)
+        server.start()
+        print("this anki has no upload: each device began with a copy of the account's file")
+        return found
+    for device in found:
+        device.begin()
+        said = device.needs_whole(server.port)
+        if device is found[0]:
+            device.upload(server.port)
+        else:
+            device.download(server.port)
+    print("each device began by init, and its first sync said %s; %s uploaded, and the others downloaded" % (said, names[0]))
     return found
 
 
 def try_days(tools, room):
     server = Server(tools, os.path.join(room, "server"))
     one, two = devices_of(tools, server)
-    print("a copy of the server's file: its first sync says", expect("first sync", one.sync(server.port)[1], "no changes"))
+    print("the first sync then says", expect("first sync", one.sync(server.port)[1], "no changes"), "and", expect("first sync", two.sync(server.port)[1], "no changes"))
     for number, (first, second) in enumerate(((one, two), (two, one), (one, two), (two, one)), 1):
         one.day(number, 8)
         two.day(number, 5)
@@ -474,18 +507,27 @@ def try_second(tools, room):
 def try_begin(tools, room):
     server = Server(tools, os.path.join(room, "server"))
     one, two, three = (Device(tools, os.path.join(room, name + ".anki"), server.key()) for name in ("one", "two", "three"))
-    one.run("-", "init")
+    one.begin()
     one.day(1, 8)
-    copy_files(one.path, server.file())
-    copy_files(one.path, two.path)
-    server.start()
+    if tools.has_transfers():
+        server.start()
+        print("a device with a collection of its own: its first sync says", one.needs_whole(server.port))
+        one.upload(server.port)
+        two.begin()
+        two.download(server.port)
+    else:
+        copy_files(one.path, server.file())
+        copy_files(one.path, two.path)
+        server.start()
     for device in (one, two):
-        print("a copy of a device's own collection: its first sync says", expect("first sync", device.sync(server.port), (0, "no changes"))[1])
+        print("%s, by %s: the next sync says %s" % (os.path.basename(device.path), ways(tools), expect("first sync", device.sync(server.port)[1], *in_step(tools))))
     for first, second in ((one, two), (two, one)):
         first.day(2, 5)
         for device in (first, second):
             expect("a sync", device.sync(server.port), (0, "finished"))
-    copy_to(server, three)
+    if tools.has_transfers():
+        three.begin()
+    server_wins(tools, server, three)
     three.day(3, 4)
     for device in (three, one, two):
         expect("a sync", device.sync(server.port), (0, "finished"))
@@ -498,36 +540,42 @@ def try_schema(tools, room):
     server = Server(tools, os.path.join(room, "server"))
     one, two = devices_of(tools, server)
     begun = Device(tools, os.path.join(room, "begun.anki"), server.key())
-    begun.run("-", "init")
-    status, line = begun.sync(server.port)
-    print("a device that began by init: %d %s" % (status, line))
-    expect("a device that began by init", status, 10)
+    begun.begin()
+    print("a device that began by init:", begun.needs_whole(server.port))
     one.desk('note 1 1 ["a","b"]')
     one.finish(server.port)
+    two.finish(server.port)
     [[text]] = query(one.path, "select models from col")
-    one.desk("allow untype %d" % max(map(int, json.loads(text))))
-    status, line = one.sync(server.port)
-    print("a device that deleted a note type: %d %s" % (status, line))
-    expect("a changed schema", status, 10)
-    # The server wins: the device takes a copy of the account's file.
+    one.desk("allow untype %d" % max(map(int, json.loads(text))), 'note 1 1 ["not synced","b"]')
+    print("a device that deleted a note type:", one.needs_whole(server.port))
     kept = copied(one.path, room)
-    copy_to(server, one)
-    print("after a copy of the account's file it syncs:", expect("after a copy", one.finish(server.port), "no changes"))
+    # The server wins: the device gives up its change and its note.
+    server_wins(tools, server, one)
+    print("the server wins, by %s: the device syncs with %s" % (ways(tools), expect("the first device", one.finish(server.port), "no changes")))
     two.desk('note 1 1 ["c","d"]')
     expect("the other device", two.finish(server.port), "finished")
     expect("the first device", one.finish(server.port), "finished")
     expect("contents", content(one.path) == content(two.path) == content(server.file()), True)
-    # The device wins: the account takes a copy of its file, and the other device one too.
+    expect("the note that was not synced", fronts(one.path).count("not synced"), 0)
+    # The device wins: the account gives up the other's note.
     copy_files(kept, one.path)
-    copy_from(server, one)
-    said = expect("the device", one.sync(server.port)[1], "no changes"), two.sync(server.port)[1]
-    print("the account takes the device's file: the device syncs with %s, the other with %s" % said)
-    copy_to(server, two)
+    print("the device with the change again:", one.needs_whole(server.port))
+    device_wins(tools, server, one)
+    said = expect("the device", one.sync(server.port)[1], *in_step(tools)), two.needs_whole(server.port)
+    print("the device wins, by %s: it syncs with %s, the other with %s" % (ways(tools), *said))
+    server_wins(tools, server, two)
+    expect("the notes", sorted(fronts(two.path)), ["a", "not synced"])
+    expect("the note types", query(two.path, "select models from col") == query(one.path, "select models from col"), True)
     two.desk('note 1 1 ["e","f"]')
     expect("the other device", two.finish(server.port), "finished")
     expect("the first device", one.finish(server.port), "finished")
     expect("contents", content(one.path) == content(two.path) == content(server.file()), True)
     server.end()
+
+
+def fronts(path):
+    """The first field of each note."""
+    return [row[0].split("\x1f")[0] for row in query(path, "select flds from notes order by id")]
 
 
 def try_restore(tools, room):
@@ -536,72 +584,121 @@ def try_restore(tools, room):
     one.day(1, 4)
     one.finish(server.port)
     two.finish(server.port)
-    server.end()
-    backup = copied(server.file(), room)
-    server.start()
+    backup = backup_of(server, room)
     one.day(2, 4)
     one.finish(server.port)
     told = one.reviews()
-    server.end()
-    copy_files(backup, server.file())
-    server.start()
+    put_back(server, backup)
     for name, device in (("that synced after the backup", one), ("that did not", two)):
         device.desk('note 1 1 ["after the restore","%s"]' % name)
         status, line = device.sync(server.port)
         print("after a restore, a device %s: %d %s" % (name, status, line))
-    missing = told - reviews_of(server.file())
-    print("of %d reviews that the first device synced before the restore, the server lacks %d after these syncs" % (len(told), len(missing)))
+    print("of %d reviews that the first device synced before the restore, the server lacks %d after these syncs" % (len(told), lacks(server, told)))
     for turn in (1, 2):
         two.desk('note 1 1 ["after the restore, again","%d"]' % turn)
         print("then the device that did not: %d %s" % two.sync(server.port))
         print("and the one that synced after the backup: %d %s" % one.sync(server.port))
     same = "the same" if content(one.path) == content(server.file()) else "different rows"
-    lacks = len(told - reviews_of(server.file()))
-    print("after these syncs the first device and the server hold %s, and the server lacks %d of the reviews" % (same, lacks))
-    # The device wins: the account takes its file, and the other device a copy of that.
+    print("after these syncs the first device and the server hold %s, and the server lacks %d of the reviews" % (same, lacks(server, told)))
     kept = copied(server.file(), room), copied(two.path, room), copied(one.path, room)
-    copy_from(server, one)
-    copy_to(server, two)
-    two.desk('note 1 1 ["after the copy","y"]')
-    said = expect("after that copy", two.finish(server.port), "finished")
-    print("the account takes the file of the device that synced after the backup: %s, and lacks %d of the reviews" % (said, len(told - reviews_of(server.file()))))
+    # The device wins that has all that was synced.
+    device_wins(tools, server, one)
+    print("the device that synced after the backup wins, by %s: the server lacks %d of the reviews" % (ways(tools), expect("lost reviews", lacks(server, told), 0)))
+    print("the other device's sync then:", two.needs_whole(server.port) if tools.has_transfers() else "not tried")
+    server_wins(tools, server, two)
+    two.desk('note 1 1 ["after the way out","y"]')
+    expect("the other device", two.finish(server.port), "finished")
     expect("the device", one.finish(server.port), "finished")
     expect("contents", content(one.path) == content(two.path) == content(server.file()), True)
-    # The server wins: each device that synced after the backup takes a copy of the account's file.
+    # The restored file wins: each device that synced after the backup takes it.
     server.end()
     for copy, path in zip(kept, (server.file(), two.path, one.path)):
         copy_files(copy, path)
-    copy_to(server, one)
-    one.desk('note 1 1 ["after the copy","x"]')
-    print("the device takes the account's file: %s" % expect("after a copy", one.finish(server.port), "finished"))
+    server.start()
+    server_wins(tools, server, one)
+    one.desk('note 1 1 ["after the way out","x"]')
+    print("the restored file wins, by %s: the device syncs with %s" % (ways(tools), expect("after the way out", one.finish(server.port), "finished")))
     two.finish(server.port)
     expect("contents", content(one.path) == content(two.path) == content(server.file()), True)
     server.end()
     restore_unseen(tools, os.path.join(room, "unseen"))
 
 
+def backup_of(server, room):
+    """A copy of an account's file, made while ankid is down."""
+    server.end()
+    made = copied(server.file(), room)
+    server.start()
+    return made
+
+
+def put_back(server, backup):
+    """Puts a copy back in the place of an account's file, while ankid is down."""
+    server.end()
+    copy_files(backup, server.file())
+    server.start()
+
+
+def lacks(server, told):
+    """How many of these reviews the server has not."""
+    return len(told - reviews_of(server.file()))
+
+
 def restore_unseen(tools, room):
-    """Both sides gain as many rows after a backup: no count differs, and every sync says `finished`, though each side lacks a review of the other."""
+    """Both sides gain as many rows after a backup: no count differs, and every sync says `finished`, though each side lacks a review of the other. The ways out
+    end that too."""
     server = Server(tools, os.path.join(room, "server"))
     one, two = devices_of(tools, server, ("unseen-one", "unseen-two"))
     cards = [line.split()[3] for line in one.desk(*('note 1 1 ["%d","x"]' % n for n in range(4)))]
     for device in (one, two, one):
         device.finish(server.port)
-    server.end()
-    backup = copied(server.file(), room)
-    server.start()
+    backup = backup_of(server, room)
     one.desk("answer %s 3 1000" % cards[0])
     one.finish(server.port)
-    server.end()
-    copy_files(backup, server.file())
-    server.start()
+    told = one.reviews()
+    put_back(server, backup)
     said = []
     for device, card in ((two, cards[1]), (one, cards[2])):
         device.desk("answer %s 3 1000" % card)
         said.append(device.sync(server.port)[1])
-    lacks = len(one.reviews() - reviews_of(server.file())), len(reviews_of(server.file()) - one.reviews())
-    print("a restore that no sync shows: the syncs said %s; the server lacks %d reviews of the device, the device %d of the server" % (" and ".join(said), *lacks))
+    apart = len(one.reviews() - reviews_of(server.file())), len(reviews_of(server.file()) - one.reviews())
+    print("a restore that no sync shows: the syncs said %s; the server lacks %d reviews of the device, the device %d of the server" % (" and ".join(said), *apart))
+    device_wins(tools, server, one)
+    server_wins(tools, server, two)
+    expect("lost reviews", lacks(server, told), 0)
+    for device in (one, two, one):
+        device.desk("answer %s 3 1000" % cards[3])
+        device.finish(server.port)
+    two.finish(server.port)
+    expect("contents", content(one.path) == content(two.path) == content(server.file()), True)
+    print("the device that synced after the backup wins, by %s: both devices and the server hold the same %d reviews" % (ways(tools), len(one.reviews())))
     server.end()
+
+
+def ways(tools):
+    """In which way whole collections go between devices and server in these trials."""
+    return "upload and download" if tools.has_transfers() else "copies of files"
+
+
+def in_step(tools):
+    """What the next sync of a device says. After a copy of its file it has its rows still to send, which the server has too."""
+    return ("no changes",) if tools.has_transfers() else ("no changes", "finished")
+
+
+def device_wins(tools, server, device):
+    """The account takes a device's collection."""
+    if tools.has_transfers():
+        device.upload(server.port)
+    else:
+        copy_from(server, device)
+
+
+def server_wins(tools, server, device):
+    """A device takes the account's collection."""
+    if tools.has_transfers():
+        device.download(server.port)
+    else:
+        copy_to(server, device)
 
 
 def copy_from(server, device, n=0):
@@ -685,6 +782,54 @@ def try_kills(tools, room):
     print("%d kills of the server and %d of the client while a sync ran (a whole sync took %.2f s), %d syncs that had ended before the kill, %d whole syncs between: both files opened "
           "and were sound each time; at the end all three files have the %d reviews that were told as synced, of %d"
           % (counts["server"], counts["client"], whole, counts["after the end"], whole_syncs, len(told), len(devices[0].reviews())))
+
+
+def try_wholes(tools, room):
+    if not tools.has_transfers():
+        print("not tried: this anki has no upload and no download")
+        return
+    server = Server(tools, os.path.join(room, "server"))
+    devices = devices_of(tools, server)
+    began = time.monotonic()
+    devices[0].upload(server.port)
+    whole, chance = time.monotonic() - began, random.Random(7)
+    counts, ends, number = {"server": 0, "client": 0, "after the end": 0}, {}, 0
+    while counts["server"] + counts["client"] < tools.words.kills / 10:
+        device, word = devices[number % 2], ("upload", "download")[number // 2 % 2]
+        number += 1
+        device.desk('note 1 1 ["before the %s %d","x"]' % (word, number))
+        before = content(device.path), content(server.file())
+        client = subprocess.Popen([tools.anki, device.path, "127.0.0.1:%d" % server.port, word, device.key], stdout=subprocess.PIPE, stderr=subprocess.DEVNULL, text=True)
+        tools.started.append(client)
+        time.sleep(chance.uniform(0, whole * 1.3))
+        who = "after the end" if client.poll() is not None else ("server", "client")[number // 4 % 2]
+        counts[who] += 1
+        if who == "client":
+            client.kill()
+        elif who == "server":
+            server.end(signal.SIGKILL)
+            server.start()
+        said = client.communicate(timeout=120)[0].strip() or "nothing"
+        ends[said] = ends.get(said, 0) + 1
+        look_at_whole(device, server, before, word if said == "finished" else "")
+    devices[0].upload(server.port)
+    devices[1].download(server.port)
+    expect("contents", content(devices[0].path) == content(devices[1].path) == content(server.file()), True)
+    server.end()
+    integrity(server.file())
+    print("%d kills of the server and %d of the client in the middle of an upload or a download (a whole upload took %.2f s), %d that had ended before the kill; these printed %s: "
+          "each time the device's file was sound, and either side held one of the two collections whole"
+          % (counts["server"], counts["client"], whole, counts["after the end"], ", ".join("%s %d times" % it for it in sorted(ends.items()))))
+
+
+def look_at_whole(device, server, before, finished):
+    """After a kill the device and the server each hold what one of the two held before. What finished replaced the one side by the other."""
+    device.is_sound()
+    held, committed = content(device.path), content(server.file())
+    expect("the device holds one of the two", held in before, True)
+    expect("the server holds one of the two", committed in before, True)
+    if finished:
+        expect("what the %s brought" % finished, held == committed == before[0 if finished == "upload" else 1], True)
 
 
 def look_at_killed(tools, server, told, room):
@@ -1172,6 +1317,16 @@ class Tools:
         self.words, self.started = words, []
         self.anki = os.path.abspath(words.anki) if words.anki else found("anki")
         self.ankid = os.path.abspath(words.ankid) if words.ankid else found("ankid")
+        self.transfers = None
+
+    def has_transfers(self):
+        """Whether this anki has the commands upload and download."""
+        if self.transfers is None:
+            with tempfile.TemporaryDirectory(prefix="ankid-trial-") as room:
+                one = Device(self, os.path.join(room, "one.anki"), UNKNOWN)
+                one.begin()
+                self.transfers = all(one.run("-", word, UNKNOWN).stdout != "usage\n" for word in ("upload", "download"))
+        return self.transfers
 
     def end_all(self):
         """Ends what a trial left running: processes that it started, by their handles."""

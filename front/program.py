@@ -7,6 +7,7 @@ ROOT = os.path.dirname(os.path.dirname(os.path.abspath(__file__)))
 
 # The statuses of the program, as the README of the repository has them.
 DONE = 0
+USAGE = 2
 REFUSED = 3
 INPUT_FAILED = 4
 OUTPUT_FAILED = 5
@@ -40,9 +41,22 @@ def find_program():
     return path
 
 
-def words_for(program, path, *command):
+def words_for(program, path, *command, server="-"):
     """The words that run a command over a file. A path that begins with `-` is not taken for the collection in memory."""
-    return [program, os.path.abspath(path), "-"] + list(command)
+    return [program, os.path.abspath(path), server] + list(command)
+
+
+def run_over(program, path, *command, server="-", given=b""):
+    """Runs a command over a file that no desk has open, and gives its status and what it printed, as bytes."""
+    run = subprocess.run(
+        words_for(program, path, *command, server=server),
+        input=given,
+        stdout=subprocess.PIPE,
+        # A Ctrl-C at the terminal is the front's, which ends the program then.
+        start_new_session=True,
+        check=False,
+    )
+    return run.returncode, run.stdout
 
 
 def open_and_close(program, path):

@@ -8,6 +8,7 @@ says what the learner is to know: that undo is empty from here.
 
 from front.browsing import Browsing
 from front.decks import Decks, counts_of
+from front.importing import Importing
 from front.notes import Notes
 from front.sitting import Lost, Slip, compact, number_of
 from front.study import LONGEST_TIME, Studying, quoted
@@ -16,5 +17,5 @@ from front.syncing import Syncing
 __all__ = ["LONGEST_TIME", "Lost", "Session", "Slip", "compact", "counts_of", "number_of", "quoted"]
 
 
-class Session(Decks, Studying, Notes, Browsing, Syncing):
+class Session(Decks, Studying, Notes, Browsing, Importing, Syncing):
     """See the head of this file."""

@@ -6,6 +6,7 @@ import secrets
 import threading
 import time
 
+from front import program as programs
 from front import trial
 from front.collection import ReadFault, open_collection
 from front.copy import Copy
@@ -23,6 +24,10 @@ Step = collections.namedtuple("Step", "words lines changes is_day day_before")
 
 class Slip(Exception):
     """What the learner asked for can't be done. Nothing was sent."""
+
+
+class NoCommand(Slip):
+    """The program has no such command."""
 
 
 class Lost(Exception):
@@ -90,6 +95,16 @@ class Sitting:
             if self.steps:
                 self.notice = "%s: undo is empty from here." % why
             self.steps = []
+
+    def _run_closed(self, why, *command, server="-", given=b""):
+        """Runs a command of the program over the file, which no desk has open meanwhile. Gives its status and what it printed."""
+        self.rest(why)
+        # Pages that could not be made may be others after it.
+        self.pageless = {}
+        status, printed = programs.run_over(self.program, self.path, *command, server=server, given=given)
+        if status == programs.USAGE and printed == b"usage\n":
+            raise NoCommand("this program is older than the command %s: take a newer one; nothing was done" % command[0])
+        return status, printed
 
     def rest_if_idle(self, seconds):
         with self.turn:

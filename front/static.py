@@ -15,7 +15,7 @@ th, td { text-align: start; padding: 0.3rem 0.5rem; border-bottom: 1px solid var
 td.number, th.number { text-align: end; font-variant-numeric: tabular-nums; }
 label { display: block; margin: 0.6rem 0 0.2rem; font-weight: 600; }
 input, select, textarea, button { font: inherit; max-width: 100%; }
-input[type=text], input[type=search], input[type=password], textarea, select { width: 100%; padding: 0.4rem; border: 1px solid var(--line); border-radius: 0.3rem; }
+input[type=text], input[type=search], input[type=password], input[type=file], textarea, select { width: 100%; padding: 0.4rem; border: 1px solid var(--line); border-radius: 0.3rem; }
 textarea { min-height: 4.5rem; }
 button { padding: 0.4rem 0.8rem; border: 1px solid var(--line); border-radius: 0.3rem; cursor: pointer; }
 button.main { border-color: var(--mark); }

@@ -12,7 +12,10 @@ import tty
 from front import charts
 from front import program as programs
 from front.collection import ReadFault
+from front.importing import columns_of, told_of_import
+from front.paths import read_file, target_of, write_file
 from front.session import Lost, Session, Slip, number_of
+from front.syncing import WAYS, needs_whole
 from front.text import RULE, clean, clean_line, field_text, fitted, page_text
 
 # Seconds without a key after which the file is closed.
@@ -27,10 +30,12 @@ DECK_HELP = """A number studies that deck.
   a  add notes            /  browse: / and a search    c  charts
   n  new deck             r  rename a deck             x  delete a deck
   t  note types           o  options of a deck         g  new cards among reviews, after or before them
-  s  sync with a server   u  undo   ?  this help       q  quit
+  i  import notes (CSV)   w  export notes (CSV)        s  sync with a server
+  v  upload or download of the whole collection        u  undo   ?  this help   q  quit
 """
 
 NO_UNDO = "The schema changes, and undo is empty from then on."
+CLOSED = "The file is closed for it: undo is empty after."
 STUDY_KEYS = "b bury  s suspend  f flag  e edit  u undo  q decks"
 BUTTONS = "1 Again  2 Hard  3 Good  4 Easy  (space: Good)"
 
@@ -66,6 +71,20 @@ class Console:
             self._read()
         line, self.pending = self.pending.split(b"\n", 1)
         return line.decode("utf-8", "replace").rstrip("\r")
+
+    def secret(self, prompt):
+        """A line that the terminal does not show."""
+        if not self.is_terminal:
+            return self.line(prompt)
+        self.give_lines()
+        shown = termios.tcgetattr(self.input)
+        hidden = shown[:3] + [shown[3] & ~termios.ECHO] + shown[4:]
+        termios.tcsetattr(self.input, termios.TCSADRAIN, hidden)
+        try:
+            return self.line(prompt)
+        finally:
+            termios.tcsetattr(self.input, termios.TCSADRAIN, shown)
+            self.write()
 
     def key(self, prompt):
         if not self.is_terminal:
@@ -147,7 +166,8 @@ class Study:
     def do_command(self, line):
         """Does what a line asks for, and gives whether the decks are to be shown again."""
         commands = {"a": self.add_notes, "n": self.new_deck, "r": self.rename_deck, "x": self.delete_deck, "t": self.types,
-                    "o": self.options, "c": self.charts, "u": self.undo, "g": self.spread, "s": self.sync}
+                    "o": self.options, "c": self.charts, "u": self.undo, "g": self.spread, "s": self.sync,
+                    "v": self.send_whole, "i": self.import_notes, "w": self.export_notes}
         if line.isdigit():
             self.study(self.deck_at(line))
         elif line.startswith("/"):
@@ -214,14 +234,72 @@ class Study:
         if word:
             self.session.set_spread(int(word) if word in ("0", "1", "2") else -1)
 
+    # Sync with a server, and files of notes.
+
     def sync(self):
-        server = self.console.line("Server, as HOST:PORT [%s]: " % clean_line(self.session.last_server)).strip()
-        key = self.console.line("Key of the account: ").strip()
+        server, key = self.ask_account()
         if key:
-            outcome = self.session.sync(server or self.session.last_server, key)
-            for line in outcome:
-                if line:
-                    self.write(clean_line(line))
+            outcome = self.session.sync(server, key)
+            self.tell_outcome(outcome)
+            if needs_whole(outcome):
+                self.choose_way(server, key)
+
+    def send_whole(self):
+        server, key = self.ask_account()
+        if key:
+            self.choose_way(server, key)
+
+    def ask_account(self):
+        self.write(CLOSED)
+        held = self.session.last_server
+        server = self.console.line("Server, as HOST:PORT [%s]: " % clean_line(held)).strip()
+        return server or held, self.console.secret("Key of the account: ").strip()
+
+    def choose_way(self, server, key):
+        """Offers the upload and the download, and does the one that is asked for twice."""
+        for way in WAYS.values():
+            self.write("%s: %s %s" % (way.word, way.does, way.throws))
+        way = {"u": WAYS["upload"], "d": WAYS["download"]}.get(self.console.line("u upload, d download, Enter neither: ").strip())
+        if way is None or not self.confirm("%s %s" % (way.does, way.throws)):
+            return
+        if self.console.line("This can't be undone. Type the word %s to do it: " % way.word).strip() == way.word:
+            self.tell_outcome(self.session.send_whole(way.word, server, key))
+        else:
+            self.write("Nothing was sent.")
+
+    def tell_outcome(self, outcome):
+        for line in outcome:
+            if line:
+                self.write(clean_line(line))
+
+    def import_notes(self):
+        path = self.console.line("File of CSV to import: ").strip()
+        if not path:
+            return
+        content = read_file(path)
+        note_type, deck = self.ask_type(), self.ask_deck_of_all()
+        self.write("A line of it is: %s. An import can't be undone. %s" % (clean_line(columns_of(note_type)), CLOSED))
+        if self.confirm("Import it into %s?" % clean_line(deck.name)):
+            self.write(told_of_import(self.session.import_notes(note_type.id, deck.id, content)))
+
+    def export_notes(self):
+        self.write(CLOSED)
+        note_type = self.ask_type()
+        path = self.console.line("File to write the notes of %s to, as CSV: " % clean_line(note_type.name)).strip()
+        if not path:
+            return
+        path = target_of(path, self.session.path)
+        if os.path.exists(path) and not self.confirm("Replace the file %s?" % clean_line(path)):
+            return
+        write_file(path, self.session.export_notes(note_type.id))
+        self.write("The notes of %s are in %s." % (clean_line(note_type.name), clean_line(path)))
+
+    def ask_type(self):
+        return self.ask_choice("Note type", self.session.note_types(), self.session.default_type())
+
+    def ask_deck_of_all(self):
+        self.show_decks()
+        return self.ask_choice("Deck", [row.deck for row in self.rows], self.session.default_deck())
 
     # Study.
 
@@ -320,11 +398,7 @@ class Study:
         return text if line == "" else "" if line == "." else unescaped(line)
 
     def add_notes(self):
-        types = list(self.session.note_types())
-        note_type = self.ask_choice("Note type", types, self.session.default_type())
-        self.show_decks()
-        decks = [row.deck for row in self.rows]
-        deck = self.ask_choice("Deck", decks, self.session.default_deck())
+        note_type, deck = self.ask_type(), self.ask_deck_of_all()
         while True:
             where = "A new note of %s in %s." % (clean_line(note_type.name), clean_line(deck.name))
             self.write("%s An empty first field ends it; \\n is a line end." % where)

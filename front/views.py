@@ -7,8 +7,10 @@ import urllib.parse
 from front import charts, svg
 from front.collection import fields_of
 from front.frame import card_frame
+from front.importing import LONGEST_FILE, columns_of
 from front.session import number_of
-from front.terminal import by_months, date_of, end_lines, span_words
+from front.syncing import WAYS
+from front.terminal import CLOSED, by_months, date_of, end_lines, span_words
 from front.text import clean_line, field_text
 
 # How many cards a screen of a search has.
@@ -34,11 +36,12 @@ class Screen:
         self.number, self.token, self.undoable = number, token, undoable
         self.notice, self.told, self.is_bad = notice, told, is_bad
 
-    def form(self, path, body, css="", **values):
+    def form(self, path, body, css="", has_file=False, **values):
         """A form that changes something: its body, and what it carries hidden."""
         values = dict(values, number=self.number, token=self.token)
         hidden = "".join('<input type="hidden" name="%s" value="%s">' % (h(name), h(value)) for name, value in values.items())
-        return '<form class="%s" method="post" action="%s">%s%s</form>' % (h(css), h(path), hidden, body)
+        sent = ' enctype="multipart/form-data"' if has_file else ""
+        return '<form class="%s" method="post" action="%s"%s>%s%s</form>' % (h(css), h(path), sent, hidden, body)
 
     def button(self, path, words, keys="", css="", **values):
         """A form of one button."""
@@ -54,7 +57,8 @@ class Screen:
         for text, css in ((self.notice, "told"), (self.told, "told bad" if self.is_bad else "told")):
             if text:
                 said += '<p class="%s" role="status">%s</p>' % (css, h(text))
-        places = (("/", "Decks"), ("/add", "Add"), ("/browse", "Browse"), ("/types", "Note types"), ("/charts", "Charts"), ("/sync", "Sync"))
+        places = (("/", "Decks"), ("/add", "Add"), ("/browse", "Browse"), ("/types", "Note types"), ("/charts", "Charts"),
+                  ("/files", "Import and export"), ("/sync", "Sync"))
         return (
             '<!DOCTYPE html><html lang="en"><head><meta charset="utf-8"><title>%s</title>%s'
             '<meta name="viewport" content="width=device-width, initial-scale=1">'
@@ -312,11 +316,10 @@ def add(screen, session, type_id=None, deck_id=None, fields=None, tags=""):
     types = session.note_types()
     chosen = next((note_type for note_type in types if note_type.id == (type_id or session.default_type())), types[0])
     deck_id = deck_id or session.default_deck()
-    rows = [(held.id, held.name) for held in sorted(session.copy.decks.values(), key=lambda held: held.name.split("::"))]
     choice = select("type", [(note_type.id, note_type.name) for note_type in types], chosen.id, "choose")
     choice += '<input type="hidden" name="deck" value="%d">' % deck_id
     areas = note_areas(chosen.fields, fields or [""] * len(chosen.fields))
-    inside = label("deck", "Deck") + select("deck", rows, deck_id) + areas + tags_input(tags) + row(button("Add", "main"))
+    inside = label("deck", "Deck") + select("deck", deck_rows(session), deck_id) + areas + tags_input(tags) + row(button("Add", "main"))
     body = (
         heading("Add a note")
         + '<form method="get" action="/add">%s%s</form>' % (label("choose", "Note type"), row(choice, button("Choose")))
@@ -324,6 +327,11 @@ def add(screen, session, type_id=None, deck_id=None, fields=None, tags=""):
         + (small("A cloze is written {{c1::text}} or {{c1::text::hint}}.") if chosen.cloze else "")
     )
     return screen.page("Add a note", body, "/add")
+
+
+def deck_rows(session):
+    """The decks to choose one of."""
+    return [(held.id, held.name) for held in sorted(session.copy.decks.values(), key=lambda held: held.name.split("::"))]
 
 
 def types(screen, session, made=None):
@@ -459,15 +467,62 @@ def right_chart(copy):
     return "<h2>%s</h2>" % title + svg.bar_chart(title, rows, ("good",), "%") + numbers
 
 
+# Files of notes.
+
+
+def files(screen, session, type_id=None, deck_id=None):
+    types = [(held.id, held.name) for held in session.note_types()]
+    type_id = type_id or session.default_type()
+    columns = "".join("<li><bdi>%s</bdi>: <bdi>%s</bdi></li>" % (h(held.name), h(columns_of(held))) for held in session.note_types())
+    bring = label("file", "File of CSV, of at most %d MiB" % (LONGEST_FILE >> 20))
+    bring += '<input type="file" id="file" name="file" accept=".csv,text/csv,text/plain" required>'
+    bring += label("type", "Note type") + select("type", types, type_id)
+    bring += label("deck", "Deck") + select("deck", deck_rows(session), deck_id or session.default_deck()) + row(button("Import", "main"))
+    take = label("out", "Note type") + row(select("type", types, type_id, "out"), button("Export"))
+    body = (
+        heading("Import and export")
+        + small(CLOSED)
+        + "<h2>Import</h2><p>A line of the file has these columns, and no line has their names:</p><ul>%s</ul>" % columns
+        + small("A guid that a note of the type has gives that note other fields and tags; another guid adds a note to the deck. An import can't be undone.")
+        + screen.form("/import", bring, has_file=True)
+        + "<h2>Export</h2>"
+        + screen.form("/export", take)
+    )
+    return screen.page("Import and export", body, "/files")
+
+
 # Sync.
 
 
-def sync(screen, session, server=None):
+def account_inputs(session, server=None):
     secret = '<input type="password" id="key" name="key" autocomplete="off" required>'
     inside = label("server", "Server, as HOST:PORT") + text_input("server", session.last_server if server is None else server, "required")
-    inside += label("key", "Key of the account") + secret + row(button("Sync", "main"))
-    body = heading("Sync") + small("The file is closed for it: undo is empty after.") + screen.form("/sync", inside)
+    return inside + label("key", "Key of the account") + secret
+
+
+def sync(screen, session, server=None):
+    form = screen.form("/sync", account_inputs(session, server) + row(button("Sync", "main")))
+    body = heading("Sync") + small(CLOSED) + form + "<h2>The whole collection</h2>"
+    body += "<p>Where a sync ends with <q>full needed</q>, one side takes the whole collection of the other, and what only it had is gone.</p>"
+    for way in WAYS.values():
+        body += "<p>%s %s %s</p>" % (link(address("/whole", way=way.word), way.word.title()), h(way.does), h(way.throws))
     return screen.page("Sync", body, "/sync")
+
+
+def way_question(screen, session, way):
+    """The first question before an upload or a download."""
+    body = heading("%s the whole collection?" % way.word.title()) + "<p>%s</p><p><b>%s</b></p>" % (h(way.does), h(way.throws))
+    body += row(link(address("/whole", way=way.word, sure=1), "Go on to the %s" % way.word), link("/sync", "No, leave both as they are"))
+    return screen.page("Sync", body, "/sync")
+
+
+def way_sure(screen, session, way, server=None):
+    """The second question, with what the run needs."""
+    inside = account_inputs(session, server) + label("word", "Type the word %s" % way.word)
+    inside += '<input type="text" id="word" name="word" autocomplete="off" required>'
+    inside += row(button("%s, and throw that away" % way.word.title(), "main"), link("/sync", "No, leave both as they are"))
+    body = heading("%s: are you sure?" % way.word.title()) + "<p>%s <b>%s</b> This can't be undone. %s</p>" % (h(way.does), h(way.throws), CLOSED)
+    return screen.page("Sync", body + screen.form("/" + way.word, inside), "/sync")
 
 
 def message(screen, title, text):

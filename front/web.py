@@ -7,6 +7,7 @@ shown what came of the first, and changes nothing.
 """
 
 import collections
+import hashlib
 import hmac
 import http.server
 import os
@@ -24,7 +25,10 @@ import webbrowser
 from front import program as programs
 from front import static, views
 from front.collection import ReadFault
+from front.forms import fields_of_form, fields_of_parts
+from front.importing import LONGEST_FILE, too_long, told_of_import
 from front.session import Lost, Session, Slip, number_of
+from front.syncing import way_of
 from front.terminal import ensure_collection
 from front.text import clean
 from front.views import address
@@ -32,8 +36,11 @@ from front.views import address
 # Seconds without a request after which the file is closed.
 IDLE = 60
 
-# The longest body of a POST, in bytes.
+# The longest body of a POST, in bytes, but for one with a file.
 LONGEST_BODY = 4 << 20
+
+# How much of a file that is too long is taken and thrown away, so that the browser shows why it was not taken.
+MOST_THROWN_AWAY = 1 << 30
 
 # How many results of POSTs are kept.
 MOST_RESULTS = 500
@@ -107,6 +114,7 @@ class Site:
                 "/": self.see_decks, "/study": self.see_study, "/add": self.see_add, "/browse": self.see_browse,
                 "/card": self.see_card, "/edit": self.see_edit, "/deck": self.see_deck, "/options": self.see_options,
                 "/types": self.see_types, "/charts": self.see_charts, "/sure": self.see_sure, "/sync": self.see_sync,
+                "/whole": self.see_whole, "/files": self.see_files,
             }  # fmt: skip
             if path not in screens:
                 return page_reply(views.message(self.screen(), "Not found", "There is no such page."), 404)
@@ -186,6 +194,13 @@ class Site:
     def see_sync(self, values):
         return self.shown_screen(values, views.sync)
 
+    def see_whole(self, values):
+        question = views.way_sure if values.get("sure") else views.way_question
+        return self.shown_screen(values, question, way_of(values.get("way")))
+
+    def see_files(self, values):
+        return self.shown_screen(values, views.files)
+
     # Changing.
 
     def post(self, path, form):
@@ -199,11 +214,14 @@ class Site:
                 "/options-set": self.do_set_options, "/options-rename": self.do_rename_options, "/options-delete": self.do_delete_options,
                 "/type-new": self.do_new_type, "/type-rename": self.do_rename_type,
                 "/type-delete": self.do_delete_type, "/spread": self.do_spread, "/sync": self.do_sync,
+                "/upload": self.do_upload, "/download": self.do_download, "/import": self.do_import,
             }  # fmt: skip
+            if path == "/export":
+                return self.export(form)
             if path not in actions:
                 return page_reply(views.message(self.screen(), "Not found", "There is no such page."), 404)
             number = whole(form, "number")
-            asked = (path, tuple(sorted(form.items())))
+            asked = digest_of(path, form)
             if number != self.number:
                 return self.again(path, form, number, asked)
             return self.first_time(actions[path], path, form, number, asked)
@@ -235,7 +253,7 @@ class Site:
         return redirect(with_told(location, number))
 
     # Screens whose texts the learner typed: they are shown again with these texts where nothing was changed.
-    FORMS = ("/edit", "/add", "/deck-new", "/deck-rename", "/options-rename", "/options-set", "/type-new", "/sync")
+    FORMS = ("/edit", "/add", "/deck-new", "/deck-rename", "/options-rename", "/options-set", "/type-new", "/sync", "/upload", "/download", "/import")
 
     def form_again(self, path, form, told):
         screen = self.screen(None, told, True)
@@ -257,6 +275,10 @@ class Site:
                 body = views.types(screen, session, form)
             elif path == "/sync":
                 body = views.sync(screen, session, form.get("server", ""))
+            elif path in ("/upload", "/download"):
+                body = views.way_sure(screen, session, way_of(path[1:]), form.get("server", ""))
+            elif path in ("/import", "/export"):
+                body = views.files(screen, session, whole(form, "type"), whole(form, "deck"))
             else:
                 body = views.message(screen, "Nothing was changed", told)
         except (Slip, Lost, ReadFault) as fault:
@@ -360,8 +382,54 @@ class Site:
         return "/", "Kept."
 
     def do_sync(self, form):
-        outcome = self.session.sync(form.get("server", ""), form.get("key", ""))
-        return "/sync", " ".join(part for part in ("%s." % outcome.said, outcome.words, outcome.advice) if part)
+        return "/sync", told_of(self.session.sync(form.get("server", ""), form.get("key", "")))
+
+    def do_upload(self, form):
+        return self.send_whole("upload", form)
+
+    def do_download(self, form):
+        return self.send_whole("download", form)
+
+    def send_whole(self, word, form):
+        if form.get("word", "").strip() != word:
+            raise Slip("nothing was sent: the word %s was not typed" % word)
+        return "/sync", told_of(self.session.send_whole(word, form.get("server", ""), form.get("key", "")))
+
+    def do_import(self, form):
+        if not isinstance(form.get("file"), bytes):
+            raise Slip("no file was chosen")
+        return "/files", told_of_import(self.session.import_notes(whole(form, "type"), whole(form, "deck"), form["file"]))
+
+    def export(self, form):
+        """The notes of a type as a file. It changes nothing of the collection, so the number of the screen stays."""
+        try:
+            note_type = whole(form, "type")
+            content = self.session.export_notes(note_type)
+            return file_reply(" ".join(self.session.copy.types[note_type].name.split()) + ".csv", content)
+        except (Slip, Lost, ReadFault) as fault:
+            return self.form_again("/export", form, str(fault))
+
+
+def told_of(outcome):
+    """An outcome in one line."""
+    return " ".join(part for part in ("%s." % outcome.said, outcome.words, outcome.advice) if part)
+
+
+def file_reply(name, content):
+    """A file that the browser keeps under a name."""
+    quoted = urllib.parse.quote(name.encode("utf-8", "replace"), safe="")
+    kept = [("Content-Disposition", "attachment; filename=\"notes.csv\"; filename*=UTF-8''%s" % quoted)]
+    return Reply(200, content, "text/csv; charset=utf-8", kept)
+
+
+def digest_of(path, form):
+    """What was asked, so that it is known again. Neither a key nor a file is kept for that."""
+    made = hashlib.sha256(path.encode("utf-8", "surrogatepass"))
+    for name, value in sorted(form.items()):
+        for part in (name, value):
+            part = part if isinstance(part, bytes) else part.encode("utf-8", "surrogatepass")
+            made.update(b"%d " % len(part) + part)
+    return made.digest()
 
 
 def whole(values, name):
@@ -446,33 +514,50 @@ class Handler(http.server.BaseHTTPRequestHandler):
 
     def answer_post(self):
         refused = self.refusal_of_host()
-        form = self.read_form()
+        path = urllib.parse.urlsplit(self.path).path
+        takes_file = path == "/import" and not refused and self.has_cookie()
+        form = self.read_form(takes_file)
         if refused:
             return refused
         if not self.has_cookie():
             return self.refused("This page is for the browser that anki-web opened.")
         if self.headers.get_all("Origin", []) != ["http://" + self.headers["Host"]]:
             return self.refused("This was not asked from this page.")
+        if form is None and takes_file and self.throw_body_away():
+            return page_reply(views.plain("The file is too long", "Nothing was imported: %s." % too_long()), 413)
         if form is None:
             return page_reply(views.plain("Bad request", "This is no form, or too long."), 400)
         if not hmac.compare_digest(form.pop("token", "").encode("utf-8", "replace"), self.server.site.token.encode()):
             return self.refused("This was not asked from this page.")
-        return self.server.site.post(urllib.parse.urlsplit(self.path).path, form)
+        return self.server.site.post(path, form)
 
-    def read_form(self):
-        """The body's form, or None."""
-        length = self.headers.get("Content-Length", "")
-        if not (length.isascii() and length.isdigit()) or int(length) > LONGEST_BODY or self.headers.get("Transfer-Encoding"):
+    def read_form(self, takes_file):
+        """The body's form, or None. A file in it has the name `file`."""
+        length = self.length_of_body()
+        if length is None or length > (LONGEST_FILE if takes_file else 0) + LONGEST_BODY:
             self.close_connection = True
             return None
-        body = self.rfile.read(int(length))
-        if self.headers.get_content_type() != "application/x-www-form-urlencoded":
-            return None
-        try:
-            pairs = urllib.parse.parse_qsl(body.decode("ascii"), keep_blank_values=True, errors="strict", max_num_fields=1000)
-            return dict(pairs)
-        except ValueError:
-            return None
+        body, kind = self.rfile.read(length), self.headers.get_content_type()
+        if kind == "multipart/form-data" and takes_file:
+            return fields_of_parts(body, self.headers.get_boundary(), "file")
+        return fields_of_form(body) if kind == "application/x-www-form-urlencoded" else None
+
+    def length_of_body(self):
+        length = self.headers.get("Content-Length", "")
+        is_told = length.isascii() and length.isdigit() and len(length) < 19 and not self.headers.get("Transfer-Encoding")
+        return int(length) if is_told else None
+
+    def throw_body_away(self):
+        """Reads a body that is too long, and gives whether it did."""
+        left = self.length_of_body()
+        if left is None or not LONGEST_FILE + LONGEST_BODY < left <= MOST_THROWN_AWAY:
+            return False
+        while left:
+            piece = self.rfile.read(min(left, 1 << 20))
+            if not piece:
+                return False
+            left -= len(piece)
+        return True
 
     def refusal_of_host(self):
         port = self.server.server_address[1]

@@ -19,6 +19,7 @@ sys.dont_write_bytecode = True
 sys.path.insert(0, os.path.join(TOP, "deploy"))
 
 import servers  # noqa: E402
+import try_server  # noqa: E402
 
 
 class Rooms(unittest.TestCase):
@@ -255,6 +256,45 @@ class Servers(Rooms):
             except KeyboardInterrupt:
                 return True
         return False
+
+
+class Trials(Rooms):
+    """What the trials of the server make of an anki, by a stand-in for it."""
+
+    def tools_of(self, said, status):
+        """The tools of trials with an anki whose every command but init prints this and ends so."""
+        self.put('#!/bin/sh\n[ "$3" = init ] && exit 0\necho "$*" >>%s\nprintf "%%s\\n" "%s"\nexit %d\n' % (self.path("asked"), said, status), "anki")
+        os.chmod(self.path("anki"), 0o755)
+        return try_server.Tools(mock.Mock(anki=self.path("anki"), ankid=self.path("anki")))
+
+    def device(self, tools):
+        return try_server.Device(tools, self.path("one.anki"), "a" * 32)
+
+    def test_an_older_anki_is_known_by_its_usage(self):
+        self.assertFalse(self.tools_of("usage", 2).has_transfers())
+        tools = self.tools_of("lost", 7)
+        self.assertTrue(tools.has_transfers())
+        self.assertEqual([line.split()[1:3] for line in self.text("asked").splitlines()][-2:], [["-", "upload"], ["-", "download"]])
+        self.assertEqual((try_server.ways(tools), try_server.in_step(tools)), ("upload and download", ("no changes",)))
+
+    def test_the_ways_out_are_uploads_and_downloads_where_there_are_such(self):
+        tools = self.tools_of("finished", 0)
+        server = mock.Mock(port=5)
+        try_server.device_wins(tools, server, self.device(tools))
+        try_server.server_wins(tools, server, self.device(tools))
+        self.assertEqual(self.text("asked").splitlines()[-2:], [f"{self.path('one.anki')} 127.0.0.1:5 {word} {'a' * 32}" for word in ("upload", "download")])
+        server.end.assert_not_called()
+
+    def test_an_upload_that_does_not_finish_fails_the_trial(self):
+        for said, status in (("lost", 7), ("no changes", 0), ("finished", 1)):
+            with self.assertRaises(try_server.Wrong):
+                self.device(self.tools_of(said, status)).upload(5)
+
+    def test_only_full_needed_needs_a_whole_collection(self):
+        self.assertEqual(self.device(self.tools_of("full needed: schema 1 2", 10)).needs_whole(5), "full needed: schema 1 2")
+        for said, status in (("finished", 0), ("lost", 7), ("full needed: schema 1 2", 0)):
+            with self.assertRaises(try_server.Wrong):
+                self.device(self.tools_of(said, status)).needs_whole(5)
 
 
 if __name__ == "__main__":

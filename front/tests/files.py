@@ -29,6 +29,14 @@ def fresh_collection(program, _made=[]):
     return _made[0]
 
 
+@functools.lru_cache(maxsize=None)
+def has_command(program, *command):
+    """Whether the program has a command. It is asked for over a file that is not there, without a server."""
+    with tempfile.TemporaryDirectory(prefix="anki-front-") as folder:
+        path = os.path.join(folder, "none.anki")
+        return programs.run_over(program, path, *command) != (programs.USAGE, b"usage\n")
+
+
 class FileCase(unittest.TestCase):
     """A test with the program, and an empty folder."""
 
@@ -40,6 +48,11 @@ class FileCase(unittest.TestCase):
         self.folder = tempfile.mkdtemp(prefix="anki-front-")
         self.addCleanup(shutil.rmtree, self.folder, ignore_errors=True)
         self.path = os.path.join(self.folder, "my.anki")
+
+    def needs(self, command, *words):
+        """Skips the test if the program is older than a command."""
+        if not has_command(self.program, command, *(words or ("0" * 32,))):
+            self.skipTest("the program has no command %s" % command)
 
     def make(self, *lines):
         """Makes the collection that a learner begins with, does the desk's lines, and gives what they print."""

@@ -15,6 +15,7 @@ import tempfile
 import time
 
 from front import program as programs
+from front.tests.files import has_command
 from front.tests.pages import Browser
 
 NOTES, CARDS, REVIEWS, DECKS = 20_000, 33_333, 133_333, 30
@@ -89,8 +90,22 @@ def measure(path, program):
         for expression in ("maison", "deck:Default is:due", "tag:tag7 -is:new", "prop:ivl>100 or is:new", ""):
             tell("the search “%s”" % expression, [timed(lambda: browser.ask("GET", "/browse?q=" + expression.replace(" ", "+").replace(">", "%3E")))[0] for _ in range(5)])
         tell("the charts", [timed(lambda: browser.see("/charts"))[0] for _ in range(5)])
+        if has_command(program, "export", "3") and has_command(program, "import", "3", "1"):
+            measure_files(browser)
     finally:
         browser.close()
+
+
+def measure_files(browser):
+    """An export of all notes, and the import of the file, which changes none of them."""
+    form = browser.form(browser.see("/files"), "/export", type="3")
+    taken, (_, _, text) = timed(lambda: browser.ask("POST", "/export", form))
+    tell("the export of %d notes as %d bytes, once" % (NOTES, len(text.encode())), [taken])
+    form = browser.form(browser.see("/files"), "/import", type="3", file=text.encode())
+    taken, page = timed(lambda: browser.send("/import", form))
+    tell("the import of that file, once", [taken])
+    if "0 notes added, 0 updated, %d as they were." % NOTES not in page:
+        raise AssertionError(page)
 
 
 if __name__ == "__main__":

@@ -4,6 +4,7 @@ import html.parser
 import http.client
 import os
 import re
+import secrets
 import subprocess
 import sys
 import urllib.parse
@@ -44,6 +45,16 @@ class Forms(html.parser.HTMLParser):
             held[self.text_of] += data if held[self.text_of] else data[1:] if data.startswith("\n") else data
 
 
+def parts_of(values):
+    """A form with files, which are bytes here, as a browser sends it: the body and its Content-Type."""
+    line, body = "----part%s" % secrets.token_hex(8), b""
+    for name, value in values.items():
+        more = '; filename="a \\"b\\".csv"\r\nContent-Type: text/csv' if isinstance(value, bytes) else ""
+        body += ('--%s\r\nContent-Disposition: form-data; name="%s"%s\r\n\r\n' % (line, name, more)).encode()
+        body += (value if isinstance(value, bytes) else value.encode()) + b"\r\n"
+    return body + ("--%s--\r\n" % line).encode(), "multipart/form-data; boundary=" + line
+
+
 class Browser:
     """A browser at a page of `bin/anki-web`."""
 
@@ -72,18 +83,19 @@ class Browser:
         if self.cookie:
             named["Cookie"] = self.cookie
         if body is not None:
-            named["Content-Type"] = "application/x-www-form-urlencoded"
             named["Origin"] = "http://" + self.host()
-            body = urllib.parse.urlencode(body)
+            if any(isinstance(value, bytes) for value in body.values()):
+                body, named["Content-Type"] = parts_of(body)
+            else:
+                body, named["Content-Type"] = urllib.parse.urlencode(body).encode(), "application/x-www-form-urlencoded"
+            named["Content-Length"] = str(len(body))
         named.update({name.replace("_", "-"): value for name, value in headers.items()})
         connection = http.client.HTTPConnection("127.0.0.1", self.port, timeout=60)
         connection.putrequest(method, path, skip_host=True, skip_accept_encoding=True)
         for name, value in named.items():
             if value is not None:
                 connection.putheader(name, value)
-        if body is not None:
-            connection.putheader("Content-Length", str(len(body)))
-        connection.endheaders(body.encode() if body is not None else None)
+        connection.endheaders(body)
         reply = connection.getresponse()
         text = reply.read().decode()
         connection.close()

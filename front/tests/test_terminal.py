@@ -8,6 +8,9 @@ import time
 from front.program import ROOT
 from front.tests.files import FileCase
 from front.tests.keys import STUDY, Terminal
+from front.tests.standin import StandIn
+
+KEY = "0123456789abcdef0123456789abcdef"
 
 
 class Lines(FileCase):
@@ -19,7 +22,7 @@ class Lines(FileCase):
             input="".join(line + "\n" for line in lines).encode(),
             stdout=subprocess.PIPE,
             stderr=subprocess.PIPE,
-            env=dict(os.environ, ANKI_PROGRAM=self.program, COLUMNS="80", TZ="UTC"),
+            env=dict(os.environ, ANKI_PROGRAM=self.program, HOME=self.folder, COLUMNS="80", TZ="UTC"),
         )
         self.assertEqual(run.returncode, status, run.stderr.decode())
         self.said = run.stderr.decode()
@@ -90,6 +93,69 @@ class Lines(FileCase):
         self.assertIn('"Latin"', file.execute("select decks from col").fetchone()[0])
         file.close()
 
+    def stand_in(self, said, status):
+        """Has the front run a stand-in that answers so."""
+        self.make('note 1 1 ["a","A"]')
+        tool = StandIn(self.folder, self.program, "sync", "upload", "download", "import", "export")
+        tool.answer(said, status)
+        self.program = tool.path
+        return tool
+
+    def test_the_ways_out_are_offered_after_a_sync_and_asked_for_twice(self):
+        tool = self.stand_in("full needed: schema 1 2\n", 10)
+        account = ("example.org:8765", KEY)
+        last = "%s example.org:8765 %%s %s\n" % (self.path, KEY)
+        for answers in (("",), ("x",), ("d", "no"), ("d", "yes", "upload"), ("u", "yes", "yes"), ("u", "y")):
+            said = self.study("s", *account, *answers, "q")
+            self.assertEqual(tool.asked(), last % "sync")
+            self.assertIn("Key of the account: full needed: schema 1 2\n", said)
+            self.assertIn("upload: The server takes this device's collection in the place of its own. It throws away what the server has", said)
+            self.assertIn("download: This device takes the server's collection in the place of its own. It throws away what this device has", said)
+        for key, word in (("u", "upload"), ("d", "download")):
+            said = self.study("s", *account, key, "yes", word, "q")
+            self.assertEqual(tool.asked(), last % word)
+            self.assertIn("This can't be undone. Type the word %s to do it: " % word, said)
+
+    def test_an_upload_without_a_sync_before(self):
+        tool = self.stand_in("finished\n", 0)
+        said = self.study("1", "f", "3", "q", "v", "example.org:8765", KEY, "u", "yes", "upload", "u", "q")
+        self.assertEqual(tool.asked(), "%s example.org:8765 upload %s\n" % (self.path, KEY))
+        self.assertIn("\nThe server holds what this device has. Undo is empty from here.\nDownload on every other device of the account", said)
+        self.assertIn("! The file was closed for the upload: undo is empty from here.", said)
+        self.assertIn("! there is nothing to undo", said)
+
+    def test_import(self):
+        tool = self.stand_in("added 1 updated 0 same 2\n", 0)
+        with open(os.path.join(self.folder, "notes.csv"), "wb") as file:
+            file.write(b"g1,,a,A\xff\n")
+        said = self.study("i", "~/notes.csv", "1", "1", "no", "i", "none.csv", "i", "q")
+        self.assertIsNone(tool.asked())
+        self.assertIn("! there is no file none.csv", said)
+        said = self.study("i", "~/notes.csv", "1", "1", "yes", "q")
+        self.assertIn("A line of it is: guid, tags, Front, Back. An import can't be undone.", said)
+        self.assertIn("Imported: 1 note added, 0 updated, 2 as they were.", said)
+        self.assertEqual((tool.asked(), tool.given()), ("%s - import 1 1\n" % self.path, b"g1,,a,A\xff\n"))
+        tool.answer("line 1: csv fault 2 at 1\n", 3)
+        self.assertIn("! Nothing was imported: record 1, counted without empty lines: its guid", self.study("i", "~/notes.csv", "1", "1", "yes", "q"))
+
+    def test_export(self):
+        tool = self.stand_in("g1,,a,A\n", 0)
+        path = os.path.join(self.folder, "out.csv")
+        said = self.study("w", "1", "~/out.csv", "w", "1", self.path, "q")
+        self.assertEqual(tool.asked(), "%s - export 1\n" % self.path)
+        self.assertIn("The notes of Basic are in %s." % path, said)
+        self.assertIn("is a file of the collection's own", said)
+        tool.answer("g2,,b,B\n", 0)
+        self.study("w", "1", path, "no", "q")
+        with open(path) as file:
+            self.assertEqual(file.read(), "g1,,a,A\n")
+        self.study("w", "1", path, "yes", "q")
+        with open(path) as file:
+            self.assertEqual(file.read(), "g2,,b,B\n")
+        tool.answer("usage\n", 2)
+        self.assertIn("! this program is older than the command export", self.study("w", "1", "~/other.csv", "q"))
+        self.assertFalse(os.path.exists(os.path.join(self.folder, "other.csv")))
+
     def test_faults_at_the_start(self):
         self.study("n", status=1)
         self.assertEqual(self.names(), [])
@@ -139,6 +205,26 @@ class Keys(FileCase):
         file.close()
         self.assertEqual(ease, 3)
         self.assertLess(taken, 60000)
+
+    def test_a_key_of_an_account_is_not_shown(self):
+        self.make('note 1 1 ["a","A"]')
+        tool = StandIn(self.folder, self.program, "sync")
+        tool.answer("finished\n", 0)
+        self.program = tool.path
+        self.start()
+        self.wait_for("> ")
+        self.press("s\n")
+        self.wait_for("HOST:PORT []: ")
+        self.press("example.org:1\n")
+        self.wait_for("example.org:1")
+        self.wait_for("Key of the account: ")
+        self.press(KEY + "\n")
+        self.wait_for("finished", never=KEY)
+        self.assertEqual(tool.asked().split()[1:], ["example.org:1", "sync", KEY])
+        # What is typed after it is shown again.
+        self.wait_for("> ")
+        self.press("?\n")
+        self.wait_for("?\r\n")
 
     def test_the_file_is_closed_while_nobody_presses_a_key(self):
         self.make('note 1 1 ["a","A"]')

@@ -3,10 +3,13 @@ import re
 import subprocess
 
 from front.program import ROOT
-from front.tests.files import FileCase
+from front.tests.files import FileCase, has_command
 
 TUTORIAL = os.path.join(ROOT, "docs", "TUTORIAL.md")
 MOST_NOT_RUN = 3
+
+# Blocks that need a command of a newer program, by their kind, and what is asked to learn whether it has it.
+NEEDS = {"sh needs import": ("import", "1", "1"), "sh needs export": ("export", "1")}
 
 # What stands before the first block: `anki` is the program that the tests run.
 BEFORE = """
@@ -36,10 +39,10 @@ class Tutorial(FileCase):
     def test_every_block_runs_in_order_and_prints_what_stands_there(self):
         with open(TUTORIAL, encoding="utf-8") as file:
             found = blocks(file.read())
-        not_run = [block for block in found if block[0] != "sh"]
-        self.assertTrue(all(block[0] == "sh not-run" for block in not_run))
-        self.assertLessEqual(len(not_run), MOST_NOT_RUN)
-        run = [block for block in found if block[0] == "sh"]
+        self.assertLessEqual({block[0] for block in found}, {"sh", "sh not-run", *NEEDS})
+        self.assertLessEqual(sum(block[0] == "sh not-run" for block in found), MOST_NOT_RUN)
+        missing = sorted(kind for kind, command in NEEDS.items() if not has_command(self.program, *command))
+        run = [block for block in found if block[0] != "sh not-run" and block[0] not in missing]
         self.assertGreater(len(run), 10)
         # One shell runs them all, so that a folder and a variable last. A mark that no block prints parts their outputs.
         mark = "-- end of a block 6f1c --"
@@ -52,6 +55,8 @@ class Tutorial(FileCase):
         self.assertEqual(len(printed), len(run) + 1)
         for (_, commands, wanted), got in zip(run, printed):
             self.assertEqual(without_ids(got), without_ids(wanted), commands)
+        if missing:
+            self.skipTest("the others print what stands there, but the program is older than the blocks %s" % ", ".join(missing))
 
     def test_the_pictures_are_here(self):
         with open(TUTORIAL, encoding="utf-8") as file:

@@ -10,10 +10,15 @@ import threading
 import time
 
 from front.program import ROOT
+from front.forms import fields_of_parts
+from front.importing import LONGEST_FILE
 from front.tests.files import FileCase
 from front.tests.kills import child_of
-from front.tests.pages import Browser, Forms
-from front.web import HEADERS, POLICY, kept_line_ends, local, with_told
+from front.tests.pages import Browser, Forms, parts_of
+from front.tests.standin import StandIn
+from front.web import HEADERS, LONGEST_BODY, POLICY, kept_line_ends, local, with_told
+
+KEY = "0123456789abcdef0123456789abcdef"
 
 TOLD = re.compile(r'<p class="told[^"]*" role="status">([^<]*)</p>')
 COUNTS = re.compile(r"<small>(new \d+, learning \d+, review \d+)</small>")
@@ -258,6 +263,152 @@ class Changing(WebCase):
         self.assertEqual(self.browser.see("/browse?q=%22%3E%3Cscript%3E", 422).count("<script"), 1)
 
 
+class Files(WebCase):
+    """Sync, upload, download, import and export at the page, over a stand-in for the program."""
+
+    def setUp(self):
+        self.tool = None
+        super().setUp()
+
+    def make(self, *lines):
+        super().make(*lines)
+        self.tool = StandIn(self.folder, self.program, "sync", "upload", "download", "import", "export")
+        self.program = self.tool.path
+
+    def test_the_ways_out_of_a_sync_are_asked_for_twice(self):
+        browser, tool = self.browser, self.tool
+        browser.do(browser.see("/study?deck=1"), "/flag", flag="2")
+        tool.answer("full needed: schema 1 2\n", 10)
+        page = browser.do(browser.see("/sync"), "/sync", server="example.org:8765", key=KEY)
+        self.assertIn("full needed: schema 1 2. Note types or options were changed", self.told(page)[-1])
+        self.assertIn("undo is empty from here", self.told(page)[0])
+        tool.answer("finished\n", 0)
+        for word, throws in (("upload", "what the server has and this device has not"), ("download", "what this device has and the server has not")):
+            self.assertIn(throws, page)
+            ways = re.findall(r'href="(/whole[^"]*)"', page)
+            first = browser.see(html.unescape(next(way for way in ways if word in way)))
+            self.assertIn(throws, first)
+            self.assertNotIn('method="post" action="/%s"' % word, first)
+            second = browser.see(html.unescape(re.search(r'href="(/whole[^"]*sure=1)"', first).group(1)))
+            self.assertIn(throws, second)
+            form = browser.form(second, "/" + word, key=KEY)
+            self.assertEqual(form["server"], "example.org:8765")
+            # Without the word nothing is sent, and the key is not given back.
+            refused = browser.send("/" + word, dict(form, word="yes"))
+            self.assertIn("nothing was sent: the word %s was not typed" % word, self.told(refused)[0])
+            self.assertNotIn(KEY, refused)
+            self.assertEqual(tool.asked().split()[2], "sync" if word == "upload" else "upload")
+            form = browser.form(refused, "/" + word, key=KEY, word=word)
+            page = browser.send("/" + word, form)
+            self.assertEqual(tool.asked(), "%s example.org:8765 %s %s\n" % (self.path, word, KEY))
+            self.assertIn("Undo is empty from here.", self.told(page)[-1])
+            self.assertNotIn(KEY, page)
+            # The same request again is shown the same, and nothing is run.
+            tool.answer("lost\n", 7)
+            self.assertEqual(browser.send("/" + word, form), page)
+            tool.answer("finished\n", 0)
+
+    def test_no_key_in_an_address(self):
+        browser = self.browser
+        self.tool.answer("finished\n", 0)
+        form = browser.form(browser.see("/sync"), "/sync", server="a:1", key=KEY)
+        _, headers, _ = browser.ask("POST", "/sync", form)
+        self.assertNotIn(KEY, str(headers))
+        second = browser.form(browser.see("/whole?way=upload&sure=1"), "/upload", server="a:1", key=KEY, word="upload")
+        _, headers, _ = browser.ask("POST", "/upload", second)
+        self.assertNotIn(KEY, str(headers))
+        for path in ("/sync", "/upload", "/download"):
+            self.assertEqual(browser.ask("GET", path + "?server=a:1&word=upload&key=" + KEY)[0], 200 if path == "/sync" else 404)
+        self.assertEqual(self.tool.asked().split()[2], "upload")
+        self.assertEqual(browser.ask("GET", "/whole?way=other")[0], 404)
+
+    def test_import(self):
+        browser, tool = self.browser, self.tool
+        tool.answer("added 1 updated 0 same 2\n", 0)
+        page = browser.see("/files")
+        self.assertIn("<bdi>guid, tags, Front, Back</bdi>", page)
+        content = b"g1,,\"a\r\nb\",\xff\x00\r\n--\r\n\r\n"
+        form = browser.form(page, "/import", file=content)
+        page = browser.send("/import", form)
+        self.assertEqual(self.told(page), ["Imported: 1 note added, 0 updated, 2 as they were."])
+        self.assertEqual((tool.asked(), tool.given()), ("%s - import 1 1\n" % self.path, content))
+        # Once, whatever a second request says; another file on an old screen is not taken.
+        tool.answer("added 9 updated 9 same 9\n", 0)
+        self.assertEqual(browser.send("/import", form), page)
+        self.assertIn("nothing was saved now", self.told(browser.send("/import", dict(form, file=b"other")))[0])
+        self.assertEqual(tool.given(), content)
+        tool.answer("line 4: csv fault 2 at 4\n", 3)
+        page = browser.do(browser.see("/files"), "/import", file=b"x", type="2")
+        self.assertIn("Nothing was imported: record 4, counted without empty lines: its guid", self.told(page)[0])
+        self.assertEqual(browser.form(page, "/import")["type"], "2")
+        tool.answer("usage\n", 2)
+        self.assertIn("older than the command import", self.told(browser.send("/import", browser.form(page, "/import", file=b"x")))[0])
+        self.assertIn("no file was chosen", self.told(browser.send("/import", browser.form(page, "/import", file="")))[0])
+
+    def test_a_file_that_is_too_long_is_told(self):
+        self.assertEqual(LONGEST_FILE, 64 << 20)
+        self.browser.close()
+        shorter = "import sys; sys.path.insert(0, %r); from front import importing; importing.LONGEST_FILE = 1 << 20; from front import web; sys.exit(web.main(sys.argv[1:]))"
+        browser = Browser(self.path, self.program, [sys.executable, "-c", shorter % ROOT])
+        self.addCleanup(browser.close)
+        browser.enter()
+        form = browser.form(browser.see("/files"), "/import", file=bytes((1 << 20) + LONGEST_BODY))
+        status, _, page = browser.ask("POST", "/import", form)
+        self.assertEqual(status, 413)
+        self.assertIn("Nothing was imported: the file is over 1 MiB.", page)
+        form["file"] = bytes((1 << 20) + 1)
+        self.assertIn("the file is over 1 MiB", self.told(browser.send("/import", form))[0])
+        # Elsewhere, and for whoever has not come in, a body is short.
+        form["file"], long = b"x", str(LONGEST_BODY + 1)
+        self.assertEqual(browser.ask("POST", "/add", form, Content_Length=long)[0], 400)
+        self.assertEqual(browser.ask("POST", "/import", form, Content_Length=long, Cookie="a=b")[0], 403)
+        for length in (str(2 << 30), "9" * 5000, "-1", "x"):
+            self.assertEqual(browser.ask("POST", "/import", form, Content_Length=length)[0], 400)
+        self.assertIsNone(self.tool.asked())
+
+    def test_export(self):
+        browser, tool = self.browser, self.tool
+        browser.do(browser.see("/types"), "/type-new", name='Zwei "\r\nX: é', fields="One", front="{{One}}", back="x")
+        tool.answer("g1,,a,\n", 0)
+        page = browser.see("/files")
+        form = browser.form(page, "/export")
+        for _ in range(2):
+            status, headers, text = browser.ask("POST", "/export", form)
+            self.assertEqual((status, text, headers["Content-Type"]), (200, "g1,,a,\n", "text/csv; charset=utf-8"))
+            self.assertEqual(headers["Content-Disposition"], "attachment; filename=\"notes.csv\"; filename*=UTF-8''Basic.csv")
+            self.assertEqual(tool.asked(), "%s - export 1\n" % self.path)
+        # It is no change: what stands on the screen can be sent still.
+        self.assertEqual(self.told(browser.do(page, "/export", type="9"))[-1], "this is not in the collection any more")
+        named = [note_type for note_type in re.findall(r'<option value="(\d+)"', page) if len(note_type) > 3][0]
+        _, headers, _ = browser.ask("POST", "/export", dict(form, type=named))
+        self.assertEqual(headers["Content-Disposition"].split("''")[1], "Zwei%20%22%20X%3A%20%C3%A9.csv")
+        tool.answer("", 6)
+        self.assertIn("The notes were not exported: the file can't be opened", self.told(browser.send("/export", form))[0])
+        for change in ({"token": "0" * 32}, {"token": ""}):
+            self.assertEqual(browser.ask("POST", "/export", dict(form, **change))[0], 403)
+        self.assertEqual(browser.ask("POST", "/export", form, Origin="null")[0], 403)
+        self.assertEqual(browser.ask("GET", "/export?type=1")[0], 404)
+
+    def test_forms_that_are_none(self):
+        browser = self.browser
+        form = browser.form(browser.see("/files"), "/import", file=b"x")
+        body, kind = parts_of(form)
+        line = body.split(b"\r\n")[0]
+        for broken in (b"", b"x", body[:-20], body.replace(b"form-data; name", b"form-data; nom"), b"x" + body, body.replace(line, line + b"x", 1), body.replace(b"\r\n\r\n", b"\r\n")):
+            self.assertIsNone(fields_of_parts(broken, kind.split("=")[1], "file"), broken)
+        self.assertEqual(fields_of_parts(body, kind.split("=")[1], "file"), form)
+        self.assertIsNone(fields_of_parts(body, kind.split("=")[1], "other"))
+        for boundary in (None, "", "é", "x" * 71):
+            self.assertIsNone(fields_of_parts(body, boundary, "file"))
+        self.assertEqual(browser.ask("POST", "/import", form, Content_Type="multipart/form-data")[0], 400)
+        # A file under another name, or elsewhere.
+        self.assertEqual(browser.ask("POST", "/import", dict(form, token=b"x"))[0], 400)
+        self.assertEqual(browser.ask("POST", "/deck-new", dict(form, name="D"))[0], 400)
+        self.assertEqual(browser.ask("POST", "/import", dict(form, token="x"))[0], 403)
+        self.assertEqual(browser.ask("POST", "/import", form, Origin="http://evil.example")[0], 403)
+        self.assertIsNone(self.tool.asked())
+
+
 class Safety(WebCase):
     LINES = ('note 1 1 ["<script>parent.x</script>\\"><img src=http://evil/x onerror=1>","A"]',)
 
@@ -331,7 +482,7 @@ class Safety(WebCase):
         browser = self.browser
         form = browser.form(browser.see("/"), "/deck-new", name="D")
         query = "&".join("%s=%s" % pair for pair in form.items())
-        for path in ("/deck-new", "/answer", "/undo", "/deck-delete", "/edit"):
+        for path in ("/deck-new", "/answer", "/undo", "/deck-delete", "/edit", "/import", "/export", "/upload", "/download"):
             for method in ("GET", "HEAD"):
                 self.assertIn(browser.ask(method, "%s?%s" % (path, query))[0], (404,))
         self.assertEqual(len(re.findall("Change the deck", browser.see("/"))), 1)
@@ -339,7 +490,7 @@ class Safety(WebCase):
     def test_every_answer_has_its_headers(self):
         browser = self.browser
         answers = [self.entered[:2]]
-        for path in ("/", "/study?deck=1", "/style.css", "/front.js", "/browse?q=%28", "/nothing", "/enter?key=0", "/add", "/charts"):
+        for path in ("/", "/study?deck=1", "/style.css", "/front.js", "/browse?q=%28", "/nothing", "/enter?key=0", "/add", "/charts", "/files", "/whole?way=upload"):
             answers.append(browser.ask("GET", path)[:2])
         answers.append(browser.ask("GET", "/", Host="evil")[:2])
         answers.append(browser.ask("POST", "/undo", {"token": "x"})[:2])
@@ -366,11 +517,12 @@ class Safety(WebCase):
     def test_broken_requests(self):
         browser = self.browser
         for path in ("//", "/study", "/study?deck=x", "/study?deck=99", "/card?card=1", "/edit?note=1", "/deck?deck=99999999999999999999", "/options?options=7",
-                     "/sure?what=x&id=5", "/sure?what=x&id=5&name=a", "/sure?what=deck&id=9&name=a", "/sure?what=type&name=", "/sure?what=deck&id=9", "/study?deck=1&card=1&at=1", "/add?type=77"):
+                     "/sure?what=x&id=5", "/sure?what=x&id=5&name=a", "/sure?what=deck&id=9&name=a", "/sure?what=type&name=", "/sure?what=deck&id=9", "/study?deck=1&card=1&at=1", "/add?type=77", "/whole", "/whole?way=x&sure=1"):
             self.assertIn(browser.ask("GET", path)[0], (200, 404), path)
         form = browser.form(browser.see("/"), "/deck-new", name="D")
         for action in ("/answer", "/bury", "/flag", "/edit", "/add", "/note-delete", "/deck-rename", "/deck-delete", "/deck-options", "/options-new",
-                       "/options-set", "/options-rename", "/options-delete", "/type-rename", "/type-delete", "/spread", "/nothing"):
+                       "/options-set", "/options-rename", "/options-delete", "/type-rename", "/type-delete", "/spread", "/sync", "/upload", "/download", "/import",
+                       "/export", "/nothing"):
             self.assertIn(browser.ask("POST", action, {"number": form["number"], "token": form["token"]})[0], (404, 422), action)
         self.assertEqual(browser.see("/").count("Nothing to undo"), 1)
 
