@@ -1,1 +1,2 @@
+pub mod KeptCollections
 pub mod LabEnds

@@ -2,7 +2,10 @@
 use Rattle.std.specs.Io.KnownBytes.{Appends, Keeps}
 use Rattle.std.specs.Prelude.{◌≡◌, ◌⊎◌, ℕ, ℤ, Bool, true, false, List, Option, Some, None}
 use Rattle.ak_base.specs.declared.keys.HostKey.{HostKey}
-use Rattle.ak_cli.specs.Programs.{Named, Lab, Init, Desk, Sync, Upload, Download, command_status, status_of, usage_line}
+use Rattle.ak_cli.specs.Programs.{Named, Lab, Init, Desk, Sync, Upload, Download, Import, Export, command_status, status_of, usage_line}
+use Rattle.ak_csv_runs.specs.ExportRuns.{EndsExport}
+use Rattle.ak_csv_runs.specs.FileRuns.{FileOutside, file_outside}
+use Rattle.ak_csv_runs.specs.ImportRuns.{EndsImport}
 use Rattle.ak_desk_runs.specs.DeskRuns.{EndsDesk, input_lines}
 use Rattle.ak_desk_runs.specs.Inits.{EndsInit}
 use Rattle.ak_desk_runs.specs.RunStates.{Outside, outside_of}
@@ -57,6 +60,14 @@ desk_of a = outside_of a.keeping a.filters a.moments a.words
 abbrev pub sync_of : ProgramOutside → SyncOutside
 sync_of a = sync_outside a.keeping a.health a.wire a.moments a.words
 
+-- what an import is given of it
+abbrev pub import_of : ProgramOutside → FileOutside
+import_of a = file_outside a.left a.keeping a.moments a.written
+
+-- what an export is given of it: it reads nothing
+abbrev pub export_of : ProgramOutside → FileOutside
+export_of a = file_outside None a.keeping a.moments a.written
+
 -- whether a command reads the input
 abbrev pub reads_input : Option Named → Bool
 reads_input (Some Lab) = true
@@ -65,6 +76,8 @@ reads_input (Some Desk) = true
 reads_input (Some (Sync digits)) = false
 reads_input (Some (Upload digits)) = false
 reads_input (Some (Download digits)) = false
+reads_input (Some (Import place)) = true
+reads_input (Some (Export note_type)) = false
 reads_input None = false
 
 -- whether a command works on the keeper's collection
@@ -75,6 +88,8 @@ uses_keeper (Some Desk) = true
 uses_keeper (Some (Sync digits)) = true
 uses_keeper (Some (Upload digits)) = true
 uses_keeper (Some (Download digits)) = true
+uses_keeper (Some (Import place)) = true
+uses_keeper (Some (Export note_type)) = true
 uses_keeper None = false
 
 -- how `lab` ends over these lines: a lab ran them, and its server's log is handed out. Or memory was out before the first of them, and
@@ -85,7 +100,8 @@ EndsLab end all a b =
 
 -- how a command ends with a status. `lab` runs the lines of the input in a lab of its own, and ends with 0, 3, 4, 5 or 8; `init` puts the
 -- opening collection of the next moment; `desk` does the lines of the input; `sync` syncs with the account of its key, and `upload` and
--- `download` send and fetch the whole collection, an upload over a keeper that spares memory or not; and if there is none, `usage` is printed
+-- `download` send and fetch the whole collection, an upload over a keeper that spares memory or not; `import` takes notes from the input, and
+-- `export` writes them; and if there is none, `usage` is printed
 abbrev pub EndsBy : Bool → Option Named → ℕ → ProgramOutside → ProgramOutside → Type 0
 EndsBy spares (Some Lab) status a b = (end : ScriptEnd) × (status ≡ status_of end) × EndsLab end (input_lines a.left) a b
 EndsBy spares (Some Init) status a b = (at : ℤ) × (end : CommandEnd)
@@ -99,6 +115,8 @@ EndsBy spares (Some (Upload digits)) status a b = (host : HostKey)
     × (host.digits ≡ digits) × EndsUpload spares host status (sync_of a) (sync_of b) a.written b.written
 EndsBy spares (Some (Download digits)) status a b = (host : HostKey)
     × (host.digits ≡ digits) × EndsDownload host status (sync_of a) (sync_of b) a.written b.written
+EndsBy spares (Some (Import place)) status a b = EndsImport place status (import_of a) (import_of b)
+EndsBy spares (Some (Export note_type)) status a b = EndsExport note_type status (export_of a) (export_of b)
 EndsBy spares None status a b =
     (status ≡ 2) × Appends a.written b.written usage_line ⊎ (status ≡ 5) × AppendsPart a.written b.written usage_line
 
@@ -128,4 +146,6 @@ LeavesBy (Some Desk) a b = b ≡ record a {
 LeavesBy (Some (Sync digits)) a b = KeepsButSync a b
 LeavesBy (Some (Upload digits)) a b = KeepsButSync a b
 LeavesBy (Some (Download digits)) a b = KeepsButSync a b
+LeavesBy (Some (Import place)) a b = b ≡ record a { left = b.left; written = b.written; keeping = b.keeping; moments = b.moments }
+LeavesBy (Some (Export note_type)) a b = b ≡ record a { written = b.written; moments = b.moments }
 LeavesBy None a b = b ≡ record a { written = b.written }

@@ -1,7 +1,7 @@
 -- What the program `anki` prints, and the statuses with which it ends.
 use Rattle.std.specs.Cmp.Lexicographic.{pointwise}
-use Rattle.std.specs.Prelude.{◌≡◌, ◌⊎◌, ◌==◌, ◌<◌, ℕ, Bool, if◌then◌else◌, List, [], ◌∷◌, ◌++◌, Option, Some, None, String, string_bytes, codes}
-use Rattle.std.specs.Option.{option_map}
+use Rattle.std.specs.Prelude.{◌≡◌, ◌⊎◌, ◌==◌, ◌<◌, ℕ, ℤ, Bool, if◌then◌else◌, List, [], ◌∷◌, ◌++◌, Option, Some, None, String, string_bytes, codes}
+use Rattle.std.specs.Option.{option_and_then, option_map}
 use Rattle.std.specs.declared.alloc.Global.{Global}
 use Rattle.ak_base.specs.Keys.{host_digits}
 use Rattle.ak_cli.specs.declared.program_commands.ProgramCommand.{ProgramCommand}
@@ -11,6 +11,8 @@ use Rattle.ak_desk_runs.specs.declared.command_ends.CommandEnd.TheVariants as co
 use Rattle.ak_faults.specs.Causes.{Health}
 use Rattle.ak_io.specs.declared.endings.ScriptEnd.{ScriptEnd}
 use Rattle.ak_io.specs.declared.endings.ScriptEnd.TheVariants as ends
+use Rattle.ak_lines.specs.Reading.{number_in}
+use Rattle.ak_note_files.specs.declared.places.ImportPlace.{ImportPlace}
 
 -- the commands as words name them. Those of a sync and of whole collections have the digits of their host key
 pub data Named : Type 0 where
@@ -20,6 +22,8 @@ pub data Named : Type 0 where
   Sync : List ℕ → Named
   Upload : List ℕ → Named
   Download : List ℕ → Named
+  Import : ImportPlace → Named
+  Export : ℤ → Named
 
 -- how a command is named
 abbrev pub named_by : ProgramCommand → Named
@@ -29,10 +33,16 @@ named_by programs.Desk = Desk
 named_by (programs.Sync host) = Sync host.digits
 named_by (programs.Upload host) = Upload host.digits
 named_by (programs.Download host) = Download host.digits
+named_by (programs.Import place) = Import place
+named_by (programs.Export note_type) = Export note_type
 
 -- the two texts are one
 abbrev pub same_text : List ℕ → List ℕ → Bool
 same_text = pointwise ◌==◌
+
+-- the id that a word is: decimal digits without sign or leading zero, at most 9,223,372,036,854,775,807
+abbrev pub id_of : List ℕ → Option ℤ
+id_of = number_in (0, 9_223_372_036_854_775_807)
 
 -- the command of a single word
 abbrev pub command_named : List ℕ → Option Named
@@ -42,20 +52,35 @@ command_named word =
     else if same_text word (codes "desk") then Some Desk
     else None
 
--- the command of two words: `sync`, `upload` or `download`, and 32 lower-case hexadecimal digits
-abbrev pub keyed_named : List ℕ → List ℕ → Option Named
-keyed_named word key =
-    if same_text word (codes "sync") then option_map Sync (host_digits key)
-    else if same_text word (codes "upload") then option_map Upload (host_digits key)
-    else if same_text word (codes "download") then option_map Download (host_digits key)
+-- the command of two words: `sync`, `upload` or `download` and 32 lower-case hexadecimal digits; or `export` and the id of a type
+abbrev pub valued_named : List ℕ → List ℕ → Option Named
+valued_named word value =
+    if same_text word (codes "sync") then option_map Sync (host_digits value)
+    else if same_text word (codes "upload") then option_map Upload (host_digits value)
+    else if same_text word (codes "download") then option_map Download (host_digits value)
+    else if same_text word (codes "export") then option_map Export (id_of value)
     else None
+
+-- an import to the type and the deck of these ids
+abbrev pub import_to : ℤ → ℤ → Named
+import_to note_type deck = Import (record { note_type = note_type; deck = deck })
+
+-- the command of three words: `import`, the id of a type and that of a deck
+abbrev pub import_named : List ℕ → List ℕ → List ℕ → Option Named
+import_named word note_type deck =
+    if same_text word (codes "import") then option_and_then (λ k. option_map (import_to k) (id_of deck)) (id_of note_type) else None
+
+-- the command of two words, and maybe a third
+abbrev pub command_with : List ℕ → List ℕ → List (String Global) → Option Named
+command_with word value [] = valued_named word value
+command_with word value (second ∷ []) = import_named word value (string_bytes second)
+command_with word value (second ∷ other ∷ others) = None
 
 -- the command that the words name
 abbrev pub command_of : List (String Global) → Option Named
 command_of [] = None
 command_of (word ∷ []) = command_named (string_bytes word)
-command_of (word ∷ key ∷ []) = keyed_named (string_bytes word) (string_bytes key)
-command_of (word ∷ key ∷ other ∷ others) = None
+command_of (word ∷ value ∷ more) = command_with (string_bytes word) (string_bytes value) more
 
 -- `usage` and a line feed
 abbrev pub usage_line : List ℕ

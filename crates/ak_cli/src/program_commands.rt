@@ -1,8 +1,13 @@
 ghost use Rattle.std.specs.Prelude.{◌≡◌};
 ghost use Rattle.std.specs.Option.{option_map};
-ghost use Rattle.ak_cli.specs.Programs.{command_named, command_of, keyed_named, named_by};
+ghost use Rattle.ak_cli.specs.Programs.{command_named, command_of, command_with, id_of, import_named, named_by, valued_named};
 
 use ak_base::HostKey;
+use ak_csv_runs::ImportPlace;
+use ak_lines::number_in;
+
+/// The greatest number that fits 64 bits with its sign. Whether an id is that of a row is not asked of a word.
+const LAST: u64 = 9_223_372_036_854_775_807;
 
 /// A command of the program.
 #[derive(Clone, Copy, Debug, PartialEq, Eq)]
@@ -19,6 +24,10 @@ pub enum ProgramCommand {
     Upload(HostKey),
     /// `download KEY`: the account's collection takes the place of the one that is held.
     Download(HostKey),
+    /// `import TYPE DECK`: notes from the input.
+    Import(ImportPlace),
+    /// `export TYPE`: the notes of a type to the output.
+    Export(i64),
 }
 
 /// The command that the words name.
@@ -28,13 +37,7 @@ pub(crate) fn command_of(words: &[String]) -> Option<ProgramCommand>
     let (word, others) = words.split_first()?;
     match others.split_first() {
         None => command_named(word.as_str()),
-        Some((key, more)) => {
-            if more.is_empty() {
-                keyed_named(word.as_str(), key.as_str())
-            } else {
-                None
-            }
-        }
+        Some((value, more)) => command_with(word.as_str(), value.as_str(), more),
     }
 }
 
@@ -54,21 +57,60 @@ fn command_named(word: &str) -> Option<ProgramCommand>
     None
 }
 
-/// The command of two words: `sync`, `upload` or `download`, and a host key.
-fn keyed_named(word: &str, key: &str) -> Option<ProgramCommand>
-    ensures { option_map named_by result ≡ keyed_named word.now key.now }
+/// The command of two words, and maybe a third.
+fn command_with(word: &str, value: &str, more: &[String]) -> Option<ProgramCommand>
+    ensures { option_map named_by result ≡ command_with word.now value.now more.now }
+{
+    match more.split_first() {
+        None => valued_named(word, value),
+        Some((second, others)) => {
+            if others.is_empty() {
+                import_named(word, value, second.as_str())
+            } else {
+                None
+            }
+        }
+    }
+}
+
+/// The command of two words: `sync`, `upload` or `download` and a host key, or `export` and an id.
+fn valued_named(word: &str, value: &str) -> Option<ProgramCommand>
+    ensures { option_map named_by result ≡ valued_named word.now value.now }
 {
     if word == "sync" {
-        let host = HostKey::of(key)?;
+        let host = HostKey::of(value)?;
         return Some(ProgramCommand::Sync(host));
     }
     if word == "upload" {
-        let host = HostKey::of(key)?;
+        let host = HostKey::of(value)?;
         return Some(ProgramCommand::Upload(host));
     }
     if word == "download" {
-        let host = HostKey::of(key)?;
+        let host = HostKey::of(value)?;
         return Some(ProgramCommand::Download(host));
     }
+    if word == "export" {
+        let note_type = id_of(value)?;
+        return Some(ProgramCommand::Export(note_type));
+    }
     None
+}
+
+/// The command of three words: `import` and two ids.
+fn import_named(word: &str, note_type: &str, deck: &str) -> Option<ProgramCommand>
+    ensures { option_map named_by result ≡ import_named word.now note_type.now deck.now }
+{
+    if word == "import" {
+        let note_type = id_of(note_type)?;
+        let deck = id_of(deck)?;
+        return Some(ProgramCommand::Import(ImportPlace { note_type, deck }));
+    }
+    None
+}
+
+/// The id that the whole word is.
+fn id_of(word: &str) -> Option<i64>
+    ensures { result ≡ id_of word.now }
+{
+    number_in(0, LAST, word)
 }

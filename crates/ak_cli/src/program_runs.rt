@@ -8,6 +8,7 @@ ghost use Rattle.ak_keep.specs.Keepers.{is_marked};
 
 use crate::program_commands::{ProgramCommand, command_of};
 use crate::statuses::{USAGE, WRITE_FAILED, command_status, status_of};
+use ak_csv_runs::{run_export, run_import};
 use ak_desk_runs::{init_collection, run_desk};
 use ak_filters::FieldFilter;
 use ak_io::{Chance, Clock, Failed, Sink, Source, write_all};
@@ -181,6 +182,8 @@ fn run_command<I: Source, O: Sink, K: Keeper, W: Wire, C: Clock, R: Chance>(
         ProgramCommand::Download(host) => {
             run_download(alloc, keeper, wire, clock, chance, host, out)
         }
+        ProgramCommand::Import(place) => run_import(alloc, keeper, clock, &place, input, out),
+        ProgramCommand::Export(note_type) => run_export(alloc, keeper, clock, note_type, out),
     }
 }
 

@@ -4,13 +4,13 @@ ghost use Rattle.ak_cli.specs.Programs.{command_status, status_of};
 use ak_desk_runs::CommandEnd;
 use ak_io::ScriptEnd;
 
-/// The work is done; with `lab` and `desk` the input was read to its end.
+/// The work is done; with `lab`, `desk` and `import` the input was read to its end.
 pub const DONE: u8 = 0;
 
 /// The words name no command.
 pub const USAGE: u8 = 2;
 
-/// A line of the input breaks a named rule, or `init` found a collection, or a command that works on one found none; the
+/// A line or a record of the input breaks a named rule, or `init` found a collection, or a command that works on one found none; the
 /// last line that was printed tells which.
 pub const REFUSED: u8 = 3;
 

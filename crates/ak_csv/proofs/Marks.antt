@@ -20,21 +20,21 @@ not_shorter : (a b c : ℕ) (rest : List ℕ) → rest ≡ a ∷ b ∷ c ∷ res
 not_shorter a b c rest e = let same : length rest ≡ suc (suc (suc (length rest))) = ap length e in omega (arith, same)
 
 -- a text that begins with no mark, and then a comma
-pub strip_plain : (text tail : List ℕ) → (length text == 0) ≡ false → strip_bom text ≡ text → strip_bom (text ++ (44 ∷ tail)) ≡ text ++ (44 ∷ tail)
+pub strip_plain : (text tail : List ℕ) → strip_bom text ≡ text → strip_bom (text ++ (44 ∷ tail)) ≡ text ++ (44 ∷ tail)
 unfolding strip_bom
-strip_plain [] tail some plain = cc some
-strip_plain (a ∷ []) [] some plain = refl
-strip_plain (a ∷ []) (next ∷ tail) some plain = rw (and_off (a == 0xEF) _ refl) refl
-strip_plain (a ∷ b ∷ []) tail some plain = rw (and_off ((a == 0xEF) && (b == 0xBB)) _ refl) refl
-strip_plain (a ∷ b ∷ c ∷ rest) tail some plain = elim (cases_Bool (is_bom a b c)) [
+strip_plain [] tail plain = strip_other 44 tail refl
+strip_plain (a ∷ []) [] plain = refl
+strip_plain (a ∷ []) (next ∷ tail) plain = rw (and_off (a == 0xEF) _ refl) refl
+strip_plain (a ∷ b ∷ []) tail plain = rw (and_off ((a == 0xEF) && (b == 0xBB)) _ refl) refl
+strip_plain (a ∷ b ∷ c ∷ rest) tail plain = elim (cases_Bool (is_bom a b c)) [
   | inl mark ↦ absurd (not_shorter a b c rest (rw mark at plain))
   | inr other ↦ rw other refl
 ]
 
 -- the text of a field, and then a comma
-pub strip_field : (field tail : List ℕ) → (length field == 0) ≡ false → strip_bom field ≡ field
+pub strip_field : (field tail : List ℕ) → strip_bom field ≡ field
     → strip_bom (field_text default_writer field ++ (44 ∷ tail)) ≡ field_text default_writer field ++ (44 ∷ tail)
-strip_field field tail some plain = elim (cases_Bool (needs_quotes default_writer field)) [
+strip_field field tail plain = elim (cases_Bool (needs_quotes default_writer field)) [
   | inl quotes ↦ rw quotes (strip_other 34 ((escaped default_writer field ++ (34 ∷ [])) ++ (44 ∷ tail)) refl)
-  | inr none ↦ rw none (strip_plain field tail some plain)
+  | inr none ↦ rw none (strip_plain field tail plain)
 ]

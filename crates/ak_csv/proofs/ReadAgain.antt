@@ -14,6 +14,7 @@ use Rattle.ak_csv.proofs.Fitting.{fitted_length, fitted_whole}
 use Rattle.ak_csv.proofs.Marks.{strip_field}
 use Rattle.ak_csv.proofs.Rules.{row_passes}
 use Rattle.ak_csv.proofs.Words.{are_tags, tags_again}
+use Rattle.ak_csv.specs.CsvTexts.{AreRows}
 use Rattle.ak_csv.specs.NoteRecords.{columns_of, fitted, notes_text, tags_column}
 use Rattle.ak_csv.specs.NotesAgain.{AreReadAgain, BeginsPlainly, IsReadable, record_of_note}
 use Rattle.ak_csv.specs.RecordRows.{IsShaped, record_of, rows_fault}
@@ -40,31 +41,45 @@ behind_guid first second others tail =
     append_assoc (field_text default_writer first ++ (44 ∷ (field_text default_writer second ++ fields_text default_writer others))) (10 ∷ []) tail
     ∙ append_assoc (field_text default_writer first) (44 ∷ (field_text default_writer second ++ fields_text default_writer others)) (10 ∷ tail)
 
-plain_text : (fields : ℕ) (is_other : List ℕ → Bool) (notes : List Note) → AllByRecursion (IsReadable fields is_other) notes → BeginsPlainly notes
-    → strip_bom (notes_text fields notes) ≡ notes_text fields notes
+plain_text : (fields : ℕ) (notes : List Note) → BeginsPlainly notes → strip_bom (notes_text fields notes) ≡ notes_text fields notes
 unfolding strip_bom
-plain_text fields is_other [] all plain = refl
-plain_text fields is_other (note ∷ notes) all plain =
+plain_text fields [] plain = refl
+plain_text fields (note ∷ notes) plain =
     let others = fitted fields (fields_in note.flds) in
     let cut = behind_guid note.guid (tags_column note) others (notes_text fields notes) in
     let rest = (field_text default_writer (tags_column note) ++ fields_text default_writer others) ++ (10 ∷ notes_text fields notes) in
-    ap strip_bom cut ∙ strip_field note.guid rest all.0.named plain ∙ sym cut
+    ap strip_bom cut ∙ strip_field note.guid rest plain ∙ sym cut
+
+-- the rows of the notes are read
+pub rows_again : (fields : ℕ) (notes : List Note) → BeginsPlainly notes → AreRows (notes_text fields notes) (map (columns_of fields) notes)
+unfolding next_record
+rows_again fields notes plain = (
+  states.StartRecord,
+  [],
+  subst (λ (text : List ℕ). Reached default_config states.StartRecord text (map (columns_of fields) notes) states.StartRecord [])
+      (sym (plain_text fields notes plain)) (rows_reached fields notes),
+  refl,
+)
 
 -- ---- the records
-one_record : (fields : ℕ) (is_other : List ℕ → Bool) (note : Note) → IsReadable fields is_other note → record_of (columns_of fields note) ≡ record_of_note note
-one_record fields is_other note h =
+one_record : (fields : ℕ) (note : Note) → length (fields_in note.flds) ≡ fields → record_of (columns_of fields note) ≡ record_of_note note
+one_record fields note counted =
     let tags = tags_again (tags_in note.tags) (are_tags note.tags) in
     let whole : fitted fields (fields_in note.flds) ≡ fields_in note.flds =
-    ap (λ (count : ℕ). fitted count (fields_in note.flds)) (sym h.counted) ∙ fitted_whole (fields_in note.flds) in
+    ap (λ (count : ℕ). fitted count (fields_in note.flds)) (sym counted) ∙ fitted_whole (fields_in note.flds) in
     ap (λ (ts : List (List ℕ)). record { guid = note.guid; tags = ts; fields = fitted fields (fields_in note.flds) }) tags
     ∙ ap (λ (fs : List (List ℕ)). record { guid = note.guid; tags = tags_in note.tags; fields = fs }) whole
 
-all_records : (fields : ℕ) (is_other : List ℕ → Bool) (notes : List Note) → AllByRecursion (IsReadable fields is_other) notes
+-- the notes have as many fields as their type
+abbrev pub AreCounted : ℕ → List Note → Type 0
+AreCounted fields notes = AllByRecursion (λ (note : Note). length (fields_in note.flds) ≡ fields) notes
+
+pub all_records : (fields : ℕ) (notes : List Note) → AreCounted fields notes
     → map record_of_note notes ≡ map record_of (map (columns_of fields) notes)
-all_records fields is_other [] all = refl
-all_records fields is_other (note ∷ notes) all =
-    ap (λ (r : Record). r ∷ map record_of_note notes) (sym (one_record fields is_other note all.0))
-    ∙ ap (λ (rs : List Record). record_of (columns_of fields note) ∷ rs) (all_records fields is_other notes all.1)
+all_records fields [] all = refl
+all_records fields (note ∷ notes) all =
+    ap (λ (r : Record). r ∷ map record_of_note notes) (sym (one_record fields note all.0))
+    ∙ ap (λ (rs : List Record). record_of (columns_of fields note) ∷ rs) (all_records fields notes all.1)
 
 -- ---- the rules
 is_shaped : (fields : ℕ) (is_other : List ℕ → Bool) (note : Note) → IsReadable fields is_other note → IsShaped (Some fields) (columns_of fields note)
@@ -80,17 +95,14 @@ no_fault fields number is_other (note ∷ notes) all =
     let passes = row_passes (Some fields) is_other number (columns_of fields note) (is_shaped fields is_other note all.0) all.0.text all.0.own in
     rw passes (no_fault fields (number + 1) is_other notes all.1)
 
+all_counted : (fields : ℕ) (is_other : List ℕ → Bool) (notes : List Note) → AllByRecursion (IsReadable fields is_other) notes → AreCounted fields notes
+all_counted fields is_other [] all = tt
+all_counted fields is_other (note ∷ notes) all = (all.0.counted, all_counted fields is_other notes all.1)
+
 pub read_again : AreReadAgain
-unfolding next_record
 read_again fields is_other notes all plain = record {
   rows = map (columns_of fields) notes;
-  read = (
-    states.StartRecord,
-    [],
-    subst (λ (text : List ℕ). Reached default_config states.StartRecord text (map (columns_of fields) notes) states.StartRecord [])
-        (sym (plain_text fields is_other notes all plain)) (rows_reached fields notes),
-    refl,
-  );
+  read = rows_again fields notes plain;
   faultless = no_fault fields 1 is_other notes all;
-  are = all_records fields is_other notes all;
+  are = all_records fields notes (all_counted fields is_other notes all);
 }

@@ -6,7 +6,7 @@ use Rattle.ak_csv.specs.RecordRows.{Columns, record_of, rows_fault}
 use Rattle.ak_csv.specs.declared.csv_faults.CsvFault.{CsvFault}
 use Rattle.ak_imports.specs.declared.records.Record.{Record}
 
--- these are the rows of the text, behind a byte order mark if it begins with one: commas between columns, quotes, and a line's end of
+-- these are the rows of the text, after a byte order mark if it begins with one: commas between columns, quotes, and a line's end of
 -- LF, CR or both; an empty line is no row
 abbrev pub AreRows : List ℕ → List Columns → Type 0
 AreRows text rows = AreRecords default_config states.StartRecord (strip_bom text) rows

@@ -14,8 +14,7 @@ use Rattle.ak_imports.specs.declared.records.Record.{Record}
 abbrev pub record_of_note : Note → Record
 record_of_note note = record { guid = note.guid; tags = tags_in note.tags; fields = fields_in note.flds }
 
--- a note that can be read again: it has as many fields as its type, a guid, which is that of no note of another type, and texts, as
--- each note has that is held
+-- a note that can be read again: it has as many fields as its type, a guid, which is that of no note of another type, and is UTF-8
 pub record IsReadable (fields : ℕ) (is_other : List ℕ → Bool) (note : Note) : Type 0 where
   pub counted : length (fields_in note.flds) ≡ fields
   pub named : (length note.guid == 0) ≡ false

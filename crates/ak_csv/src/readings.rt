@@ -137,7 +137,7 @@ fn column(row: &StringRecord, place: usize) -> &str
     }
 }
 
-/// The columns behind guid and tags.
+/// The columns after the guid and the tags.
 fn fields_of_row(alloc: Global, row: &StringRecord) -> Result<List<Text>, Memory>
     ensures { IfOk result (λ fields. fields ≡ drop 2 (fields_of row.now)) }
 {

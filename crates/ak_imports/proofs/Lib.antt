@@ -1,0 +1,12 @@
+pub mod Admitting
+pub mod GuidsRead
+pub mod KeptGuids
+pub mod LeastNotes
+pub mod Making
+pub mod NewNotes
+pub mod NotesOfTypes
+pub mod OwnTesting
+pub mod Passing
+pub mod Taking
+pub mod TakingAll
+pub mod Tellings

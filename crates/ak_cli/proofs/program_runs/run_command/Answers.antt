@@ -1,4 +1,6 @@
-use Rattle.std.proofs.Common.{refl}
+use Rattle.std.proofs.Common.{refl, w64, SFits, rules}
+use Rattle.std.proofs.lemmas.Int.{to_z-of_z}
+use Rattle.ak_cli.proofs.KeptCollections.{same_keeping}
 use Rattle.ak_cli.proofs.LabEnds.{lab_ended}
 use Rattle.ak_cli.proofs.program_runs.run_command.Goals as goal
 
@@ -22,6 +24,14 @@ returns-in-Upload-clause-ends g c = rw c.in-Upload.is (_, refl, c.run_upload.ens
 pub returns-in-Download-clause-ends : goal.returns-in-Download-clause-ends
 returns-in-Download-clause-ends g c = rw c.in-Download.is (_, refl, c.run_download.ensures.ends)
 
+pub returns-in-Import-clause-ends : goal.returns-in-Import-clause-ends
+returns-in-Import-clause-ends g c = rw c.in-Import.is c.run_import.ensures.ends
+
+pub returns-in-Export-clause-ends : goal.returns-in-Export-clause-ends
+returns-in-Export-clause-ends g c =
+    let fits : SFits w64 c.in-Export.note_type = search rules in
+    rw c.in-Export.is (rw (to_z-of_z w64 c.in-Export.note_type fits) at c.run_export.ensures.ends)
+
 pub returns-in-Lab-clause-leaves : goal.returns-in-Lab-clause-leaves
 returns-in-Lab-clause-leaves g c = rw c.in-Lab.is refl
 
@@ -39,3 +49,9 @@ returns-in-Upload-clause-leaves g c = rw c.in-Upload.is refl
 
 pub returns-in-Download-clause-leaves : goal.returns-in-Download-clause-leaves
 returns-in-Download-clause-leaves g c = rw c.in-Download.is refl
+
+pub returns-in-Import-clause-leaves : goal.returns-in-Import-clause-leaves
+returns-in-Import-clause-leaves g c = rw c.in-Import.is refl
+
+pub returns-in-Export-clause-leaves : goal.returns-in-Export-clause-leaves
+returns-in-Export-clause-leaves g c = rw c.in-Export.is (same_keeping _ _ _ _ _ _ _ _ _ _ c.run_export.ensures.same)

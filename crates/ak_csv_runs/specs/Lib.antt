@@ -1,0 +1,4 @@
+pub mod ExportRuns
+pub mod FileRuns
+pub mod ImportRuns
+pub mod ImportTexts

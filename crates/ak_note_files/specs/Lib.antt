@@ -1,0 +1,5 @@
+pub mod Exports
+pub mod Imports
+pub mod Inputs
+pub mod Returns
+pub mod Rules
