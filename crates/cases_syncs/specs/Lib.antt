@@ -1,1 +1,1 @@
-pub mod Liars
+pub mod Intercepted

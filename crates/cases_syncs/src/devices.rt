@@ -1,6 +1,6 @@
 use crate::servers::{Host, upload};
 use crate::shown::{all, sum};
-use crate::syncs::{sync, sync_by_lie};
+use crate::syncs::{Actor, crossed, errand_of, lied_to, undisturbed};
 use ak_memory::MemoryKeeper;
 use cases_keepers::answer_of;
 use cases_lines::Unread;
@@ -20,8 +20,28 @@ impl Device {
         }
     }
 
-    /// The answer to a command of the device.
+    /// The answer to a command of the device. Another one may be in its way.
     pub fn answer(
+        &mut self,
+        alloc: Global,
+        other: &mut Device,
+        host: &mut Host,
+        word: &str,
+        rest: &str,
+    ) -> Result<String, Unread> {
+        match errand_of(word) {
+            Some((task, Actor::Nobody)) => undisturbed(alloc, task, &mut self.keeper, host, rest),
+            Some((task, Actor::Liar)) => lied_to(alloc, task, &mut self.keeper, host, rest),
+            Some((task, Actor::OtherDevice)) => {
+                let theirs = &mut other.keeper;
+                crossed(alloc, task, &mut self.keeper, theirs, host, rest)
+            },
+            None => self.answer_alone(alloc, host, word, rest),
+        }
+    }
+
+    /// The answer to a command that no client does.
+    fn answer_alone(
         &mut self,
         alloc: Global,
         host: &mut Host,
@@ -29,8 +49,6 @@ impl Device {
         rest: &str,
     ) -> Result<String, Unread> {
         match word {
-            "sync" => sync(alloc, &mut self.keeper, host, rest),
-            "lie" => sync_by_lie(alloc, &mut self.keeper, host, rest),
             "copy" => self.copy(alloc, host),
             "upload" => self.upload(alloc, host, rest),
             "all" => all(alloc, &mut self.keeper),

@@ -1,9 +1,12 @@
-// Cases of whole syncs: two devices and a server in memory, one command a line, and one line printed for each. README.md
-// tells the commands.
+// Cases of whole syncs, uploads and downloads: two devices and a server in memory, one command a line, and one line printed
+// for each. README.md tells the commands.
 #![tactic(auto)]
 
+mod crossings;
 mod devices;
-mod liar_counts;
+mod errands;
+mod intercepted_counts;
+mod intercepted_wires;
 mod liars;
 mod lies;
 mod servers;

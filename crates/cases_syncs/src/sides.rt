@@ -76,8 +76,12 @@ impl Pair {
     fn answer(&mut self, alloc: Global, word: &str, rest: &str) -> Result<String, Unread> {
         let (command, rest) = cut(rest, " ").unwrap_or((rest, ""));
         match word {
-            "A" => self.first.answer(alloc, &mut self.host, command, rest),
-            "B" => self.second.answer(alloc, &mut self.host, command, rest),
+            "A" => self
+                .first
+                .answer(alloc, &mut self.second, &mut self.host, command, rest),
+            "B" => self
+                .second
+                .answer(alloc, &mut self.first, &mut self.host, command, rest),
             "server" => self.host.answer(alloc, command, rest),
             _ => Err(Unread::Bad),
         }

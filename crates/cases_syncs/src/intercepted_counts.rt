@@ -1,13 +1,13 @@
 ghost use Rattle.std.specs.Prelude.{◌≡◌};
 ghost use Rattle.ak_wires.specs.Wires.{Called, said_after};
-ghost use Rattle.cases_syncs.specs.Liars.{health_over, state_over};
+ghost use Rattle.cases_syncs.specs.Intercepted.{health_over, state_over};
 
 use ak_messages::{Reply, Request, SanityReply};
 use ak_wires::{Said, WireEnd, said_of};
 
 /// What a wire counts of its calls, and what the reply of the last one said. Each count stays at the last `u64`.
 #[derive(Drop)]
-pub struct LiarCounts {
+pub struct InterceptedCounts {
     pub calls: u64,
     /// The calls that got no answer.
     pub faults: u64,
@@ -18,10 +18,10 @@ pub struct LiarCounts {
     pub said: Option<Said>,
 }
 
-impl LiarCounts {
+impl InterceptedCounts {
     /// No call was made.
-    pub fn new() -> LiarCounts {
-        LiarCounts {
+    pub fn new() -> InterceptedCounts {
+        InterceptedCounts {
             calls: 0,
             faults: 0,
             unread: 0,

@@ -1,15 +1,15 @@
--- What is known of a wire that lies.
+-- What is known of a wire on which somebody acts.
 use Rattle.std.specs.Prelude.{false, [], None}
 use Rattle.ak_faults.specs.Causes.{Health}
 use Rattle.ak_wires.specs.Wires.{WireState}
-use Rattle.cases_syncs.specs.declared.liar_counts.LiarCounts.{LiarCounts}
+use Rattle.cases_syncs.specs.declared.intercepted_counts.InterceptedCounts.{InterceptedCounts}
 
 -- how many of its calls failed. Some may fail
-abbrev pub health_over : LiarCounts → Health
+abbrev pub health_over : InterceptedCounts → Health
 health_over c = record { faults = c.faults; calm = false }
 
 -- what it tells: no log, and its counts
-abbrev pub state_over : LiarCounts → WireState
+abbrev pub state_over : InterceptedCounts → WireState
 state_over c = record {
   log = None;
   reading = record { faults = c.unread; calm = false };
