@@ -1,0 +1,4 @@
+pub mod Draws
+pub mod Events
+pub mod Kept
+pub mod Torn

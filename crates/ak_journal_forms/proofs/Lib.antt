@@ -1,0 +1,5 @@
+pub mod Lists
+pub mod Bytes
+pub mod FrameLists
+pub mod Readings
+pub mod Images

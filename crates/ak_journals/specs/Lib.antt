@@ -1,0 +1,4 @@
+pub mod Moments
+pub mod States
+pub mod Journals
+pub mod Faults
