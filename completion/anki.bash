@@ -8,7 +8,7 @@ _anki() {
     fi
     # If the second word is - or host:port, all words go to the program.
     if [ "$COMP_CWORD" -ge 3 ] && { [ "$second" = - ] || [[ $second == *:* ]] || [[ ${COMP_WORDS[3]} == : ]]; }; then
-        [ "$COMP_CWORD" -eq 3 ] && COMPREPLY=($(compgen -W "init desk sync upload download lab" -- "$word"))
+        [ "$COMP_CWORD" -eq 3 ] && COMPREPLY=($(compgen -W "init desk sync upload download import export lab" -- "$word"))
         return
     fi
     case $first in
@@ -18,7 +18,7 @@ _anki() {
         [ "$COMP_CWORD" -eq 2 ] && COMPREPLY=($(compgen -f -- "$word"))
         [ "$COMP_CWORD" -eq 3 ] && COMPREPLY=($(compgen -W "decks types options notes" -- "$word"))
         ;;
-    help) [ "$COMP_CWORD" -eq 2 ] && COMPREPLY=($(compgen -W "desk lab sync answers" -- "$word")) ;;
+    help) [ "$COMP_CWORD" -eq 2 ] && COMPREPLY=($(compgen -W "desk lab import sync answers" -- "$word")) ;;
     --*) ;;
     *) [ "$COMP_CWORD" -eq 2 ] && COMPREPLY=($(compgen -W "-" -- "$word")) ;;
     esac

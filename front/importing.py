@@ -46,7 +46,7 @@ class Importing(Sitting):
         if re.match(rb'(\xef\xbb\xbf)?"?guid"?,', content, re.IGNORECASE):
             raise Slip("the first line of the file names the columns, and would be taken for a note: take it away")
         if re.match(rb"(\xef\xbb\xbf)?#(separator|html):", content):
-            raise Slip("this is a text that Anki has exported, with columns of its own: it is no table that can be imported")
+            raise Slip("this is a text that Anki has exported, with columns of its own: bin/from-anki-text makes files of it that can be imported")
 
     def export_notes(self, type_id):
         """The notes of a type as CSV, as bytes. The desk ends for it; nothing is changed."""
@@ -84,7 +84,7 @@ def words_of_import(said, names):
 
 
 def _words_of_record(text, names):
-    words = _FAULTS.get(text.split(" at ")[0])
+    words = _FAULTS.get(text) or _FAULTS.get(text.split(" at ")[0])
     if words is None:
         return words_of_refusal(text)
     if "%" in words:
@@ -97,5 +97,6 @@ _FAULTS = {
     "csv fault 2": "its guid, the first column, is empty",
     "csv fault 3": "a column is not UTF-8",
     "csv fault 4": "a note of another type has its guid",
+    "row fault 1 at 1": "its guid is over 64 bytes",
     "long input": "the file is too long",
 }

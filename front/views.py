@@ -483,7 +483,7 @@ def files(screen, session, type_id=None, deck_id=None):
         heading("Import and export")
         + small(CLOSED)
         + "<h2>Import</h2><p>A line of the file has these columns, and no line has their names:</p><ul>%s</ul>" % columns
-        + small("A guid that a note of the type has gives that note other fields and tags; another guid adds a note to the deck. An import can't be undone.")
+        + small("A guid that a note of the type has gives that note other fields and tags; another guid adds a note to the deck. An import can't be undone. Of a text that Anki has exported bin/from-anki-text makes such files.")
         + screen.form("/import", bring, has_file=True)
         + "<h2>Export</h2>"
         + screen.form("/export", take)

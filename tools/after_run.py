@@ -82,8 +82,17 @@ def sentence_of(run, status):
         return "the program ended with status %d, of which docs/ANSWERS.md tells nothing" % number
     do = end["do"]
     if number in (4, 5, 8) and (run.file == "-" or run.command != "desk"):
-        return joined(end["what"], "nothing is kept of what is in memory alone" if run.command in ("desk", "lab") else "", end["again"])
+        return joined(end["what"], safe_beside_a_desk(run, number, told), end["again"])
     return joined(end["what"], end["safe"], do)
+
+
+def safe_beside_a_desk(run, number, told):
+    """What is kept after the statuses 4, 5 and 8, if the run was not one of a desk over a file."""
+    if run.command in ("desk", "lab"):
+        return "nothing is kept of what is in memory alone"
+    if run.command == "import" and number == 4:
+        return answers.status_told(told, 3, "import")["safe"]
+    return ""
 
 
 def joined(*clauses):
@@ -97,6 +106,8 @@ def refused_sentence(run, told):
         return joined(end["what"].replace("the file", run.file), end["safe"], end["do"])
     if run.command != "lab" and not holds_collection(run):
         return no_collection_sentence(run, told)
+    if run.command == "import":
+        return refused_import_sentence(run, told)
     end = answers.status_told(told, 3, "lab" if run.command == "lab" else "desk")
     safe = end["safe"]
     if run.file == "-" and run.command == "desk":
@@ -110,6 +121,18 @@ def refused_sentence(run, told):
         what = "line %d, %s, was refused (%s)" % (number, quote, text)
     found = answers.text_told(told, text)
     return joined(what, safe, hint_of_lines(run) or (found and found["do"]) or end["do"])
+
+
+def refused_import_sentence(run, told):
+    """After an import of which a record, or the whole input, was refused. A record is no line: it may have several, and empty ones are none."""
+    end = answers.status_told(told, 3, "import")
+    number, text = refusal_printed(run)
+    if number is None:
+        return joined("a record was refused, and the output has its number and says why", end["safe"], end["do"])
+    own = {"texts": answers.texts_under(told, "Refused records of an import")}
+    found = answers.text_told(own, text) or answers.text_told(told, text)
+    what = "record %d was refused (%s)" % (number, text) if number else "the input was refused (%s)" % text
+    return joined(what, end["safe"], found and found["do"] or end["do"])
 
 
 def holds_collection(run):

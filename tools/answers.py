@@ -28,6 +28,16 @@ def text_told(answers, printed):
     return max(found, key=lambda it: len(re.sub(r"<[^<>]*>", "", it["text"])), default=None)
 
 
+def texts_under(answers, *groups):
+    """What is told of the texts of these groups."""
+    group, found = None, []
+    for it in answers["texts"]:
+        group = it.get("group", group)
+        if "text" in it and group in groups:
+            found.append(it)
+    return found
+
+
 def plain(text):
     """A told text for a terminal: links as their words."""
     return re.sub(r"\[([^\]]*)\]\([^)]*\)", r"\1", text)

@@ -1,7 +1,7 @@
 """The scripts of completion/ for bash and zsh, whose words are those of the tables of docs/profile/."""
 from tools import helps
 
-TOPICS = ("desk", "lab", "sync", "answers")
+TOPICS = ("desk", "lab", "import", "sync", "answers")
 
 
 def commands():

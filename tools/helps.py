@@ -107,7 +107,7 @@ def listed(entries):
 
 
 def help_of(topic):
-    known = {"": of_commands, "desk": of_desk, "lab": of_lab, "sync": of_sync, "answers": of_answers}
+    known = {"": of_commands, "desk": of_desk, "lab": of_lab, "import": of_import, "sync": of_sync, "answers": of_answers}
     if topic not in known:
         raise files.Refused("there is no help on %s; there is on %s" % (topic, ", ".join(it for it in known if it)))
     return known[topic]()
@@ -147,6 +147,30 @@ def of_lab():
     for lines in lab_examples():
         yield INDENT + "> printf '%s\\n' " + " ".join("'%s'" % line for line in lines) + " | bin/anki - - lab"
     yield INDENT + "> bin/anki - - lab < examples/first-sync.lab"
+
+
+def csv_lines(heading):
+    """What the page on CSV says under a heading: an example, and points."""
+    return [line for block in blocks_under("profile/csv.md", heading) for line in block], [plain(item) for item in items_under("profile/csv.md", heading)]
+
+
+def of_import():
+    yield "Notes as CSV: bin/anki FILE - import TYPE DECK reads records from standard input, bin/anki FILE - export TYPE writes them."
+    yield "A record is a guid, the tags with one space between, and a column for each field of the note type. There is no header line."
+    for heading in ("The form", "What an import does"):
+        example, points = csv_lines(heading)
+        yield ""
+        yield heading + ":"
+        yield from (INDENT + "> " + line for line in example)
+        for point in points:
+            yield from wrapped(point)
+    yield ""
+    yield "What is printed, and what is to be done then:"
+    for it in answers.texts_under(answers.read_answers(), "Answers of an import", "Refused records of an import"):
+        yield it["text"]
+        yield from wrapped(plain("%s%s" % (it["why"], "" if it["do"].startswith("nothing") else ". To do: %s." % it["do"])))
+    yield ""
+    yield "bin/from-anki-text makes such files of a text that Anki exported; docs/profile/csv.md tells more."
 
 
 def of_sync():

@@ -54,7 +54,7 @@ def answers_page():
             yield row("`%s`" % it["text"], it["why"], it["lost"], it["do"])
 
 
-ON = {"desk": "a refused line of `desk`", "lab": "a refused line of `lab`", "init": "`init`", "none": "`desk`, `sync`, `upload`, `download`"}
+ON = {"desk": "a refused line of `desk`", "lab": "a refused line of `lab`", "import": "a refused record of `import`", "init": "`init`", "none": "`desk`, `sync`, `upload`, `download`, `import`, `export`"}
 
 
 def row(*cells):

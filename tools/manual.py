@@ -88,6 +88,10 @@ def of_anki():
     yield ".SS Words beside the program"
     yield from paragraph("If the second word is - or has the form host:port, all words go to the program. Else these words are done beside it:")
     yield from listed(helps.script_words())
+    yield ".SH NOTES AS CSV"
+    yield from paragraph("A record that import reads and export writes is a guid, the tags with one space between, and a column for each field of the note type. There is no header line. An import prints one line: its counts, or line <n>: and one of the other texts, with the number of the record.")
+    yield from told_under("Answers of an import", "Refused records of an import")
+    yield from paragraph("A record whose note can't be added or updated is refused by a text of anki-desk(5).")
     yield ".SH EXIT STATUS"
     told = answers.read_answers()
     for number in sorted({it["status"] for it in told["statuses"]}):
@@ -199,11 +203,7 @@ def installed(text):
 
 def told_under(*groups):
     """What docs/answers.json tells of the texts of these groups."""
-    is_open = False
-    for it in answers.read_answers()["texts"]:
-        if "group" in it:
-            is_open = it["group"] in groups
-        elif is_open:
-            yield ".TP"
-            yield ".B %s" % escaped(it["text"])
-            yield from paragraph(plain("%s%s.%s" % (it["why"][:1].upper(), it["why"][1:], "" if it["do"] == "nothing" else " To do: %s." % it["do"])))
+    for it in answers.texts_under(answers.read_answers(), *groups):
+        yield ".TP"
+        yield ".B %s" % escaped(it["text"])
+        yield from paragraph(plain("%s%s.%s" % (it["why"][:1].upper(), it["why"][1:], "" if it["do"] == "nothing" else " To do: %s." % it["do"])))

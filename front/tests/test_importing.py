@@ -50,6 +50,7 @@ class Commands(FileCase):
             ("line 2: csv fault 4 at 2", "a note of another type has its guid"),
             ("line 7: row fault 4 at 5", "record 7, counted without empty lines: a tag is empty, or has a character that no tag has [row fault 4 at 5]"),
             ("line 7: row fault 1 at 6", "the fields are too long together"),
+            ("line 2: row fault 1 at 1", "record 2, counted without empty lines: its guid is over 64 bytes [row fault 1 at 1]"),
             ("line 0: long input", "Nothing was imported: the file is too long [long input]"),
             ("line 1: no such deck 1", "record 1, counted without empty lines: no such deck 1"),
         ):
@@ -71,8 +72,9 @@ class Commands(FileCase):
         desk = self.session.desk
         heads = [(1, 1, head + b",Front,Back\ng1,,a,A\n") for head in (b"guid,tags", b'\xef\xbb\xbf"GUID","tags"', b"#separator:tab\n", b"#html:true\r\n#")]
         for words in ((9, 1, b""), (1, 9, b""), (None, 1, b""), (1, None, b""), (1, 1, bytes(LONGEST_FILE + 1)), *heads):
-            with self.assertRaises(Slip):
+            with self.assertRaises(Slip) as told:
                 self.session.import_notes(*words)
+        self.assertIn("bin/from-anki-text makes files of it", str(told.exception))
         with self.assertRaises(Slip):
             self.session.export_notes(9)
         self.assertIs(self.session.desk, desk)

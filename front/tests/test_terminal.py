@@ -156,6 +156,23 @@ class Lines(FileCase):
         self.assertIn("! this program is older than the command export", self.study("w", "1", "~/other.csv", "q"))
         self.assertFalse(os.path.exists(os.path.join(self.folder, "other.csv")))
 
+    def test_import_and_export_by_the_program_itself(self):
+        self.needs("import", "1", "1")
+        self.needs("export", "1")
+        self.make('note 1 1 ["a","A"]')
+        path, bad = os.path.join(self.folder, "notes.csv"), os.path.join(self.folder, "bad.csv")
+        for name, text in ((path, 'g1,t,"b, c",B\n'), (bad, "g2,,b,B\ng3,,c\n")):
+            with open(name, "w") as file:
+                file.write(text)
+        said = self.study("i", path, "1", "1", "yes", "i", path, "1", "1", "yes", "i", bad, "1", "1", "yes", "w", "1", "~/out.csv", "q")
+        self.assertIn("Imported: 1 note added, 0 updated, 0 as they were.", said)
+        self.assertIn("Imported: 0 notes added, 0 updated, 1 as they were.", said)
+        self.assertIn("! Nothing was imported: record 2, counted without empty lines: it has not the 4 columns guid, tags, Front, Back", said)
+        with open(os.path.join(self.folder, "out.csv")) as file:
+            lines = file.read().split("\n")
+        self.assertEqual((lines[0].split(",", 1)[1], lines[1:]), (",a,A", ['g1,t,"b, c",B', ""]))
+        self.assertEqual(self.do("counts 1"), ["new 2 learning 0 review 0"])
+
     def test_faults_at_the_start(self):
         self.study("n", status=1)
         self.assertEqual(self.names(), [])

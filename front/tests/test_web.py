@@ -263,6 +263,31 @@ class Changing(WebCase):
         self.assertEqual(self.browser.see("/browse?q=%22%3E%3Cscript%3E", 422).count("<script"), 1)
 
 
+class FilesByTheProgram(WebCase):
+    """Import and export at the page, by the program itself."""
+
+    def setUp(self):
+        self.needs("import", "1", "1")
+        self.needs("export", "1")
+        super().setUp()
+
+    def test_a_file_goes_in_and_comes_out(self):
+        browser = self.browser
+        for said in ("Imported: 1 note added, 0 updated, 0 as they were.", "Imported: 0 notes added, 0 updated, 1 as they were."):
+            page = browser.do(browser.see("/files"), "/import", file=b'g1,t,"d, e",D\n')
+            self.assertEqual(self.told(page), [said])
+        self.assertIn("d, e", browser.see("/browse?q=tag:t"))
+        page = browser.do(page, "/import", file=b"g2,,f,F\ng3,,g\n")
+        self.assertIn("Nothing was imported: record 2, counted without empty lines: it has not the 4 columns", self.told(page)[0])
+        status, headers, text = browser.ask("POST", "/export", browser.form(browser.see("/files"), "/export"))
+        self.assertEqual((status, headers["Content-Type"]), (200, "text/csv; charset=utf-8"))
+        lines = text.split("\n")
+        self.assertEqual([line.split(",", 1)[1] for line in lines[:-1]], [",a,A", ",b,B", ",c,C", 't,"d, e",D'])
+        # What came out goes in again as it was.
+        page = browser.do(browser.see("/files"), "/import", file=text.encode())
+        self.assertEqual(self.told(page), ["Imported: 0 notes added, 0 updated, 4 as they were."])
+
+
 class Files(WebCase):
     """Sync, upload, download, import and export at the page, over a stand-in for the program."""
 

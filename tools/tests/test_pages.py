@@ -15,7 +15,7 @@ from tools.tests.support import TOP, Case, run
 # The crates that print, with the files that make what is printed.
 PRINTS = (
     "ak_texts/src/*.rt", "ak_outcomes/src/*.rt", "ak_desk_runs/src/*.rt", "ak_lab/src/*.rt", "ak_lab_lines/src/lab_texts.rt", "ak_lab_sides/src/*.rt",
-    "ak_cli/src/program_runs.rt", "ak_sync_runs/src/*.rt", "ak_transfer_runs/src/*.rt", "ak_io/src/endings.rt", "ak_wire/src/words.rt", "ankid/src/*.rt",
+    "ak_cli/src/program_runs.rt", "ak_csv_runs/src/*.rt", "ak_sync_runs/src/*.rt", "ak_transfer_runs/src/*.rt", "ak_io/src/endings.rt", "ak_wire/src/words.rt", "ankid/src/*.rt",
 )
 
 # Literals in these files that are not printed: the first words by which lines take a turn, the lab's own account.
@@ -76,12 +76,12 @@ class Answers(unittest.TestCase):
 
     def test_each_text_of_the_pages_stands_there(self):
         tables = [it for it in tables_of("profile/desk.md") if it.head[0] == "text"] + [it for it in tables_of("profile/lab.md") if it.head[0] == "text"]
-        tables += [it for it in tables_of("profile/outcomes.md") if it.head[0] == "printed"]
-        self.assertEqual(3, len(tables))
+        tables += [it for page in ("outcomes", "csv") for it in tables_of("profile/%s.md" % page) if it.head[0] == "printed"]
+        self.assertEqual(4, len(tables))
         for table in tables:
             for row in table.rows:
                 for text in codes_in(row[0]):
-                    if row[0].startswith("a text of"):
+                    if row[0].startswith("a text of") or text == "line <n>: <text>":
                         continue
                     self.assertTrue(answers.text_told(self.told, re.sub("<n>", "1", text)), text)
 
@@ -230,7 +230,7 @@ class Completion(Case):
         self.assertEqual({"my.anki"} | set(completions.words()), self.completed("anki", ""))
         self.assertEqual({"doctor"}, self.completed("anki", "do"))
         self.assertEqual({"-"}, self.completed("anki", "my.anki", ""))
-        self.assertEqual({"init", "desk", "lab", "sync", "upload", "download"}, self.completed("anki", "my.anki", "-", ""))
+        self.assertEqual({"init", "desk", "lab", "sync", "upload", "download", "import", "export"}, self.completed("anki", "my.anki", "-", ""))
         self.assertEqual({"desk", "download"}, self.completed("anki", "show", "-", "d"))
         self.assertEqual({"my.anki"}, self.completed("anki", "backup", ""))
         self.assertEqual({"decks", "types", "options", "notes"}, self.completed("anki", "show", "my.anki", ""))
@@ -267,7 +267,7 @@ class Installed(Case):
         ran = run(["make", "-s", "-C", TOP, "install", "PREFIX=" + prefix])
         self.assertEqual((0, b""), (ran.returncode, ran.stderr))
         for name in ("bin/anki", "share/man/man1/anki.1", "share/man/man5/anki-desk.5", "share/man/man5/anki-lab.5", "share/bash-completion/completions/anki", "share/zsh/site-functions/_anki", "share/anki/tools/anki_words.py",
-                     "bin/ankid", "share/man/man8/ankid.8", "share/bash-completion/completions/ankid", "share/zsh/site-functions/_ankid", "share/anki/deploy/ankid.service", "share/anki/deploy/servers.py"):
+                     "bin/from-anki-text", "bin/to-anki-text", "share/anki/tools/anki_text.py", "bin/ankid", "share/man/man8/ankid.8", "share/bash-completion/completions/ankid", "share/zsh/site-functions/_ankid", "share/anki/deploy/ankid.service", "share/anki/deploy/servers.py"):
             self.assertTrue(os.path.isfile(os.path.join(prefix, name)), name)
         for folder, _, names in os.walk(prefix):
             for name in names:

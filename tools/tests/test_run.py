@@ -256,6 +256,34 @@ class Sentences(Case):
         with open(self.write("lines", b"count server\r\n"), "rb") as lines:
             self.assertIn("CR LF", self.said("-", "-", "lab", status=3, stdin=lines))
 
+    def test_a_refused_record(self):
+        self.make()
+        refuses = self.script("cat >/dev/null; echo 'line 2: csv fault 1 at 2'; exit 3")
+        with open(self.path("out"), "wb") as out:
+            text = self.said(self.file, "-", "import", "1", "1", status=3, program=refuses, lines=b"g1,,a,b\n\ng2\n", stdout=out)
+        self.assertIn("record 2 was refused (csv fault 1 at 2); nothing of the input was taken; of a text that Anki exported", text)
+        self.assertIn("a record was refused, and the output has its number", self.said(self.file, "-", "import", "1", "1", status=3, program=refuses))
+
+    def test_a_note_of_a_record_that_is_refused(self):
+        self.make()
+        refuses = self.script("cat >/dev/null; echo 'line 1: no such deck 9'; exit 3")
+        with open(self.path("out"), "wb") as out:
+            text = self.said(self.file, "-", "import", "1", "9", status=3, program=refuses, lines=b"g1,,a,b\n", stdout=out)
+        self.assertIn("record 1 was refused (no such deck 9); nothing of the input was taken; 'bin/anki show FILE decks'", text)
+
+    def test_an_import_that_is_too_long(self):
+        self.make()
+        with open(self.path("out"), "wb") as out:
+            text = self.said(self.file, "-", "import", "1", "1", status=3, program=self.script("echo 'line 0: long input'; exit 3"), stdout=out)
+        self.assertIn("the input was refused (long input); nothing of the input was taken; part the file", text)
+
+    def test_an_import_without_a_collection(self):
+        self.assertIn("there is no file", self.said(self.path("other"), "-", "import", "1", "1", status=3))
+
+    def test_an_import_whose_input_fails(self):
+        text = self.said(self.file, "-", "import", "1", "1", status=4, program=self.script("exit 4"))
+        self.assertIn("; nothing of the input was taken; see to the input", text)
+
     def test_no_collection(self):
         self.make()
         self.assertIn("there is no file", self.said(self.path("other"), "-", "desk", status=3))
@@ -297,7 +325,7 @@ class NoFiles(Case):
     """No file is left where there was none."""
 
     def test_on_a_name_where_there_is_none(self):
-        for words in (["desk"], ["lab"], ["sync", "0" * 32], ["upload", "0" * 32], ["download", "0" * 32], ["dekc"], []):
+        for words in (["desk"], ["lab"], ["sync", "0" * 32], ["upload", "0" * 32], ["download", "0" * 32], ["import", "1", "1"], ["export", "1"], ["dekc"], []):
             for environment in (dict(os.environ), dict(os.environ, ANKI_QUIET="1")):
                 alone = run([self.program, self.path("alone"), "-"] + words, input=b"")
                 ran = self.around(self.path("new"), "-", *words, env=environment)
