@@ -22,6 +22,7 @@ pub mod ConflictLaws
 pub mod Examples
 pub mod ExchangeExample
 pub mod TagPlaces
+pub mod MappedTags
 pub mod PartLaws
 pub mod GraveLaws
 pub mod Settling

@@ -28,7 +28,7 @@ not_both so other = absurd (subst T (sym so ∙ other) tt)
 pub first_number : (tag : Tag) (more : List Tag) (name : List ℕ) → tag_usn (tag ∷ more) name ≡ (if is_same tag.name name then Some tag.usn else tag_usn more name)
 first_number tag more name = elim (is_same tag.name name) as (λ b. option_map (λ (tag : Tag). tag.usn) (if b then Some tag else find (λ (tag : Tag). is_same tag.name name) more) ≡ (if b then Some tag.usn else tag_usn more name)) [ true ↦ refl | false ↦ refl ]
 
-first_held : (other : Tag) (more : List Tag) (name : List ℕ) → has_tag (other ∷ more) name ≡ false → (is_same other.name name ≡ false) × (has_tag more name ≡ false)
+pub first_held : (other : Tag) (more : List Tag) (name : List ℕ) → has_tag (other ∷ more) name ≡ false → (is_same other.name name ≡ false) × (has_tag more name ≡ false)
 first_held other more name none =
     elim (is_same other.name name) as (λ b. is_same other.name name ≡ b → is_some (if b then Some other.usn else tag_usn more name) ≡ false → (is_same other.name name ≡ false) × (has_tag more name ≡ false)) [
       | true ↦ λ _ none. not_both refl none

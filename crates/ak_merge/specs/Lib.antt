@@ -5,6 +5,7 @@ pub mod Links
 pub mod Soundness
 pub mod Conflicts
 pub mod Tags
+pub mod TagMaps
 pub mod Commits
 pub mod Exchanges
 pub mod Edits

@@ -15,6 +15,7 @@ mod laws;
 mod part_laws;
 mod sides;
 mod tag_laws;
+mod tag_maps;
 mod tags;
 mod takes;
 

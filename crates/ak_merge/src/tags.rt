@@ -3,11 +3,25 @@ ghost use Rattle.ak_merge.specs.Exchanges.{settled_tag, settled_tags};
 ghost use Rattle.ak_merge.specs.Holdings.{has_tag};
 ghost use Rattle.ak_merge.specs.Tags.{tag_place, with_tag, tag_taken, tags_taken};
 
+use crate::tag_maps::{ascend, take_many};
 use ak_base::{List, Memory, Tag, Text};
+
+/// At most so many names are looked for among the tags one by one.
+const FEW_NAMES: usize = 16;
 
 /// The tags once these names came. A tag that is held stays as it is; each other name is put in before the first
 /// that is greater by bytes, with this update sequence number.
 pub fn take_tags(tags: List<Tag>, names: &[Text], usn: i64) -> Result<List<Tag>, Memory>
+    ensures { IfOk result (λ made. made ≡ tags_taken usn names.now tags) }
+{
+    if names.len() > FEW_NAMES && ascend(tags.as_slice()) {
+        return take_many(tags, names, usn);
+    }
+    take_each(tags, names, usn)
+}
+
+/// The same, name by name.
+fn take_each(tags: List<Tag>, names: &[Text], usn: i64) -> Result<List<Tag>, Memory>
     ensures { IfOk result (λ made. made ≡ tags_taken usn names.now tags) }
 {
     let mut held = tags.into_vec();

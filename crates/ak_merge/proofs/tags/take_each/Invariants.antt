@@ -1,6 +1,6 @@
 use Rattle.std.proofs.Common.{◌≡◌, drop}
 use Rattle.ak_merge.specs.Tags.{tags_taken}
-use Rattle.ak_merge.proofs.tags.take_tags.Given as goal
+use Rattle.ak_merge.proofs.tags.take_each.Given as goal
 
 -- what is left of the names, taken now, gives what all of them give
 abbrev pub invariant-loop-name : goal.invariant-loop-name

@@ -1,0 +1,8 @@
+use Rattle.std.proofs.Common.{◌≡◌, drop}
+use Rattle.ak_merge.specs.TagMaps.{tags_of}
+use Rattle.ak_merge.specs.Tags.{tags_taken}
+use Rattle.ak_merge.proofs.tag_maps.take_many.Given as goal
+
+-- what is left of the names, taken now, gives what all of them give
+abbrev pub invariant-loop-name : goal.invariant-loop-name
+invariant-loop-name l = tags_taken l.usn (drop l.name-index l.names) (tags_of l.numbers) ≡ tags_taken l.usn l.names l.fn.tags
