@@ -1,7 +1,7 @@
 use crate::file_commands::answer_of_file;
 use crate::in_memory::{run_alone, run_in_turn};
 use crate::kept_files::Files;
-use crate::reopened::run_beside;
+use crate::reopened::{run_beside, run_served};
 use crate::synced::run_synced;
 use ak_tables::Tables;
 use cases_lines::{Answers, Unread};
@@ -11,7 +11,7 @@ use std::alloc::Global;
 impl<T: Tables> Answers for Files<'_, T> {
     fn answer(&mut self, alloc: Global, word: &str, rest: &str) -> Result<String, Unread> {
         match word {
-            "run" | "runs" | "over" | "reopened" | "synced" => {
+            "run" | "runs" | "over" | "reopened" | "served" | "synced" => {
                 answer_of_runs(alloc, self, word, rest)
             },
             _ => answer_of_file(alloc, self, word, rest),
@@ -41,6 +41,7 @@ fn answer_by<T: Tables>(
         "run" => run_alone(alloc, arguments),
         "runs" => run_in_turn(alloc, arguments),
         "over" => files.text_in_file(alloc, arguments),
+        "served" => run_served(alloc, files, arguments),
         "synced" => run_synced(alloc, arguments),
         _ => run_beside(alloc, files, arguments),
     }

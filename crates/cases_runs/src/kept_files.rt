@@ -1,4 +1,5 @@
 use ak_keep::KeepFault;
+use ak_loops::LoggedServer;
 use ak_memory::MemoryKeeper;
 use ak_tables::{TableKeeper, Tables};
 use std::fs;
@@ -8,12 +9,14 @@ use std::rt::HostRuntime;
 pub const FILE: &str = "case.db";
 
 /// The file, the keeper over it while it is open, and its twin, a keeper in memory over which the runs of a line `reopened`
-/// go too.
+/// go too. In a line `served` each has a server of its own.
 #[derive(Drop)]
 pub struct Files<'a, T: Tables> {
     pub rt: &'a HostRuntime,
     pub keeper: Option<TableKeeper<T>>,
     pub twin: MemoryKeeper,
+    pub server: Option<LoggedServer>,
+    pub twin_server: Option<LoggedServer>,
 }
 
 impl<'a, T: Tables> Files<'a, T> {
@@ -23,6 +26,8 @@ impl<'a, T: Tables> Files<'a, T> {
             rt,
             keeper: None,
             twin: MemoryKeeper::new(rt.alloc()),
+            server: None,
+            twin_server: None,
         }
     }
 
@@ -31,12 +36,14 @@ impl<'a, T: Tables> Files<'a, T> {
         self.keeper = None;
     }
 
-    /// Closes the keeper, and takes away the file and its log. The twin is empty.
+    /// Closes the keeper, and takes away the file and its log. The twin is empty, and there is no server.
     pub fn forget(&mut self) {
         self.close();
         let _ = fs::remove_file(self.rt, FILE);
         let _ = fs::remove_file(self.rt, "case.db-wal");
         self.twin = MemoryKeeper::new(self.rt.alloc());
+        self.server = None;
+        self.twin_server = None;
     }
 
     /// Closes the keeper, and opens another one over the same file.

@@ -1,10 +1,11 @@
 use crate::kept_files::Files;
 use crate::run_lists::{RunsCases, run_texts};
-use crate::runs::run_text;
+use crate::servers::row_counts;
+use crate::synced::text_over;
 use crate::twins::hold_the_same;
-use ak_keep::Keeper;
-use ak_sync_runs::NoServer;
+use ak_loops::LoggedServer;
 use ak_tables::Tables;
+use cases_accounts::{empty_account, moment_at};
 use cases_lines::Unread;
 use serde_json::Value;
 use std::alloc::Global;
@@ -21,11 +22,42 @@ pub fn run_beside<T: Tables>(
     Ok(texts)
 }
 
+/// `served [OPENING-MOMENT, [RUN, ..]]`: the same, with a server each for the file and the twin, and how many rows of each table
+/// the file's server holds then.
+pub fn run_served<T: Tables>(
+    alloc: Global,
+    files: &mut Files<'_, T>,
+    arguments: &Value,
+) -> Result<String, Unread> {
+    let moment = moment_at(arguments, 0)?;
+    files.forget();
+    files.server = Some(empty_account(alloc, moment)?);
+    files.twin_server = Some(empty_account(alloc, moment)?);
+    let mut texts = run_texts(alloc, files, arguments, 1)?;
+    texts.push_str("server")?;
+    let counts = counts_of(alloc, &mut files.server)?;
+    texts.push_str(counts.as_str())?;
+    if counts != counts_of(alloc, &mut files.twin_server)? {
+        texts.push_str(" but other rows")?;
+    }
+    Ok(texts)
+}
+
+fn counts_of(alloc: Global, server: &mut Option<LoggedServer>) -> Result<String, Unread> {
+    match server {
+        Some(server) => row_counts(alloc, server),
+        None => Err(Unread::Bad),
+    }
+}
+
 impl<T: Tables> Files<'_, T> {
     /// `over RUN`: what a run over the file, which is opened for it and closed again, is told as.
     pub fn text_in_file(&mut self, alloc: Global, run: &Value) -> Result<String, Unread> {
         let text = match self.open() {
-            Ok(()) => text_over(alloc, &mut self.keeper, run),
+            Ok(()) => match &mut self.keeper {
+                Some(keeper) => text_over(alloc, keeper, &mut self.server, run),
+                None => not_opened(alloc),
+            },
             Err(_) => not_opened(alloc),
         };
         self.close();
@@ -46,17 +78,6 @@ impl<T: Tables> Files<'_, T> {
     }
 }
 
-fn text_over<K: Keeper>(
-    alloc: Global,
-    keeper: &mut Option<K>,
-    run: &Value,
-) -> Result<String, Unread> {
-    match keeper {
-        Some(keeper) => run_text(alloc, keeper, &mut NoServer::new(), run),
-        None => not_opened(alloc),
-    }
-}
-
 fn not_opened(alloc: Global) -> Result<String, Unread> {
     Ok(String::from_str(alloc, "not opened")?)
 }
@@ -66,7 +87,7 @@ impl<T: Tables> RunsCases for Files<'_, T> {
     /// if the file, opened again, holds another collection than the twin.
     fn next_text(&mut self, alloc: Global, run: &Value) -> Result<String, Unread> {
         let mut text = self.text_in_file(alloc, run)?;
-        let of_twin = run_text(alloc, &mut self.twin, &mut NoServer::new(), run)?;
+        let of_twin = text_over(alloc, &mut self.twin, &mut self.twin_server, run)?;
         if text.as_str() != of_twin.as_str() {
             text.push_str(" but in memory ")?;
             text.push_str(of_twin.as_str())?;

@@ -1,12 +1,11 @@
-ghost use Rattle.ak_io.specs.Arrivals.{IsClockMoment};
-
 use crate::run_lists::{RunsCases, run_texts};
 use crate::runs::{numbers_at, run_text};
 use crate::servers::{row_counts, server_moment};
 use ak_base::{List, cut};
-use ak_keep::Lookup;
+use ak_keep::{Keeper, Lookup};
 use ak_loops::{LoggedServer, LoopWire, NothingBetween};
 use ak_memory::MemoryKeeper;
+use ak_sync_runs::NoServer;
 use cases_accounts::{empty_account, moment_at};
 use cases_keepers::answer_of;
 use cases_lines::Unread;
@@ -62,36 +61,35 @@ impl Sides {
             None => Err(Unread::Bad),
         }
     }
-
-    /// A run over a wire to this server, which it hands back.
-    fn text_over(
-        &mut self,
-        alloc: Global,
-        server: LoggedServer,
-        moment: i64,
-        run: &Value,
-    ) -> Result<String, Unread>
-        requires clock { IsClockMoment moment }
-    {
-        let mut wire = LoopWire::new(server, moment, List::new(alloc), NothingBetween);
-        let text = run_text(alloc, &mut self.keeper, &mut wire, run);
-        let (server, _nothing) = wire.into_parts();
-        self.server = Some(server);
-        text
-    }
 }
 
 impl RunsCases for Sides {
-    /// What a run is told as. The server's clock stands at the moment after the run's words of chance, or at 1700000000000. A
-    /// text is a command of the device's keeper.
+    /// What a run is told as. A text is a command of the device's keeper.
     fn next_text(&mut self, alloc: Global, run: &Value) -> Result<String, Unread> {
-        if let Some(command) = run.as_str() {
-            return self.keeper_text(alloc, command);
+        match run.as_str() {
+            Some(command) => self.keeper_text(alloc, command),
+            None => text_over(alloc, &mut self.keeper, &mut self.server, run),
         }
-        let moment = server_moment(run)?;
-        match self.server.take() {
-            Some(server) => self.text_over(alloc, server, moment, run),
-            None => Err(Unread::Bad),
-        }
+    }
+}
+
+/// What a run over a wire in memory to the server is told as; if there is no server, no request gets an answer. The server's
+/// clock stands at the moment after the run's words of chance, or at 1700000000000.
+pub fn text_over<K: Keeper>(
+    alloc: Global,
+    keeper: &mut K,
+    server: &mut Option<LoggedServer>,
+    run: &Value,
+) -> Result<String, Unread> {
+    let moment = server_moment(run)?;
+    match server.take() {
+        Some(held) => {
+            let mut wire = LoopWire::new(held, moment, List::new(alloc), NothingBetween);
+            let text = run_text(alloc, keeper, &mut wire, run);
+            let (held, _nothing) = wire.into_parts();
+            *server = Some(held);
+            text
+        },
+        None => run_text(alloc, keeper, &mut NoServer::new(), run),
     }
 }

@@ -1,11 +1,11 @@
-use ak_base::{Head, List, Row, Table};
-use ak_keep::{KeepFault, Lookup, Readable};
+use ak_base::{Head, Table};
+use ak_keep::{KeepFault, Lookup, Readable, Walk};
 use ak_memory::MemoryKeeper;
 
-/// Whether both keepers hold the same head, and the same rows in the first 1,000 of each table.
+/// Whether both keepers hold the same head and the same rows. Keepers that can't be read don't.
 pub fn hold_the_same<K: Readable>(keeper: &mut K, twin: &mut MemoryKeeper) -> bool {
     for table in &Table::all() {
-        if !hold_the_same_rows(keeper, twin, *table) {
+        if !matches!(hold_the_same_rows(keeper, twin, *table), Ok(true)) {
             return false;
         }
     }
@@ -26,16 +26,18 @@ fn is_head_of(held: Result<Option<Head>, KeepFault>, head: &Option<Head>) -> boo
     }
 }
 
-fn hold_the_same_rows<K: Readable>(keeper: &mut K, twin: &mut MemoryKeeper, table: Table) -> bool {
-    match keeper.page(table, -1, 1000) {
-        Ok(rows) => is_page_of(twin.page(table, -1, 1000), &rows),
-        Err(_) => false,
+/// Whether both have the same rows in the table, page by page.
+fn hold_the_same_rows<K: Readable>(
+    keeper: &mut K,
+    twin: &mut MemoryKeeper,
+    table: Table,
+) -> Result<bool, KeepFault> {
+    let mut walk = Walk::over(table);
+    let mut of_twin = Walk::over(table);
+    'pages: while !walk.is_done() && !of_twin.is_done() {
+        if walk.next(keeper)? != of_twin.next(twin)? {
+            return Ok(false);
+        }
     }
-}
-
-fn is_page_of(held: Result<List<Row>, KeepFault>, rows: &List<Row>) -> bool {
-    match held {
-        Ok(held) => held == *rows,
-        Err(_) => false,
-    }
+    Ok(walk.is_done() == of_twin.is_done())
 }
