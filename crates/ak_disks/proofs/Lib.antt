@@ -2,3 +2,4 @@ pub mod Draws
 pub mod Events
 pub mod Kept
 pub mod Torn
+pub mod Tearing

@@ -1,5 +1,5 @@
 -- A disk in memory: what it keeps of its calls, and which image of its file a number picks.
-use Rattle.std.specs.Prelude.{◌≡◌, ◌⊎◌, ℕ, ◌+◌, ◌-◌, ◌/◌, ◌%◌, ◌^◌, ◌≤◌, Bool, false, ◌==◌, nat_le, nat_lt, ◌||◌, if◌then◌else◌, List, [], ◌∷◌, ◌++◌, length, take, drop, replicate, Option, Some}
+use Rattle.std.specs.Prelude.{◌≡◌, ◌⊎◌, ℕ, ◌+◌, ◌-◌, ◌/◌, ◌%◌, ◌^◌, ◌≤◌, Bool, false, ◌==◌, nat_le, nat_lt, ◌&&◌, ◌||◌, if◌then◌else◌, List, [], ◌∷◌, ◌++◌, length, take, drop, replicate, Option, Some}
 use Rattle.ak_faults.specs.Calls.{is_named}
 use Rattle.ak_faults.specs.Causes.{Health, one_more}
 use Rattle.ak_disks.specs.Disks.{overwritten, IsTorn, IsCutOrWhole}
@@ -95,7 +95,8 @@ picked first pick events = (draw_after first pick events).image
 
 -- ---- the disk
 -- what it held when it was made; its calls, the newest first; for how many more written bytes and calls it has room,
--- and had when it was made; how many calls came, which of them fail, and how many did
+-- and had when it was made; how many calls came, which of them fail, and how many did; whether a refused write leaves a
+-- front of its bytes
 pub record DiskState : Type 0 where
   pub first : List ℕ
   pub events : List Event
@@ -106,6 +107,7 @@ pub record DiskState : Type 0 where
   pub calls : ℕ
   pub fails : List ℕ
   pub fault_count : ℕ
+  pub tears : Bool
 
 -- a disk that holds this file, and to which no call came
 abbrev pub new_disk : List ℕ → ℕ → ℕ → List ℕ → DiskState
@@ -119,6 +121,7 @@ new_disk first room places fails = record {
   calls = 0;
   fails = fails;
   fault_count = 0;
+  tears = false;
 }
 
 -- the file as it is read
@@ -163,6 +166,29 @@ after_event event count disk = record disk {
   places = disk.places - 1;
   room = disk.room - count;
 }
+
+-- the bytes of a refused write that a disk which tears leaves: the first half of them
+abbrev pub front_of : List ℕ → List ℕ
+front_of bytes = take (length bytes / 2) bytes
+
+-- whether it leaves them: it tears, and has room for them
+abbrev pub is_torn : List ℕ → DiskState → Bool
+is_torn bytes disk = disk.tears && (nat_lt 0 disk.places && nat_le (length (front_of bytes)) disk.room)
+
+-- the disk after such a write
+abbrev pub after_torn : ℕ → List ℕ → DiskState → DiskState
+after_torn place bytes disk =
+    if is_torn bytes disk then record disk {
+      events = Wrote place (front_of bytes) ∷ disk.events;
+      places = disk.places - 1;
+      room = disk.room - length (front_of bytes);
+    }
+    else disk
+
+-- the disk after a write of these bytes at this place, refused or not
+abbrev pub after_write : ℕ → List ℕ → DiskState → DiskState
+after_write place bytes disk =
+    if refuses disk place (length bytes) then after_torn place bytes (after_refusal disk) else after_event (Wrote place bytes) (length bytes) disk
 
 -- the disk after a call at this place that writes so many bytes, refused or not
 abbrev pub after_call : Event → ℕ → ℕ → DiskState → DiskState

@@ -5,7 +5,8 @@ ghost use Rattle.ak_disks.specs.Disks.{Becomes, Elapses, Follows, IsCutOrWhole, 
 
 use ak_io::{End, Failed};
 
-/// One file, and what a crash may leave of it. After a refused call it can be used on.
+/// One file, and what a crash may leave of it. After a refused call it can be used on. A call that is answered counts
+/// no fault.
 pub trait Disk: End {
     /// What a read gives, where the disk tells it.
     ghost content: { Self → Option (List ℕ) };
@@ -25,7 +26,8 @@ pub trait Disk: End {
         ensures same { content self.new ≡ content self.old }
         ensures crash { NoMore (may_leave self.old) (may_leave self.new) }
         ensures time { Elapses (moment self.old) (moment self.new) (may_have_left self.old) (may_have_left self.new) (may_leave self.new) }
-        ensures cause { HasCause (Self.health self.old) (Self.health self.new) result };
+        ensures cause { HasCause (Self.health self.old) (Self.health self.new) result }
+        ensures calm { OnOk result (Self.health self.new ≡ Self.health self.old) };
 
     /// Reads from this place on into the front of `into`, and answers how many bytes it read. 0 for an `into` that is
     /// not empty is the end of the file.
@@ -35,7 +37,8 @@ pub trait Disk: End {
         ensures same { content self.new ≡ content self.old }
         ensures crash { NoMore (may_leave self.old) (may_leave self.new) }
         ensures time { Elapses (moment self.old) (moment self.new) (may_have_left self.old) (may_have_left self.new) (may_leave self.new) }
-        ensures cause { HasCause (Self.health self.old) (Self.health self.new) result };
+        ensures cause { HasCause (Self.health self.old) (Self.health self.new) result }
+        ensures calm { OnOk result (Self.health self.new ≡ Self.health self.old) };
 
     /// Writes these bytes over what stands from this place on, and past the end.
     fn write_at(&mut self, place: u64, from: &[u8]) -> Result<(), Failed>
@@ -49,7 +52,8 @@ pub trait Disk: End {
 
         // A write whose end would pass the last `u64` is refused.
         ensures far { OnOk result (place + length from.now < 2 ^ 64) }
-        ensures cause { HasCause (Self.health self.old) (Self.health self.new) result };
+        ensures cause { HasCause (Self.health self.old) (Self.health self.new) result }
+        ensures calm { OnOk result (Self.health self.new ≡ Self.health self.old) };
 
     /// Cuts the file to this size.
     fn cut(&mut self, size: u64) -> Result<(), Failed>
@@ -60,7 +64,8 @@ pub trait Disk: End {
         ensures refused { OnErr result (Becomes (IsCutOrWhole size) (content self.old) (content self.new)) }
         ensures crash { Follows (IsCutOrWhole size) (may_leave self.old) (may_leave self.new) }
         ensures time { Elapses (moment self.old) (moment self.new) (may_have_left self.old) (may_have_left self.new) (may_leave self.new) }
-        ensures cause { HasCause (Self.health self.old) (Self.health self.new) result };
+        ensures cause { HasCause (Self.health self.old) (Self.health self.new) result }
+        ensures calm { OnOk result (Self.health self.new ≡ Self.health self.old) };
 
     /// Brings the file to the disk. A refusal changes nothing.
     fn sync(&mut self) -> Result<(), Failed>
@@ -69,7 +74,8 @@ pub trait Disk: End {
         ensures same { content self.new ≡ content self.old }
         ensures crash { NoMore (may_leave self.old) (may_leave self.new) }
         ensures time { Elapses (moment self.old) (moment self.new) (may_have_left self.old) (may_have_left self.new) (may_leave self.new) }
-        ensures cause { HasCause (Self.health self.old) (Self.health self.new) result };
+        ensures cause { HasCause (Self.health self.old) (Self.health self.new) result }
+        ensures calm { OnOk result (Self.health self.new ≡ Self.health self.old) };
 
     /// The file as it is read is one of its images.
     ghost leaves_content: { (disk : Self) → IfSome (content disk) (may_leave disk) };

@@ -1,9 +1,9 @@
-ghost use Rattle.std.specs.Prelude.{◌≡◌, ◌+◌, ◌^◌, ◌<◌, ◌≤◌, [], if◌then◌else◌, length, min, not, option_map, drop, take, vec_capacity, vec_len, IfOk, IfSome, None, OnErr, OnOk, Some};
+ghost use Rattle.std.specs.Prelude.{◌≡◌, ◌+◌, ◌-◌, ◌^◌, ◌<◌, ◌≤◌, [], ◌∷◌, if◌then◌else◌, true, length, min, not, option_map, drop, take, vec_capacity, vec_len, IfOk, IfSome, None, OnErr, OnOk, Some};
 ghost use Rattle.std.specs.Io.{ReadsAtMost};
 ghost use Rattle.std.specs.Result.{is_ok, result_ok};
 ghost use Rattle.ak_faults.specs.Causes.{HasCause, one_more};
 ghost use Rattle.ak_disks.specs.Disks.{Becomes, Elapses, Follows, IsCutOrWhole, IsRead, IsTorn, NoMore, Only, overwritten};
-ghost use Rattle.ak_disks.specs.Images.{Looked, Shortened, Synced, Wrote, after_call, after_refusal, content_of, disk_health, file_of, images, images_since, moment_of, new_disk, picked, refuses};
+ghost use Rattle.ak_disks.specs.Images.{Looked, Shortened, Synced, Wrote, after_call, after_refusal, after_torn, after_write, content_of, disk_health, file_of, images, images_since, moment_of, new_disk, picked, refuses};
 ghost use Rattle.ak_disks.specs.Moments.{counts_now, leaves_file, only_now};
 
 use crate::disks::Disk;
@@ -16,7 +16,7 @@ use std::alloc::Global;
 use std::marker::Model;
 
 /// A disk in memory that was taken when it was made, of which the calls named fail. A call that it refuses changes
-/// nothing. It keeps a record of the others, and shows what a crash might leave.
+/// nothing, unless it is told to tear writes. It keeps a record of the others, and shows what a crash might leave.
 #[derive(Debug, Drop)]
 pub struct MemoryDisk {
     first: Vec<u8>,
@@ -25,6 +25,8 @@ pub struct MemoryDisk {
     all_room: u64,
     all_places: u64,
     calls: Calls,
+    /// Whether a refused write leaves the first half of its bytes.
+    tears: bool,
 }
 
 impl Model for MemoryDisk {
@@ -43,6 +45,7 @@ impl Model for MemoryDisk {
       calls = disk.calls.count;
       fails = disk.calls.fails.items;
       fault_count = disk.calls.faults;
+      tears = disk.tears;
     } };
 
     ghost invariant = { λ disk. (disk.file.items ≡ file_after disk.first.items disk.log.events)
@@ -73,6 +76,7 @@ impl MemoryDisk {
             all_room: room,
             all_places: calls,
             calls: Calls::new(fails),
+            tears: false,
         })
     }
 
@@ -92,6 +96,48 @@ impl MemoryDisk {
         let alloc = *self.first.allocator();
         let image = self.log.image(&self.first, pick)?;
         MemoryDisk::holding(image, self.all_room, self.all_places, Vec::new(alloc))
+    }
+
+    /// Counts the calls from 0 again: from now on those of these numbers fail.
+    pub fn fail_at(&mut self, fails: List<u64>)
+        ensures { self.new ≡ record self.old { calls = 0; fails = fails } }
+    {
+        self.calls.fail_at(fails.into_vec());
+    }
+
+    /// From now on a refused write leaves the first half of its bytes, if there is room for them.
+    pub fn tear(&mut self)
+        ensures { self.new ≡ record self.old { tears = true } }
+    {
+        self.tears = true;
+    }
+
+    /// Writes these bytes, for which there is room.
+    fn put(&mut self, place: u64, from: &[u8])
+        requires places { 0 < self.old.places }
+        requires room { length from.now ≤ self.old.room }
+        ensures { self.new ≡ record self.old {
+          events = Wrote place from.now ∷ self.old.events;
+          places = self.old.places - 1;
+          room = self.old.room - length from.now;
+        } }
+    {
+        self.log.write(place, from);
+        match overwrite(&mut self.file, place as usize, from) {
+            Ok(()) => {}
+            // The room was taken when the disk was made.
+            Err(_) => unreachable!(),
+        }
+    }
+
+    /// Leaves of a refused write what a disk that tears leaves.
+    fn put_front(&mut self, place: u64, from: &[u8])
+        ensures { self.new ≡ after_torn place from.now self.old }
+    {
+        let front = &from[..from.len() / 2];
+        if self.tears && 0 < self.log.places() && front.len() <= self.log.room() {
+            self.put(place, front);
+        }
     }
 
     /// Counts a call that writes so many bytes at this place, and refuses it if it is to fail.
@@ -152,6 +198,7 @@ impl Disk for MemoryDisk {
         ensures crash { NoMore (images self.old) (images self.new) }
         ensures time { Elapses (moment_of self.old) (moment_of self.new) (images_since self.old) (images_since self.new) (images self.new) }
         ensures cause { HasCause (disk_health self.old) (disk_health self.new) result }
+        ensures calm { OnOk result (disk_health self.new ≡ disk_health self.old) }
 
         // No other call fails.
         ensures only { is_ok result ≡ not (refuses self.old 0 0) }
@@ -169,6 +216,7 @@ impl Disk for MemoryDisk {
         ensures crash { NoMore (images self.old) (images self.new) }
         ensures time { Elapses (moment_of self.old) (moment_of self.new) (images_since self.old) (images_since self.new) (images self.new) }
         ensures cause { HasCause (disk_health self.old) (disk_health self.new) result }
+        ensures calm { OnOk result (disk_health self.new ≡ disk_health self.old) }
 
         // No other call fails, and each gives all that fits.
         ensures only { result_ok result ≡ (if refuses self.old 0 0 then None else Some (min (length (drop place (file_of self.old))) (length into.old))) }
@@ -187,17 +235,21 @@ impl Disk for MemoryDisk {
         ensures time { Elapses (moment_of self.old) (moment_of self.new) (images_since self.old) (images_since self.new) (images self.new) }
         ensures far { OnOk result (place + length from.now < 2 ^ 64) }
         ensures cause { HasCause (disk_health self.old) (disk_health self.new) result }
+        ensures calm { OnOk result (disk_health self.new ≡ disk_health self.old) }
 
         // No other call fails.
         ensures only { is_ok result ≡ not (refuses self.old place (length from.now)) }
-        ensures state { self.new ≡ after_call (Wrote place from.now) place (length from.now) self.old }
+        ensures state { self.new ≡ after_write place from.now self.old }
     {
-        self.count_call(place, from.len())?;
-        self.log.write(place, from);
-        match overwrite(&mut self.file, place as usize, from) {
-            Ok(()) => Ok(()),
-            // The room was taken when the disk was made.
-            Err(_) => unreachable!(),
+        match self.count_call(place, from.len()) {
+            Ok(()) => {
+                self.put(place, from);
+                Ok(())
+            }
+            Err(Failed) => {
+                self.put_front(place, from);
+                Err(Failed)
+            }
         }
     }
 
@@ -207,6 +259,7 @@ impl Disk for MemoryDisk {
         ensures crash { Follows (IsCutOrWhole size) (images self.old) (images self.new) }
         ensures time { Elapses (moment_of self.old) (moment_of self.new) (images_since self.old) (images_since self.new) (images self.new) }
         ensures cause { HasCause (disk_health self.old) (disk_health self.new) result }
+        ensures calm { OnOk result (disk_health self.new ≡ disk_health self.old) }
 
         // No other call fails.
         ensures only { is_ok result ≡ not (refuses self.old 0 0) }
@@ -224,6 +277,7 @@ impl Disk for MemoryDisk {
         ensures crash { NoMore (images self.old) (images self.new) }
         ensures time { Elapses (moment_of self.old) (moment_of self.new) (images_since self.old) (images_since self.new) (images self.new) }
         ensures cause { HasCause (disk_health self.old) (disk_health self.new) result }
+        ensures calm { OnOk result (disk_health self.new ≡ disk_health self.old) }
 
         // No other call fails.
         ensures only { is_ok result ≡ not (refuses self.old 0 0) }

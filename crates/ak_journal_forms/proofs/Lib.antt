@@ -3,3 +3,4 @@ pub mod Bytes
 pub mod FrameLists
 pub mod Readings
 pub mod Images
+pub mod Places

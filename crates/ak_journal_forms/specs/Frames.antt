@@ -59,6 +59,18 @@ pub record IsDamagedAt (gate : ℕ) (file : List ℕ) : Type 0 where
   pub frames : AreFrames payloads (take gate file)
   pub cut_off : IsCutOff (drop gate file)
 
+-- how many bytes the frames of these payloads have
+abbrev pub frames_length : List (List ℕ) → ℕ
+frames_length [] = 0
+frames_length (payload ∷ payloads) = 9 + (length payload + frames_length payloads)
+
+-- frames up to this gate, which is open and has this payload behind it, whole
+pub record HasPayloadAt (gate : ℕ) (payload : List ℕ) (file : List ℕ) : Type 0 where
+  pub payloads : List (List ℕ)
+  pub within : gate + (9 + length payload) ≤ length file
+  pub frames : AreFrames payloads (take gate file)
+  pub with_it : AreFrames (payloads ++ payload ∷ []) (take (gate + (9 + length payload)) file)
+
 -- ---- the payloads of a file
 -- the payload behind a gate
 abbrev pub payload_behind : List ℕ → List ℕ

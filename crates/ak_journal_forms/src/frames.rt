@@ -1,5 +1,5 @@
 ghost use Rattle.std.specs.Prelude.{◌≡◌, ℕ, Err, IfOk};
-ghost use Rattle.ak_journal_forms.specs.Frames.{IsDamagedAt, StandsTo};
+ghost use Rattle.ak_journal_forms.specs.Frames.{IsDamagedAt, StandsTo, frames_length};
 ghost use Rattle.ak_journal_forms.specs.Payloads.{bytes_of_each};
 
 use crate::gates::read_gate;
@@ -45,6 +45,8 @@ pub struct Frames {
 /// Reads the frames of a file, up to the first gate that is not open. A length past the file's end takes no memory.
 pub fn read_frames(alloc: Global, file: &[u8]) -> Result<Frames, FormFault>
     ensures read { IfOk result (λ frames. StandsTo (bytes_of_each frames.payloads.items) frames.gate file.now) }
+    // The gate stands behind the frames that were read.
+    ensures gate { IfOk result (λ frames. frames.gate ≡ frames_length (bytes_of_each frames.payloads.items)) }
     ensures damaged { (place : ℕ) → result ≡ Err (FormFault.Damaged place) → IsDamagedAt place file.now }
 {
     let mut payloads = Vec::new(alloc);

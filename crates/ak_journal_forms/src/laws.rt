@@ -1,7 +1,7 @@
 // Laws of the files of journals: what they stand for, and what a crash between two syncs makes of them.
 ghost use Rattle.std.specs.Prelude.{◌≡◌, ◌≢◌, ◌+◌, ◌^◌, ◌<◌, ◌∷◌, ◌++◌, [], ℕ, List, drop, length, slice_index};
 ghost use Rattle.ak_disks.specs.Disks.{IsTorn};
-ghost use Rattle.ak_journal_forms.specs.Frames.{AreFrames, IsDamagedAt, StandsFor, StandsTo, behind_gate, payloads_in};
+ghost use Rattle.ak_journal_forms.specs.Frames.{AreFrames, HasPayloadAt, IsDamagedAt, StandsFor, StandsTo, behind_gate, frames_length, payloads_in};
 
 /// A file stands for one list of payloads: those that are found in it.
 #[tactic(auto, using(crate::proofs::Readings::payloads_in_file))]
@@ -20,6 +20,13 @@ pub fn whole_files_are_not_damaged()
 pub fn frames_stand_before_what_follows()
     ensures { (payloads more : List (List ℕ)) (front rest : List ℕ) (gate : ℕ) → AreFrames payloads front → StandsTo more gate rest
         → StandsTo (payloads ++ more) (length front + gate) (front ++ rest) }
+{}
+
+/// The gate of a payload stands behind the frames of those before it.
+#[tactic(auto, using(crate::proofs::Places::payload_at))]
+pub fn a_payload_stands_behind_those_before_it()
+    ensures { (before behind : List (List ℕ)) (payload : List ℕ) (gate : ℕ) (file : List ℕ) → StandsTo (before ++ payload ∷ behind) gate file
+        → HasPayloadAt (frames_length before) payload file }
 {}
 
 /// A write behind a gate that is not the byte 1, cut short or not, leaves it shut.

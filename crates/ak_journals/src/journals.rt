@@ -7,12 +7,7 @@ use crate::faults::DiskFault;
 use crate::steps::{cut_synced, write_synced};
 use ak_disks::Disk;
 use ak_io::Failed;
-use ak_journal_forms::closed_frame;
-
-/// The byte of a gate that is open, and of one that is shut.
-const OPEN: u8 = 1;
-
-const SHUT: u8 = 0;
+use ak_journal_forms::{OPEN, SHUT, closed_frame};
 
 /// Payloads on a disk, one frame for each, and behind them a gate that is not open.
 #[derive(Drop)]
@@ -66,6 +61,7 @@ impl<D: Disk> Journal<D> {
         // A crash at any moment of the call leaves what was kept, or the payload under way too.
         ensures any_moment { LeavesOnly D.moment D.may_have_left self.old.disk self.new.disk (StandsAfter D.content self.old (Some payload.items)) }
         ensures cause { HasCauseOf DiskFault.Failed (D.health self.old.disk) (D.health self.new.disk) result }
+        ensures calm { OnOk result (D.health self.new.disk ≡ D.health self.old.disk) }
     {
         let bytes = payload.as_slice();
         let behind = closed_frame(*payload.allocator(), bytes)?;
@@ -94,6 +90,7 @@ impl<D: Disk> Journal<D> {
         ensures any_moment { LeavesOnly D.moment D.may_have_left self.old.disk self.new.disk
             (λ image. D.may_leave self.old.disk image ⊎ StandsAfter D.content self.old None image) }
         ensures cause { HasCause (D.health self.old.disk) (D.health self.new.disk) result }
+        ensures calm { OnOk result (D.health self.new.disk ≡ D.health self.old.disk) }
     {
         if self.ready {
             return Ok(());

@@ -2,7 +2,7 @@ ghost use Rattle.std.specs.Prelude.{◌≡◌, ◌+◌, ◌^◌, ◌<◌, ℕ, E
 ghost use Rattle.std.specs.Option.{ForSome};
 ghost use Rattle.ak_faults.specs.Causes.{HasCauseOf, Rose};
 ghost use Rattle.ak_disks.specs.Disks.{Elapses, NoMore, Only};
-ghost use Rattle.ak_journal_forms.specs.Frames.{IsDamagedAt, StandsFor, StandsTo};
+ghost use Rattle.ak_journal_forms.specs.Frames.{IsDamagedAt, StandsFor, StandsTo, frames_length};
 ghost use Rattle.ak_journal_forms.specs.Payloads.{bytes_of_each};
 ghost use Rattle.ak_journals.specs.Journals.{IsInOrder, kept};
 ghost use Rattle.ak_journals.specs.Moments.{LeavesOnly};
@@ -71,6 +71,9 @@ pub fn open<D: Disk>(alloc: Global, disk: D) -> Result<Opened<D>, (JournalFault,
     ensures in_order { IfOk result (λ opened. IsInOrder D.content D.may_leave opened.journal) }
     ensures done { IfOk result (λ opened. opened.journal.under_way ≡ None) }
 
+    // Its gate stands behind the frames of these payloads, so the gate of each stands behind those before it.
+    ensures gate { IfOk result (λ opened. opened.journal.gate ≡ frames_length (bytes_of_each opened.payloads.items)) }
+
     // At the place that is told a gate is open, and its payload is cut off.
     ensures damaged { IfErr result (λ refused. (place : ℕ) → refused.0 ≡ JournalFault.Damaged place → ForSome (D.content disk) (IsDamagedAt place)) }
 
@@ -80,6 +83,7 @@ pub fn open<D: Disk>(alloc: Global, disk: D) -> Result<Opened<D>, (JournalFault,
     ensures any_moment { IfOk result (λ opened. LeavesOnly D.moment D.may_have_left disk opened.journal.disk (D.may_leave disk)) }
     ensures any_moment_err { IfErr result (λ refused. LeavesOnly D.moment D.may_have_left disk refused.1 (D.may_leave disk)) }
     ensures cause { IfErr result (λ refused. refused.0 ≡ JournalFault.Failed → Rose (D.health disk) (D.health refused.1)) }
+    ensures calm { IfOk result (λ opened. D.health opened.journal.disk ≡ D.health disk) }
 {
     let mut disk = disk;
     let frames = match read_synced(alloc, &mut disk) {
@@ -100,12 +104,14 @@ pub fn open<D: Disk>(alloc: Global, disk: D) -> Result<Opened<D>, (JournalFault,
 fn read_synced<D: Disk>(alloc: Global, disk: &mut D) -> Result<Frames, JournalFault>
     ensures read { IfOk result (λ frames. ForSome (D.content disk.old) (StandsTo (bytes_of_each frames.payloads.items) frames.gate)) }
     ensures fits { IfOk result (λ frames. frames.gate + 1 < 2 ^ 64) }
+    ensures gate { IfOk result (λ frames. frames.gate ≡ frames_length (bytes_of_each frames.payloads.items)) }
     ensures durable { OnOk result (ForSome (D.content disk.old) (Only (D.may_leave disk.new))) }
     ensures damaged { (place : ℕ) → result ≡ Err (JournalFault.Damaged place) → ForSome (D.content disk.old) (IsDamagedAt place) }
     ensures same { D.content disk.new ≡ D.content disk.old }
     ensures crash { NoMore (D.may_leave disk.old) (D.may_leave disk.new) }
     ensures time { Elapses (D.moment disk.old) (D.moment disk.new) (D.may_have_left disk.old) (D.may_have_left disk.new) (D.may_leave disk.old) }
     ensures cause { HasCauseOf JournalFault.Failed (D.health disk.old) (D.health disk.new) result }
+    ensures calm { OnOk result (D.health disk.new ≡ D.health disk.old) }
 {
     match disk.sync() {
         Ok(()) => {}

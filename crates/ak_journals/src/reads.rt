@@ -1,4 +1,4 @@
-ghost use Rattle.std.specs.Prelude.{◌≡◌, ◌≤◌, length, IfOk, IfSome};
+ghost use Rattle.std.specs.Prelude.{◌≡◌, ◌≤◌, length, IfOk, IfSome, OnOk};
 ghost use Rattle.ak_faults.specs.Causes.{GoesOn, HasCause, HasCauseOf};
 ghost use Rattle.ak_disks.specs.Disks.{Elapses, NoMore};
 
@@ -14,6 +14,7 @@ pub fn read_all<D: Disk>(alloc: Global, disk: &mut D) -> Result<Vec<u8>, DiskFau
     ensures crash { NoMore (D.may_leave disk.old) (D.may_leave disk.new) }
     ensures time { Elapses (D.moment disk.old) (D.moment disk.new) (D.may_have_left disk.old) (D.may_have_left disk.new) (D.may_leave disk.old) }
     ensures cause { HasCauseOf DiskFault.Failed (D.health disk.old) (D.health disk.new) result }
+    ensures calm { OnOk result (D.health disk.new ≡ D.health disk.old) }
 {
     let size = disk.size()?;
     let mut bytes = Vec::new(alloc);
@@ -31,6 +32,7 @@ fn fill<D: Disk>(disk: &mut D, into: &mut [u8]) -> Result<usize, Failed>
     ensures crash { NoMore (D.may_leave disk.old) (D.may_leave disk.new) }
     ensures time { Elapses (D.moment disk.old) (D.moment disk.new) (D.may_have_left disk.old) (D.may_have_left disk.new) (D.may_leave disk.old) }
     ensures cause { HasCause (D.health disk.old) (D.health disk.new) result }
+    ensures calm { OnOk result (D.health disk.new ≡ D.health disk.old) }
 {
     let mut done = 0;
     while done < into.len() {

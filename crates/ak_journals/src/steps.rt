@@ -17,6 +17,7 @@ pub fn write_synced<D: Disk>(disk: &mut D, place: u64, from: &[u8]) -> Result<()
         (LedBy (IsTorn place (length from.now)) (D.may_leave disk.old)) }
     ensures far { OnOk result (place + length from.now < 2 ^ 64) }
     ensures cause { HasCause (D.health disk.old) (D.health disk.new) result }
+    ensures calm { OnOk result (D.health disk.new ≡ D.health disk.old) }
 {
     disk.write_at(place, from)?;
     disk.sync()?;
@@ -33,6 +34,7 @@ pub fn cut_synced<D: Disk>(disk: &mut D, size: u64) -> Result<(), Failed>
     ensures time { Elapses (D.moment disk.old) (D.moment disk.new) (D.may_have_left disk.old) (D.may_have_left disk.new)
         (LedBy (IsCutOrWhole size) (D.may_leave disk.old)) }
     ensures cause { HasCause (D.health disk.old) (D.health disk.new) result }
+    ensures calm { OnOk result (D.health disk.new ≡ D.health disk.old) }
 {
     disk.cut(size)?;
     disk.sync()?;

@@ -4,6 +4,7 @@ use Rattle.std.specs.declared.alloc.Global.{Global}
 use Rattle.std.proofs.lemmas.List.{map_push}
 use Rattle.ak_journal_forms.specs.Frames.{AreFrames, IsOpen}
 use Rattle.ak_journal_forms.specs.Payloads.{bytes_of_each}
+use Rattle.ak_journal_forms.proofs.Places.{gate_place}
 use Rattle.ak_journal_forms.proofs.Readings.{one_more, more_within}
 use Rattle.ak_journal_forms.proofs.frames.read_frames.Goals as goal
 
@@ -22,3 +23,6 @@ loop-size-preserved c =
           subst (λ (l : List (List ℕ)). AreFrames l (take (c.loop-size.gate + (9 + c.in-Some.size)) c.args.file.now)) (sym items)
           (one_more (bytes_of_each c.loop-size.payloads.items) c.loop-size.gate c.in-Some.size c.args.file.now c.loop-size.invariant.within c.loop-size.invariant.frames open_here fits);
     }
+
+pub returns-clause-gate : goal.returns-clause-gate
+returns-clause-gate c = gate_place (bytes_of_each c.loop-size.payloads.items) c.loop-size.gate c.args.file.now c.loop-size.invariant.within c.loop-size.invariant.frames

@@ -21,5 +21,6 @@ loop-done-preserved g c =
       same = c.read_at.ensures.same ∙ so_far.same;
       crash = λ image left. so_far.crash image (c.read_at.ensures.crash image left);
       time = elapses_next so_far.time c.read_at.ensures.time (λ image now. so_far.crash image (c.read_at.ensures.crash image now));
+      calm = c.in_ok-count.ensures.calm ∙ so_far.calm;
       goes = goes_further so_far.goes c.read_at.ensures.cause.goes;
     }

@@ -11,6 +11,7 @@ invariant-loop-done g l = record {
   same : g.D.Disk.content l.disk ≡ g.D.Disk.content l.fn.disk;
   crash : NoMore (g.D.Disk.may_leave l.fn.disk) (g.D.Disk.may_leave l.disk);
   time : Elapses (g.D.Disk.moment l.fn.disk) (g.D.Disk.moment l.disk) (g.D.Disk.may_have_left l.fn.disk) (g.D.Disk.may_have_left l.disk) (g.D.Disk.may_leave l.fn.disk);
+  calm : g.D.End.health l.disk ≡ g.D.End.health l.fn.disk;
   goes : GoesOn (g.D.End.health l.fn.disk) (g.D.End.health l.disk);
 }
 
