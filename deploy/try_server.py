@@ -20,12 +20,15 @@ Without a trial all are done but the last three. Each prints what it saw, and `<
     sessions    as many syncs as requests alone, each of one changed note, and the server's memory meanwhile
     speed       requests and syncs a second, the first request after start
     memory      the server's memory with 1, 10 and 50 accounts
+    chunks      a push and a pull of 10,000 reviews beside 3,000 and 50,000 cards: the processor time of both sides, less that of one review
     drip        a client that sends a byte each 5 seconds until it is cut, which takes 15 minutes
     tls         a sync through nginx with a certificate made here, and what its limits answer (needs nginx and stunnel)
     servers     four ankids behind nginx, which goes by the key, beside one ankid (needs nginx)
 """
 import argparse
+import collections
 import concurrent.futures
+import hashlib
 import http.client
 import json
 import os
@@ -51,7 +54,7 @@ sys.path.insert(0, HERE)
 import servers as parting  # noqa: E402
 
 TRIALS = ("days", "routes", "clients", "hunger", "second", "begin", "schema", "restore", "kills", "wholes", "full", "many", "sessions", "speed", "memory")
-ON_REQUEST = ("drip", "tls", "servers")
+ON_REQUEST = ("chunks", "drip", "tls", "servers")
 UNKNOWN = "f" * 32
 
 
@@ -1339,6 +1342,73 @@ class Tools:
 
 def found(name):
     return subprocess.run([os.path.join(TOP, "bin", name), "--program"], stdout=subprocess.PIPE, text=True, check=True).stdout.strip()
+
+
+def fill(path, cards):
+    """Notes of one field of the first type, with a card each, put into a collection's file that no program has open."""
+    link = sqlite3.connect(path)
+    note_type = next(iter(json.loads(link.execute("select models from col").fetchone()[0])))
+    ids = range(1_600_000_000_000, 1_600_000_000_000 + cards)
+    link.executemany("insert into notes values (?, ?, ?, 1600000000, -1, '', ?, ?, ?, 0, '')",
+                     ((it, "g%d" % it, int(note_type), "front %d\x1fback" % it, "front %d" % it, checksum("front %d" % it)) for it in ids))
+    link.executemany("insert into cards values (?, ?, 1, 0, 1600000000, -1, 0, 0, 1, 0, 0, 0, 0, 0, 0, 0, 0, '')", ((it, it) for it in ids))
+    link.commit()
+    link.close()
+
+
+def checksum(front):
+    return int(hashlib.sha1(front.encode()).hexdigest()[:8], 16)
+
+
+def add_reviews(path, first, count):
+    """Reviews that were not sent yet, put into a collection's file, whose moment rises."""
+    link = sqlite3.connect(path)
+    link.executemany("insert into revlog values (?, 1600000000000, -1, 3, 10, 5, 2500, 1500, 1)", ((it,) for it in range(first, first + count)))
+    link.execute("update col set mod = mod + 1")
+    link.commit()
+    link.close()
+
+
+def sync_cost(device, server, wanted):
+    """The processor time of the device and of the server in one sync that ends as wanted."""
+    at_server, at_device = server.seconds(), resource.getrusage(resource.RUSAGE_CHILDREN)
+    expect("sync of " + device.path, device.sync(server.port), (0, wanted))
+    ended = resource.getrusage(resource.RUSAGE_CHILDREN)
+    return ended.ru_utime + ended.ru_stime - at_device.ru_utime - at_device.ru_stime, server.seconds() - at_server
+
+
+def chunk_costs(tools, room, cards):
+    """Of a push and a pull of one review and of 10,000 beside so many cards: the least of three of each side, by what was done and how many."""
+    server = Server(tools, os.path.join(room, "server%d" % cards))
+    server.start()
+    one, two = (Device(tools, os.path.join(room, "%s%d.anki" % (name, cards)), server.key()) for name in ("one", "two"))
+    for device in (one, two):
+        device.begin()
+        device.needs_whole(server.port)
+        if device is one:
+            fill(device.path, cards)
+            device.upload(server.port)
+        else:
+            device.download(server.port)
+    costs = collections.defaultdict(list)
+    for turn in range(6):
+        count = (1, 10_000)[turn % 2]
+        add_reviews(one.path, 1_650_000_000_000 + 20_000 * turn, count)
+        costs["push", count].append(sync_cost(one, server, "finished"))
+        costs["pull", count].append(sync_cost(two, server, "finished"))
+    expect("contents", content(one.path) == content(two.path) == content(server.file()), True)
+    server.end()
+    return {what: [min(it[side] for it in found) for side in (0, 1)] for what, found in costs.items()}
+
+
+def try_chunks(tools, room):
+    found = {cards: chunk_costs(tools, room, cards) for cards in (3_000, 50_000)}
+    for what in ("push", "pull"):
+        for side, name in enumerate(("device", "server")):
+            costs = [[found[cards][what, count][side] for count in (1, 10_000)] for cards in found]
+            few, many = (whole - least for least, whole in costs)
+            print("%s, %s: of one review %.2f s and %.2f s, of 10,000 %.2f s and %.2f s; the difference is %.2f s and %.2f s, %.2f times"
+                  % (what, name, costs[0][0], costs[1][0], costs[0][1], costs[1][1], few, many, many / max(few, 0.01)))
 
 
 def main():
