@@ -2,6 +2,7 @@
 import contextlib
 import json
 import os
+import resource
 import shutil
 import sqlite3
 import subprocess
@@ -246,6 +247,14 @@ class Whole(Case):
                 ran.stdin.write(b"\n" * (1 << 20))
             out = ran.communicate(b"\n" * ((1 << 20) - len(record) + more))[0]
             self.assertEqual((status, said, notes), (ran.returncode, out, self.notes(self.path("copy"))))
+
+    def test_want_of_memory_ends_with_8_and_changes_nothing(self):
+        records = "".join("g%d,,a,b\n" % it for it in range(20_000)).encode()
+        enough, few = 1 << 32, 40 << 20
+        for memory, word, status, said, notes in ((few, "import", 8, b"", 0), (enough, "import", 0, b"added 20000 updated 0 same 0\n", 20_000), (few, "export", 8, b"", 20_000)):
+            words = [self.program, self.file, "-", word, "1"] + ["1"] * (word == "import")
+            ran = run(words, input=records, preexec_fn=lambda: resource.setrlimit(resource.RLIMIT_AS, (memory, memory)))
+            self.assertEqual((status, said, notes), (ran.returncode, ran.stdout, len(self.notes(self.file))))
 
 
 if __name__ == "__main__":
