@@ -1,0 +1,243 @@
+"""What bench/bench.py measures and prints, over the program in dist/ and over stand-ins for it.
+
+    python3 -m unittest discover -s bench/tests
+"""
+import contextlib
+import io
+import os
+import shutil
+import sqlite3
+import sys
+import tempfile
+import unittest
+
+TOP = os.path.dirname(os.path.dirname(os.path.dirname(os.path.realpath(__file__))))
+sys.dont_write_bytecode = True
+sys.path.insert(0, os.path.join(TOP, "bench"))
+
+import bench  # noqa: E402
+import in_python  # noqa: E402
+import made  # noqa: E402
+
+SIZE = 30
+
+
+class Rooms(unittest.TestCase):
+    def setUp(self):
+        self.room = tempfile.mkdtemp(prefix="anki-bench-test-")
+        self.addCleanup(shutil.rmtree, self.room)
+
+    def path(self, *names):
+        return os.path.join(self.room, *names)
+
+    def stand_in(self, text):
+        """A program that is this shell script."""
+        with open(self.path("stand-in"), "w", encoding="utf-8") as file:
+            file.write("#!/bin/sh\n" + text)
+        os.chmod(self.path("stand-in"), 0o755)
+        return self.path("stand-in")
+
+    def files(self):
+        """A collection of the test's size, over the program in dist/."""
+        self.left_out = bench.places(bench.arguments([]))
+        return bench.Files(self.room, bench.path_of(bench.PROGRAM), 7, SIZE)
+
+
+def drawn(seed):
+    """The words of splitmix64, as they are drawn one after another."""
+    state = seed
+    while True:
+        state = (state + made.STEP) % made.ALL
+        z = (state ^ (state >> 30)) * 0xBF58476D1CE4E5B9 % made.ALL
+        z = (z ^ (z >> 27)) * 0x94D049BB133111EB % made.ALL
+        yield z ^ (z >> 31)
+
+
+class MadeRows(unittest.TestCase):
+    def test_the_first_words_are_those_of_the_generator(self):
+        # From outside: the first words of splitmix64 from the seed 1234567.
+        self.assertEqual([made.nth_word(1234567, n) for n in range(3)], [6457827717110365317, 3203168211198807973, 9817491932198370423])
+
+    def test_rows_are_those_of_words_drawn_in_the_order_of_the_rows(self):
+        for seed in (0, 7, made.ALL - 1):
+            words = drawn(seed)
+            notes, cards, reviews = (list(rows(seed, SIZE)) for rows in (made.notes_of, made.cards_of, made.reviews_of))
+            card = review = 0
+            for number, note in enumerate(notes):
+                back, guid = next(words) % 1000, next(words) % 65536
+                self.assertEqual(note[:3] + note[6:7], (made.FIRST_ID + number, "%d-%04x" % (note[0], guid), 3 if number % 3 else 1, "front %d\x1fback %d" % (number, back)))
+                for place in range(2 if number % 3 else 1):
+                    ivl, due, factor = 1 + next(words) % 100, -(next(words) % 10), 1300 + 50 * (next(words) % 25)
+                    self.assertEqual(cards[card][:4] + cards[card][8:11], (made.FIRST_ID + card, note[0], 1, place, due, ivl, factor))
+                    for _ in range(4):
+                        ease, time = 2 + next(words) % 3, 1000 + next(words) % 9000
+                        self.assertEqual(reviews[review], (made.FIRST_REVIEW + review, made.FIRST_ID + card, -1, ease, ivl, 1, factor, time, 1))
+                        review += 1
+                    card += 1
+            self.assertEqual((card, review), (len(cards), len(reviews)))
+
+    def test_the_line_of_a_size(self):
+        self.assertEqual(made.line_of(3000), "notes 3012 cards 5012 reviews 20180 requests 8 finished\n")
+        self.assertEqual(made.line_of(1), "notes 13 cards 13 reviews 5 requests 7 finished\n")
+        self.assertEqual([made.line_of(size).split()[7] for size in (67, 68)], ["7", "8"])
+
+
+class Sides(Rooms):
+    def test_the_program_opens_the_file_and_finds_it_sound(self):
+        files = self.files()
+        _, printed = bench.desk(bench.PROGRAM, files, ["check", "find deck:Default"])
+        self.assertEqual(printed.decode().splitlines(), ["sound", "found 50 " + " ".join(map(str, files.cards))])
+
+    def test_both_print_the_same(self):
+        bench.compare(self.files())
+
+    def test_other_answers_are_wrong(self):
+        files = self.files()
+        bench.PLACES[bench.PROGRAM] = self.stand_in('while read -r line; do echo "found 1 5"; done\n')
+        with self.assertRaises(bench.Wrong):
+            bench.compare(files)
+
+    def test_a_day_leaves_a_review_of_each_answer_on_each_side(self):
+        files = self.files()
+        for side in (bench.PROGRAM, bench.PYTHON):
+            _, printed = bench.desk(side, files, files.day())
+            self.assertEqual([line.split()[0] for line in printed.decode().splitlines()], ["answered"] * 50)
+            link = sqlite3.connect(files.path("work.anki"))
+            self.assertEqual(link.execute("select count(*), sum(id > ?) from revlog", (made.FIRST_ID + 10**11 + 10**9,)).fetchone(), (250, 50), side)
+            self.assertEqual(link.execute("select count(*) from cards where reps = 5").fetchone(), (50,), side)
+            link.close()
+
+    @unittest.skipUnless(shutil.which("sqlite3"), "the shell is not there")
+    def test_the_shell_makes_the_same_rows_and_reads_them(self):
+        files = self.files()
+        bench.shell(files, bench.day_in_sql(files))
+        link = sqlite3.connect(files.path("work.anki"))
+        self.assertEqual(link.execute("select count(*) from revlog").fetchone(), (250,))
+        self.assertEqual(link.execute("select count(*) from cards where reps = 5").fetchone(), (50,))
+        link.close()
+        self.assertEqual(bench.shell(files, bench.rows_in_sql())[1], b"")
+
+    def test_both_import_and_export_the_same_notes(self):
+        files = self.files()
+        exported = []
+        for side in (bench.PROGRAM, bench.PYTHON):
+            path = files.copy(files.new)
+            _, printed = bench.run(bench.words_of(side, path, "import", "1", "1"), files.table_bytes())
+            self.assertEqual(printed, b"added 30 updated 0 same 0\n")
+            exported.append(bench.run(bench.words_of(side, path, "export", "1"))[1])
+        self.assertEqual(exported, [files.table_bytes()] * 2)
+
+    def test_python_makes_the_rows_of_the_line(self):
+        _, printed = bench.run(bench.words_of(bench.PYTHON, "-", "make", "7", str(SIZE)))
+        self.assertEqual(printed.decode().strip(), made.line_of(SIZE).split(" requests")[0])
+
+
+class Processes(Rooms):
+    def test_what_a_process_takes_is_its_own(self):
+        taken, printed = bench.run([self.stand_in("cat\n")], b"abc")
+        self.assertEqual(printed, b"abc")
+        self.assertLess(taken.memory, 40)
+        self.assertGreater(taken.elapsed, 0)
+        busy, _ = bench.run([sys.executable, "-S", "-c", "held = bytearray(100_000_000); sum(range(3_000_000))"])
+        self.assertGreater(busy.processor, 0.01)
+        self.assertGreater(busy.memory, 90)
+
+    def test_a_process_that_fails_is_wrong(self):
+        for text in ("exit 3\n", "kill -9 $$\n"):
+            with self.assertRaises(bench.Wrong):
+                bench.run([self.stand_in(text)])
+        self.assertEqual(bench.run([self.stand_in("exit 3\n")], status=3)[1], b"")
+
+    def test_what_is_not_there_is_left_out_by_its_name(self):
+        older = self.stand_in("echo usage\nexit 2\n")
+        left_out = bench.places(bench.arguments(["--anki", older, "--ankid", self.path("none")]))
+        self.assertEqual([text.split(" (")[0] for text in left_out if "shell" not in text], ["upload, sync and download", "`make`"])
+        newer = self.stand_in("echo notes 13 cards 13 reviews 5 requests 7 finished\n")
+        self.assertEqual([text for text in bench.places(bench.arguments(["--anki", newer, "--ankid", newer])) if "shell" not in text], [])
+
+
+class Tables(unittest.TestCase):
+    def test_a_median_is_of_each_number(self):
+        taken = [bench.Taken(3.0, 1.0, 5.0), bench.Taken(1.0, 2.0, 9.0), bench.Taken(2.0, 9.0, 7.0)]
+        self.assertEqual(bench.median(taken), bench.Taken(2.0, 2.0, 7.0))
+        self.assertEqual(bench.less(bench.Taken(2.0, 1.0, 7.0), bench.Taken(0.5, 3.0, 6.0)), bench.Taken(1.5, 0.0, 7.0))
+
+    def test_a_table_has_a_row_for_each_side_and_tells_growth(self):
+        table = bench.Table()
+        for size, seconds in ((3, 0.002), (20, 0.0144)):
+            table.put("work", "anki", size, bench.Taken(seconds, 0.5, 20.4))
+            table.put("other", "anki", size, bench.Taken(0.0, 0.5, 20.4))
+            table.put("work", "Python", size, bench.Taken(seconds / 2, 1.25, 30.0))
+        self.assertEqual(table.text([3, 20]).splitlines()[2:], ["| work | anki | 2.00 | 14.4 | 7.2 | 500 | 20 |", "| work | Python | 1.00 | 7.20 | 7.2 | 1,250 | 30 |",
+                                                               "| other | anki | 0.00 | 0.00 |  | 500 | 20 |"])
+        self.assertEqual(bench.behind(table, 20), ["work"])
+        self.assertEqual(bench.behind_text(table, 20), "Python takes less processor time at 20 in work.\n")
+
+    def test_sizes_are_those_of_make(self):
+        self.assertEqual(bench.arguments(["--sizes", "20000,1"]).sizes, [1, 20_000])
+        for words in (["--sizes", "0"], ["--sizes", "20001"], ["--runs", "0"], ["--seed", "18446744073709551616"], ["--sizes", "x"]):
+            with contextlib.redirect_stderr(io.StringIO()), self.assertRaises(SystemExit):
+                bench.arguments(words)
+
+    def test_each_search_has_a_line_of_the_desk(self):
+        self.assertEqual(len(in_python.FINDS), 12)
+        self.assertEqual(bench.FINDS, ["find " + expression for expression in in_python.FINDS])
+
+
+class Targets(unittest.TestCase):
+    def tables(self, growth=5.0, python=2.0):
+        """Tables in which the program takes a second at 3,000 and so many at 20,000, Python so many times that, and the shell a second always."""
+        after, whole = bench.Table(), bench.Table()
+        for size, seconds in ((3_000, 1.0), (20_000, growth)):
+            for table, works in ((after, (bench.A_DAY, "`next`")), (whole, ("opening", "`make`"))):
+                for work in works:
+                    scale = 0.001 if work == "`next`" else 1.0
+                    table.put(work, "anki", size, bench.Taken(seconds * scale, seconds * scale, 20.0))
+                    table.put(work, "Python", size, bench.Taken(python * seconds * scale, seconds * scale, 20.0))
+                table.put(works[0], "sqlite3", size, bench.Taken(2.0, 2.5, 5.0))
+        return after, whole
+
+    def told(self, *given):
+        return [line.rsplit(": ", 1)[1] for line in bench.targets(*self.tables(*given), [3_000, 20_000])]
+
+    def test_targets_are_met_or_missed(self):
+        self.assertEqual(self.told(), ["met"] * 7)
+        self.assertEqual(self.told(6.0), ["met"] * 4 + ["missed", "missed", "met"])
+        self.assertEqual(self.told(9.5), ["met"] * 2 + ["missed"] * 4 + ["missed in %s, `next`, opening, `make`" % bench.A_DAY])
+
+    def test_a_time_too_short_to_be_measured_tells_nothing(self):
+        self.assertEqual(bench.within("work", bench.times(1.0, 0.0), 3), "work: nan, at most 3: not told")
+        self.assertEqual(bench.within("work", bench.times(3.0, 1.0), 3, " ms"), "work: 3.00 ms, at most 3 ms: met")
+
+    def test_rows_in_which_python_wins_are_named(self):
+        self.assertEqual(self.told(5.0, 0.5)[:2], ["missed in %s at 20,000, `next` at 20,000" % bench.A_DAY, "missed in opening at 3,000, opening at 20,000"])
+
+    def test_targets_of_rows_that_are_left_out_are_not_told(self):
+        after, whole = self.tables()
+        for table in (after, whole):
+            for sides in table.rows.values():
+                sides.pop("sqlite3", None)
+        del whole.rows["`make`"]
+        self.assertEqual(len(bench.targets(after, whole, [3_000, 20_000])), 4)
+        self.assertEqual(len(bench.targets(after, whole, [3_000])), 2)
+
+
+class Whole(Rooms):
+    def test_a_small_run_fills_both_tables(self):
+        with contextlib.redirect_stdout(io.StringIO()) as printed:
+            self.assertEqual(bench.main(["--sizes", str(SIZE), "--runs", "1", "--room", self.room, "--page", self.path("page.md")]), 0)
+        with open(self.path("page.md"), encoding="utf-8") as file:
+            page = file.read()
+        self.assertEqual(printed.getvalue(), page)
+        after, whole = page.split("## The work after the opening")[1].split("## Whole processes")
+        for part, works in ((after, (bench.A_DAY, "`find`", "`next`", "`counts`", "a page", "`check`")), (whole, ("opening", bench.A_DAY, "check", "import", "export"))):
+            for work in works:
+                sides = [line.split("|")[2].strip() for line in part.splitlines() if line.startswith("| " + work)]
+                self.assertEqual(sides[:2], ["anki", "Python"], work)
+        self.assertIn("| upload over the loopback | anki |", whole)
+        self.assertIn("- opening ahead of Python's at each size: ", page.split("## Targets")[1])
+        self.assertEqual(os.listdir(self.room), ["page.md"])
+
+
+if __name__ == "__main__":
+    unittest.main()
