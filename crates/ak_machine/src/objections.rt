@@ -1,8 +1,9 @@
 // Which requests a session refuses: the tests of each, in their order. They ask no keeper, and all but one take no memory.
-ghost use Rattle.std.specs.Prelude.{◌≡◌, ◌||◌, true, cond, IfOk, OnOk};
+ghost use Rattle.std.specs.Prelude.{◌≡◌, ◌||◌, true, cond, IfOk, OnOk, ℕ, List};
 ghost use Rattle.std.specs.List.{list_any, list_all};
 ghost use Rattle.std.specs.Option.{option_map};
-ghost use Rattle.std.specs.Ordering.{int_eq, eq_by_cmp};
+ghost use Rattle.std.specs.Cmp.Lexicographic.{slice_cmp};
+ghost use Rattle.std.specs.Ordering.{int_eq, eq_by_cmp, nat_cmp};
 ghost use Rattle.ak_base.specs.Names.{name_cmp};
 ghost use Rattle.ak_base.specs.declared.names.Name.{Name as Named};
 ghost use Rattle.ak_base.specs.Limits.{last_head_usn};
@@ -130,7 +131,7 @@ pub fn objection_to_chunk(chunk: &Chunk) -> Option<Cause>
     None
 }
 
-/// Why an upload is refused, over a committed collection with these numbers. To find two rows of one name takes memory.
+/// Why an upload is refused, over a committed collection with these numbers. To find two rows or two tags of one name takes memory.
 pub fn objection_to_upload(held: &Numbers, whole: &Whole) -> Result<Option<Cause>, Memory>
     ensures { (c : Collection) → IfOk result (λ why. option_map objection_in why
         ≡ first_objection (upload_tests (numbered held.now c) whole.now)) }
@@ -144,7 +145,7 @@ pub fn objection_to_upload(held: &Numbers, whole: &Whole) -> Result<Option<Cause
     if has_twin_rows(whole.rows.allocator(), whole.rows.as_slice())? {
         return Ok(Some(Cause::Row));
     }
-    if has_twin_tags(whole.tags.as_slice()) {
+    if has_twin_tags(whole.rows.allocator(), whole.tags.as_slice())? {
         return Ok(Some(Cause::Row));
     }
     Ok(None)
@@ -206,25 +207,26 @@ fn add_name(names: &mut BTreeSet<Name>, name: Name) -> Result<bool, Memory>
     Ok(!names.insert(name)?)
 }
 
-/// Whether two of these tags share a name. It takes no memory.
-fn has_twin_tags(tags: &[Tag]) -> bool
-    ensures { result ≡ has_twins same_tags tags.now }
+/// Whether two of these tags share a name. The names are not copied.
+fn has_twin_tags(alloc: Global, tags: &[Tag]) -> Result<bool, Memory>
+    ensures { IfOk result (λ found. found ≡ has_twins same_tags tags.now) }
 {
-    let mut rest = tags;
-    while let Some((tag, others)) = rest.split_first() {
-        if has_same_tag(tag, others) {
-            return true;
+    let mut names = BTreeSet::new(alloc);
+    for tag in tags {
+        if add_tag_name(&mut names, tag.name.as_str())? {
+            return Ok(true);
         }
-        rest = others;
     }
-    false
+    Ok(false)
 }
 
-/// Whether one of these tags has the name of this one.
-fn has_same_tag(tag: &Tag, others: &[Tag]) -> bool
-    ensures { result ≡ list_any (same_tags tag.now) others.now }
+/// Adds a tag's name, and answers whether it was there already.
+fn add_tag_name<'a>(names: &mut BTreeSet<&'a str>, name: &'a str) -> Result<bool, Memory>
+    ensures found { IfOk result (λ found. found ≡ list_any (λ key. eq_by_cmp (slice_cmp nat_cmp) name.now key.now) names.old.keys) }
+    ensures added { OnOk result ((other : List ℕ) → list_any (λ key. eq_by_cmp (slice_cmp nat_cmp) other key.now) names.new.keys
+        ≡ cond (eq_by_cmp (slice_cmp nat_cmp) name.now other) true (list_any (λ key. eq_by_cmp (slice_cmp nat_cmp) other key.now) names.old.keys)) }
 {
-    others.iter().any(|other| tag.name == other.name)
+    Ok(!names.insert(name)?)
 }
 
 /// The method of what is asked.

@@ -7,4 +7,4 @@ use Rattle.ak_machine.proofs.objections.has_twin_rows.Given as goal
 
 -- rows that are left meet the names so far or each other exactly if there are twins among all
 abbrev pub invariant-loop-row : goal.invariant-loop-row
-invariant-loop-row l = meets name_cmp name_of l.names.keys (drop l.row-index l.fn.rows) ≡ has_twins same_names l.fn.rows
+invariant-loop-row l = meets name_cmp (λ n. n) name_of l.names.keys (drop l.row-index l.fn.rows) ≡ has_twins same_names l.fn.rows

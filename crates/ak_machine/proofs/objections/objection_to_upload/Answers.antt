@@ -17,12 +17,14 @@ returns-then-branch c = λ k. upload_twin_rows (numbered c.args.held.now k) c.ar
     (sym (c.has_last_moment.ensures k) ∙ c.if-has_last_moment.false) (sym c.is_whole_in_range.ensures ∙ c.if-not-is_whole_in_range.false)
     (ap (has_twins same_names) (sym c.as_slice.ensures) ∙ sym c.in_ok-has_twin_rows.ensures ∙ c.if-branch.true)
 
-pub returns-then-has_twin_tags : goal.returns-then-has_twin_tags
-returns-then-has_twin_tags c = λ k. upload_twin_tags (numbered c.args.held.now k) c.args.whole.now
+pub returns-then-branch-2 : goal.returns-then-branch-2
+returns-then-branch-2 c = λ k. upload_twin_tags (numbered c.args.held.now k) c.args.whole.now
     (sym (c.has_last_moment.ensures k) ∙ c.if-has_last_moment.false) (sym c.is_whole_in_range.ensures ∙ c.if-not-is_whole_in_range.false)
-    (ap (has_twins same_names) (sym c.as_slice.ensures) ∙ sym c.in_ok-has_twin_rows.ensures ∙ c.if-branch.false) (ap (has_twins same_tags) (sym c.as_slice-2.ensures) ∙ sym c.has_twin_tags.ensures ∙ c.if-has_twin_tags.true)
+    (ap (has_twins same_names) (sym c.as_slice.ensures) ∙ sym c.in_ok-has_twin_rows.ensures ∙ c.if-branch.false)
+    (ap (has_twins same_tags) (sym c.as_slice-2.ensures) ∙ sym c.in_ok-has_twin_tags.ensures ∙ c.if-branch-2.true)
 
 pub returns : goal.returns
 returns c = λ k. upload_fits (numbered c.args.held.now k) c.args.whole.now
     (sym (c.has_last_moment.ensures k) ∙ c.if-has_last_moment.false) (sym c.is_whole_in_range.ensures ∙ c.if-not-is_whole_in_range.false)
-    (ap (has_twins same_names) (sym c.as_slice.ensures) ∙ sym c.in_ok-has_twin_rows.ensures ∙ c.if-branch.false) (ap (has_twins same_tags) (sym c.as_slice-2.ensures) ∙ sym c.has_twin_tags.ensures ∙ c.if-has_twin_tags.false)
+    (ap (has_twins same_names) (sym c.as_slice.ensures) ∙ sym c.in_ok-has_twin_rows.ensures ∙ c.if-branch.false)
+    (ap (has_twins same_tags) (sym c.as_slice-2.ensures) ∙ sym c.in_ok-has_twin_tags.ensures ∙ c.if-branch-2.false)
