@@ -2,7 +2,7 @@ mod PathFacts
 mod MakingDecks
 mod ShortPaths
 mod CheckedDecks
-mod PuttingDecks
+pub mod PuttingDecks
 mod Ending
 mod AddedDecks
 mod ChangedRows

@@ -24,8 +24,8 @@ pub(crate) fn change_of(alloc: Global, decks: ChangedDecks) -> Result<Change, Me
     Ok(change)
 }
 
-/// Puts each of the decks.
-fn put_decks(change: &mut Change, decks: Vec<Deck>) -> Result<(), Memory>
+/// Puts each of the decks, in their order. Only memory can fail.
+pub fn put_decks(change: &mut Change, decks: Vec<Deck>) -> Result<(), Memory>
     ensures { OnOk result (change.new ≡ decks_over decks.items change.old) }
 {
     for deck in decks {

@@ -11,7 +11,7 @@ use crate::changed_decks::{ChangedDecks, change_of};
 use crate::deck_paths::missing_above;
 use crate::given_paths::check_path;
 use crate::held_decks::id_of_path;
-use crate::new_decks::new_decks;
+use crate::made_decks::new_decks;
 use ak_base::{Deck, List, Memory, Name, Table, Text};
 use ak_edit::DeskFault;
 use ak_keep::{Keeper, read_decks};
@@ -54,8 +54,8 @@ pub fn add_deck<K: Keeper>(
     }
 }
 
-/// The id of the last deck, 0 if there are none.
-fn id_of_last(decks: &[Deck]) -> i64
+/// The id of the last deck, 0 if there are none. Of the decks that are made for a path the last is that of the path itself.
+pub fn id_of_last(decks: &[Deck]) -> i64
     ensures { result ≡ id_of_last (pos 0) decks.now }
 {
     let mut id = 0;
@@ -112,8 +112,8 @@ fn make_decks<K: Keeper>(
     }
 }
 
-/// Refuses a path that one of the decks has.
-fn check_free(decks: &[Deck], path: &str) -> Result<(), DeskFault>
+/// Refuses a path that one of the decks has: the fault names the first of them, which has the least id if the decks ascend.
+pub fn check_free(decks: &[Deck], path: &str) -> Result<(), DeskFault>
     ensures refused { AnswersBy (RefusesFirst (has_path path.now) decks.now) result }
     ensures listed { IfErr result IsUseFault }
 {
@@ -126,8 +126,8 @@ fn check_free(decks: &[Deck], path: &str) -> Result<(), DeskFault>
     }
 }
 
-/// The paths above this one that none of the decks has, from the top, and this one.
-fn added_paths(alloc: Global, decks: &[Deck], path: &str) -> Result<List<Text>, Memory>
+/// The paths above this one that none of the decks has, from the top, and this one: those of the decks that are made for it.
+pub fn added_paths(alloc: Global, decks: &[Deck], path: &str) -> Result<List<Text>, Memory>
     ensures paths { IfOk result (λ paths. paths ≡ added_paths decks.now path.now) }
     ensures some { IfOk result (λ paths. 0 < length paths) }
 {

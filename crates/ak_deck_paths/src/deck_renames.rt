@@ -12,7 +12,7 @@ use crate::changed_decks::{ChangedDecks, change_of};
 use crate::deck_paths::{is_below, missing_above, moved_decks};
 use crate::given_paths::check_path;
 use crate::held_decks::id_in_way;
-use crate::new_decks::new_decks;
+use crate::made_decks::new_decks;
 use ak_base::{Deck, Name, Row, Table};
 use ak_calls::held_row;
 use ak_edit::DeskFault;

@@ -8,7 +8,7 @@ use ak_edit::DeskFault;
 
 /// Tests the path that a deck is to have: it has at most 512 bytes, none of them is under a space, and no part of it is empty. It
 /// takes no memory.
-pub(crate) fn check_path(path: &str) -> Result<(), DeskFault>
+pub fn check_path(path: &str) -> Result<(), DeskFault>
     ensures refused { AnswersBy (RefusesPath path.now) result }
     ensures given { OnOk result (path_fault path.now ≡ None) }
     ensures listed { IfErr result IsRowFault }

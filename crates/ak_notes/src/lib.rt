@@ -20,4 +20,4 @@ pub use made_notes::{MadeNote, put_cards, put_made};
 pub use new_cards::told_ords;
 pub use note_edits::{NoteEdit, edit_note, read_edit};
 pub use note_laws::{additions_are_admitted, deletions_are_admitted, note_edits_are_admitted};
-pub use note_rows::with_fields;
+pub use note_rows::{made_guid, with_fields};

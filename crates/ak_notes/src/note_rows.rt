@@ -123,8 +123,8 @@ pub(crate) fn guid_of(
     }
 }
 
-/// The id, `-`, and the last four hexadecimal digits of the word.
-fn made_guid(alloc: Global, id: i64, chance: u64) -> Result<Text, Memory>
+/// What a note is called that is given no name: its id, `-`, and the last four hexadecimal digits of a word of chance.
+pub fn made_guid(alloc: Global, id: i64, chance: u64) -> Result<Text, Memory>
     ensures { IfOk result (λ guid. guid ≡ made_guid id chance) }
 {
     let mut text = format!(in alloc; "{id}-")?;

@@ -44,7 +44,7 @@ use Rattle.ak_study.specs.CardPlaces.{lies_buried, restored, unburied}
 use Rattle.ak_study.specs.DayStarts.{begun_on, begun_over, is_new_day, unburied_row}
 use Rattle.ak_study.specs.DeckCounts.{counted, counted_row, counts_for, deck_answered, one_more}
 use Rattle.ak_study.specs.LeechTags.{leech_tag, leech_tagged}
-use Rattle.ak_study.specs.RowChanges.{put_changed}
+use Rattle.ak_study.specs.RowChanges.{put_rows_changed}
 use Rattle.ak_study.specs.Siblings.{put_siblings, sibling_after}
 use Rattle.ak_study.specs.declared.answerings.Answering.{Answering}
 use Rattle.ak_study.specs.declared.day_starts.Begun.{Begun}
@@ -107,12 +107,12 @@ counts_under : (day : Day) (held : Rows) (was : Card) (o : Overlay) (q : Name) �
 counts_under day held was o q named checked =
     let x : Option Row = row_over o (get held) q in
     elim (not (int_eq was.queue (pos 0)) && not (int_eq was.queue (pos 2))) as (λ b.
-    row_over (if b then o else option_map_or (λ (home : Deck). put_changed (counted_row day was.queue home) (rows_past tables.Deck (pos 0) held) o) (deck_of_card held was) o) (get held) q
+    row_over (if b then o else option_map_or (λ (home : Deck). put_rows_changed (counted_row day was.queue home) (rows_past tables.Deck (pos 0) held) o) (deck_of_card held was) o) (get held) q
     ≡ option_or (option_and_then (λ (row : Row). if b then None else option_map_or (λ (home : Deck). counted_row day was.queue home row) (deck_of_card held was) None) (get held q)) x) [
       | true ↦ sym (ap (λ (y : Option Row). option_or y x) (none_then (get held q)))
       | false ↦
           elim (deck_of_card held was) as (λ (d : Option Deck).
-          row_over (option_map_or (λ (home : Deck). put_changed (counted_row day was.queue home) (rows_past tables.Deck (pos 0) held) o) d o) (get held) q
+          row_over (option_map_or (λ (home : Deck). put_rows_changed (counted_row day was.queue home) (rows_past tables.Deck (pos 0) held) o) d o) (get held) q
           ≡ option_or (option_and_then (λ (row : Row). option_map_or (λ (home : Deck). counted_row day was.queue home row) d None) (get held q)) x) [
             | None ↦ sym (ap (λ (y : Option Row). option_or y x) (none_then (get held q)))
             | Some home ↦ changed_under tables.Deck (counted_row day was.queue home) held o q (counts_decks day was.queue home) named checked
@@ -122,11 +122,11 @@ counts_under day held was o q named checked =
 counts_rest : (day : Day) (held : Rows) (was : Card) (o : Overlay) → rest_of (counts_put day held was o) ≡ rest_of o
 counts_rest day held was o =
     elim (not (int_eq was.queue (pos 0)) && not (int_eq was.queue (pos 2))) as (λ b.
-    rest_of (if b then o else option_map_or (λ (home : Deck). put_changed (counted_row day was.queue home) (rows_past tables.Deck (pos 0) held) o) (deck_of_card held was) o) ≡ rest_of o) [
+    rest_of (if b then o else option_map_or (λ (home : Deck). put_rows_changed (counted_row day was.queue home) (rows_past tables.Deck (pos 0) held) o) (deck_of_card held was) o) ≡ rest_of o) [
       | true ↦ refl
       | false ↦
           elim (deck_of_card held was) as (λ (d : Option Deck).
-          rest_of (option_map_or (λ (home : Deck). put_changed (counted_row day was.queue home) (rows_past tables.Deck (pos 0) held) o) d o) ≡ rest_of o) [
+          rest_of (option_map_or (λ (home : Deck). put_rows_changed (counted_row day was.queue home) (rows_past tables.Deck (pos 0) held) o) d o) ≡ rest_of o) [
             | None ↦ refl
             | Some home ↦ changed_rest (counted_row day was.queue home) (rows_past tables.Deck (pos 0) held) o
           ]

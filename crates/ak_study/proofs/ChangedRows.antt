@@ -20,7 +20,7 @@ use Rattle.ak_merge.proofs.Finding.{none_in_table}
 use Rattle.ak_merge.proofs.PartLaws.{past_zero}
 use Rattle.ak_keep.specs.Graves.{RowsByName}
 use Rattle.ak_merge.specs.Holdings.{AreChecked, AreNamed}
-use Rattle.ak_study.specs.RowChanges.{put_changed, put_some}
+use Rattle.ak_study.specs.RowChanges.{put_rows_changed, put_some}
 
 -- a change of rows of one table, which keep their names
 pub record ChangesTable (own : Table) (change : Row → Option Row) : Type 0 where
@@ -28,7 +28,7 @@ pub record ChangesTable (own : Table) (change : Row → Option Row) : Type 0 whe
   pub table : (row made : Row) → change row ≡ Some made → (name_of row).table ≡ own
 
 -- each row is the one that stands under its name
-abbrev AreHeld : RowsByName → List Row → Type 0
+abbrev pub AreHeld : RowsByName → List Row → Type 0
 AreHeld at = AllByRecursion (λ (row : Row). at (name_of row) ≡ Some row)
 
 pub or_again : (x y : Option Row) → option_or x (option_or x y) ≡ option_or x y
@@ -59,7 +59,7 @@ some_cond true row found = refl
 some_cond false row found = refl
 
 changed_among : (table : Table) (change : Row → Option Row) (at : RowsByName) (rows : List Row) (o : Overlay) (q : Name) → ChangesTable table change → AreHeld at rows
-    → row_over (put_changed change rows o) at q
+    → row_over (put_rows_changed change rows o) at q
     ≡ cond (is_some (find (λ (row : Row). eq_by_cmp name_cmp q (name_of row)) rows)) (option_or (option_and_then change (at q)) (row_over o at q)) (row_over o at q)
 changed_among table change at [] o q changes held = refl
 changed_among table change at (row ∷ rows) o q changes held =
@@ -72,12 +72,12 @@ changed_among table change at (row ∷ rows) o q changes held =
     (λ tied. ap (λ (y : Option Row). option_and_then change y) (ap at (same_of_tied q (name_of row) tied) ∙ held.0))
     ∙ ap (λ (b : Bool). cond b (option_or f x) x) (sym (some_cond (eq_by_cmp name_cmp q (name_of row)) row found))
 
-pub changed_rest : (change : Row → Option Row) (rows : List Row) (o : Overlay) → rest_of (put_changed change rows o) ≡ rest_of o
+pub changed_rest : (change : Row → Option Row) (rows : List Row) (o : Overlay) → rest_of (put_rows_changed change rows o) ≡ rest_of o
 changed_rest change [] o = refl
 changed_rest change (row ∷ rows) o = changed_rest change rows (put_some (change row) o) ∙ some_rest (change row) o
 
 -- ---- the rows of a table
-held_among : (held : Rows) (table : Table) (es : List (Name × Row)) → AllByRecursion (λ (e : Name × Row). get held e.0 ≡ Some e.1) es → AllByRecursion (λ (e : Name × Row). name_of e.1 ≡ e.0) es
+pub held_among : (held : Rows) (table : Table) (es : List (Name × Row)) → AllByRecursion (λ (e : Name × Row). get held e.0 ≡ Some e.1) es → AllByRecursion (λ (e : Name × Row). name_of e.1 ≡ e.0) es
     → AreHeld (get held) (map (λ (e : Name × Row). e.1) (filter (λ (e : Name × Row). is_past table (pos 0) e.0) es))
 held_among held table [] found named = tt
 held_among held table (e ∷ es) found named =
@@ -94,7 +94,7 @@ tied_to : (q : Name) (row : Row) → name_of row ≡ q → eq_by_cmp name_cmp q 
 tied_to q row is = ap (eq_by_cmp name_cmp q) is ∙ ap is_eq (tied_itself names_total q)
 
 -- a row of the table is among its rows
-among : (table : Table) (held : Rows) (q : Name) (row : Row) → AreNamed (get held) → AreChecked (get held) → get held q ≡ Some row → (name_of row).table ≡ table
+pub among : (table : Table) (held : Rows) (q : Name) (row : Row) → AreNamed (get held) → AreChecked (get held) → get held q ≡ Some row → (name_of row).table ≡ table
     → is_some (find (λ (r : Row). eq_by_cmp name_cmp q (name_of r)) (rows_past table (pos 0) held)) ≡ true
 among table held q row named checked is in_table =
     let test : Row → Bool = λ (r : Row). eq_by_cmp name_cmp q (name_of r) in
@@ -107,7 +107,7 @@ among table held q row named checked is in_table =
 
 -- what stands under a name once the rows of a table were changed
 pub changed_under : (table : Table) (change : Row → Option Row) (held : Rows) (o : Overlay) (q : Name) → ChangesTable table change → AreNamed (get held) → AreChecked (get held)
-    → row_over (put_changed change (rows_past table (pos 0) held) o) (get held) q ≡ option_or (option_and_then change (get held q)) (row_over o (get held) q)
+    → row_over (put_rows_changed change (rows_past table (pos 0) held) o) (get held) q ≡ option_or (option_and_then change (get held q)) (row_over o (get held) q)
 changed_under table change held o q changes named checked =
     let x : Option Row = row_over o (get held) q in
     let list : List Row = rows_past table (pos 0) held in

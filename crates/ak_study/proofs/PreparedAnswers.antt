@@ -22,7 +22,7 @@ use Rattle.ak_study.specs.Answers.{answer_put, counts_put, leech_put}
 use Rattle.ak_study.specs.Asking.{IsPrepared}
 use Rattle.ak_study.specs.DayStarts.{HasBegun}
 use Rattle.ak_study.specs.DeckCounts.{counted_row}
-use Rattle.ak_study.specs.RowChanges.{put_changed}
+use Rattle.ak_study.specs.RowChanges.{put_rows_changed}
 use Rattle.ak_study.specs.Siblings.{put_siblings}
 use Rattle.ak_study.specs.declared.answerings.Answering.{Answering}
 use Rattle.ak_study.specs.declared.answers.Prepared.{Prepared}
@@ -36,16 +36,16 @@ prepared_told k at p =
 
 -- ---- the decks that count
 counts_of : (day : Day) (held : Rows) (was : Card) (home : Deck) (o : Overlay) → (not (int_eq was.queue (pos 0)) && not (int_eq was.queue (pos 2))) ≡ false → Some home ≡ deck_of_card held was
-    → counts_put day held was o ≡ put_changed (counted_row day was.queue home) (rows_past tables.Deck (pos 0) held) o
+    → counts_put day held was o ≡ put_rows_changed (counted_row day was.queue home) (rows_past tables.Deck (pos 0) held) o
 counts_of day held was home o counted is =
-    let by : Option Deck → Overlay = λ found. option_map_or (λ (d : Deck). put_changed (counted_row day was.queue d) (rows_past tables.Deck (pos 0) held) o) found o in
+    let by : Option Deck → Overlay = λ found. option_map_or (λ (d : Deck). put_rows_changed (counted_row day was.queue d) (rows_past tables.Deck (pos 0) held) o) found o in
     ap (λ b. if b then o else by (deck_of_card held was)) counted ∙ ap by (sym is)
 
 pub counts_told : (k : Keeping) (day : Day) (was : Card) (home : Deck) (found : Option Deck) (old new : Overlay) → (not (int_eq was.queue (pos 0)) && not (int_eq was.queue (pos 2))) ≡ false
     → found ≡ Some home → WhereTold k (λ h. found ≡ deck_of_card h.rows was)
-    → WhereTold k (λ h. new ≡ put_changed (counted_row day was.queue home) (rows_past tables.Deck (pos 0) h.rows) old) → WhereTold k (λ h. new ≡ counts_put day h.rows was old)
+    → WhereTold k (λ h. new ≡ put_rows_changed (counted_row day was.queue home) (rows_past tables.Deck (pos 0) h.rows) old) → WhereTold k (λ h. new ≡ counts_put day h.rows was old)
 counts_told k day was home found old new counted some =
-    where_told-both k (λ h. found ≡ deck_of_card h.rows was) (λ h. new ≡ put_changed (counted_row day was.queue home) (rows_past tables.Deck (pos 0) h.rows) old) (λ h. new ≡ counts_put day h.rows was old)
+    where_told-both k (λ h. found ≡ deck_of_card h.rows was) (λ h. new ≡ put_rows_changed (counted_row day was.queue home) (rows_past tables.Deck (pos 0) h.rows) old) (λ h. new ≡ counts_put day h.rows was old)
     (λ h is changes. changes ∙ sym (counts_of day h.rows was home old counted (sym some ∙ is)))
 
 -- ---- all that an answer puts

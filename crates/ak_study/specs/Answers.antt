@@ -33,7 +33,7 @@ use Rattle.ak_sched.specs.Answers.{IsAnswer, can_answer}
 use Rattle.ak_study.specs.DayStarts.{OnDay, day_start}
 use Rattle.ak_study.specs.DeckCounts.{counted_row, deck_answered}
 use Rattle.ak_study.specs.LeechTags.{leech_tag, leech_tagged}
-use Rattle.ak_study.specs.RowChanges.{put_changed}
+use Rattle.ak_study.specs.RowChanges.{put_rows_changed}
 use Rattle.ak_study.specs.Siblings.{put_siblings, sibling_after}
 use Rattle.ak_study.specs.declared.answerings.Answering.{Answering}
 use Rattle.ak_study.specs.declared.answers.CardAnswer.{CardAnswer}
@@ -157,7 +157,7 @@ leech_put held a o =
 abbrev pub counts_put : Day → Rows → Card → Overlay → Overlay
 counts_put day held was o =
     if not (int_eq was.queue (pos 0)) && not (int_eq was.queue (pos 2)) then o
-    else option_map_or (λ (home : Deck). put_changed (counted_row day was.queue home) (rows_past tables.Deck (pos 0) held) o) (deck_of_card held was) o
+    else option_map_or (λ (home : Deck). put_rows_changed (counted_row day was.queue home) (rows_past tables.Deck (pos 0) held) o) (deck_of_card held was) o
 
 -- all that an answer changes besides the day's start was put, over what the edit has so far
 abbrev pub answer_put : Day → Rows → Answering → Overlay → Overlay

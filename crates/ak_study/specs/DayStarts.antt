@@ -17,7 +17,7 @@ use Rattle.ak_keep.specs.Keepers.{Keeping, WhereHeld}
 use Rattle.ak_merge.specs.EditBuilding.{unedited, with_conf, with_rows_mapped}
 use Rattle.ak_merge.specs.Edits.{Edit}
 use Rattle.ak_study.specs.CardPlaces.{lies_buried, restored, unburied}
-use Rattle.ak_study.specs.RowChanges.{put_changed}
+use Rattle.ak_study.specs.RowChanges.{put_rows_changed}
 use Rattle.ak_study.specs.declared.day_starts.Begun.{Begun}
 use Rattle.ak_undo.specs.declared.steps.Step.{Step}
 
@@ -81,7 +81,7 @@ back_again (rows.Grave grave) = None
 
 -- all buried cards came back
 abbrev pub all_back : Rows → Overlay → Overlay
-all_back held = put_changed back_again (rows_past tables.Card (pos 0) held)
+all_back held = put_rows_changed back_again (rows_past tables.Card (pos 0) held)
 
 -- the day has begun, over these settings
 abbrev pub begun_over : Begun → Rows → Conf → Overlay → Overlay

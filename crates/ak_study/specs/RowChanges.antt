@@ -9,6 +9,6 @@ abbrev pub put_some : Option Row → Overlay → Overlay
 put_some made o = option_map_or (λ (row : Row). put_over row o) made o
 
 -- what a change makes of each of the rows was put; rows of which it makes nothing stay
-abbrev pub put_changed : (Row → Option Row) → List Row → Overlay → Overlay
-put_changed change [] o = o
-put_changed change (row ∷ rows) o = put_changed change rows (put_some (change row) o)
+abbrev pub put_rows_changed : (Row → Option Row) → List Row → Overlay → Overlay
+put_rows_changed change [] o = o
+put_rows_changed change (row ∷ rows) o = put_rows_changed change rows (put_some (change row) o)

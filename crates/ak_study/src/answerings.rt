@@ -70,8 +70,13 @@ pub(crate) fn answer_card<K: Keeper>(
     })
 }
 
-/// The options of a card, and those that a collection opens with if none are held.
-fn options_for<K: Keeper>(alloc: Global, keeper: &mut K, card: &Card) -> Result<Options, KeepFault>
+/// The options of a card: those of its deck, options 1 if its deck or its options are not held, and those that a collection opens with
+/// if options 1 are not held either.
+pub fn options_for<K: Keeper>(
+    alloc: Global,
+    keeper: &mut K,
+    card: &Card,
+) -> Result<Options, KeepFault>
     ensures reads { ReadsBy K.Lookup keeper.old keeper.new result (λ h options. AreOptionsFor h.rows card.now options) }
     ensures checked { IfOk result IsCheckedOptions }
 {

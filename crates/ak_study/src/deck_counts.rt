@@ -8,7 +8,7 @@ ghost use Rattle.ak_keep.specs.Collections.{rows_past};
 ghost use Rattle.ak_keep.specs.Readings.{ReadsBy};
 ghost use Rattle.ak_study.specs.DeckCounts.{counted, counted_row, counts_for, one_more};
 ghost use Rattle.ak_study.specs.Answers.{counts_put};
-ghost use Rattle.ak_study.specs.RowChanges.{put_changed};
+ghost use Rattle.ak_study.specs.RowChanges.{put_rows_changed};
 
 use crate::row_changes::{RowChange, change_rows};
 use ak_base::{Card, Count, Day, Deck, LAST_COUNT, Memory, Row, Table, is_in_subtree};
@@ -50,7 +50,7 @@ fn count_in<R: Readable>(
     counting: Counting,
 ) -> Result<(), KeepFault>
     ensures reads { ReadsBy R.Lookup from.old from.new result (λ h _.
-        change.new ≡ put_changed (counted_row counting.day counting.queue home) (rows_past tables.Deck (pos 0) h.rows) change.old) }
+        change.new ≡ put_rows_changed (counted_row counting.day counting.queue home) (rows_past tables.Deck (pos 0) h.rows) change.old) }
 {
     let by = CountAnswer { home, counting };
     change_rows(from, change, Table::Deck, &by)

@@ -7,7 +7,7 @@ use Rattle.ak_keep.specs.Collections.{IsId}
 use Rattle.ak_keep.specs.Keepers.{WhereTold}
 use Rattle.ak_deck_paths.specs.Additions.{id_of_last}
 use Rattle.ak_deck_paths.specs.NewDecks.{IsNewDeck}
-use Rattle.ak_deck_paths.proofs.new_decks.new_decks.Given as goal
+use Rattle.ak_deck_paths.proofs.made_decks.new_decks.Given as goal
 
 -- with decks for the other paths from the next name on, the decks so far are those for all paths
 abbrev pub invariant-loop-path : goal.invariant-loop-path

@@ -12,8 +12,9 @@ use ak_edit::DeskFault;
 use ak_keep::Keeper;
 use std::alloc::Global;
 
-/// A new deck for each of the paths, each with the first free id after the one before, refused if there are too few.
-pub(crate) fn new_decks<K: Keeper>(
+/// A new deck for each of the paths, at a moment in milliseconds: each has options 1, and the first free id after the one before, the
+/// first of them from the moment on. It puts nothing, and is refused if there are too few free ids.
+pub fn new_decks<K: Keeper>(
     keeper: &mut K,
     paths: &List<Text>,
     at: i64,

@@ -7,7 +7,7 @@ use Rattle.ak_calls.specs.NewNames.{first_name}
 use Rattle.ak_faults.proofs.Healths.{goes_further, goes_nowhere}
 use Rattle.ak_deck_paths.proofs.MakingDecks.{last_in_range}
 use Rattle.ak_deck_paths.specs.NewDecks.{IsNewDeck}
-use Rattle.ak_deck_paths.proofs.new_decks.new_decks.Goals as goal
+use Rattle.ak_deck_paths.proofs.made_decks.new_decks.Goals as goal
 
 pub loop-path-init : goal.loop-path-init
 loop-path-init g c =
