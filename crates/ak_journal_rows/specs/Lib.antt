@@ -1,0 +1,4 @@
+pub mod Changes
+pub mod Texts
+pub mod Reads
+pub mod Listed
