@@ -100,8 +100,8 @@ EndsLab end all a b =
 
 -- how a command ends with a status. `lab` runs the lines of the input in a lab of its own, and ends with 0, 3, 4, 5 or 8; `init` puts the
 -- opening collection of the next moment; `desk` does the lines of the input; `sync` syncs with the account of its key, and `upload` and
--- `download` send and fetch the whole collection, an upload over a keeper that spares memory or not; `import` takes notes from the input, and
--- `export` writes them; and if there is none, `usage` is printed
+-- `download` send and fetch the whole collection, a sync and an upload over a keeper that spares memory or not; `import` takes notes from the
+-- input, and `export` writes them; and if there is none, `usage` is printed
 abbrev pub EndsBy : Bool → Option Named → ℕ → ProgramOutside → ProgramOutside → Type 0
 EndsBy spares (Some Lab) status a b = (end : ScriptEnd) × (status ≡ status_of end) × EndsLab end (input_lines a.left) a b
 EndsBy spares (Some Init) status a b = (at : ℤ) × (end : CommandEnd)
@@ -110,7 +110,7 @@ EndsBy spares (Some Init) status a b = (at : ℤ) × (end : CommandEnd)
 EndsBy spares (Some Desk) status a b = (end : CommandEnd)
     × EndsDesk end (input_lines a.left) (desk_of a) (desk_of b) a.written b.written × (status ≡ command_status end)
 EndsBy spares (Some (Sync digits)) status a b = (host : HostKey)
-    × (host.digits ≡ digits) × EndsSync host status (sync_of a) (sync_of b) a.written b.written
+    × (host.digits ≡ digits) × EndsSync spares host status (sync_of a) (sync_of b) a.written b.written
 EndsBy spares (Some (Upload digits)) status a b = (host : HostKey)
     × (host.digits ≡ digits) × EndsUpload spares host status (sync_of a) (sync_of b) a.written b.written
 EndsBy spares (Some (Download digits)) status a b = (host : HostKey)

@@ -1,15 +1,19 @@
 -- What the device holds once a finished sync is committed.
 use Rattle.std.specs.FinMap.{get}
+use Rattle.std.specs.List.{list_any}
 use Rattle.std.specs.Option.{option_map}
-use Rattle.std.specs.Prelude.{◌≡◌, ℤ, pos, ◌+ℤ◌, Bool, List, Option, Some, None, IfSome}
+use Rattle.std.specs.Prelude.{◌≡◌, ℤ, pos, ◌+ℤ◌, Bool, true, false, if◌then◌else◌, List, Option, Some, None, IfSome}
 use Rattle.std.proofs.Common.{refl, sym, ap, subst, ◌∙◌}
 use Rattle.std.proofs.lemmas.Option.{same_Some}
 use Rattle.ak_base.specs.declared.heads.Head.{Head}
 use Rattle.ak_client.proofs.Finishing.{ended_head, exchanged}
 use Rattle.ak_client.specs.Endings.{IsEnded, IsGranted}
 use Rattle.ak_client.specs.Syncs.{CommitsHead}
-use Rattle.ak_device.specs.Devices.{IsSettledTo, received}
-use Rattle.ak_exchange.specs.Phases.{IsMet, held_by, holding, marked_at}
+use Rattle.ak_device.proofs.TakingAndSettling.{head_after, tags_if}
+use Rattle.ak_device.specs.Devices.{head_with, received}
+use Rattle.ak_device.specs.Settlings.{is_changes, tags_settled, taken_and_settled}
+use Rattle.ak_exchange.proofs.SentRows.{changes_sent, held_settled}
+use Rattle.ak_exchange.specs.Phases.{IsMet, held_by, holding}
 use Rattle.ak_exchange.specs.declared.envelopes.Met.{Met}
 use Rattle.ak_keep.specs.Collections.{Collection, Holding, with_moments}
 use Rattle.ak_keep.specs.Keepers.{Keeping, WhereTold, committed, moments_set}
@@ -36,84 +40,60 @@ held_then moment schema usn after head is =
       head = option_map (λ (h : Head). record h { moment = moment; schema = schema; usn = usn; last_sync = moment }) o;
     }) is
 
-module _ (c s : Collection) (account : AccountState) (who : Asker) (told : Option Log) (met : Met) (moment : ℤ) (left now : Keeping)
-    (granted : IsGranted c s account who told left moment) (is_met : IsMet c s met)
+module _ (c s : Collection) (account : AccountState) (who : Asker) (asks : List Ask) (told : Option Log) (met : Met) (moment : ℤ) (left now : Keeping)
+    (granted : IsGranted c s account who asks told left moment) (is_met : IsMet c s met)
     (commits : now ≡ committed (moments_set moment met.head.schema (met.meta.usn +ℤ pos 1) moment left)) where
   abbrev came : Received
   came = all_replied s granted.asked
 
-  abbrev settles : (after : Holding) × (left.told ≡ Some (record { current = after; mark = Some (held_by c) }))
-      × IsSettledTo s.head.usn (received s.head.usn (all_replied s granted.asked) (held_by c)) after
-  settles = granted.device.told
+  -- what is held, which took what came and settled what was sent
+  abbrev after : Holding
+  after = taken_and_settled s.head.usn came granted.asked (held_by c)
+
+  -- its tags are settled if changes were sent
+  abbrev head_if : Bool → Head
+  head_if sent = let own = head_with s.head.usn came c.head in if sent then tags_settled s.head.usn own else own
+
+  abbrev device_if : Bool → Collection
+  device_if sent = record { rows = after.rows; head = record (head_if sent) { moment = moment; schema = c.head.schema; usn = s.head.usn +ℤ pos 1; last_sync = moment } }
 
   abbrev device : Collection
-  device = record { rows = settles.0.rows; head = ended_head s.head.usn moment came c.head }
+  device = device_if (list_any is_changes granted.asked)
 
-  left_is : left ≡ record { headed = (marked_at c).headed; told = Some (record { current = settles.0; mark = Some (held_by c) }) }
-  left_is =
-      ap (λ (h : WithMark Bool). record { headed = h; told = left.told }) granted.device.headed
-      ∙ ap (λ (t : Option (WithMark Holding)). record { headed = (marked_at c).headed; told = t }) settles.1
-
-  head_is : settles.0.head ≡ Some (record (ended_head s.head.usn moment came c.head) {
-    moment = c.head.moment;
-    schema = c.head.schema;
-    usn = c.head.usn;
-    last_sync = c.head.last_sync;
-  })
-  head_is = settles.2.head
+  head_is : after.head ≡ Some (head_if (list_any is_changes granted.asked))
+  head_is = head_after s.head.usn granted.asked (received s.head.usn came (held_by c)) ∙ by (list_any is_changes granted.asked)
+    where
+      by : (sent : Bool) → tags_if s.head.usn sent (Some (head_with s.head.usn came c.head)) ≡ Some (head_if sent)
+      by true = refl
+      by false = refl
 
   -- the numbers that are set are those of what was met
-  numbers : record {
-    rows = settles.0.rows;
-    head = Some (record (ended_head s.head.usn moment came c.head) {
-      moment = moment;
-      schema = met.head.schema;
-      usn = met.meta.usn +ℤ pos 1;
-      last_sync = moment;
-    });
-  } ≡ held_by device
-  numbers =
-      ap (λ (schema : ℤ). record {
-        rows = settles.0.rows;
-        head = Some (record (ended_head s.head.usn moment came c.head) {
-          moment = moment;
-          schema = schema;
-          usn = met.meta.usn +ℤ pos 1;
-          last_sync = moment;
-        });
-      }) (ap (λ (h : Head). h.schema) is_met.head)
-      ∙ ap (λ (usn : ℤ). record {
-        rows = settles.0.rows;
-        head = Some (record (ended_head s.head.usn moment came c.head) {
-          moment = moment;
-          schema = c.head.schema;
-          usn = usn +ℤ pos 1;
-          last_sync = moment;
-        });
-      }) is_met.usn
+  abbrev numbered : ℤ → ℤ → Holding
+  numbered schema usn = record {
+    rows = after.rows;
+    head = Some (record (head_if (list_any is_changes granted.asked)) { moment = moment; schema = schema; usn = usn +ℤ pos 1; last_sync = moment });
+  }
+
+  numbers : numbered met.head.schema met.meta.usn ≡ held_by device
+  numbers = ap (λ (h : Head). numbered h.schema met.meta.usn) is_met.head ∙ ap (numbered c.head.schema) is_met.usn
 
   holds : now ≡ holding device
   holds =
       commits
-      ∙ ap (λ (k : Keeping). committed (moments_set moment met.head.schema (met.meta.usn +ℤ pos 1) moment k)) left_is
+      ∙ ap (λ (k : Keeping). committed (moments_set moment met.head.schema (met.meta.usn +ℤ pos 1) moment k)) granted.device
       ∙ ap (λ (h : Holding). record { headed = (holding c).headed; told = Some (record { current = h; mark = None }) })
-      (held_then moment met.head.schema (met.meta.usn +ℤ pos 1) settles.0
-      (record (ended_head s.head.usn moment came c.head) {
-        moment = c.head.moment;
-        schema = c.head.schema;
-        usn = c.head.usn;
-        last_sync = c.head.last_sync;
-      }) head_is ∙ numbers)
+      (held_then moment met.head.schema (met.meta.usn +ℤ pos 1) after (head_if (list_any is_changes granted.asked)) head_is ∙ numbers)
 
   half : MaySync c s → HoldsJoin c s granted.after → AreExchanged c s device granted.after
   half may joined =
       let whole : granted.asked ≡ planned_check c s = (granted.passed may).asked_is in
-      subst (λ (asked : List Ask). AreExchanged c s (record { rows = settles.0.rows; head = ended_head s.head.usn moment (all_replied s asked) c.head }) granted.after)
-      (sym whole)
-      (exchanged c s granted.after may settles.0.rows moment (sym granted.moment_is)
-      (λ name. settles.2.rows name
-      ∙ ap (λ (asked : List Ask). option_map (settled s.head.usn) (get (all_taken Device s.head.usn (all_replied s asked).rows c.rows) name)) whole)
-      joined)
+      let sent : list_any is_changes granted.asked ≡ true = ap (list_any is_changes) whole ∙ changes_sent c s in
+      subst (λ (it : Bool). AreExchanged c s (device_if it) granted.after) (sym sent)
+      (subst (λ (asked : List Ask). AreExchanged c s (record { rows = after.rows; head = ended_head s.head.usn moment (all_replied s asked) c.head }) granted.after) (sym whole)
+      (exchanged c s granted.after may after.rows moment (sym granted.moment_is)
+      (λ name. subst (λ (asked : List Ask). get (taken_and_settled s.head.usn (all_replied s asked) asked (held_by c)).rows name
+      ≡ option_map (settled s.head.usn) (get (all_taken Device s.head.usn (all_replied s (planned_check c s)).rows c.rows) name)) (sym whole) ((held_settled c s may).rows name))
+      joined))
 
   pub ended : IsEnded c s account who told now
   ended = record {

@@ -2,8 +2,7 @@
 use Rattle.std.specs.List.{AllByRecursion}
 use Rattle.std.specs.Prelude.{◌≡◌, ℕ, ◌+◌, ℤ, true, false, ◌⊎◌, List, [], ◌∷◌, ◌++◌, length}
 use Rattle.std.proofs.Common.{sym, ap, subst, ◌∙◌, inl, inr, append_assoc, arith}
-use Rattle.ak_client.specs.Endings.{ArePlain}
-use Rattle.ak_client.specs.Syncs.{CommitsAtMostOnce, StaysOnce, world_at}
+use Rattle.ak_client.specs.Syncs.{ArePlain, CommitsAtMostOnce, StaysOnce, world_at}
 use Rattle.ak_exchange.proofs.Tried.{requests_append}
 use Rattle.ak_keep.specs.Collections.{Collection}
 use Rattle.ak_merge.proofs.ExchangeLaws.{server_half_joins}

@@ -1,6 +1,6 @@
 -- What a whole sync asks and leaves.
 use Rattle.std.specs.List.{AllByRecursion}
-use Rattle.std.specs.Prelude.{◌≡◌, ℤ, pos, ◌+◌, ◌/◌, ◌≤◌, false, List, [], ◌∷◌, ◌++◌, length, Option, Some, None, Result, Ok, Err, IfOk}
+use Rattle.std.specs.Prelude.{◌≡◌, ℤ, pos, ◌+◌, ◌/◌, ◌≤◌, Bool, false, List, [], ◌∷◌, ◌++◌, length, Option, Some, None, Result, Ok, Err, IfOk}
 use Rattle.std.proofs.Common.{refl, sym, ap, subst, ◌∙◌, append_assoc, inl, inr, arith}
 use Rattle.std.proofs.lemmas.List.{length-append}
 use Rattle.std.proofs.lemmas.Option.{same_Some}
@@ -17,7 +17,7 @@ use Rattle.ak_client.proofs.Unchanging.{found_unchanged, same_content}
 use Rattle.ak_client.specs.Endings.{Ended, Ends, IsEnded}
 use Rattle.ak_client.specs.Greetings.{EndsGreeting, GreetsTold, IsGreeting, IsMetBy, IsMetOver, IsReady, clock_stop, meta_of}
 use Rattle.ak_client.specs.Outcomes.{is_told_by_meta, outcome_at}
-use Rattle.ak_client.specs.Syncs.{CommitsAtMostOnce, EndsAt, IsCommittedIn, IsFairEnd, IsShown, IsSync, IsSyncEnded, IsSyncFinished, MayBegin, StaysOnce, Synced, meta_tried, world_at}
+use Rattle.ak_client.specs.Syncs.{CommitsAtMostOnce, EndsAt, IsCommittedIn, IsFairEnd, IsShown, IsSync, IsSyncEnded, IsSyncFinished, IsSyncSparing, LacksMemoryEarly, MayBegin, StaysOnce, Synced, meta_tried, world_at}
 use Rattle.ak_client.specs.declared.outcomes.Outcome.{Outcome}
 use Rattle.ak_client.specs.declared.outcomes.Outcome.TheVariants as outcomes
 use Rattle.ak_exchange.proofs.Replying.{requests_count}
@@ -51,6 +51,7 @@ use Rattle.ak_protocol.specs.Logs.{Commit, Event, World, Log, IsTimely, commits_
 use Rattle.ak_protocol.specs.Syncs.{IsUnderWay, IsUnused}
 use Rattle.ak_session.proofs.PlanLaws.{plans_are_short}
 use Rattle.ak_session.specs.Plans.{Asker, planned, requests_from}
+use Rattle.ak_session.specs.Requests.{asks_commit}
 use Rattle.ak_session.specs.Sessions.{MaySync}
 use Rattle.ak_session.specs.Slices.{wanted_graves, wanted_in_chunks}
 use Rattle.ak_wires.specs.Wires.{WireState}
@@ -146,6 +147,16 @@ unfolding unmet
 unmet_ended ids stop before left h0 h1 w0 w1 old_moments new_moments it good greets = record {
   sync = unmet ids stop before left h0 h1 w0 w1 old_moments new_moments it good greets;
   because = unmet_because ids h0 h1 w0 w1 old_moments new_moments before stop it (pos 0);
+}
+
+-- what ended it at its meta asked no finish
+pub unmet_sparing : (spares : Bool) (ids : Ids) (stop : Stop) (before left : Keeping) (h0 h1 : Health) (w0 w1 : WireState) (old_moments new_moments : Option (List ℤ))
+    → IsGreeting ids h0 h1 w0 w1 old_moments new_moments before (Err stop) → shows_bad_check stop ≡ false
+    → GreetsTold ids w0.log w1.log (Err stop) → IsSyncSparing spares ids before left h0 h1 w0 w1 old_moments (outcome_at stop)
+unfolding unmet unmet_ended
+unmet_sparing spares ids stop before left h0 h1 w0 w1 old_moments new_moments it good greets = record {
+  ended = unmet_ended ids stop before left h0 h1 w0 w1 old_moments new_moments it good greets;
+  memory = λ spared out. inl (refl, tt);
 }
 
 -- ---- a sync that went on
@@ -292,10 +303,10 @@ ends_after first tries wire outcomes.TooManyChunks ends = many_then (first ∷ [
 ends_after first tries wire outcomes.Keep ends = tt
 ends_after first tries wire outcomes.Memory ends = tt
 
-pub went_on : (ids : Ids) (met : Met) (before kept left : Keeping) (h0 h1 h2 : Health) (w0 w1 w2 : WireState) (old_moments new_moments : Option (List ℤ)) (read : Keeping)
+pub went_on : (spares : Bool) (ids : Ids) (met : Met) (before kept left : Keeping) (h0 h1 h2 : Health) (w0 w1 w2 : WireState) (old_moments new_moments : Option (List ℤ)) (read : Keeping)
     (outcome : Outcome) → IsGreeting ids h0 h1 w0 w1 old_moments new_moments read (Ok met) → GreetsTold ids w0.log w1.log (Ok met) → WhereTold before (λ h. IsReady h met)
-    → IsRightlyKnown before → kept ≡ before → Ends ids met kept left h1 h2 w1 w2 outcome → IsSync ids before left h0 h2 w0 w2 outcome
-went_on ids met before kept left h0 h1 h2 w0 w1 w2 old_moments new_moments read outcome it greets ready known same ends =
+    → IsRightlyKnown before → kept ≡ before → Ends spares ids met kept left h1 h2 w1 w2 outcome → IsSync ids before left h0 h2 w0 w2 outcome
+went_on spares ids met before kept left h0 h1 h2 w0 w1 w2 old_moments new_moments read outcome it greets ready known same ends =
     let first_tried : AreTried (meta_of ids ∷ []) (it.heard.answer ∷ []) h0 h1 w0 w1 = asked_meta ids h0 h1 w0 w1 it.answer it.heard in
     let list : List Request = requests_from (asker ids) met.meta.moment 1 (asks_in ends.tries) in
     let all_tried : AreTried (meta_of ids ∷ list) (it.heard.answer ∷ answers_in ends.tries) h0 h2 w0 w2 =
@@ -338,12 +349,28 @@ went_on ids met before kept left h0 h1 h2 w0 w1 w2 old_moments new_moments read 
     }
 
 -- and why it ended
-pub met_ended : (ids : Ids) (met : Met) (before kept left : Keeping) (h0 h1 h2 : Health) (w0 w1 w2 : WireState) (old_moments new_moments : Option (List ℤ))
+pub met_ended : (spares : Bool) (ids : Ids) (met : Met) (before kept left : Keeping) (h0 h1 h2 : Health) (w0 w1 w2 : WireState) (old_moments new_moments : Option (List ℤ))
     (outcome : Outcome) → IsGreeting ids h0 h1 w0 w1 old_moments new_moments before (Ok met) → GreetsTold ids w0.log w1.log (Ok met)
     → WhereTold before (λ h. IsReady h met) → (at : ℤ) × GivesNext old_moments new_moments at × (clock_stop met.meta (second_of at) ≡ None)
-    → IsRightlyKnown before → kept ≡ before → Ends ids met kept left h1 h2 w1 w2 outcome → IsSyncEnded ids before left h0 h2 w0 w2 old_moments outcome
+    → IsRightlyKnown before → kept ≡ before → Ends spares ids met kept left h1 h2 w1 w2 outcome → IsSyncEnded ids before left h0 h2 w0 w2 old_moments outcome
 unfolding went_on
-met_ended ids met before kept left h0 h1 h2 w0 w1 w2 old_moments new_moments outcome it greets ready clocks known same ends = record {
-  sync = went_on ids met before kept left h0 h1 h2 w0 w1 w2 old_moments new_moments before outcome it greets ready known same ends;
+met_ended spares ids met before kept left h0 h1 h2 w0 w1 w2 old_moments new_moments outcome it greets ready clocks known same ends = record {
+  sync = went_on spares ids met before kept left h0 h1 h2 w0 w1 w2 old_moments new_moments before outcome it greets ready known same ends;
   because = met_because ids h0 h1 w0 w1 old_moments new_moments before met ends.tries outcome it ready clocks ends.ends.2;
+}
+
+-- with the meta before it
+early_after : (first : TriedAsk) (tries : List TriedAsk) → asks_commit first.ask ≡ false → LacksMemoryEarly tries → LacksMemoryEarly (first ∷ tries)
+early_after first tries plain (inl more) = inl (plain, more)
+early_after first tries plain (inr ends) = inr (ends_then (first ∷ []) tries unanswered.Memory ends)
+
+-- and where it may have run out of memory
+pub met_sparing : (spares : Bool) (ids : Ids) (met : Met) (before kept left : Keeping) (h0 h1 h2 : Health) (w0 w1 w2 : WireState) (old_moments new_moments : Option (List ℤ))
+    (outcome : Outcome) → IsGreeting ids h0 h1 w0 w1 old_moments new_moments before (Ok met) → GreetsTold ids w0.log w1.log (Ok met)
+    → WhereTold before (λ h. IsReady h met) → (at : ℤ) × GivesNext old_moments new_moments at × (clock_stop met.meta (second_of at) ≡ None)
+    → IsRightlyKnown before → kept ≡ before → Ends spares ids met kept left h1 h2 w1 w2 outcome → IsSyncSparing spares ids before left h0 h2 w0 w2 old_moments outcome
+unfolding went_on met_ended
+met_sparing spares ids met before kept left h0 h1 h2 w0 w1 w2 old_moments new_moments outcome it greets ready clocks known same ends = record {
+  ended = met_ended spares ids met before kept left h0 h1 h2 w0 w1 w2 old_moments new_moments outcome it greets ready clocks known same ends;
+  memory = λ spared out. early_after (meta_tried it.heard.answer) ends.tries refl (ends.ends.3 spared out);
 }

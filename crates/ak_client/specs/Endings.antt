@@ -1,13 +1,13 @@
 -- What a sync that goes on after its meta asks and leaves.
 use Rattle.std.specs.List.{AllByRecursion}
-use Rattle.std.specs.Prelude.{◌≡◌, ℕ, ℤ, pos, ◌+◌, ◌≤◌, ◌+ℤ◌, true, false, List, [], ◌∷◌, ◌++◌, Option, Some, Result, IfOk, IfErr}
+use Rattle.std.specs.Prelude.{◌≡◌, ℕ, ℤ, pos, ◌+◌, ◌≤◌, ◌+ℤ◌, Bool, true, false, List, [], ◌∷◌, ◌++◌, Option, Some, Result, IfOk, IfErr, ◌⊎◌}
 use Rattle.ak_client.specs.Outcomes.{is_told_by_meta, outcome_at}
-use Rattle.ak_client.specs.Syncs.{EndsAt, IsFairEnd, ends_before_finish, fewest_moments, most_moments, world_at}
+use Rattle.ak_client.specs.Syncs.{ArePlain, EndsAt, IsFairEnd, LacksMemoryEarly, ends_before_finish, fewest_moments, most_moments, world_at}
 use Rattle.ak_client.specs.declared.outcomes.Outcome.{Outcome}
 use Rattle.ak_client.specs.declared.outcomes.Outcome.TheVariants as outcomes
-use Rattle.ak_device.specs.Devices.{Settles, received}
+use Rattle.ak_device.specs.Settlings.{taken_and_settled}
 use Rattle.ak_exchange.specs.Asked.{AreFew, AreTried, TriedAsk, answers_in, asker, asks_in}
-use Rattle.ak_exchange.specs.Grants.{AllGranted, AllGrantedButLast, AreGranted, SendsRows, StopsFor}
+use Rattle.ak_exchange.specs.Grants.{AllGranted, AllGrantedButLast, AreGranted, SendsRows, StopsFor, StopsUnanswered}
 use Rattle.ak_exchange.specs.Phases.{AreGraveRequests, HasPassedCheck, IsFairStop, IsMet, IsReached, holding, marked_at}
 use Rattle.ak_exchange.specs.Stops.{shows_bad_check}
 use Rattle.ak_exchange.specs.declared.envelopes.Ids.{Ids}
@@ -21,11 +21,11 @@ use Rattle.ak_merge.specs.Holdings.{row_under}
 use Rattle.ak_merge.specs.Joins.{joined_under}
 use Rattle.ak_merge.specs.Soundness.{IsSound}
 use Rattle.ak_messages.specs.declared.requests.Ask.{Ask}
+use Rattle.ak_messages.specs.declared.requests.Ask.TheVariants.{Finish}
 use Rattle.ak_protocol.specs.Accounts.{AccountState}
 use Rattle.ak_protocol.specs.Logs.{Log, commits_of}
 use Rattle.ak_session.specs.Plans.{Asker, planned, requests_from}
 use Rattle.ak_session.specs.Replies.{all_replied}
-use Rattle.ak_session.specs.Requests.{asks_commit}
 use Rattle.ak_session.specs.Sessions.{MaySync}
 use Rattle.ak_wires.specs.Wires.{WireState}
 
@@ -35,9 +35,9 @@ pub record IsOfGreeting (stop : Stop) : Type 0 where
   pub most : 1 ≤ most_moments (outcome_at stop)
   pub good : shows_bad_check stop ≡ false
 
--- none of these commits
-abbrev pub ArePlain : List Ask → Type 0
-ArePlain asks = AllByRecursion (λ (ask : Ask). asks_commit ask ≡ false) asks
+-- a sync stopped so before it asked its finish, or because what it asked last was not granted
+abbrev pub StopsBeforeCommit : List TriedAsk → Stop → Type 0
+StopsBeforeCommit tries stop = ArePlain (asks_in tries) ⊎ StopsUnanswered tries stop
 
 -- what is asked after a meta of a wire, whatever keeper and wire are: each request is tried at most 3 times, there are few, each but the last
 -- was granted, and this holds of them. Of the device's c and what was committed as s, which the meta told, that holds then
@@ -69,29 +69,31 @@ pub record HasOneCommit (s after : Collection) (account : AccountState) (who : A
       ≡ record { key = who.session.0; before = s; after = after } ∷ []
 
 -- ---- up to the finish
--- a finish was granted: the session committed at this moment; and the device, which is marked at c, took what came and settled what it sent
-pub record IsGranted (c s : Collection) (account : AccountState) (who : Asker) (told : Option Log) (left : Keeping)
-    (moment : ℤ) : Type 0 where
+-- these were asked, the finish as the last one, which was granted: the session committed at this moment; and the device, which is marked at c,
+-- took what came and settled what it sent before
+pub record IsGranted (c s : Collection) (account : AccountState) (who : Asker) (asks : List Ask) (told : Option Log)
+    (left : Keeping) (moment : ℤ) : Type 0 where
   pub after : Collection
   pub committed : HasOneCommit s after account who told
   pub moment_is : moment ≡ after.head.moment
   pub asked : List Ask
+  pub asks_are : asks ≡ asked ++ Finish ∷ []
   pub passed : MaySync c s → HasPassedCheck c s asked
-  pub device : Settles s.head.usn (changed (received s.head.usn (all_replied s asked)) (marked_at c)) left
+  pub device : left ≡ changed (taken_and_settled s.head.usn (all_replied s asked) asked) (marked_at c)
 
 -- a sync asked these, up to its finish: where it is left, and what a granted finish leaves
 pub record Exchanged (c s : Collection) (account : AccountState) (who : Asker) (asks : List Ask) (told : Option Log)
     (left : Keeping) (result : Result ℤ Stop) : Type 0 where
   pub shown : IsShownAfter c s account who asks told
   pub early : IfErr result (λ (stop : Stop). ends_before_finish (outcome_at stop) ≡ true → ArePlain asks)
-  pub granted : IfOk result (λ (moment : ℤ). IsGranted c s account who told left moment)
+  pub granted : IfOk result (λ (moment : ℤ). IsGranted c s account who asks told left moment)
   pub fair : IfErr result (IsFairStop c s)
 
 -- the same from a marked keeper on
 abbrev pub ExchangesAll : Ids → Met → Keeping → Keeping → Health → Health → WireState → WireState → Result ℤ Stop → Type 0
 ExchangesAll ids met before left health_before health_now old now result =
     AsksAfter ids met before health_before health_now old now
-    (λ (tries : List TriedAsk). AreGranted tries result × IfErr result (StopsFor tries now))
+    (λ (tries : List TriedAsk). AreGranted tries result × IfErr result (StopsFor tries now) × IfErr result (StopsBeforeCommit tries))
     (λ (c s : Collection) (account : AccountState) (asks : List Ask). before ≡ marked_at c
     → Exchanged c s account (asker ids) asks now.log left result)
 
@@ -118,11 +120,11 @@ pub record Ended (c s : Collection) (account : AccountState) (who : Asker) (asks
   pub finished : outcome ≡ outcomes.Finished → IsEnded c s account who told left
   pub fair : MaySync c s → IsFairEnd c s outcome
 
--- the same from a keeper on that is not marked
-abbrev pub Ends : Ids → Met → Keeping → Keeping → Health → Health → WireState → WireState → Outcome → Type 0
-Ends ids met before left health_before health_now old now outcome =
+-- the same from a keeper on that is not marked, and spares memory or not
+abbrev pub Ends : Bool → Ids → Met → Keeping → Keeping → Health → Health → WireState → WireState → Outcome → Type 0
+Ends spares ids met before left health_before health_now old now outcome =
     AsksAfter ids met before health_before health_now old now
     (λ (tries : List TriedAsk). (outcome ≡ outcomes.Finished → AllGranted tries) × EndsAt tries now outcome
-    × (is_told_by_meta outcome ≡ false))
+    × (is_told_by_meta outcome ≡ false) × (spares ≡ true → outcome ≡ outcomes.Memory → LacksMemoryEarly tries))
     (λ (c s : Collection) (account : AccountState) (asks : List Ask). before ≡ holding c
     → Ended c s account (asker ids) asks now.log left outcome)

@@ -2,7 +2,7 @@
 use Rattle.std.specs.Prelude.{◌≡◌, ◌≢◌, ◌≤◌, ℕ, ℤ, Bool, true, false, Option, Some, Result, Ok, Err, ◌⊎◌}
 use Rattle.ak_client.specs.declared.outcomes.Outcome.{Outcome}
 use Rattle.ak_client.specs.declared.outcomes.Outcome.TheVariants as outcomes
-use Rattle.ak_exchange.specs.Stops.{keep_stop}
+use Rattle.ak_exchange.specs.Stops.{keep_stop, shows_bad_check}
 use Rattle.ak_exchange.specs.declared.stops.Stop.{Stop}
 use Rattle.ak_exchange.specs.declared.stops.Stop.TheVariants as stops
 use Rattle.ak_faults.specs.Causes.{GoesOn, Health, Rose}
@@ -33,9 +33,10 @@ abbrev pub outcome_of : Result (Unit {0}) Stop → Outcome
 outcome_of (Ok done) = outcomes.Finished
 outcome_of (Err stop) = outcome_at stop
 
--- a sync that is stopped so ends for that reason, or because the keeper refused what was left to do
+-- a sync that is stopped so ends for that reason; or, after a bad sanity check, because the keeper refused what was left to do
 abbrev pub EndsFor : Stop → Result (Unit {0}) Stop → Type 0
-EndsFor stop result = (result ≡ Err stop) ⊎ ((fault : KeepFault) × (result ≡ Err (keep_stop fault)))
+EndsFor stop result = (result ≡ Err stop)
+    ⊎ ((fault : KeepFault) × (shows_bad_check stop ≡ true) × (result ≡ Err (keep_stop fault)))
 
 -- an outcome comes only if the count of faults of an end to the outside rose meanwhile, and never of an end that is calm
 pub record HasOutcomeCause (outcome : Outcome) (before now : Health) (result : Outcome) : Type 0 where

@@ -24,8 +24,9 @@ LeadsTo pulled pushed others from to met before after was now =
 
 -- the graves that were not sent yet and then the changes led from one state to the next
 pub record ExchangesChanges (met : Met) (before after : Keeping) (was now : Talk) : Type 0 where
+  pub settled : Keeping
   pub mid : Talk
   pub graves : ℕ
-  pub few : AreGraveRequests before graves
-  pub sent : LeadsTo 0 0 graves (at_end_of (λ c s. planned_start c)) (at_end_of planned_graves) met before before was mid
-  pub exchanged : LeadsTo 0 0 1 (at_end_of planned_graves) (at_end_of planned_changes) met before after mid now
+  pub graves_most : AreGraveRequests before graves
+  pub sent : LeadsTo 0 0 graves (at_end_of (λ c s. planned_start c)) (at_end_of planned_graves) met before settled was mid
+  pub exchanged : LeadsTo 0 0 1 (at_end_of planned_graves) (at_end_of planned_changes) met settled after mid now

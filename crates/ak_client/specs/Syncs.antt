@@ -36,6 +36,7 @@ use Rattle.ak_protocol.specs.Logs.{Event, Commit, World, Log, IsTimely, with_gro
 use Rattle.ak_protocol.specs.Sessions.{IsOwnOrOther}
 use Rattle.ak_protocol.specs.Syncs.{IsUnderWay, IsUnused, world_of}
 use Rattle.ak_session.specs.Plans.{Asker, planned, requests_from}
+use Rattle.ak_session.specs.Requests.{asks_commit}
 use Rattle.ak_session.specs.Slices.{wanted_graves, wanted_in_chunks}
 use Rattle.ak_wires.specs.Forms.{meta_in}
 use Rattle.ak_wires.specs.Wires.{WireState}
@@ -280,6 +281,22 @@ pub record IsSyncEnded (ids : Ids) (before left : Keeping) (health_before health
     (to_come_before : Option (List ℤ)) (outcome : Outcome) : Type 0 where
   pub sync : IsSync ids before left health_before health_now old now outcome
   pub because : EndsBecause sync.meta sync.moment sync.tries before to_come_before outcome
+
+-- ---- where it may run out of memory
+-- none of these commits, so no finish is among them
+abbrev pub ArePlain : List Ask → Type 0
+ArePlain asks = AllByRecursion (λ (ask : Ask). asks_commit ask ≡ false) asks
+
+-- no finish was tried; or the last call of the wire answered that it ran out of memory
+abbrev pub LacksMemoryEarly : List TriedAsk → Type 0
+LacksMemoryEarly tries = ArePlain (asks_in tries) ⊎ EndsUnanswered tries unanswered.Memory
+
+-- a sync, and why it ended, over a keeper that spares memory or not. If it does, the sync runs out of memory only before it asks its finish,
+-- or in a call of the wire
+pub record IsSyncSparing (spares : Bool) (ids : Ids) (before left : Keeping) (health_before health_now : Health) (old now : WireState)
+    (to_come_before : Option (List ℤ)) (outcome : Outcome) : Type 0 where
+  pub ended : IsSyncEnded ids before left health_before health_now old now to_come_before outcome
+  pub memory : spares ≡ true → outcome ≡ outcomes.Memory → LacksMemoryEarly (meta_tried ended.sync.meta ∷ ended.sync.tries)
 
 -- ---- what it takes of its clock
 -- the moment that a clock gives once it gave so many others, and what it has still to give then

@@ -13,7 +13,7 @@ ghost use Rattle.ak_session.specs.Plans.{planned_changes, planned_chunks, planne
 use crate::greetings::greet;
 use crate::outcomes::{Outcome, outcome_at, outcome_of};
 use crate::syncs::after_stop;
-use ak_device::{commit_at, settle};
+use ak_device::commit_at;
 use ak_exchange::{
     Envelopes, Ids, Met, Stop, compare, exchange_changes, finish, pull, push, send_graves, start,
 };
@@ -49,7 +49,7 @@ pub struct Started<'a, K: Keeper, W: Wire> {
     pub met: Met,
 }
 
-/// It sent its graves, and both sides gave the other their changes.
+/// It sent its graves, and both sides gave the other their changes. What it sent is settled.
 pub struct Exchanged<'a, K: Keeper, W: Wire> {
     pub alloc: Global,
     pub keeper: &'a mut K,
@@ -67,7 +67,7 @@ pub struct Pulled<'a, K: Keeper, W: Wire> {
     pub met: Met,
 }
 
-/// It sent its own.
+/// It sent its own, and settled them.
 pub struct Pushed<'a, K: Keeper, W: Wire> {
     pub alloc: Global,
     pub keeper: &'a mut K,
@@ -221,14 +221,12 @@ impl<'a, K: Keeper, W: Wire> Greeted<'a, K, W> {
 }
 
 impl<'a, K: Keeper, W: Wire> Started<'a, K, W> {
-    /// Sends the graves that were not sent yet, and exchanges the changes.
+    /// Sends the graves that were not sent yet, and exchanges the changes. What it sends is settled once its request was granted.
     pub fn exchange(self) -> Result<Exchanged<'a, K, W>, Outcome>
         requires in_sync { IsInSync (K.keeping self.keeper.now) self.met }
         ensures in_sync { IfOk result (λ next. IsInSync (K.keeping next.keeper.now) next.met) }
         ensures mark { IfOk result (λ next. back (K.keeping next.keeper.now) ≡ back (K.keeping self.entry.keeper.now)) }
         ensures met { IfOk result (λ next. next.met ≡ self.entry.met) }
-        ensures took { IfOk result (λ next.
-            HasReceived next.met.meta.usn (K.keeping self.entry.keeper.now) (K.keeping next.keeper.now)) }
         ensures leads { IfOk result (λ next. ExchangesChanges next.met (K.keeping self.entry.keeper.now)
             (K.keeping next.keeper.now)
             (record {
@@ -334,13 +332,12 @@ impl<'a, K: Keeper, W: Wire> Exchanged<'a, K, W> {
 }
 
 impl<'a, K: Keeper, W: Wire> Pulled<'a, K, W> {
-    /// Sends the rows that were not sent yet, chunk by chunk.
+    /// Sends the rows that were not sent yet, chunk by chunk, and settles those of each chunk.
     pub fn push(self) -> Result<Pushed<'a, K, W>, Outcome>
         requires in_sync { IsInSync (K.keeping self.keeper.now) self.met }
         ensures in_sync { IfOk result (λ next. IsInSync (K.keeping next.keeper.now) next.met) }
         ensures mark { IfOk result (λ next. back (K.keeping next.keeper.now) ≡ back (K.keeping self.entry.keeper.now)) }
         ensures met { IfOk result (λ next. next.met ≡ self.entry.met) }
-        ensures same { IfOk result (λ next. (K.keeping next.keeper.now) ≡ (K.keeping self.entry.keeper.now)) }
         ensures leads { IfOk result (λ next. LeadsTo 0 39_999 1 (at_end_of planned_chunks) (at_end_of planned_pushes) next.met
             (K.keeping self.entry.keeper.now)
             (K.keeping next.keeper.now)
@@ -446,7 +443,7 @@ impl<'a, K: Keeper, W: Wire> Pushed<'a, K, W> {
 }
 
 impl<'a, K: Keeper, W: Wire> Checked<'a, K, W> {
-    /// Settles what was sent, asks the finish, and commits.
+    /// Asks the finish, and commits.
     pub fn finish(self) -> Outcome
         requires in_sync { IsInSync (K.keeping self.keeper.now) self.met }
     {
@@ -457,7 +454,7 @@ impl<'a, K: Keeper, W: Wire> Checked<'a, K, W> {
             mut envelopes,
             met,
         } = self;
-        match settle_and_finish(keeper, wire, &mut envelopes, &met) {
+        match finish(wire, &mut envelopes) {
             Ok(moment) => outcome_of(commit_synced(keeper, moment, &met)),
             Err(stop) => {
                 keeper.back();
@@ -495,26 +492,10 @@ fn send_graves_and_changes<K: Keeper, W: Wire>(
         (record { health = W.health wire.old; wire = W.state wire.old; envelopes = envelopes.old })
         (record { health = W.health wire.new; wire = W.state wire.new; envelopes = envelopes.new })) }
     ensures stays { IsMarkedAt (back (K.keeping keeper.old)) (K.keeping keeper.new) }
-    ensures took { OnOk result (HasReceived met.now.meta.usn (K.keeping keeper.old) (K.keeping keeper.new)) }
+    ensures held { OnOk result ((K.keeping keeper.new).headed.current ≡ true) }
 {
     send_graves(alloc, keeper, wire, envelopes, met)?;
     exchange_changes(alloc, keeper, wire, envelopes, met)
-}
-
-/// Settles what was sent, and asks the finish.
-fn settle_and_finish<K: Keeper, W: Wire>(
-    keeper: &mut K,
-    wire: &mut W,
-    envelopes: &mut Envelopes,
-    met: &Met,
-) -> Result<i64, Stop>
-    requires in_sync { IsInSync (K.keeping keeper.old) met.now }
-    ensures stays { IsMarkedAt (back (K.keeping keeper.old)) (K.keeping keeper.new) }
-    ensures held { OnOk result ((K.keeping keeper.new).headed.current ≡ true) }
-    ensures moment { IfOk result IsMoment }
-{
-    settle(keeper, met.meta.usn)?;
-    finish(wire, envelopes)
 }
 
 /// Commits what was taken and settled, at the moment that the server committed at.

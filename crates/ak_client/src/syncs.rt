@@ -3,7 +3,7 @@ ghost use Rattle.ak_base.specs.Heads.{IsHeadInRange, IsMoment};
 ghost use Rattle.ak_base.specs.Limits.{last_head_usn};
 ghost use Rattle.ak_client.specs.Endings.{Ends, ExchangesAll};
 ghost use Rattle.ak_client.specs.Outcomes.{EndsFor, HasLostThrice, HasOutcomeCause, ShowsRefusal, outcome_of};
-ghost use Rattle.ak_client.specs.Syncs.{IsSync, IsSyncEnded, KeepsDevice, TakesMoments};
+ghost use Rattle.ak_client.specs.Syncs.{IsSync, IsSyncEnded, IsSyncSparing, KeepsDevice, TakesMoments};
 ghost use Rattle.ak_client.specs.declared.outcomes.Outcome.TheVariants as outcomes;
 ghost use Rattle.ak_exchange.specs.Stops.{is_keep};
 ghost use Rattle.ak_exchange.specs.declared.stops.Stop.TheVariants as stops;
@@ -41,6 +41,10 @@ pub fn sync_over<K: Keeper, W: Wire, C: Clock>(
     // And why it ended: by what its meta said and the moment of the clock then, in the order of the tests.
     ensures ended { IsSyncEnded ids (K.keeping keeper.old) (K.keeping keeper.new) (W.health wire.old) (W.health wire.new)
         (W.state wire.old) (W.state wire.new) (C.to_come clock.old) result }
+
+    // Over a keeper that spares memory it runs out of memory only before it asks its finish, or in a call of the wire.
+    ensures spares { IsSyncSparing K.spares_memory ids (K.keeping keeper.old) (K.keeping keeper.new)
+        (W.health wire.old) (W.health wire.new) (W.state wire.old) (W.state wire.new) (C.to_come clock.old) result }
 
     // If it is not finished, the device is as it was; after a bad sanity check alone both moments have risen, to the second
     // moment that it takes of the clock.
@@ -83,8 +87,8 @@ fn sync_device<K: Keeper, W: Wire, C: Clock>(
 ) -> Result<(), Stop>
     requires unmarked { is_marked (K.keeping keeper.old) ≡ false }
     requires held { (K.keeping keeper.old).headed.current ≡ true }
-    ensures ended { IsSyncEnded ids (K.keeping keeper.old) (K.keeping keeper.new) (W.health wire.old) (W.health wire.new)
-        (W.state wire.old) (W.state wire.new) (C.to_come clock.old) (outcome_of result) }
+    ensures spares { IsSyncSparing K.spares_memory ids (K.keeping keeper.old) (K.keeping keeper.new)
+        (W.health wire.old) (W.health wire.new) (W.state wire.old) (W.state wire.new) (C.to_come clock.old) (outcome_of result) }
     ensures device { KeepsDevice 1 (K.keeping keeper.old) (K.keeping keeper.new)
         (C.to_come clock.old) (C.to_come clock.new) (outcome_of result) }
     ensures unmarked { is_marked (K.keeping keeper.new) ≡ false }
@@ -111,7 +115,7 @@ fn sync_met<K: Keeper, W: Wire, C: Clock>(
     requires own { WhereTold (K.keeping keeper.old) (λ h. h.head ≡ Some met.now.head) }
     requires low { pos 0 ≤ℤ met.now.meta.usn }
     requires number { met.now.meta.usn <ℤ last_head_usn }
-    ensures ends { Ends ids met.now (K.keeping keeper.old) (K.keeping keeper.new)
+    ensures ends { Ends K.spares_memory ids met.now (K.keeping keeper.old) (K.keeping keeper.new)
         (W.health wire.old) (W.health wire.new) (W.state wire.old) (W.state wire.new) (outcome_of result) }
     ensures device { KeepsDevice 0 (K.keeping keeper.old) (K.keeping keeper.new)
         (C.to_come clock.old) (C.to_come clock.new) (outcome_of result) }

@@ -2,4 +2,6 @@ pub mod Closing
 pub mod Heads
 pub mod Receiving
 pub mod Sending
+pub mod SettledRows
 pub mod Settling
+pub mod TakingAndSettling

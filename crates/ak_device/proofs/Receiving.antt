@@ -1,7 +1,6 @@
 -- What a device holds once what came was taken.
-use Rattle.std.specs.List.{All}
 use Rattle.std.specs.Option.{option_map, option_or, unwrap_or}
-use Rattle.std.specs.Prelude.{◌≡◌, ℤ, pos, negsuc, Bool, true, List, [], ◌++◌, Option, Some, None, IfSome}
+use Rattle.std.specs.Prelude.{◌≡◌, ℤ, pos, negsuc, Bool, true, List, [], Option, Some, None, IfSome}
 use Rattle.std.proofs.Common.{refl, sym, ap, ◌∙◌, arith}
 use Rattle.std.proofs.lemmas.Int.{ints}
 use Rattle.ak_base.specs.Heads.{IsConfInRange, IsHeadInRange, IsWithin}
@@ -134,7 +133,7 @@ received_twice usn first more h =
     ∙ ap (λ (head : Option Head). record { rows = all_taken Device usn more.rows (all_taken Device usn first.rows h.rows); head = head })
     (option_twice usn first more h.head)
 
-changed_twice : (f g : Holding → Holding) (t : Option (WithMark Holding))
+pub changed_twice : (f g : Holding → Holding) (t : Option (WithMark Holding))
     → option_map (marks.changed g) (option_map (marks.changed f) t) ≡ option_map (marks.changed (λ h. g (f h))) t
 changed_twice f g None = refl
 changed_twice f g (Some w) = refl

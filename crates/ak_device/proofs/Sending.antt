@@ -1,7 +1,7 @@
 -- What a device sends is what it held.
 use Rattle.std.specs.List.{filter_map}
 use Rattle.std.specs.Option.{option_map}
-use Rattle.std.specs.Prelude.{◌≡◌, ℕ, ℤ, ◌+◌, ◌-◌, ◌*◌, ◌≤◌, false, nat_lt, min, List, [], ◌∷◌, length, take, drop, Option, Some, None, Result, Ok, Err, IfOk, IfSome}
+use Rattle.std.specs.Prelude.{◌≡◌, ℕ, ℤ, ◌-◌, ◌≤◌, false, nat_lt, min, List, [], ◌∷◌, length, take, drop, Option, Some, None, IfSome}
 use Rattle.std.proofs.Common.{refl, sym, ap, subst, ◌∙◌, arith}
 use Rattle.std.proofs.lemmas.List.{length-drop, take_min}
 use Rattle.ak_base.proofs.Burials.{grave_table_by}
@@ -26,7 +26,7 @@ use Rattle.ak_messages.specs.declared.requests.Newer.{Newer}
 use Rattle.ak_parts.specs.Chunks.{AreChunked, is_chunked}
 use Rattle.ak_session.proofs.Ranges.{not_both}
 use Rattle.ak_session.specs.Messages.{chunk_of, newer_of}
-use Rattle.ak_session.specs.Slices.{slice, wanted_changes}
+use Rattle.ak_session.specs.Slices.{wanted_changes}
 
 -- the rows from a place on, at most 250, are the slice there
 pub part_is : {X : Type 0} (from most : ℕ) (list : List X) → most ≡ min (length list - from) 250 → take most (drop from list) ≡ take 250 (drop from list)

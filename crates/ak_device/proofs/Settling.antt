@@ -1,258 +1,251 @@
--- What a device settles: each row that was not sent yet, whatever its place in the list of them.
-use Rattle.std.specs.Cmp.{eq_by_cmp_equiv, signed_Decides}
-use Rattle.std.specs.FinMap.{get, insert, get-insert}
-use Rattle.std.specs.List.{AllByRecursion, Contains, list_any}
-use Rattle.std.specs.Option.{option_map, option_and_then}
-use Rattle.std.specs.Prelude.{◌≡◌, ◌≢◌, ℕ, zero, suc, ℤ, pos, negsuc, Bool, true, false, ◌||◌, IsTrue, IfSome, if◌then◌else◌, List, [], ◌∷◌, ◌++◌, Option, Some, None}
-use Rattle.std.proofs.Common.{refl, sym, ap, subst, ◌∙◌, arith}
-use Rattle.std.proofs.lemmas.List.Elements.{recursion_from_All}
-use Rattle.std.proofs.lemmas.Int.{ints}
-use Rattle.std.proofs.lemmas.Option.{none-some}
+-- What a device settles: what stands under the names of what was sent.
+use Rattle.std.specs.FinMap.{get, insert, get-insert, same_map}
+use Rattle.std.specs.Option.{option_map, option_map_or}
+use Rattle.std.specs.Prelude.{◌≡◌, ℕ, ℤ, pos, ◌+◌, ◌<◌, Bool, true, false, IfSome, if◌then◌else◌, List, [], ◌∷◌, ◌++◌, map, length, drop, get_or, Option, Some, None}
+use Rattle.std.proofs.Common.{refl, sym, ap, ◌∙◌}
+use Rattle.std.proofs.lemmas.List.{drop_more, map-append}
+use Rattle.ak_base.proofs.NameOrder.{names_exact}
 use Rattle.ak_base.proofs.RowFacts.{name_of-with_usn}
 use Rattle.ak_base.specs.Heads.{IsHeadInRange, IsWithin}
 use Rattle.ak_base.specs.Limits.{last_head_usn}
-use Rattle.ak_base.specs.Names.{name_cmp, names_total}
-use Rattle.ak_base.specs.Rows.{IsChecked, name_of, usn_of, with_usn}
+use Rattle.ak_base.specs.Names.{names_total}
+use Rattle.ak_base.specs.Rows.{IsChecked, name_of, with_usn}
 use Rattle.ak_base.specs.declared.heads.Head.{Head}
 use Rattle.ak_base.specs.declared.names.Name.{Name}
-use Rattle.ak_base.specs.declared.names.Table.{Table}
 use Rattle.ak_base.specs.declared.names.Table.TheVariants as tables
+use Rattle.ak_base.specs.declared.cards.Card.{Card}
+use Rattle.ak_base.specs.declared.decks.Deck.{Deck}
+use Rattle.ak_base.specs.declared.note_types.NoteType.{NoteType}
+use Rattle.ak_base.specs.declared.notes.Note.{Note}
+use Rattle.ak_base.specs.declared.option_groups.Options.{Options}
+use Rattle.ak_base.specs.declared.reviews.Review.{Review}
 use Rattle.ak_base.specs.declared.rows.Row.{Row}
-use Rattle.ak_device.specs.Devices.{IsSettledTo, Settles, SettlesTold}
-use Rattle.ak_device.specs.Settlings.{rows_settled, unsent_rows}
-use Rattle.ak_device.proofs.Receiving.{usn_fits}
-use Rattle.ak_keep.proofs.RowsByName.{all_gets, named-get, same_of_tied}
-use Rattle.ak_keep.specs.Collections.{Rows, Holding, IsWellFormed, is_pending, is_wanted, with_row, with_head}
-use Rattle.ak_keep.specs.Keepers.{Keeping, WhereTold, IsRightlyKnown, changed, head_set, put}
+use Rattle.ak_base.specs.declared.rows.Row.TheVariants as rows
+use Rattle.ak_device.proofs.Receiving.{changed_same, changed_twice, usn_fits}
+use Rattle.ak_device.specs.Settlings.{names_in, names_sent, settled_by, settled_under, tags_settled, with_all_settled, with_settled, with_tags_settled}
+use Rattle.ak_keep.proofs.RowsByName.{same_of_tied}
+use Rattle.ak_keep.specs.Collections.{Holding, Rows, is_pending, with_head, with_row}
+use Rattle.ak_keep.specs.Keepers.{Keeping, WhereTold, changed, head_set, put}
 use Rattle.ak_keep.specs.Marks as marks
 use Rattle.ak_keep.specs.Marks.{WithMark}
-use Rattle.ak_keep.specs.declared.keepers.Wanted.TheVariants.{Unsent}
 use Rattle.ak_merge.proofs.CheckedRows.{checked_with_usn}
-use Rattle.ak_merge.proofs.ExchangeCells.{is_only, only_is, only_wanted}
 use Rattle.ak_merge.proofs.TagLists.{settled_in_range, settled_order}
 use Rattle.ak_merge.proofs.TakingLaws.{is_name}
-use Rattle.ak_merge.specs.Exchanges.{settled, settled_tags, wanted_under, IsSent}
-use Rattle.ak_keep.specs.Graves.{RowsByName}
-use Rattle.ak_merge.specs.Holdings.{AreNamed, AreChecked}
-use Rattle.ak_session.proofs.Wanted.{IsFront, Stands, all_of_three, gives_all, three_stand, three_weaker}
-use Rattle.ak_session.proofs.Ranges.{all_append, not_both}
-use Rattle.ak_session.specs.Slices.{wanted_changes, wanted_graves, wanted_in_chunks, wanted_of}
-use Rattle.ak_merge.specs.declared.sides.Side.TheVariants.{Device}
+use Rattle.ak_merge.specs.Exchanges.{settled}
+use Rattle.ak_messages.specs.declared.requests.Ask.TheVariants as asks
+use Rattle.ak_messages.specs.declared.requests.Changes.{Changes}
+use Rattle.ak_messages.specs.declared.requests.Chunk.{Chunk}
+use Rattle.ak_messages.specs.declared.requests.GraveIds.{GraveIds}
+use Rattle.ak_session.specs.Messages.{grave_with}
 
--- ---- puts, one after the other
-abbrev pub put_each : ℤ → List Row → Rows → Rows
-put_each usn [] held = held
-put_each usn (row ∷ more) held = put_each usn more (insert held (name_of (with_usn row usn)) (with_usn row usn))
+-- ---- one name
+abbrev keeping_of : Keeping → Option (WithMark Holding) → Keeping
+keeping_of k told = record { headed = k.headed; told = told }
 
-abbrev pub with_each : ℤ → List Row → Holding → Holding
-with_each usn rows h = record h { rows = put_each usn rows h.rows }
+none_told : (usn : ℤ) (name : Name) (t : Option (WithMark Holding)) → IfSome t (λ w. None ≡ get w.current.rows name)
+    → t ≡ option_map (marks.changed (with_settled usn name)) t
+none_told usn name None is = refl
+none_told usn name (Some w) is =
+    ap (λ (o : Option Row). Some (record {
+      current = record w.current { rows = option_map_or (λ (row : Row). insert w.current.rows name (settled usn row)) o w.current.rows };
+      mark = w.mark;
+    })) is
 
-none_put : (usn : ℤ) (told : Option (WithMark Holding)) → told ≡ option_map (marks.changed (with_each usn [])) told
-none_put usn None = refl
-none_put usn (Some w) = refl
+-- nothing stands there
+pub settles_none : (usn : ℤ) (name : Name) (before now : Keeping) → now ≡ before → WhereTold before (λ h. None ≡ get h.rows name)
+    → now ≡ changed (with_settled usn name) before
+settles_none usn name before now same none = same ∙ ap (keeping_of before) (none_told usn name before.told none)
 
-one_more_put : (usn : ℤ) (row : Row) (more : List Row) (told : Option (WithMark Holding))
-    → option_map (marks.changed (with_each usn more)) (option_map (marks.changed (with_row (with_usn row usn))) told)
-    ≡ option_map (marks.changed (with_each usn (row ∷ more))) told
-one_more_put usn row more None = refl
-one_more_put usn row more (Some w) = refl
-
-pub put_in_one : (usn : ℤ) (rows : List Row) (k : Keeping) → rows_settled usn rows k ≡ changed (with_each usn rows) k
-put_in_one usn [] k = ap (λ (told : Option (WithMark Holding)). record { headed = k.headed; told = told }) (none_put usn k.told)
-put_in_one usn (row ∷ more) k =
-    put_in_one usn more (put (with_usn row usn) k)
-    ∙ ap (λ (told : Option (WithMark Holding)). record { headed = k.headed; told = told }) (one_more_put usn row more k.told)
-
--- ---- what stands under a name after them
--- whether one of these rows has this name
-abbrev pub bears : List Row → Name → Bool
-bears [] name = false
-bears (row ∷ more) name = is_name name (name_of row) || bears more name
-
--- rows that stand here
-abbrev pub AllStand : RowsByName → List Row → Type 0
-AllStand at rows = AllByRecursion (λ (row : Row). at (name_of row) ≡ Some row) rows
-
-put_here : (usn : ℤ) (held : Rows) (row : Row) (name : Name)
-    → get (insert held (name_of (with_usn row usn)) (with_usn row usn)) name ≡ (if is_name name (name_of row) then Some (with_usn row usn) else get held name)
-put_here usn held row name =
-    get-insert names_total held (name_of (with_usn row usn)) (with_usn row usn) name
-    ∙ ap (λ (other : Name). if is_name name other then Some (with_usn row usn) else get held name) (name_of-with_usn row usn)
-
--- under a name that one of them has stands its row with this number, and under any other what stood there
-pub put_at : (usn : ℤ) (at : RowsByName) (rows : List Row) (held : Rows) (name : Name) → AllStand at rows
-    → get (put_each usn rows held) name ≡ (if bears rows name then option_map (λ (row : Row). with_usn row usn) (at name) else get held name)
-put_at usn at [] held name all = refl
-put_at usn at (row ∷ more) held name all =
-    put_at usn at more (insert held (name_of (with_usn row usn)) (with_usn row usn)) name all.1
-    ∙ ap (λ (o : Option Row). if bears more name then option_map (λ (r : Row). with_usn r usn) (at name) else o) (put_here usn held row name)
-    ∙ by (is_name name (name_of row)) refl (bears more name)
+-- to put in what stands there changes nothing
+same_insert : (held : Rows) (name : Name) (row : Row) → Some row ≡ get held name → insert held name row ≡ held
+same_insert held name row is =
+    same_map names_total names_exact (insert held name row) held (λ q. get-insert names_total held name row q ∙ by q (is_name q name) refl)
   where
-    new : Option Row
-    new = option_map (λ (r : Row). with_usn r usn) (at name)
+    by : (q : Name) (b : Bool) → is_name q name ≡ b → (if b then Some row else get held q) ≡ get held q
+    by q true same = is ∙ ap (get held) (sym (same_of_tied q name same))
+    by q false apart = refl
 
-    by : (b : Bool) → is_name name (name_of row) ≡ b → (rest : Bool)
-        → (if rest then option_map (λ (r : Row). with_usn r usn) (at name) else (if b then Some (with_usn row usn) else get held name))
-        ≡ (if b || rest then option_map (λ (r : Row). with_usn r usn) (at name) else get held name)
-    by true is true = refl
-    by true is false =
-        sym (ap (option_map (λ (r : Row). with_usn r usn)) (ap at (same_of_tied name (name_of row) is) ∙ all.0))
-    by false is true = refl
-    by false is false = refl
+abbrev with_rows : WithMark Holding → Rows → Option (WithMark Holding)
+with_rows w held = Some (record { current = record w.current { rows = held }; mark = w.mark })
 
--- ---- all that was not sent yet
--- a row that is among these bears its name there
-bears_own : (rows : List Row) (row : Row) → Contains rows row → bears rows (name_of row) ≡ true
-bears_own [] row (k, within, is) = absurd (omega (arith, within))
-bears_own (first ∷ more) row (zero, within, is) =
-    ap (λ (b : Bool). b || bears more (name_of row)) (ap (is_name (name_of row)) (ap name_of is) ∙ (eq_by_cmp_equiv names_total).refl (name_of row))
-bears_own (first ∷ more) row (suc k, within, is) =
-    ap (λ (b : Bool). is_name (name_of row) (name_of first) || b) (bears_own more row (k, omega (arith, within), is))
-    ∙ or_true (is_name (name_of row) (name_of first))
-  where
-    or_true : (b : Bool) → (b || true) ≡ true
-    or_true true = refl
-    or_true false = refl
+row_told : (usn : ℤ) (name : Name) (row : Row) (w : WithMark Holding) → Some row ≡ get w.current.rows name
+    → with_rows w (insert w.current.rows name (settled usn row)) ≡ option_map (marks.changed (with_settled usn name)) (Some w)
+row_told usn name row w is =
+    ap (λ (o : Option Row). with_rows w (option_map_or (λ (r : Row). insert w.current.rows name (settled usn r)) o w.current.rows)) is
 
--- a row under a name, if it is one that was not sent yet
-unsent_is : (o : Option Row) (row : Row) → only_wanted Unsent o ≡ Some row → (o ≡ Some row) × IsTrue (is_pending row)
-unsent_is None row is = absurd (none-some row is)
-unsent_is (Some x) row is =
-    let one = only_is Unsent x row is in
-    (ap (λ (r : Row). Some r) one.0, subst (λ (r : Row). IsTrue (is_pending r)) one.0 one.1)
+sent_told : (usn : ℤ) (name : Name) (row : Row) → is_pending row ≡ false → (t : Option (WithMark Holding))
+    → IfSome t (λ w. Some row ≡ get w.current.rows name) → t ≡ option_map (marks.changed (with_settled usn name)) t
+sent_told usn name row sent None is = refl
+sent_told usn name row sent (Some w) is =
+    sym (ap (with_rows w) (ap (insert w.current.rows name) (ap (λ (b : Bool). if b then with_usn row usn else row) sent)
+    ∙ same_insert w.current.rows name row is))
+    ∙ row_told usn name row w is
 
--- what one of the rows bears stands there, and was not sent yet
-one_stands : (at : RowsByName) (rows : List Row) → AllByRecursion (λ (row : Row). wanted_under Unsent at (name_of row) ≡ Some row) rows
-    → AllStand at rows
-one_stands at [] all = tt
-one_stands at (row ∷ more) all = ((unsent_is (at (name_of row)) row all.0).0, one_stands at more all.1)
+-- the row that stands there was sent before
+pub settles_sent : (usn : ℤ) (name : Name) (row : Row) (k : Keeping) → is_pending row ≡ false → WhereTold k (λ h. Some row ≡ get h.rows name)
+    → k ≡ changed (with_settled usn name) k
+settles_sent usn name row k sent stands = ap (keeping_of k) (sent_told usn name row sent k.told stands)
 
-borne : (at : RowsByName) (rows : List Row) (name : Name) → AllByRecursion (λ (row : Row). wanted_under Unsent at (name_of row) ≡ Some row) rows
-    → bears rows name ≡ true → (row : Row) × (at name ≡ Some row) × IsTrue (is_pending row)
-borne at [] name all is = absurd (grind (arith, is))
-borne at (row ∷ more) name all is = by (is_name name (name_of row)) refl (borne at more name all.1) is
-  where
-    by : (b : Bool) → is_name name (name_of row) ≡ b → (bears more name ≡ true → (r : Row) × (at name ≡ Some r) × IsTrue (is_pending r))
-        → (b || bears more name) ≡ true → (r : Row) × (at name ≡ Some r) × IsTrue (is_pending r)
-    by true same later so =
-        let own = unsent_is (at (name_of row)) row all.0 in
-        (row, ap at (same_of_tied name (name_of row) same) ∙ own.0, own.1)
-    by false other later so = later so
+put_told : (usn : ℤ) (name : Name) (row : Row) → is_pending row ≡ true → name_of row ≡ name → (t : Option (WithMark Holding))
+    → IfSome t (λ w. Some row ≡ get w.current.rows name)
+    → option_map (marks.changed (with_row (with_usn row usn))) t ≡ option_map (marks.changed (with_settled usn name)) t
+put_told usn name row pending named None is = refl
+put_told usn name row pending named (Some w) is =
+    ap (λ (n : Name). with_rows w (insert w.current.rows n (with_usn row usn))) (name_of-with_usn row usn ∙ named)
+    ∙ ap (λ (r : Row). with_rows w (insert w.current.rows name r)) (sym (ap (λ (b : Bool). if b then with_usn row usn else row) pending))
+    ∙ row_told usn name row w is
 
-settled_pending : (usn : ℤ) (row : Row) → IsTrue (is_pending row) → with_usn row usn ≡ settled usn row
-settled_pending usn row is = sym (ap (λ (b : Bool). if b then with_usn row usn else row) is)
+-- it was not, and is put with the number
+pub settles_put : (usn : ℤ) (name : Name) (row : Row) (before now : Keeping) → is_pending row ≡ true → name_of row ≡ name
+    → WhereTold before (λ h. Some row ≡ get h.rows name) → now ≡ put (with_usn row usn) before → now ≡ changed (with_settled usn name) before
+settles_put usn name row before now pending named stands puts = puts ∙ ap (keeping_of before) (put_told usn name row pending named before.told stands)
 
-settled_other : (usn : ℤ) (row : Row) → is_pending row ≡ false → row ≡ settled usn row
-settled_other usn row is = sym (ap (λ (b : Bool). if b then with_usn row usn else row) is)
+-- ---- names, one after the other
+-- a keeper once the rows under these names were settled, one by one
+abbrev pub names_settled : ℤ → List Name → Keeping → Keeping
+names_settled usn [] k = k
+names_settled usn (name ∷ more) k = names_settled usn more (changed (with_settled usn name) k)
 
-module _ (usn : ℤ) (held : Rows) (rows : List Row) (named : AreNamed (get held)) (sent : IsSent rows (wanted_under Unsent (get held)) (get held)) where
-  each : AllByRecursion (λ (row : Row). wanted_under Unsent (get held) (name_of row) ≡ Some row) rows
-  each = recursion_from_All (λ (row : Row). wanted_under Unsent (get held) (name_of row) ≡ Some row) rows sent.each
+-- once the next one is settled, those that are left lead to the same
+pub next_settled : {X : Type 0} (f : X → Name) (usn : ℤ) (xs : List X) (i : ℕ) (x d : X) (name : Name) (k new all : Keeping) → i < length xs
+    → x ≡ get_or xs i d → name ≡ f x → names_settled usn (map f (drop i xs)) k ≡ all → new ≡ changed (with_settled usn name) k
+    → names_settled usn (map f (drop (i + 1) xs)) new ≡ all
+next_settled {X = X} f usn xs i x d name k new all low is made so now =
+    ap (names_settled usn (map f (drop (i + 1) xs))) (now ∙ ap (λ (n : Name). changed (with_settled usn n) k) (made ∙ ap f is))
+    ∙ sym (ap (λ (ys : List X). names_settled usn (map f ys) k) (drop_more xs i d low))
+    ∙ so
 
-  -- a name that none of them bears has no row that was not sent yet
-  left_alone : (name : Name) → bears rows name ≡ false → (o : Option Row) → get held name ≡ o → o ≡ option_map (settled usn) o
-  left_alone name none None is = refl
-  left_alone name none (Some row) is = by (is_pending row) refl
-    where
-      by : (b : Bool) → is_pending row ≡ b → Some row ≡ Some (settled usn row)
-      by false other = ap (λ (r : Row). Some r) (settled_other usn row other)
-      by true pending =
-          let wanted : wanted_under Unsent (get held) name ≡ Some row = ap (only_wanted Unsent) is ∙ is_only Unsent row pending in
-          let has : bears rows (name_of row) ≡ true = bears_own rows row (sent.whole name row wanted is) in
-          absurd (not_both (sym (ap (bears rows) (named name row is)) ∙ has) none)
+none_settled : (usn : ℤ) (t : Option (WithMark Holding)) → t ≡ option_map (marks.changed (with_all_settled usn [])) t
+none_settled usn None = refl
+none_settled usn (Some w) = refl
 
-  -- and under a name that one bears, the row that stands there was not sent yet
-  settled_here : (name : Name) → bears rows name ≡ true
-      → option_map (λ (row : Row). with_usn row usn) (get held name) ≡ option_map (settled usn) (get held name)
-  settled_here name is =
-      let one = borne (get held) rows name each is in
-      ap (option_map (λ (row : Row). with_usn row usn)) one.1
-      ∙ ap (λ (r : Row). Some r) (settled_pending usn one.0 one.2)
-      ∙ sym (ap (option_map (settled usn)) one.1)
+pub in_one : (usn : ℤ) (names : List Name) (k : Keeping) → names_settled usn names k ≡ changed (with_all_settled usn names) k
+in_one usn [] k = ap (keeping_of k) (none_settled usn k.told)
+in_one usn (name ∷ more) k =
+    in_one usn more (changed (with_settled usn name) k)
+    ∙ ap (keeping_of k) (changed_twice (with_settled usn name) (with_all_settled usn more) k.told)
 
-  pub all_settled : (name : Name) → get (put_each usn rows held) name ≡ option_map (settled usn) (get held name)
-  all_settled name = put_at usn (get held) rows held name (one_stands (get held) rows each) ∙ by (bears rows name) refl
-    where
-      by : (b : Bool) → bears rows name ≡ b
-          → (if b then option_map (λ (row : Row). with_usn row usn) (get held name) else get held name) ≡ option_map (settled usn) (get held name)
-      by true is = settled_here name is
-      by false none = left_alone name none (get held name) refl
+names_append : (usn : ℤ) (one two : List Name) (k : Keeping) → names_settled usn two (names_settled usn one k) ≡ names_settled usn (one ++ two) k
+names_append usn [] two k = refl
+names_append usn (name ∷ more) two k = names_append usn more two (changed (with_settled usn name) k)
 
--- ---- the list of them
--- where nothing comes no side and no number makes a difference
-no_rows_front : (held : Rows) → AreNamed (get held) → AreChecked (get held) → IsFront Device (pos 0) held [] []
-no_rows_front held named checked = record { rest = []; is = refl; named = named; checked = checked }
+-- three lists of them
+three_settled : (usn : ℤ) (a b d all : List Name) (k0 k1 k2 k3 : Keeping) → a ++ (b ++ d) ≡ all
+    → k1 ≡ changed (with_all_settled usn a) k0 → k2 ≡ changed (with_all_settled usn b) k1 → k3 ≡ changed (with_all_settled usn d) k2
+    → k3 ≡ changed (with_all_settled usn all) k0
+three_settled usn a b d all k0 k1 k2 k3 whole one two three =
+    three
+    ∙ sym (in_one usn d k2)
+    ∙ ap (names_settled usn d) (two ∙ sym (in_one usn b k1) ∙ ap (names_settled usn b) (one ∙ sym (in_one usn a k0)))
+    ∙ names_append usn b d (names_settled usn a k0)
+    ∙ names_append usn a (b ++ d) k0
+    ∙ in_one usn (a ++ (b ++ d)) k0
+    ∙ ap (λ (names : List Name). changed (with_all_settled usn names) k0) whole
 
-stand : (held : Rows) → AreNamed (get held) → AreChecked (get held) → (one two three : Table)
-    → AllByRecursion (λ (row : Row). (get held (name_of row) ≡ Some row) × IsTrue (is_wanted Unsent row)) (wanted_of one two three Unsent held)
-stand held named checked one two three =
-    let P : Row → Type 0 = λ row. (get held (name_of row) ≡ Some row) × IsTrue (is_wanted Unsent row) in
-    all_of_three P (wanted_of one two three Unsent held)
-    (three_weaker (Stands one Unsent held) (Stands two Unsent held) (Stands three Unsent held) P P P
-    (λ row is. (is.stands, is.wanted)) (λ row is. (is.stands, is.wanted)) (λ row is. (is.stands, is.wanted))
-    (wanted_of one two three Unsent held) (three_stand one two three Unsent held named checked))
+-- ---- the names of a request
+named_by : {X : Type 0} (f : X → Row) (g : X → Name) → ((x : X) → name_of (f x) ≡ g x) → (xs : List X) → map g xs ≡ map (λ (row : Row). name_of row) (map f xs)
+named_by f g same [] = refl
+named_by f g same (x ∷ xs) =
+    ap (λ (n : Name). n ∷ map g xs) (sym (same x)) ∙ ap (λ (l : List Name). name_of (f x) ∷ l) (named_by f g same xs)
 
-pub unsent_are_sent : (held : Rows) → AreNamed (get held) → AreChecked (get held)
-    → IsSent (unsent_rows held) (wanted_under Unsent (get held)) (get held)
-unsent_are_sent held named checked =
-    let front = no_rows_front held named checked in
-    let P : Row → Type 0 = λ row. (get held (name_of row) ≡ Some row) × IsTrue (is_wanted Unsent row) in
-    gives_all Device (pos 0) Unsent held [] [] [] [] named differs front front front
-    (all_append P (wanted_graves Unsent held) (wanted_changes Unsent held ++ wanted_in_chunks Unsent held)
-    (stand held named checked tables.NoteGrave tables.CardGrave tables.DeckGrave)
-    (all_append P (wanted_changes Unsent held) (wanted_in_chunks Unsent held)
-    (stand held named checked tables.NoteType tables.Deck tables.Options)
-    (stand held named checked tables.Review tables.Card tables.Note)))
-  where
-    differs : (name : Name) (row : Row) → get held name ≡ Some row → IsTrue (is_wanted Unsent row) → usn_of row ≢ pos 0
-    differs name row _ unsent same = let one : usn_of row ≡ negsuc 0 = (signed_Decides (usn_of row) (negsuc 0)).0 unsent in omega (arith, ints, one, same)
+-- what is sent in a table, by the ids that it has
+pub reviews_named : (list : List Review) → map (λ (it : Review). record { table = tables.Review; id = it.id }) list ≡ map (λ (row : Row). name_of row) (map rows.Review list)
+reviews_named list = named_by rows.Review (λ (it : Review). record { table = tables.Review; id = it.id }) (λ it. refl) list
 
--- ---- the keeper
--- rows that were put with the number, and then a head whose tags are settled
-pub settles : (usn : ℤ) (head made : Head) (rows : List Row) (k0 k1 k2 : Keeping) → IsRightlyKnown k0 → k0.headed.current ≡ true
-    → WhereTold k0 (λ h. h.head ≡ Some head) → WhereTold k0 (λ h. rows ≡ unsent_rows h.rows)
-    → made ≡ record head { tags = settled_tags usn head.tags } → k1 ≡ rows_settled usn rows k0 → k2 ≡ head_set made k1 → Settles usn k0 k2
-settles usn head made rows k0 k1 k2 known held is list so one two = record {
-  headed = ap (λ (k : Keeping). k.headed) k2_is ∙ ap (λ (b : Bool). record { current = b; mark = k0.headed.mark }) (sym held);
-  told = subst (λ (t : Option (WithMark Holding)). SettlesTold usn k0.told t) (sym (ap (λ (k : Keeping). k.told) k2_is))
-      (told_settles k0.told is list known.current);
-}
-  where
-    k2_is : k2 ≡ head_set made (changed (with_each usn rows) k0)
-    k2_is = two ∙ ap (head_set made) (one ∙ put_in_one usn rows k0)
+pub cards_named : (list : List Card) → map (λ (it : Card). record { table = tables.Card; id = it.id }) list ≡ map (λ (row : Row). name_of row) (map rows.Card list)
+cards_named list = named_by rows.Card (λ (it : Card). record { table = tables.Card; id = it.id }) (λ it. refl) list
 
-    told_settles : (t : Option (WithMark Holding)) → IfSome t (λ w. w.current.head ≡ Some head) → IfSome t (λ w. rows ≡ unsent_rows w.current.rows)
-        → IfSome t (λ w. IsWellFormed w.current)
-        → SettlesTold usn t (option_map (marks.changed (with_head made)) (option_map (marks.changed (with_each usn rows)) t))
-    told_settles None a b c = refl
-    told_settles (Some w) a b c = (
-      record { rows = put_each usn rows w.current.rows; head = Some made },
-      refl,
-      record {
-        rows = λ name.
-            let named : AreNamed (get w.current.rows) = λ other row at. named-get w.current.rows other row c.named at in
-            let checked : AreChecked (get w.current.rows) = λ other row at. all_gets (λ (entry : Name × Row). IsChecked entry.1) w.current.rows other row c.checked at in
-            all_settled usn w.current.rows rows named
-            (subst (λ (l : List Row). IsSent l (wanted_under Unsent (get w.current.rows)) (get w.current.rows)) (sym b) (unsent_are_sent w.current.rows named checked)) name;
-        head = ap (λ (h : Head). Some h) so ∙ sym (ap (option_map (λ (h : Head). record h { tags = settled_tags usn h.tags })) a);
-      },
-    )
+pub notes_named : (list : List Note) → map (λ (it : Note). record { table = tables.Note; id = it.id }) list ≡ map (λ (row : Row). name_of row) (map rows.Note list)
+notes_named list = named_by rows.Note (λ (it : Note). record { table = tables.Note; id = it.id }) (λ it. refl) list
 
--- the same, read call by call
-pub settles_read : (usn : ℤ) (head made : Head) (rows : List Row) (k0 ka kb k1 k2 : Keeping) → IsRightlyKnown k0 → k0.headed.current ≡ true
-    → ka ≡ k0 → kb ≡ ka → WhereTold k0 (λ h. h.head ≡ Some head) → WhereTold ka (λ h. rows ≡ unsent_rows h.rows)
-    → made ≡ record head { tags = settled_tags usn head.tags } → k1 ≡ rows_settled usn rows kb → k2 ≡ head_set made k1 → Settles usn k0 k2
-settles_read usn head made rows k0 ka kb k1 k2 known held one two is list so three four =
-    settles usn head made rows k0 k1 k2 known held is
-    (subst (λ (k : Keeping). WhereTold k (λ h. rows ≡ unsent_rows h.rows)) one list) so
-    (three ∙ ap (rows_settled usn rows) (two ∙ one)) four
+pub types_named : (list : List NoteType) → map (λ (it : NoteType). record { table = tables.NoteType; id = it.id }) list ≡ map (λ (row : Row). name_of row) (map rows.NoteType list)
+types_named list = named_by rows.NoteType (λ (it : NoteType). record { table = tables.NoteType; id = it.id }) (λ it. refl) list
+
+pub decks_named : (list : List Deck) → map (λ (it : Deck). record { table = tables.Deck; id = it.id }) list ≡ map (λ (row : Row). name_of row) (map rows.Deck list)
+decks_named list = named_by rows.Deck (λ (it : Deck). record { table = tables.Deck; id = it.id }) (λ it. refl) list
+
+pub options_named : (list : List Options) → map (λ (it : Options). record { table = tables.Options; id = it.id }) list ≡ map (λ (row : Row). name_of row) (map rows.Options list)
+options_named list = named_by rows.Options (λ (it : Options). record { table = tables.Options; id = it.id }) (λ it. refl) list
+
+three_named : (a b d : List Row) (x y z : List Name) → x ≡ map (λ (row : Row). name_of row) a → y ≡ map (λ (row : Row). name_of row) b → z ≡ map (λ (row : Row). name_of row) d
+    → x ++ (y ++ z) ≡ map (λ (row : Row). name_of row) (a ++ (b ++ d))
+three_named a b d x y z one two three =
+    ap (λ (l : List Name). l ++ (y ++ z)) one
+    ∙ ap (λ (l : List Name). map (λ (row : Row). name_of row) a ++ (l ++ z)) two
+    ∙ ap (λ (l : List Name). map (λ (row : Row). name_of row) a ++ (map (λ (row : Row). name_of row) b ++ l)) three
+    ∙ ap (λ (l : List Name). map (λ (row : Row). name_of row) a ++ l) (sym (map-append (λ (row : Row). name_of row) b d))
+    ∙ sym (map-append (λ (row : Row). name_of row) a (b ++ d))
+
+graves_named : (ids : GraveIds) → names_in tables.NoteGrave ids.notes ++ (names_in tables.CardGrave ids.cards ++ names_in tables.DeckGrave ids.decks)
+    ≡ names_sent (asks.ApplyGraves ids)
+graves_named ids =
+    three_named (map (grave_with (pos 1)) ids.notes) (map (grave_with (pos 0)) ids.cards) (map (grave_with (pos 2)) ids.decks) _ _ _
+    (named_by (grave_with (pos 1)) (λ (id : ℤ). record { table = tables.NoteGrave; id = id }) (λ id. refl) ids.notes)
+    (named_by (grave_with (pos 0)) (λ (id : ℤ). record { table = tables.CardGrave; id = id }) (λ id. refl) ids.cards)
+    (named_by (grave_with (pos 2)) (λ (id : ℤ). record { table = tables.DeckGrave; id = id }) (λ id. refl) ids.decks)
+
+-- ---- what a request sent
+head_alone : (o : Option Head) → o ≡ option_map (λ (head : Head). head) o
+head_alone None = refl
+head_alone (Some head) = refl
+
+rows_alone : (usn : ℤ) (names : List Name) (h : Holding) → with_all_settled usn names h
+    ≡ record { rows = settled_under usn names h.rows; head = option_map (λ (head : Head). head) h.head }
+rows_alone usn names h = ap (λ (o : Option Head). record { rows = settled_under usn names h.rows; head = o }) (head_alone h.head)
+
+pub graves_settled : (usn : ℤ) (ids : GraveIds) (k0 k1 k2 k3 : Keeping) → k1 ≡ changed (with_all_settled usn (names_in tables.NoteGrave ids.notes)) k0
+    → k2 ≡ changed (with_all_settled usn (names_in tables.CardGrave ids.cards)) k1 → k3 ≡ changed (with_all_settled usn (names_in tables.DeckGrave ids.decks)) k2
+    → k3 ≡ changed (settled_by usn (asks.ApplyGraves ids)) k0
+graves_settled usn ids k0 k1 k2 k3 one two three =
+    three_settled usn (names_in tables.NoteGrave ids.notes) (names_in tables.CardGrave ids.cards) (names_in tables.DeckGrave ids.decks)
+    (names_sent (asks.ApplyGraves ids)) k0 k1 k2 k3 (graves_named ids) one two three
+    ∙ changed_same (with_all_settled usn (names_sent (asks.ApplyGraves ids))) (settled_by usn (asks.ApplyGraves ids))
+    (rows_alone usn (names_sent (asks.ApplyGraves ids))) k0
+
+pub chunk_settled : (usn : ℤ) (chunk : Chunk) (a b d : List Name) (k0 k1 k2 k3 : Keeping)
+    → a ≡ map (λ (row : Row). name_of row) (map rows.Review chunk.reviews) → b ≡ map (λ (row : Row). name_of row) (map rows.Card chunk.cards)
+    → d ≡ map (λ (row : Row). name_of row) (map rows.Note chunk.notes) → k1 ≡ changed (with_all_settled usn a) k0 → k2 ≡ changed (with_all_settled usn b) k1
+    → k3 ≡ changed (with_all_settled usn d) k2 → k3 ≡ changed (settled_by usn (asks.ApplyChunk chunk)) k0
+chunk_settled usn chunk a b d k0 k1 k2 k3 first second third one two three =
+    three_settled usn a b d (names_sent (asks.ApplyChunk chunk)) k0 k1 k2 k3
+    (three_named (map rows.Review chunk.reviews) (map rows.Card chunk.cards) (map rows.Note chunk.notes) a b d first second third) one two three
+    ∙ changed_same (with_all_settled usn (names_sent (asks.ApplyChunk chunk))) (settled_by usn (asks.ApplyChunk chunk))
+    (rows_alone usn (names_sent (asks.ApplyChunk chunk))) k0
+
+pub changes_settled : (usn : ℤ) (changes : Changes) (a b d : List Name) (k k0 k1 k2 k3 : Keeping)
+    → a ≡ map (λ (row : Row). name_of row) (map rows.NoteType changes.models) → b ≡ map (λ (row : Row). name_of row) (map rows.Deck changes.decks)
+    → d ≡ map (λ (row : Row). name_of row) (map rows.Options changes.options) → k0 ≡ changed (with_tags_settled usn) k
+    → k1 ≡ changed (with_all_settled usn a) k0 → k2 ≡ changed (with_all_settled usn b) k1 → k3 ≡ changed (with_all_settled usn d) k2
+    → k3 ≡ changed (settled_by usn (asks.ApplyChanges changes)) k
+changes_settled usn changes a b d k k0 k1 k2 k3 first second third zero one two three =
+    three_settled usn a b d (names_sent (asks.ApplyChanges changes)) k0 k1 k2 k3
+    (three_named (map rows.NoteType changes.models) (map rows.Deck changes.decks) (map rows.Options changes.options) a b d first second third) one two three
+    ∙ ap (changed (with_all_settled usn (names_sent (asks.ApplyChanges changes)))) zero
+    ∙ ap (keeping_of k) (changed_twice (with_tags_settled usn) (with_all_settled usn (names_sent (asks.ApplyChanges changes))) k.told)
+
+-- ---- the head
+tags_told : (usn : ℤ) (head made : Head) (t : Option (WithMark Holding)) → IfSome t (λ w. w.current.head ≡ Some head) → made ≡ tags_settled usn head
+    → option_map (marks.changed (with_head made)) t ≡ option_map (marks.changed (with_tags_settled usn)) t
+tags_told usn head made None is so = refl
+tags_told usn head made (Some w) is so =
+    ap (λ (o : Option Head). Some (record { current = record w.current { head = o }; mark = w.mark }))
+    (ap (λ (h : Head). Some h) so ∙ sym (ap (option_map (tags_settled usn)) is))
+
+pub settles_tags : (usn : ℤ) (head made : Head) (before now : Keeping) → before.headed.current ≡ true → WhereTold before (λ h. h.head ≡ Some head)
+    → made ≡ tags_settled usn head → now ≡ head_set made before → now ≡ changed (with_tags_settled usn) before
+settles_tags usn head made before now held is so set =
+    set
+    ∙ ap (λ (b : Bool). record {
+      headed = record { current = b; mark = before.headed.mark };
+      told = option_map (marks.changed (with_head made)) before.told;
+    }) (sym held)
+    ∙ ap (keeping_of before) (tags_told usn head made before.told is so)
 
 -- ---- ranges
 pub checked_settled : (row : Row) (usn : ℤ) → IsChecked row → IsWithin (pos 0) last_head_usn usn → IsChecked (with_usn row usn)
 checked_settled row usn is number = checked_with_usn row usn (usn_fits usn number).low (usn_fits usn number).high is
 
-pub settled_head_fits : (usn : ℤ) (head : Head) → IsHeadInRange head → IsWithin (pos 0) last_head_usn usn
-    → IsHeadInRange (record head { tags = settled_tags usn head.tags })
+pub settled_head_fits : (usn : ℤ) (head : Head) → IsHeadInRange head → IsWithin (pos 0) last_head_usn usn → IsHeadInRange (tags_settled usn head)
 settled_head_fits usn head is number = record {
   crt = is.crt;
   moment = is.moment;

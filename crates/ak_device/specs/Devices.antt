@@ -1,15 +1,14 @@
 -- What a device holds while it syncs, and what it sends.
 use Rattle.std.specs.FinMap.{get}
-use Rattle.std.specs.Int.{int_max, int_min}
+use Rattle.std.specs.Int.{int_min}
 use Rattle.std.specs.Option.{option_map, unwrap_or}
-use Rattle.std.specs.Prelude.{◌≡◌, ℤ, pos, ◌+ℤ◌, false, int_lt, if◌then◌else◌, List, Option, Some, None}
+use Rattle.std.specs.Prelude.{◌≡◌, ℤ, false, int_lt, if◌then◌else◌, List, Option, Some, None}
 use Rattle.ak_base.specs.Limits.{last_moment}
 use Rattle.ak_base.specs.declared.heads.Head.{Head}
 use Rattle.ak_base.specs.declared.names.Name.{Name}
 use Rattle.ak_base.specs.declared.rows.Row.{Row}
 use Rattle.ak_keep.specs.Collections.{Rows, Holding}
 use Rattle.ak_keep.specs.Keepers.{Keeping, changed}
-use Rattle.ak_keep.specs.Marks.{WithMark}
 use Rattle.ak_keep.specs.declared.keepers.Wanted.TheVariants.{Unsent}
 use Rattle.ak_merge.specs.Commits.{Received, Settings, settings_of}
 use Rattle.ak_merge.specs.Edits.{advanced}
@@ -65,17 +64,6 @@ IsFullIfMore chunk = chunk.done ≡ false → chunk_entries chunk ≡ 250
 pub record IsSettledTo (usn : ℤ) (before after : Holding) : Type 0 where
   pub rows : (name : Name) → get after.rows name ≡ option_map (settled usn) (get before.rows name)
   pub head : after.head ≡ option_map (λ (head : Head). record head { tags = settled_tags usn head.tags }) before.head
-
--- the same of what a keeper tells. What was held at the mark stays
-abbrev pub SettlesTold : ℤ → Option (WithMark Holding) → Option (WithMark Holding) → Type 0
-SettlesTold usn None now = now ≡ None
-SettlesTold usn (Some w) now =
-    (after : Holding) × (now ≡ Some (record { current = after; mark = w.mark })) × IsSettledTo usn w.current after
-
--- a keeper whose rows and tags that were not sent yet have this number
-pub record Settles (usn : ℤ) (before now : Keeping) : Type 0 where
-  pub headed : now.headed ≡ before.headed
-  pub told : SettlesTold usn before.told now.told
 
 -- ---- after a bad sanity check
 -- a moment that is advanced: the greater of this one and the moment after the old one. The last moment stays

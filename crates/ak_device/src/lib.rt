@@ -4,10 +4,11 @@
 
 mod closings;
 mod gatherings;
+mod ids;
 mod receipts;
 mod settlings;
 
 pub use closings::{commit_at, raise_moments};
 pub use gatherings::{FIRST_PLACE, Gathered, graves_part, next_chunk, unsent_changes};
 pub use receipts::{take_changes, take_chunk, take_graves};
-pub use settlings::settle;
+pub use settlings::settle_sent;

@@ -1,21 +1,19 @@
 -- What a bad sanity check of a server that meets the protocol shows.
 use Rattle.std.specs.Option.{option_map_or}
 use Rattle.std.specs.Prelude.{◌≡◌, ◌≢◌, Bool, true, false, not, if◌then◌else◌, List, Option, Some, None, option_and_then, Result, Ok, Err, ◌⊎◌}
-use Rattle.std.proofs.Common.{refl, sym, ap, subst, ◌∙◌, inl, inr, arith}
+use Rattle.std.proofs.Common.{refl, sym, ap, ◌∙◌, inl, inr, arith}
 use Rattle.std.proofs.lemmas.Option.{none-some, same_Some}
 use Rattle.ak_exchange.specs.Phases.{IsFairStop}
 use Rattle.ak_exchange.specs.Stops.{check_stop, verdict_of}
 use Rattle.ak_exchange.specs.declared.stops.Stop.{Stop}
 use Rattle.ak_exchange.specs.declared.stops.Stop.TheVariants as stops
-use Rattle.ak_keep.specs.Collections.{Collection, Rows}
+use Rattle.ak_keep.specs.Collections.{Collection}
 use Rattle.ak_merge.specs.Holdings.{row_under}
 use Rattle.ak_merge.specs.Joins.{joined_under}
 use Rattle.ak_merge.specs.Soundness.{IsSound, fault_id}
 use Rattle.ak_merge.specs.declared.checks.CheckFault.{CheckFault}
-use Rattle.ak_messages.specs.declared.replies.Give.{Give}
 use Rattle.ak_messages.specs.declared.replies.Give.TheVariants as gives
 use Rattle.ak_messages.specs.declared.replies.SanityReply.{SanityReply}
-use Rattle.ak_messages.specs.declared.requests.Ask.{Ask}
 use Rattle.ak_messages.specs.declared.requests.Ask.TheVariants as asks
 use Rattle.ak_messages.specs.declared.requests.Request.{Request}
 use Rattle.ak_messages.specs.declared.requests.SanityCounts.{SanityCounts}

@@ -1,6 +1,5 @@
 -- A part of a sync stops because the keeper failed only if the keeper's count of faults rose.
 use Rattle.std.specs.Prelude.{◌≡◌, true, false, Result, Ok, Err, IsErrAnd, IfErr}
-use Rattle.std.specs.Result.{IsErrOf}
 use Rattle.std.proofs.Common.{refl, sym, ap, subst, ◌∙◌, arith}
 use Rattle.ak_exchange.specs.Stops.{is_keep, keep_stop, wire_stop}
 use Rattle.ak_exchange.specs.declared.stops.Stop.{Stop}

@@ -1,6 +1,6 @@
 -- The finish: once it is granted, its session committed.
-use Rattle.std.specs.Prelude.{◌≡◌, ℕ, ◌+◌, ℤ, pos, Bool, true, false, if◌then◌else◌, List, [], ◌∷◌, ◌++◌, length, Some, None, Result, Ok, Err, IsErrAnd, IfOk, IfErr}
-use Rattle.std.proofs.Common.{refl, sym, ap, subst, ◌∙◌, append-nil, arith}
+use Rattle.std.specs.Prelude.{◌≡◌, ℕ, ◌+◌, ◌^◌, ℤ, pos, Bool, true, false, if◌then◌else◌, List, [], ◌∷◌, ◌++◌, length, Some, None, Result, Ok, Err, IsErrAnd, IfOk, IfErr, ◌⊎◌}
+use Rattle.std.proofs.Common.{refl, sym, ap, subst, ◌∙◌, append-nil, inl, inr, arith}
 use Rattle.std.proofs.lemmas.Option.{none-some, same_Some}
 use Rattle.ak_base.specs.Heads.{IsMoment}
 use Rattle.ak_base.specs.Limits.{last_moment}
@@ -12,7 +12,8 @@ use Rattle.ak_exchange.proofs.Stepping.{one_more, step_is}
 use Rattle.ak_exchange.proofs.Stopping.{by_memory, by_wire, none_granted, one_but_last, refused_after_stops, refused_stops, was_granted, was_not_granted}
 use Rattle.ak_exchange.proofs.Tried.{asked_none, few_none}
 use Rattle.ak_exchange.specs.Asked.{AreFew, Talk, TriedAsk, asker, request_at}
-use Rattle.ak_exchange.specs.Phases.{Finishes, HasAsked, HasCommitted, HasPassedCheck, IsLeft, IsReached, finish_after}
+use Rattle.ak_exchange.specs.Grants.{EndsUnanswered, StopsUnanswered}
+use Rattle.ak_exchange.specs.Phases.{Finishes, HasAsked, HasCommitted, HasPassedCheck, IsLeft, IsOutOfSteps, IsReached, finish_after}
 use Rattle.ak_exchange.specs.Stops.{comes_before_finish, wire_stop}
 use Rattle.ak_exchange.specs.declared.stops.Stop.{Stop}
 use Rattle.ak_exchange.specs.declared.stops.Stop.TheVariants as stops
@@ -77,10 +78,22 @@ no_moment : (result : Result ℤ Stop) (why : Stop) (P : ℤ → Type 0) → IsE
 no_moment (Ok x) why P is = absurd is
 no_moment (Err stop) why P is = tt
 
+-- no step was left
+stopped_unasked : {T : Type 0} (was : Talk) (result : Result T Stop) → was.envelopes.step + 1 ≡ 2 ^ 64 → IsErrAnd result (λ (stop : Stop). stop ≡ stops.Memory)
+    → IfErr result (λ (stop : Stop). IsOutOfSteps was [] stop ⊎ StopsUnanswered [] stop)
+stopped_unasked was (Ok x) full is = absurd is
+stopped_unasked was (Err stop) full is = inl (record { unasked = refl; last = full; memory = is })
+
+-- or because the last that was tried was not granted
+stopped_unanswered : {T : Type 0} (was : Talk) (tries : List TriedAsk) (result : Result T Stop) (why : Unanswered) → EndsUnanswered tries why
+    → IsErrAnd result (λ (stop : Stop). stop ≡ wire_stop why) → IfErr result (λ (stop : Stop). IsOutOfSteps was tries stop ⊎ StopsUnanswered tries stop)
+stopped_unanswered was tries (Ok x) why ends is = absurd is
+stopped_unanswered was tries (Err stop) why ends is = inr (why, is, ends)
+
 -- a finish that was not asked
-pub finishes_unasked : (was now : Talk) (result : Result ℤ Stop) → IsErrAnd result (λ (stop : Stop). stop ≡ stops.Memory)
-    → now.health ≡ was.health → now.wire ≡ was.wire → now.envelopes ≡ was.envelopes → Finishes was now result
-finishes_unasked was now result is health wire envelopes = record {
+pub finishes_unasked : (was now : Talk) (result : Result ℤ Stop) → was.envelopes.step + 1 ≡ 2 ^ 64
+    → IsErrAnd result (λ (stop : Stop). stop ≡ stops.Memory) → now.health ≡ was.health → now.wire ≡ was.wire → now.envelopes ≡ was.envelopes → Finishes was now result
+finishes_unasked was now result full is health wire envelopes = record {
   tries = [];
   asked = asked_none was now health wire envelopes;
   few = few_none 0 0 1;
@@ -88,6 +101,7 @@ finishes_unasked was now result is health wire envelopes = record {
   rows = tt;
   ends = refused_stops [] now.wire result (by_memory result is);
   late = late_memory result is;
+  why = stopped_unasked was result full is;
   leads = λ c s account earlier has. (
     record {
       reached = subst (λ (l : List Ask). IsReached (asker was.envelopes.ids) account s l now.wire.log) (sym (append-nil earlier))
@@ -166,6 +180,8 @@ module _ (was now : Talk) (given : Result ℤ Unanswered) (at : IsAsked was now 
     ends = refused_after_stops (tried_finish ∷ []) now.wire tried_finish given result ([], refl)
         (λ other was_so. was_not_granted moment_in asks.Finish (λ give. refl) at.call.answer other (sym at.call.came ∙ was_so)) (by_wire given result why came is);
     late = late_wire result why is;
+    why = stopped_unanswered was (tried_finish ∷ []) result why
+        (tried_finish, ([], refl), was_not_granted moment_in asks.Finish (λ give. refl) at.call.answer why (sym at.call.came ∙ came)) is;
     leads = λ c s account earlier has. (
       finish_left c s account earlier has,
       no_moment result (wire_stop why) (λ moment. (asks.Finish ∷ [] ≡ asks.Finish ∷ []) × HasCommitted c s account (asker was.envelopes.ids) earlier moment now) is,
@@ -181,5 +197,6 @@ module _ (was now : Talk) (given : Result ℤ Unanswered) (at : IsAsked was now 
     granted = ((was_granted moment_in asks.Finish (λ give. refl) at.call.answer moment (sym at.call.came ∙ is)).granted, tt);
     ends = tt;
     late = tt;
+    why = tt;
     leads = λ c s account earlier has. (finish_left c s account earlier has, (refl, finish_committed c s account earlier has moment is));
   }

@@ -9,6 +9,7 @@ pub mod Parts
 pub mod Passing
 pub mod Places
 pub mod Replying
+pub mod SentRows
 pub mod Stepping
 pub mod Stopping
 pub mod Tried

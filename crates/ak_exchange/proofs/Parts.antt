@@ -1,7 +1,7 @@
 -- The parts of a sync that ask one request: refused once it was asked, and granted.
 use Rattle.std.specs.Int.{div_ceil}
 use Rattle.std.specs.Option.{option_map, option_map_or}
-use Rattle.std.specs.Prelude.{◌≡◌, ℕ, pos, ◌≤ℤ◌, ◌+◌, ◌*◌, ◌%◌, ◌<◌, ◌≤◌, ◌&&◌, ℤ, cond, not, nat_lt, Bool, true, false, List, [], ◌∷◌, ◌++◌, length, count_by, Option, Some, None, option_and_then, Result, Ok, Err, IsErr, IsErrAnd, IfOk, IfSome, ok_or, ◌==◌, if◌then◌else◌, ⊤}
+use Rattle.std.specs.Prelude.{◌≡◌, ℕ, pos, ◌≤ℤ◌, ◌+◌, ◌*◌, ◌%◌, ◌<◌, ◌≤◌, ◌&&◌, ℤ, cond, not, Bool, true, false, List, [], ◌∷◌, ◌++◌, length, count_by, Option, Some, None, option_and_then, Result, Ok, Err, IsErr, IsErrAnd, IfOk, IfSome, ok_or, ◌==◌, if◌then◌else◌, ⊤}
 use Rattle.std.proofs.lemmas.List.{length-append}
 use Rattle.std.proofs.lemmas.List.Sums.{sum_by-append}
 use Rattle.std.proofs.lemmas.Nat.{div-add-mod', mod_below}
@@ -12,17 +12,20 @@ use Rattle.ak_base.specs.declared.names.Name.{Name}
 use Rattle.ak_base.specs.declared.names.Table.TheVariants as tables
 use Rattle.ak_base.specs.declared.rows.Row.{Row}
 use Rattle.ak_device.proofs.Receiving.{received_nothing}
-use Rattle.ak_device.specs.Devices.{IsFullIfMore, IsNextToSend, Settles, changes_to_send, received}
+use Rattle.ak_device.proofs.TakingAndSettling.{check_settles_none, chunk_settles_none, rows_after, start_settles_none}
+use Rattle.ak_device.specs.Devices.{IsFullIfMore, IsNextToSend, changes_to_send, received}
+use Rattle.ak_device.specs.Settlings.{names_of, settled_by, settled_under}
 use Rattle.ak_exchange.proofs.Granted.{changes_are, chunk_are, graves_are}
 use Rattle.ak_exchange.proofs.Held.{changes_at, replied_quietly, rows_at, told_at}
-use Rattle.ak_exchange.proofs.Passing.{advances_kept, advances_more, advances_passed, advances_then, advances_to, asked_one, both_tried, left_one, one_tried, refused_after, same_tried, shown_one, stays_here, took_after}
+use Rattle.ak_exchange.proofs.Passing.{advances_from, advances_more, advances_passed, advances_then, advances_to, asked_one, both_tried, exchanged_one, left_one, one_tried, refused_after, same_tried, shown_one, stays_here, took_after}
 use Rattle.ak_exchange.proofs.Places.{after_changes, after_chunks, after_graves, after_pushes, after_start, leads_on, next_graves, no_graves_yet, next_pull, next_push, part_sent, pulled_lead, pulled_one, push_request, pushed_full, pushed_last, pushed_lead, sent_graves}
-use Rattle.ak_exchange.proofs.Stopping.{Gave, IsRefused, IsRefusedAfter, check_stops, was_granted}
+use Rattle.ak_exchange.proofs.SentRows.{counts_same}
+use Rattle.ak_exchange.proofs.Stopping.{Gave, IsKept, IsRefused, IsRefusedAfter, check_stops, was_granted}
 use Rattle.ak_exchange.proofs.Checking.{fair_stop, sound_join}
 use Rattle.ak_exchange.proofs.Tried.{asks_append}
 use Rattle.ak_exchange.specs.Asked.{AreFew, Talk, TriedAsk, asker, asks_in, request_at, sends_unfinished}
 use Rattle.ak_exchange.specs.Grants.{brings_unfinished, came_unfinished}
-use Rattle.ak_exchange.specs.Loops.{HasPulledOne, HasPushedOne, HavePulled, HavePushed, HaveSentGraves, PullsOne, PushesOne, SendsOne, last_sent, rows_to_push}
+use Rattle.ak_exchange.specs.Loops.{HasPulledOne, HasPushedOne, HavePulled, HavePushed, HaveSentGraves, PullsOne, PushesOne, SendsOne, last_sent, rows_once_sent, rows_to_push}
 use Rattle.ak_exchange.specs.Phases.{Advances, AreGraveRequests, Exchanges, HasPassedCheck, HasReceived, HasTenMillionRows, IsAt, IsMet, Place, at_end_of, at_meta, held_by}
 use Rattle.ak_exchange.specs.Stops.{verdict_of}
 use Rattle.ak_exchange.specs.declared.envelopes.Met.{Met}
@@ -48,7 +51,9 @@ use Rattle.ak_messages.specs.declared.requests.Request.{Request}
 use Rattle.ak_messages.specs.declared.requests.SanityCounts.{SanityCounts}
 use Rattle.ak_protocol.specs.Accounts.{AccountState}
 use Rattle.ak_session.proofs.PlanLaws.{list_fewer, pushes_fewer}
+use Rattle.ak_session.proofs.MessageLaws.{same_rows}
 use Rattle.ak_session.specs.Answers.{answer_to, counts_of}
+use Rattle.ak_session.specs.Asks.{all_brought, nothing}
 use Rattle.ak_session.specs.Messages.{changes_of, chunk_of, grave_ids}
 use Rattle.ak_session.specs.Plans.{device_changes, device_rows, planned, planned_changes, planned_chunks, planned_graves, planned_pushes, planned_start}
 use Rattle.ak_session.specs.Replies.{all_replied, replied}
@@ -71,13 +76,36 @@ pub record IsAsked {G : Type 0} (was now : Talk) (ask : Ask) (part : Give → Op
   pub envelopes : now.envelopes ≡ record was.envelopes { step = was.envelopes.step + 1 }
   pub call : Answered was.health now.health was.wire now.wire it part given
 
--- what was received with the number that was met was received with the server's
-received_met : (c s : Collection) (met : Met) (give own : Give) (before after : Keeping) → IsMet c s met → give ≡ own
-    → after ≡ changed (received met.meta.usn (replied own)) before → after ≡ changed (received s.head.usn (replied give)) before
-received_met c s met give own before after met_is same took =
-    took
-    ∙ ap (λ (usn : ℤ). changed (received usn (replied own)) before) met_is.usn
-    ∙ ap (λ (g : Give). changed (received s.head.usn (replied g)) before) (sym same)
+-- what was received of a give that is this one
+received_as : (usn : ℤ) (give own : Give) (before after : Keeping) → give ≡ own → after ≡ changed (received usn (replied own)) before
+    → after ≡ changed (received usn (replied give)) before
+received_as usn give own before after same took = took ∙ ap (λ (g : Give). changed (received usn (replied g)) before) (sym same)
+
+-- a give that brings nothing
+brings_nothing : (usn : ℤ) (give : Give) (k : Keeping) → replied give ≡ nothing → k ≡ changed (received usn (replied give)) k
+brings_nothing usn give k is = received_nothing usn k ∙ ap (λ (came : Received). changed (received usn came) k) (sym is)
+
+quiet_give : (give : Give) (done : Unit {0}) → nothing_in give ≡ Some done → replied give ≡ nothing
+quiet_give gives.Nothing done is = refl
+quiet_give (gives.Meta m) done is = refl
+quiet_give (gives.Graves g) done is = absurd (none-some done is)
+quiet_give (gives.Changes c) done is = absurd (none-some done is)
+quiet_give (gives.Chunk c) done is = absurd (none-some done is)
+quiet_give (gives.Sanity s) done is = refl
+quiet_give (gives.Moment m) done is = refl
+quiet_give (gives.Uploaded m s) done is = refl
+quiet_give (gives.Whole w) done is = refl
+
+quiet_verdict : (give : Give) (reply : SanityReply) → verdict_in give ≡ Some reply → replied give ≡ nothing
+quiet_verdict gives.Nothing reply is = refl
+quiet_verdict (gives.Meta m) reply is = refl
+quiet_verdict (gives.Graves g) reply is = absurd (none-some reply is)
+quiet_verdict (gives.Changes c) reply is = absurd (none-some reply is)
+quiet_verdict (gives.Chunk c) reply is = absurd (none-some reply is)
+quiet_verdict (gives.Sanity s) reply is = refl
+quiet_verdict (gives.Moment m) reply is = refl
+quiet_verdict (gives.Uploaded m s) reply is = refl
+quiet_verdict (gives.Whole w) reply is = refl
 
 -- ---- the start
 module _ (met : Met) (before : Keeping) (was now : Talk) (given : Result GraveIds Unanswered)
@@ -99,44 +127,47 @@ module _ (met : Met) (before : Keeping) (was now : Talk) (given : Result GraveId
   start_next c s account asked met_is place may =
       let ahead = after_start c s in (ahead.0, start_is c s asked ahead.0 met_is (place.has.placed may) ∙ ahead.1)
 
-  pub start_refused : {T : Type 0} (after : Keeping) (result : Result T Stop) → IsRefusedAfter given result → Advances 0 0 1 at_meta start_place met before after was now result
-  start_refused after result is =
+  pub start_refused : {T : Type 0} (after : Keeping) (result : Result T Stop) → IsKept given before after → IsRefusedAfter given result → Advances 0 0 1 at_meta start_place met before after was now result
+  start_refused after result kept is =
       refused_after was now (asks.Start met.head.usn met.head.moment) at.it graves_in given at.made at.envelopes at.call refl refl refl
-      0 0 1 start_few at_meta met before start_next (λ give. refl) tt start_place after result is
+      0 0 1 start_few at_meta met before start_next (λ give. refl) tt start_place after result kept is
 
   pub start_took : {T : Type 0} (after : Keeping) (x : T) (ids : GraveIds) → given ≡ Ok ids
       → after ≡ changed (received met.meta.usn (replied (gives.Graves ids))) before → Advances 0 0 1 at_meta start_place met before after was now (Ok x)
   start_took after x ids came took =
       took_after was now (asks.Start met.head.usn met.head.moment) at.it graves_in given at.made at.envelopes at.call refl refl refl
       0 0 1 start_few at_meta met before start_next (λ give. refl) tt start_place after x ids came
-      (λ c s asked met_is is. received_met c s met (answer_to s asked (asks.Start met.head.usn met.head.moment)) (gives.Graves ids) before after met_is
-      (graves_are (answer_to s asked (asks.Start met.head.usn met.head.moment)) ids is).0 took)
+      (λ give is. (
+        after,
+        received_as met.meta.usn give (gives.Graves ids) before after (graves_are give ids is).0 took,
+        start_settles_none met.meta.usn met.head.usn met.head.moment after,
+      ))
       (λ c s account asked met_is place is may. start_is c s asked [] met_is (place.has.placed may))
 
 -- ---- graves
-module _ (met : Met) (keeping : Keeping) (was now : Talk) (given : Result (Unit {0}) Unanswered) (k : ℕ) (list : List Row) (ids : GraveIds)
+module _ (met : Met) (before : Keeping) (was now : Talk) (given : Result (Unit {0}) Unanswered) (k : ℕ) (list : List Row) (ids : GraveIds)
     (less : 250 * k < length list) (ids_are : ids ≡ grave_ids (slice k list)) (at : IsAsked was now (asks.ApplyGraves ids) nothing_in given) where
   graves_few : AreFew 0 0 1 (asks.ApplyGraves ids ∷ [])
   graves_few = record { asked = omega arith; sent = omega arith; rest = omega arith }
 
-  graves_next : (c s : Collection) (account : AccountState) (asked : List Ask) → IsMet c s met → IsAt c s account asked (HaveSentGraves k list) keeping was
+  graves_next : (c s : Collection) (account : AccountState) (asked : List Ask) → IsMet c s met → IsAt c s account asked (HaveSentGraves k list) before was
       → MaySync c s → (rest : List Ask) × (asked ++ asks.ApplyGraves ids ∷ rest ≡ planned c s)
   graves_next c s account asked met_is place may =
       let ahead = next_graves k list c s asked less (place.has.placed may) in
       (ahead.0, ap (λ (i : GraveIds). asked ++ asks.ApplyGraves i ∷ ahead.0) ids_are ∙ ahead.1)
 
-  pub graves_refused : {T : Type 0} (result : Result T Stop) → IsRefusedAfter given result
-      → Advances 0 0 1 (HaveSentGraves k list) (HaveSentGraves (k + 1) list) met keeping keeping was now result
-  graves_refused result is =
+  pub graves_refused : {T : Type 0} (after : Keeping) (result : Result T Stop) → IsKept given before after → IsRefusedAfter given result
+      → Advances 0 0 1 (HaveSentGraves k list) (HaveSentGraves (k + 1) list) met before after was now result
+  graves_refused after result kept is =
       refused_after was now (asks.ApplyGraves ids) at.it nothing_in given at.made at.envelopes at.call refl refl refl
-      0 0 1 graves_few (HaveSentGraves k list) met keeping graves_next (λ give. refl) tt (HaveSentGraves (k + 1) list) keeping result is
+      0 0 1 graves_few (HaveSentGraves k list) met before graves_next (λ give. refl) tt (HaveSentGraves (k + 1) list) after result kept is
 
-  pub graves_took : {T : Type 0} (x : T) (done : Unit {0}) → given ≡ Ok done
-      → Advances 0 0 1 (HaveSentGraves k list) (HaveSentGraves (k + 1) list) met keeping keeping was now (Ok x)
-  graves_took x done came =
+  pub graves_took : {T : Type 0} (after : Keeping) (x : T) (done : Unit {0}) → given ≡ Ok done → after ≡ changed (settled_by met.meta.usn (asks.ApplyGraves ids)) before
+      → Advances 0 0 1 (HaveSentGraves k list) (HaveSentGraves (k + 1) list) met before after was now (Ok x)
+  graves_took after x done came settles =
       took_after was now (asks.ApplyGraves ids) at.it nothing_in given at.made at.envelopes at.call refl refl refl
-      0 0 1 graves_few (HaveSentGraves k list) met keeping graves_next (λ give. refl) tt (HaveSentGraves (k + 1) list) keeping x done came
-      (λ c s asked met_is is. received_nothing s.head.usn keeping)
+      0 0 1 graves_few (HaveSentGraves k list) met before graves_next (λ give. refl) tt (HaveSentGraves (k + 1) list) after x done came
+      (λ give is. (before, brings_nothing met.meta.usn give before (quiet_give give done is), settles))
       (λ c s account asked met_is place is may.
       subst (λ (i : GraveIds). HaveSentGraves (k + 1) list c s (asked ++ asks.ApplyGraves i ∷ [])) (sym ids_are)
       (sent_graves k list c s asked (place.has.placed may)))
@@ -172,20 +203,19 @@ module _ (met : Met) (before : Keeping) (was now : Talk) (given : Result Changes
             ∙ ahead.1,
       )
 
-  pub changes_refused : {T : Type 0} (after : Keeping) (result : Result T Stop) → IsRefusedAfter given result
+  pub changes_refused : {T : Type 0} (after : Keeping) (result : Result T Stop) → IsKept given before after → IsRefusedAfter given result
       → Advances 0 0 1 (at_end_of planned_graves) (at_end_of planned_changes) met before after was now result
-  changes_refused after result is =
+  changes_refused after result kept is =
       refused_after was now (asks.ApplyChanges changes) at.it changes_in given at.made at.envelopes at.call refl refl refl
-      0 0 1 changes_few (at_end_of planned_graves) met before changes_next (λ give. refl) tt (at_end_of planned_changes) after result is
+      0 0 1 changes_few (at_end_of planned_graves) met before changes_next (λ give. refl) tt (at_end_of planned_changes) after result kept is
 
-  pub changes_took : {T : Type 0} (after : Keeping) (x : T) (came : Changes) → given ≡ Ok came
-      → after ≡ changed (received met.meta.usn (replied (gives.Changes came))) before
+  pub changes_took : {T : Type 0} (mid after : Keeping) (x : T) (came : Changes) → given ≡ Ok came
+      → mid ≡ changed (received met.meta.usn (replied (gives.Changes came))) before → after ≡ changed (settled_by met.meta.usn (asks.ApplyChanges changes)) mid
       → Advances 0 0 1 (at_end_of planned_graves) (at_end_of planned_changes) met before after was now (Ok x)
-  changes_took after x came granted took =
+  changes_took mid after x came granted took settles =
       took_after was now (asks.ApplyChanges changes) at.it changes_in given at.made at.envelopes at.call refl refl refl
       0 0 1 changes_few (at_end_of planned_graves) met before changes_next (λ give. refl) tt (at_end_of planned_changes) after x came granted
-      (λ c s asked met_is is. received_met c s met (answer_to s asked (asks.ApplyChanges changes)) (gives.Changes came) before after met_is
-      (changes_are (answer_to s asked (asks.ApplyChanges changes)) came is).0 took)
+      (λ give is. (mid, received_as met.meta.usn give (gives.Changes came) before mid (changes_are give came is).0 took, settles))
       (λ c s account asked met_is place is may. changes_end c s asked [] (place.has.placed may) (changes_made c s account asked met_is place may))
 
 -- ---- a chunk that comes
@@ -206,11 +236,11 @@ module _ (met : Met) (before : Keeping) (was now : Talk) (given : Result Chunk U
       → MaySync c s → (rest : List Ask) × (asked ++ asks.Chunk ∷ rest ≡ planned c s)
   pull_next c s account asked met_is place may = next_pull k c s asked (place.has.placed may)
 
-  pub pull_refused : {T : Type 0} (to : Place) (after : Keeping) (result : Result T Stop) → IsRefusedAfter given result
+  pub pull_refused : {T : Type 0} (to : Place) (after : Keeping) (result : Result T Stop) → IsKept given before after → IsRefusedAfter given result
       → Advances 1 0 0 (HavePulled k) to met before after was now result
-  pull_refused to after result is =
+  pull_refused to after result kept is =
       refused_after was now asks.Chunk at.it chunk_in given at.made at.envelopes at.call refl refl refl
-      1 0 0 pull_few (HavePulled k) met before pull_next (λ give. refl) tt to after result is
+      1 0 0 pull_few (HavePulled k) met before pull_next (λ give. refl) tt to after result kept is
 
   pub pull_took : (after : Keeping) (chunk : Chunk) → given ≡ Ok chunk
       → after ≡ changed (received met.meta.usn (replied (gives.Chunk chunk))) before
@@ -218,8 +248,7 @@ module _ (met : Met) (before : Keeping) (was now : Talk) (given : Result Chunk U
   pull_took after chunk granted took =
       let made = one_tried was now asks.Chunk at.it chunk_in given at.made at.envelopes at.call refl refl refl
       1 0 0 pull_few (HavePulled k) met before pull_next (λ give. refl) tt (HasPulledOne k chunk.done) after chunk.done chunk granted
-      (λ c s asked met_is is. received_met c s met (answer_to s asked asks.Chunk) (gives.Chunk chunk) before after met_is
-      (chunk_are (answer_to s asked asks.Chunk) chunk is).0 took)
+      (λ give is. (after, received_as met.meta.usn give (gives.Chunk chunk) before after (chunk_are give chunk is).0 took, chunk_settles_none met.meta.usn after))
       (λ c s account asked met_is place is may. pulled_one k c s asked chunk may (place.has.placed may) (chunk_are (answer_to s asked asks.Chunk) chunk is).0) in
       record {
         leads = made.0;
@@ -228,9 +257,9 @@ module _ (met : Met) (before : Keeping) (was now : Talk) (given : Result Chunk U
             (brought at.call.answer chunk (was_granted chunk_in asks.Chunk (λ give. refl) at.call.answer chunk (sym at.call.came ∙ granted)) unfinished));
       }
 
-  pub pull_left : (after : Keeping) (result : Result Bool Stop) → IsRefusedAfter given result → PullsOne k met before after was now result
-  pull_left after (Ok done) is = absurd is
-  pull_left after (Err stop) is = record { leads = pull_refused (λ c s asked. ⊤) after (Err stop) is; unfinished = tt }
+  pub pull_left : (after : Keeping) (result : Result Bool Stop) → IsKept given before after → IsRefusedAfter given result → PullsOne k met before after was now result
+  pull_left after (Ok done) kept is = absurd is
+  pull_left after (Err stop) kept is = record { leads = pull_refused (λ c s asked. ⊤) after (Err stop) kept is; unfinished = tt }
 
 -- nothing was asked
 pub pull_stays : (k : ℕ) (met : Met) (before after : Keeping) (was now : Talk) (result : Result Bool Stop)
@@ -263,17 +292,19 @@ last_sent_most (Ok None) = omega arith
 last_sent_most (Ok (Some next)) = omega arith
 last_sent_most (Err stop) = omega arith
 
--- the next chunk is that of what the device held once it took the server's
+-- the next chunk is that of what the device holds, which took the server's chunks and settled what it sent
 next_made : (keeping : Keeping) (was : Talk) (k : ℕ) (from next : Name) (chunk : Chunk) → WhereTold keeping (λ h. IsNextToSend h.rows from chunk next)
     → (c s : Collection) (account : AccountState) (asked : List Ask) → IsAt c s account asked (HavePushed k from) keeping was → MaySync c s
-    → IsNextToSend (device_rows c s (planned_chunks c s)) from chunk next
+    → IsNextToSend (rows_once_sent c s asked) from chunk next
 next_made keeping was k from next chunk told c s account asked place may =
+    let usn = s.head.usn in
     let same : all_replied s asked ≡ all_replied s (planned_chunks c s) =
     ap (all_replied s) (place.has.placed may).asked_is
     ∙ replied_quietly s push_request (λ before part. refl) (planned_chunks c s) (slices k (rows_to_push c s)) in
     subst (λ (rows : Rows). IsNextToSend rows from chunk next)
-    (ap (λ (came : Received). (received s.head.usn came (held_by c)).rows) same
-    ∙ rows_at c s (planned_chunks c s) may (after_chunks c s))
+    (rows_after usn asked (received usn (all_replied s asked) (held_by c))
+    ∙ ap (λ (came : Received). settled_under usn (names_of (all_brought asked).rows) (all_taken Device usn came.rows c.rows)) same
+    ∙ ap (settled_under usn (names_of (all_brought asked).rows)) (same_rows c s (planned_chunks c s) (after_chunks c s).0 usn c.rows may (after_chunks c s).1))
     (told_at c s account asked (HavePushed k from) keeping was place (λ h. IsNextToSend h.rows from chunk next) told)
 
 -- if 39,999 chunks were sent and the next one is not the last one, the device has ten million rows to send
@@ -283,20 +314,20 @@ pub too_many_pushed : (k : ℕ) (from next : Name) (chunk : Chunk) (keeping : Ke
     → HasTenMillionRows c s
 too_many_pushed k from next chunk keeping now many unfinished told c s account asked place may =
     let made = next_made keeping now k from next chunk told c s account asked place may in
-    let more = (pushed_full k from next c s asked (place.has.placed may) made.part made.slice
+    let more = (pushed_full k from next c s asked (place.has.placed may) made.part made.slice may
     (sym (ap (λ (x : Chunk). x.done) made.chunk_is) ∙ unfinished)).full in
     let fewer = pushes_fewer c s may.committed.head.usn.low in
     inr (omega (arith, many, more, fewer))
 
-module _ (met : Met) (keeping : Keeping) (was now : Talk) (given : Result (Unit {0}) Unanswered) (k : ℕ) (from next : Name) (chunk : Chunk)
-    (told : WhereTold keeping (λ h. IsNextToSend h.rows from chunk next)) (full : IsFullIfMore chunk)
+module _ (met : Met) (before : Keeping) (was now : Talk) (given : Result (Unit {0}) Unanswered) (k : ℕ) (from next : Name) (chunk : Chunk)
+    (told : WhereTold before (λ h. IsNextToSend h.rows from chunk next)) (full : IsFullIfMore chunk)
     (at : IsAsked was now (asks.ApplyChunk chunk) nothing_in given) where
-  -- the chunk is the next one of what the device held once it took the server's
-  chunk_made : (c s : Collection) (account : AccountState) (asked : List Ask) → IsAt c s account asked (HavePushed k from) keeping was → MaySync c s
-      → IsNextToSend (device_rows c s (planned_chunks c s)) from chunk next
-  chunk_made = next_made keeping was k from next chunk told
+  -- the chunk is the next one of what the device holds
+  chunk_made : (c s : Collection) (account : AccountState) (asked : List Ask) → IsAt c s account asked (HavePushed k from) before was → MaySync c s
+      → IsNextToSend (rows_once_sent c s asked) from chunk next
+  chunk_made = next_made before was k from next chunk told
 
-  push_next : (c s : Collection) (account : AccountState) (asked : List Ask) → IsMet c s met → IsAt c s account asked (HavePushed k from) keeping was
+  push_next : (c s : Collection) (account : AccountState) (asked : List Ask) → IsMet c s met → IsAt c s account asked (HavePushed k from) before was
       → MaySync c s → (rest : List Ask) × (asked ++ asks.ApplyChunk chunk ∷ rest ≡ planned c s)
   push_next c s account asked met_is place may =
       let at_k = place.has.placed may in
@@ -308,17 +339,17 @@ module _ (met : Met) (keeping : Keeping) (was now : Talk) (given : Result (Unit 
             ∙ ahead.1,
       )
 
-  pub push_refused : (result : Result (Unit {0}) Stop) → IsRefusedAfter given result → SendsOne chunk k from next met keeping was now result
-  push_refused (Ok done) is = absurd is
-  push_refused (Err stop) is = record {
+  pub push_refused : (after : Keeping) (result : Result (Unit {0}) Stop) → IsKept given before after → IsRefusedAfter given result → SendsOne chunk k from next met before after was now result
+  push_refused after (Ok done) kept is = absurd is
+  push_refused after (Err stop) kept is = record {
     leads = refused_after was now (asks.ApplyChunk chunk) at.it nothing_in given at.made at.envelopes at.call refl refl refl
-        0 (if chunk.done then 0 else 1) (if chunk.done then 1 else 0) (pushed_few chunk) (HavePushed k from) met keeping push_next (λ give. refl) full
-        (HasPushedOne k (if chunk.done then None else Some next)) keeping (Err stop) is;
-    unfinished = tt;
+        0 (if chunk.done then 0 else 1) (if chunk.done then 1 else 0) (pushed_few chunk) (HavePushed k from) met before push_next (λ give. refl) full
+        (HasPushedOne k (if chunk.done then None else Some next)) after (Err stop) kept is;
+    sent = tt;
   }
 
   -- it was the last one, or the next begins after it
-  push_place : (c s : Collection) (account : AccountState) (asked : List Ask) → IsAt c s account asked (HavePushed k from) keeping was → MaySync c s
+  push_place : (c s : Collection) (account : AccountState) (asked : List Ask) → IsAt c s account asked (HavePushed k from) before was → MaySync c s
       → (done : Bool) → chunk.done ≡ done → HasPushedOne k (if done then None else Some next) c s (asked ++ asks.ApplyChunk chunk ∷ [])
   push_place c s account asked place may true is =
       let at_k = place.has.placed may in
@@ -329,41 +360,38 @@ module _ (met : Met) (keeping : Keeping) (was now : Talk) (given : Result (Unit 
       let at_k = place.has.placed may in
       let made = chunk_made c s account asked place may in
       subst (λ (x : Chunk). HavePushed (k + 1) next c s (asked ++ asks.ApplyChunk x ∷ [])) (sym made.chunk_is)
-      (pushed_full k from next c s asked at_k made.part made.slice (sym (ap (λ (x : Chunk). x.done) made.chunk_is) ∙ is))
+      (pushed_full k from next c s asked at_k made.part made.slice may (sym (ap (λ (x : Chunk). x.done) made.chunk_is) ∙ is))
 
-  pub push_took : (done : Unit {0}) → given ≡ Ok done → SendsOne chunk k from next met keeping was now (Ok tt)
-  push_took done came =
+  pub push_took : (after : Keeping) (done : Unit {0}) → given ≡ Ok done → after ≡ changed (settled_by met.meta.usn (asks.ApplyChunk chunk)) before
+      → SendsOne chunk k from next met before after was now (Ok tt)
+  push_took after done came settles =
       let made = one_tried was now (asks.ApplyChunk chunk) at.it nothing_in given at.made at.envelopes at.call refl refl refl
-      0 (if chunk.done then 0 else 1) (if chunk.done then 1 else 0) (pushed_few chunk) (HavePushed k from) met keeping push_next (λ give. refl) full
-      (HasPushedOne k (if chunk.done then None else Some next)) keeping tt done came
-      (λ c s asked met_is told_is. received_nothing s.head.usn keeping)
+      0 (if chunk.done then 0 else 1) (if chunk.done then 1 else 0) (pushed_few chunk) (HavePushed k from) met before push_next (λ give. refl) full
+      (HasPushedOne k (if chunk.done then None else Some next)) after tt done came
+      (λ give is. (before, brings_nothing met.meta.usn give before (quiet_give give done is), settles))
       (λ c s account asked met_is place told_is may. push_place c s account asked place may chunk.done refl) in
-      record {
-        leads = made.0;
-        unfinished = λ unfinished. subst (λ (l : List TriedAsk). 1 ≤ count_by sends_unfinished (asks_in l)) (sym made.1)
-            (counted_one sends_unfinished (asks.ApplyChunk chunk) (ap not unfinished));
-      }
+      record { leads = made.0; sent = ap asks_in made.1 }
 
 -- nothing was sent
-pub push_stays : (chunk : Chunk) (k : ℕ) (from next : Name) (met : Met) (keeping : Keeping) (was now : Talk) (result : Result (Unit {0}) Stop)
-    → now.health ≡ was.health → now.wire ≡ was.wire → now.envelopes ≡ was.envelopes → IsRefused result → SendsOne chunk k from next met keeping was now result
-push_stays chunk k from next met keeping was now (Ok done) health wire envelopes is = absurd is
-push_stays chunk k from next met keeping was now (Err stop) health wire envelopes is = record {
+pub push_stays : (chunk : Chunk) (k : ℕ) (from next : Name) (met : Met) (before after : Keeping) (was now : Talk) (result : Result (Unit {0}) Stop)
+    → now.health ≡ was.health → now.wire ≡ was.wire → now.envelopes ≡ was.envelopes → IsRefused result → SendsOne chunk k from next met before after was now result
+push_stays chunk k from next met before after was now (Ok done) health wire envelopes is = absurd is
+push_stays chunk k from next met before after was now (Err stop) health wire envelopes is = record {
   leads = stays_here 0 (if chunk.done then 0 else 1) (if chunk.done then 1 else 0) (HavePushed k from) (HasPushedOne k (if chunk.done then None else Some next))
-      met keeping keeping was now (Err stop) (pushed_lead k from) health wire envelopes is;
-  unfinished = tt;
+      met before after was now (Err stop) (pushed_lead k from) health wire envelopes is;
+  sent = tt;
 }
 
 -- a chunk was sent, or refused
-pub pushes_left : (chunk : Chunk) (k : ℕ) (from next : Name) (met : Met) (k0 k1 : Keeping) (was now : Talk) (e : Stop) (result : Result (Option Name) Stop) → k1 ≡ k0
-    → IsErrAnd result (λ (stop : Stop). stop ≡ e) → SendsOne chunk k from next met k0 was now (Err e) → PushesOne k from met k0 k1 was now result
-pushes_left chunk k from next met k0 k1 was now e (Ok it) same is one = absurd is
-pushes_left chunk k from next met k0 k1 was now e (Err stop) same is one = record {
-  leads = advances_kept 0 1 1 (HavePushed k from) (λ c s asked. ⊤) met k0 k1 was now (Err stop) same
-      (advances_more 0 (if chunk.done then 0 else 1) (if chunk.done then 1 else 0) 0 1 1 (HavePushed k from) (λ c s asked. ⊤) met k0 k0 was now (Err stop)
+pub pushes_left : (chunk : Chunk) (k : ℕ) (from next : Name) (met : Met) (k0 km k1 : Keeping) (was now : Talk) (e : Stop) (result : Result (Option Name) Stop) → km ≡ k0
+    → IsErrAnd result (λ (stop : Stop). stop ≡ e) → SendsOne chunk k from next met km k1 was now (Err e) → PushesOne k from met k0 k1 was now result
+pushes_left chunk k from next met k0 km k1 was now e (Ok it) same is one = absurd is
+pushes_left chunk k from next met k0 km k1 was now e (Err stop) same is one = record {
+  leads = advances_from 0 1 1 (HavePushed k from) (λ c s asked. ⊤) met k0 km k1 was now (Err stop) same
+      (advances_more 0 (if chunk.done then 0 else 1) (if chunk.done then 1 else 0) 0 1 1 (HavePushed k from) (λ c s asked. ⊤) met km k1 was now (Err stop)
       (omega arith) (at_most_one chunk.done 0 1 (omega arith) (omega arith)) (at_most_one chunk.done 1 0 (omega arith) (omega arith))
       (advances_passed 0 (if chunk.done then 0 else 1) (if chunk.done then 1 else 0) (HavePushed k from) (HasPushedOne k (if chunk.done then None else Some next))
-      (λ c s asked. ⊤) met k0 k0 was now e (Err stop) is one.leads));
+      (λ c s asked. ⊤) met km k1 was now e (Err stop) is one.leads));
   unfinished = tt;
 }
   where
@@ -379,34 +407,34 @@ pushes_none k from met k0 k1 was now (Err stop) health wire envelopes is = recor
   unfinished = tt;
 }
 
-pub pushes_took : (chunk : Chunk) (k : ℕ) (from next : Name) (met : Met) (k0 k1 : Keeping) (was now : Talk) (done : Bool) → k1 ≡ k0 → chunk.done ≡ done
-    → SendsOne chunk k from next met k0 was now (Ok tt) → PushesOne k from met k0 k1 was now (Ok (if done then None else Some next))
-pushes_took chunk k from next met k0 k1 was now true same is one = record {
-  leads = advances_kept 0 1 1 (HavePushed k from) (HasPushedOne k None) met k0 k1 was now (Ok None) same
-      (advances_to 0 1 1 (HavePushed k from) (HasPushedOne k None) (HasPushedOne k None) met k0 k0 was now tt None (λ c s asked may at. at)
-      (advances_more 0 0 1 0 1 1 (HavePushed k from) (HasPushedOne k None) met k0 k0 was now (Ok tt) (omega arith) (omega arith) (omega arith)
-      (subst (λ (b : Bool). Advances 0 (if b then 0 else 1) (if b then 1 else 0) (HavePushed k from) (HasPushedOne k (if b then None else Some next)) met k0 k0 was now (Ok tt)) is one.leads)));
+pub pushes_took : (chunk : Chunk) (k : ℕ) (from next : Name) (met : Met) (k0 km k1 : Keeping) (was now : Talk) (done : Bool) → km ≡ k0 → chunk.done ≡ done
+    → SendsOne chunk k from next met km k1 was now (Ok tt) → PushesOne k from met k0 k1 was now (Ok (if done then None else Some next))
+pushes_took chunk k from next met k0 km k1 was now true same is one = record {
+  leads = advances_from 0 1 1 (HavePushed k from) (HasPushedOne k None) met k0 km k1 was now (Ok None) same
+      (advances_to 0 1 1 (HavePushed k from) (HasPushedOne k None) (HasPushedOne k None) met km k1 was now tt None (λ c s asked may at. at)
+      (advances_more 0 0 1 0 1 1 (HavePushed k from) (HasPushedOne k None) met km k1 was now (Ok tt) (omega arith) (omega arith) (omega arith)
+      (subst (λ (b : Bool). Advances 0 (if b then 0 else 1) (if b then 1 else 0) (HavePushed k from) (HasPushedOne k (if b then None else Some next)) met km k1 was now (Ok tt)) is one.leads)));
   unfinished = tt;
 }
-pushes_took chunk k from next met k0 k1 was now false same is one = followed k1 same
+pushes_took chunk k from next met k0 km k1 was now false same is one = subst (λ (kept : Keeping). PushesOne k from met kept k1 was now (Ok (Some next))) same sent_it
   where
-    moved : (b : Bool) → chunk.done ≡ b → (it : Advances {T = Unit {0}} 0 (if b then 0 else 1) (if b then 1 else 0) (HavePushed k from) (HasPushedOne k (if b then None else Some next)) met k0 k0 was now (Ok tt))
-        × (b ≡ false → 1 ≤ count_by sends_unfinished (asks_in it.tries))
-    moved b eq = subst (λ (d : Bool). (it : Advances {T = Unit {0}} 0 (if d then 0 else 1) (if d then 1 else 0) (HavePushed k from) (HasPushedOne k (if d then None else Some next)) met k0 k0 was now (Ok tt))
-        × (d ≡ false → 1 ≤ count_by sends_unfinished (asks_in it.tries))) eq (one.leads, one.unfinished)
+    shown : 1 ≤ count_by sends_unfinished (asks_in one.leads.tries)
+    shown = subst (λ (l : List Ask). 1 ≤ count_by sends_unfinished l) (sym one.sent) (counted_one sends_unfinished (asks.ApplyChunk chunk) (ap not is))
 
-    followed : (k2 : Keeping) → k2 ≡ k0 → PushesOne k from met k0 k2 was now (Ok (Some next))
-    followed k2 eq = subst (λ (kept : Keeping). PushesOne k from met k0 kept was now (Ok (Some next))) (sym eq) sent_it
-      where
-        sent_it : PushesOne k from met k0 k0 was now (Ok (Some next))
-        sent_it =
-            let one_more = moved false is in
-            let made = same_tried 0 1 0 (HavePushed k from) (HasPushedOne k (Some next)) (HasPushedOne k (Some next)) met k0 k0 was now (tt {0}) (Some next)
-            (λ c s asked may at. at) one_more.0 in
-            record {
-              leads = made.0;
-              unfinished = subst (λ (l : List TriedAsk). 1 ≤ count_by sends_unfinished (asks_in l)) (sym made.1) (one_more.1 refl);
-            }
+    moved : (b : Bool) → chunk.done ≡ b → (it : Advances {T = Unit {0}} 0 (if b then 0 else 1) (if b then 1 else 0) (HavePushed k from) (HasPushedOne k (if b then None else Some next)) met km k1 was now (Ok tt))
+        × (1 ≤ count_by sends_unfinished (asks_in it.tries))
+    moved b eq = subst (λ (d : Bool). (it : Advances {T = Unit {0}} 0 (if d then 0 else 1) (if d then 1 else 0) (HavePushed k from) (HasPushedOne k (if d then None else Some next)) met km k1 was now (Ok tt))
+        × (1 ≤ count_by sends_unfinished (asks_in it.tries))) eq (one.leads, shown)
+
+    sent_it : PushesOne k from met km k1 was now (Ok (Some next))
+    sent_it =
+        let one_more = moved false is in
+        let made = same_tried 0 1 0 (HavePushed k from) (HasPushedOne k (Some next)) (HasPushedOne k (Some next)) met km k1 was now (tt {0}) (Some next)
+        (λ c s asked may at. at) one_more.0 in
+        record {
+          leads = made.0;
+          unfinished = subst (λ (l : List TriedAsk). 1 ≤ count_by sends_unfinished (asks_in l)) (sym made.1) one_more.1;
+        }
 
 -- ---- the sanity check
 abbrev Checking : Type 0
@@ -453,15 +481,22 @@ module _ (met : Met) (keeping : Keeping) (was now : Talk) (given : Result Sanity
   check_few : AreFew 0 0 1 (asks.SanityCheck2 counts ∷ [])
   check_few = record { asked = omega arith; sent = omega arith; rest = omega arith }
 
+  -- the counts are those of the plan
+  check_counted : (c s : Collection) (account : AccountState) (asked : List Ask) → IsAt c s account asked (at_end_of planned_pushes) keeping was → MaySync c s
+      → counts ≡ counts_of (device_rows c s (planned_pushes c s))
+  check_counted c s account asked place may =
+      let is = place.has.placed may in
+      told_at c s account asked (at_end_of planned_pushes) keeping was place (λ h. counts ≡ counts_of h.rows) told
+      ∙ ap counts_of (rows_at c s asked may (leads_on planned_pushes after_pushes c s asked may is))
+      ∙ counts_same s.head.usn (names_of (all_brought asked).rows) (device_rows c s asked)
+      ∙ ap (λ (l : List Ask). counts_of (device_rows c s l)) is
+
   check_end : (c s : Collection) (account : AccountState) (asked more : List Ask) → IsAt c s account asked (at_end_of planned_pushes) keeping was → MaySync c s
       → asked ++ asks.SanityCheck2 counts ∷ more ≡ planned_pushes c s ++ asks.SanityCheck2 (counts_of (device_rows c s (planned_pushes c s))) ∷ more
   check_end c s account asked more place may =
       let is = place.has.placed may in
-      let counted : counts ≡ counts_of (device_rows c s (planned_pushes c s)) =
-      told_at c s account asked (at_end_of planned_pushes) keeping was place (λ h. counts ≡ counts_of h.rows) told
-      ∙ ap counts_of (rows_at c s asked may (leads_on planned_pushes after_pushes c s asked may is) ∙ ap (device_rows c s) is) in
       ap (λ (l : List Ask). l ++ asks.SanityCheck2 counts ∷ more) is
-      ∙ ap (λ (n : SanityCounts). planned_pushes c s ++ asks.SanityCheck2 n ∷ more) counted
+      ∙ ap (λ (n : SanityCounts). planned_pushes c s ++ asks.SanityCheck2 n ∷ more) (check_counted c s account asked place may)
 
   check_next : (c s : Collection) (account : AccountState) (asked : List Ask) → IsMet c s met → IsAt c s account asked (at_end_of planned_pushes) keeping was
       → MaySync c s → (rest : List Ask) × (asked ++ asks.SanityCheck2 counts ∷ rest ≡ planned c s)
@@ -475,7 +510,7 @@ module _ (met : Met) (keeping : Keeping) (was now : Talk) (given : Result Sanity
       → Advances 0 0 1 (at_end_of planned_pushes) to met keeping keeping was now result
   check_refused to result is =
       refused_after was now (asks.SanityCheck2 counts) at.it verdict_in given at.made at.envelopes at.call refl refl refl
-      0 0 1 check_few (at_end_of planned_pushes) met keeping check_next (λ give. refl) tt to keeping result is
+      0 0 1 check_few (at_end_of planned_pushes) met keeping check_next (λ give. refl) tt to keeping result (λ why came. refl) is
 
   -- what the reply shows is what the session answers to the planned check
   check_shown : (c s : Collection) (account : AccountState) (asked : List Ask) → IsAt c s account asked (at_end_of planned_pushes) keeping was
@@ -483,13 +518,10 @@ module _ (met : Met) (keeping : Keeping) (was now : Talk) (given : Result Sanity
       → verdict_in (answer_to s (planned_pushes c s) (asks.SanityCheck2 (counts_of (device_rows c s (planned_pushes c s))))) ≡ Some reply
   check_shown c s account asked place reply came may =
       let is = place.has.placed may in
-      let counted : counts ≡ counts_of (device_rows c s (planned_pushes c s)) =
-      told_at c s account asked (at_end_of planned_pushes) keeping was place (λ h. counts ≡ counts_of h.rows) told
-      ∙ ap counts_of (rows_at c s asked may (leads_on planned_pushes after_pushes c s asked may is) ∙ ap (device_rows c s) is) in
       let shown : verdict_in (answer_to s asked (asks.SanityCheck2 counts)) ≡ Some reply =
       subst (λ (r : Result SanityReply Unanswered). IfOk r (λ (it : SanityReply). verdict_in (answer_to s asked (asks.SanityCheck2 counts)) ≡ Some it)) came
       (shown_one was now (asks.SanityCheck2 counts) at.it verdict_in given at.made at.envelopes at.call refl refl refl c s account asked (at_end_of planned_pushes) place.has).1 in
-      ap (λ (n : SanityCounts). verdict_in (answer_to s (planned_pushes c s) (asks.SanityCheck2 n))) (sym counted)
+      ap (λ (n : SanityCounts). verdict_in (answer_to s (planned_pushes c s) (asks.SanityCheck2 n))) (sym (check_counted c s account asked place may))
       ∙ ap (λ (l : List Ask). verdict_in (answer_to s l (asks.SanityCheck2 counts))) (sym is)
       ∙ shown
 
@@ -498,7 +530,7 @@ module _ (met : Met) (keeping : Keeping) (was now : Talk) (given : Result Sanity
   check_took x reply came good =
       took_after was now (asks.SanityCheck2 counts) at.it verdict_in given at.made at.envelopes at.call refl refl refl
       0 0 1 check_few (at_end_of planned_pushes) met keeping check_next (λ give. refl) tt HasPassedCheck keeping x reply came
-      (λ c s asked met_is is. received_nothing s.head.usn keeping)
+      (λ give is. (keeping, brings_nothing met.meta.usn give keeping (quiet_verdict give reply is), check_settles_none met.meta.usn counts keeping))
       (λ c s account asked met_is place is may. record {
         asked_is = check_end c s account asked [] place may;
         sound = sound_join (asker was.envelopes.ids) c s reply may (check_shown c s account asked place reply came may) x good;
@@ -531,6 +563,11 @@ module _ (met : Met) (keeping : Keeping) (was now : Talk) (given : Result Sanity
           found = said.2;
           verdict = sym is;
         });
+    device = λ whole.
+        let gave = was_granted verdict_in (asks.SanityCheck2 counts) (λ give. refl) at.call.answer reply (sym at.call.came ∙ came) in
+        exchanged_one met.meta.usn (record { ask = asks.SanityCheck2 counts; answer = at.call.answer }) gave.granted keeping keeping keeping
+        (brings_nothing met.meta.usn gave.granted.reply.give keeping (quiet_verdict gave.granted.reply.give reply gave.gave))
+        (check_settles_none met.meta.usn counts keeping);
     leads = λ c s account earlier met_is place. (
       left_one was now (asks.SanityCheck2 counts) at.it verdict_in given at.made at.envelopes at.call refl refl refl
           0 0 1 check_few (at_end_of planned_pushes) met keeping check_next c s account earlier met_is place,
@@ -607,14 +644,14 @@ pushed_on turns from start met k0 k1 k2 t0 t1 t2 (Some next) name is one two =
     }
 
 -- the last chunk of all was sent, or refused
-pub last_pushed : (turns : ℕ) (from next : Name) (chunk : Chunk) (start : Place) (met : Met) (k0 k1 k2 : Keeping) (t0 t1 t2 : Talk) (result : Result (Unit {0}) Stop)
-    → k2 ≡ k1 → chunk.done ≡ true → HasTurned 0 turns start (HavePushed turns from) met k0 k1 t0 t1 turns sent → SendsOne chunk turns from next met k1 t1 t2 result
+pub last_pushed : (turns : ℕ) (from next : Name) (chunk : Chunk) (start : Place) (met : Met) (k0 k1 km k2 : Keeping) (t0 t1 t2 : Talk) (result : Result (Unit {0}) Stop)
+    → km ≡ k1 → chunk.done ≡ true → HasTurned 0 turns start (HavePushed turns from) met k0 k1 t0 t1 turns sent → SendsOne chunk turns from next met km k2 t1 t2 result
     → Advances 0 turns 1 start (at_end_of planned_pushes) met k0 k2 t0 t2 result
-last_pushed turns from next chunk start met k0 k1 k2 t0 t1 t2 result same is one two =
-    subst (λ (k : Keeping). Advances 0 turns 1 start (at_end_of planned_pushes) met k0 k t0 t2 result) (sym same)
-    (advances_more 0 (turns + 0) 1 0 turns 1 start (at_end_of planned_pushes) met k0 k1 t0 t2 result (omega arith) (omega arith) (omega arith)
-    (advances_then 0 turns 0 0 0 1 start (HavePushed turns from) (at_end_of planned_pushes) met k0 k1 k1 t0 t1 t2 tt result one.leads
-    (subst (λ (b : Bool). Advances 0 (if b then 0 else 1) (if b then 1 else 0) (HavePushed turns from) (HasPushedOne turns (if b then None else Some next)) met k1 k1 t1 t2 result)
+last_pushed turns from next chunk start met k0 k1 km k2 t0 t1 t2 result same is one two =
+    advances_more 0 (turns + 0) 1 0 turns 1 start (at_end_of planned_pushes) met k0 k2 t0 t2 result (omega arith) (omega arith) (omega arith)
+    (advances_then 0 turns 0 0 0 1 start (HavePushed turns from) (at_end_of planned_pushes) met k0 k1 k2 t0 t1 t2 tt result one.leads
+    (advances_from 0 0 1 (HavePushed turns from) (at_end_of planned_pushes) met k1 km k2 t1 t2 result same
+    (subst (λ (b : Bool). Advances 0 (if b then 0 else 1) (if b then 1 else 0) (HavePushed turns from) (HasPushedOne turns (if b then None else Some next)) met km k2 t1 t2 result)
     is two.leads)))
 
 -- ---- how many requests the graves need
@@ -675,13 +712,14 @@ graves_at c s account asked keeping was list place may told =
     let is = place.has.placed may in
     no_graves_yet list c s asked
     (told_at c s account asked (at_end_of (λ d t. planned_start d)) keeping was place (λ h. list ≡ wanted_graves Unsent h.rows) told
-    ∙ ap (wanted_graves Unsent) (rows_at c s asked may (leads_on (λ d t. planned_start d) after_start c s asked may is) ∙ ap (device_rows c s) is)) is
+    ∙ ap (wanted_graves Unsent) (rows_at c s asked may (leads_on (λ d t. planned_start d) after_start c s asked may is)
+    ∙ ap (λ (l : List Ask). settled_under s.head.usn (names_of (all_brought l).rows) (device_rows c s l)) is)) is
 
 -- ---- all but the finish
-pub exchanges_refused : (to : Place) (met : Met) (k0 k1 k2 : Keeping) (t0 t1 : Talk) (result : Result (Unit {0}) Stop) (graves : ℕ)
-    → AreGraveRequests k0 graves → IsErr result → Advances 40_000 39_999 (4 + graves) at_meta to met k0 k1 t0 t1 result → Exchanges met k0 k2 t0 t1 result
-exchanges_refused to met k0 k1 k2 t0 t1 (Ok x) graves most is one = absurd (grind (arith, is))
-exchanges_refused to met k0 k1 k2 t0 t1 (Err stop) graves most is one = record {
+pub exchanges_refused : (to : Place) (met : Met) (k0 k1 : Keeping) (t0 t1 : Talk) (result : Result (Unit {0}) Stop) (graves : ℕ)
+    → AreGraveRequests k0 graves → IsErr result → Advances 40_000 39_999 (4 + graves) at_meta to met k0 k1 t0 t1 result → Exchanges met k0 k1 t0 t1 result
+exchanges_refused to met k0 k1 t0 t1 (Ok x) graves most is one = absurd (grind (arith, is))
+exchanges_refused to met k0 k1 t0 t1 (Err stop) graves most is one = record {
   tries = one.tries;
   asked = one.asked;
   graves = graves;
@@ -691,13 +729,13 @@ exchanges_refused to met k0 k1 k2 t0 t1 (Err stop) graves most is one = record {
   rows = one.rows;
   plain = one.plain;
   ends = one.ends;
+  device = one.device;
   leads = λ c s account met_is at. let led = one.leads c s account [] met_is at in (led.0, tt, led.2);
 }
 
-pub exchanges_settled : (met : Met) (k0 k1 k2 : Keeping) (t0 t1 : Talk) (graves : ℕ) → AreGraveRequests k0 graves
-    → Advances {T = Unit {0}} 40_000 39_999 (4 + graves) at_meta HasPassedCheck met k0 k1 t0 t1 (Ok tt) → Settles met.meta.usn k1 k2
-    → Exchanges met k0 k2 t0 t1 (Ok tt)
-exchanges_settled met k0 k1 k2 t0 t1 graves most one settled = record {
+exchanges_went : (met : Met) (k0 k1 : Keeping) (t0 t1 : Talk) (graves : ℕ) (x : Unit {0}) → AreGraveRequests k0 graves
+    → Advances 40_000 39_999 (4 + graves) at_meta HasPassedCheck met k0 k1 t0 t1 (Ok x) → Exchanges met k0 k1 t0 t1 (Ok x)
+exchanges_went met k0 k1 t0 t1 graves x most one = record {
   tries = one.tries;
   asked = one.asked;
   graves = graves;
@@ -707,13 +745,17 @@ exchanges_settled met k0 k1 k2 t0 t1 graves most one settled = record {
   rows = one.rows;
   plain = one.plain;
   ends = tt;
+  device = one.device;
   leads = λ c s account met_is at.
       let there = one.leads c s account [] met_is at in (
         there.0,
-        (
-          there.1.has,
-          subst (λ (k : Keeping). Settles s.head.usn k k2) there.1.device (subst (λ (usn : ℤ). Settles usn k1 k2) met_is.usn settled),
-        ),
+        there.1,
         tt,
       );
 }
+
+-- all was asked but the finish, or it was refused
+pub exchanges_all : (met : Met) (k0 k1 : Keeping) (t0 t1 : Talk) (graves : ℕ) (result : Result (Unit {0}) Stop) → AreGraveRequests k0 graves
+    → Advances 40_000 39_999 (4 + graves) at_meta HasPassedCheck met k0 k1 t0 t1 result → Exchanges met k0 k1 t0 t1 result
+exchanges_all met k0 k1 t0 t1 graves (Ok x) most one = exchanges_went met k0 k1 t0 t1 graves x most one
+exchanges_all met k0 k1 t0 t1 graves (Err stop) most one = exchanges_refused HasPassedCheck met k0 k1 t0 t1 (Err stop) graves most (grind arith) one

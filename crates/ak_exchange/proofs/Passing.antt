@@ -1,22 +1,25 @@
 -- A part of a sync leads from one place of its plan to another.
 use Rattle.std.specs.List.{AllByRecursion}
-use Rattle.std.specs.Prelude.{◌≡◌, ℕ, ◌+◌, ◌≤◌, ℤ, true, false, is_some, List, [], ◌∷◌, ◌++◌, Option, Some, Result, Ok, Err, IsErrAnd, IfOk, IfErr, OnOk, ◌⊎◌}
-use Rattle.std.proofs.Common.{refl, sym, ap, subst, ◌∙◌, append_assoc, append-nil, arith}
+use Rattle.std.specs.Prelude.{◌≡◌, ℕ, ◌+◌, ◌≤◌, ℤ, ◌&&◌, Bool, true, false, is_some, if◌then◌else◌, List, [], ◌∷◌, ◌++◌, Option, Some, Result, Ok, Err, IsErrAnd, IfOk, IfErr, OnOk, ◌⊎◌}
+use Rattle.std.proofs.Common.{refl, sym, ap, subst, ◌∙◌, append_assoc, append-nil, inl, inr}
 use Rattle.std.proofs.lemmas.List.{length-append}
+use Rattle.std.proofs.lemmas.List.Elements.{filter-append}
 use Rattle.ak_exchange.proofs.Replying.{replies_go_on}
 use Rattle.ak_exchange.proofs.Stepping.{asks_one}
-use Rattle.ak_exchange.proofs.Stopping.{IsRefused, IsRefusedAfter, all_but_last, granted_then, is_quiet, none_granted, not_ok, one_but_last, part_stops, quiet_stops, refused_after_is_fair, refused_after_stops, refused_is_fair, refused_stops, rows_then, was_granted, was_not_granted}
+use Rattle.ak_exchange.proofs.Stopping.{IsKept, IsRefused, IsRefusedAfter, all_but_last, all_granted, granted_shows, granted_then, none_granted, not_ok, ok-err, one_but_last, part_stops, quiet_stops, refused_after_is_fair, refused_after_stops, refusal_shows, refused_is_fair, refused_stops, rows_then, spoilt, unless_map, unless_then, was_granted, was_not_granted}
 use Rattle.ak_exchange.proofs.Tried.{asked_none, asked_then, asks_append, few_more, few_none, few_then}
 use Rattle.ak_exchange.specs.Asked.{AreAsked, AreFew, AreTried, Talk, TriedAsk, asker, asks_in, request_at}
-use Rattle.ak_exchange.specs.Grants.{AreGranted, AreTooMany, IsLast, SendsRows, StopsFor, is_in_form}
-use Rattle.ak_exchange.specs.Phases.{Advances, HasAsked, HasTenMillionRows, IsAt, IsFairStop, IsLeft, IsMet, IsReached, Place, marked_at}
-use Rattle.ak_exchange.specs.Stops.{wire_stop}
+use Rattle.ak_exchange.specs.Grants.{AreGranted, AreTooMany, IsGranted, IsLast, IsNotGranted, SendsRows, StopsFor, are_granted, granted_of, grants, is_in_form}
+use Rattle.ak_exchange.specs.Phases.{Advances, HasAsked, HasExchanged, HasTenMillionRows, IsAt, IsFairStop, IsLeft, IsMet, IsReached, Place, UnlessHalfDone, all_came_by, came_by, marked_at}
+use Rattle.ak_exchange.specs.Stops.{is_keep_or_memory, wire_stop}
 use Rattle.ak_exchange.specs.declared.envelopes.Envelopes.{Envelopes}
 use Rattle.ak_exchange.specs.declared.envelopes.Met.{Met}
 use Rattle.ak_exchange.specs.declared.stops.Stop.{Stop}
 use Rattle.ak_exchange.specs.declared.stops.Stop.TheVariants as stops
-use Rattle.ak_device.proofs.Receiving.{received_then}
+use Rattle.ak_device.proofs.Receiving.{received_nothing}
+use Rattle.ak_device.proofs.TakingAndSettling.{changed_then, more_taken, one_more_taken}
 use Rattle.ak_device.specs.Devices.{received}
+use Rattle.ak_device.specs.Settlings.{settled_by, taken_and_settled}
 use Rattle.ak_keep.specs.Collections.{Collection}
 use Rattle.ak_keep.specs.Keepers.{Keeping, changed}
 use Rattle.ak_merge.specs.Commits.{Received}
@@ -24,8 +27,10 @@ use Rattle.ak_messages.specs.declared.replies.Give.{Give}
 use Rattle.ak_messages.specs.declared.requests.Ask.{Ask}
 use Rattle.ak_messages.specs.declared.requests.Request.{Request}
 use Rattle.ak_protocol.specs.Accounts.{AccountState}
-use Rattle.ak_session.proofs.Ranges.{all_append}
+use Rattle.ak_session.proofs.Ranges.{all_append, not_both}
+use Rattle.ak_session.proofs.Steps.{nothing_first, nothing_last, then_then}
 use Rattle.ak_session.specs.Answers.{answer_to}
+use Rattle.ak_session.specs.Asks.{and_then}
 use Rattle.ak_session.specs.Plans.{Asker, planned}
 use Rattle.ak_session.specs.Replies.{replied, all_replied}
 use Rattle.ak_session.specs.Requests.{asks_commit, is_download, is_meta}
@@ -62,13 +67,77 @@ stays_here pulled pushed others from to met before after was now result on healt
   rows = tt;
   plain = tt;
   ends = refused_stops [] now.wire result is;
+  device = spoilt [] result (HasExchanged met.meta.usn [] before after) refl is;
   leads = λ c s account earlier met_is at. (
     subst (λ (l : List Ask). IsLeft c s account (asker was.envelopes.ids) l now) (sym (append-nil earlier))
         (left_here from on c s account earlier was now at.has wire),
-    not_ok result (λ (stop : Stop). is_quiet stop ≡ true) (IsAt c s account (earlier ++ []) to after now) is,
+    not_ok result (λ (stop : Stop). is_keep_or_memory stop ≡ true) (IsAt c s account (earlier ++ []) to after now) is,
     refused_is_fair c s result is,
   );
 }
+
+-- ---- what came and was settled
+-- the answers to these and then to more
+came_append : (a b : List TriedAsk) → all_came_by (a ++ b) ≡ and_then (all_came_by a) (all_came_by b)
+came_append [] b = sym (nothing_first (all_came_by b))
+came_append (it ∷ a) b = ap (and_then (came_by it.answer)) (came_append a b) ∙ sym (then_then (came_by it.answer) (all_came_by a) (all_came_by b))
+
+-- a keeper that took what the answers to these brought, and settled what they sent
+abbrev TookAll : ℤ → List TriedAsk → Keeping → Keeping → Type 0
+TookAll usn tries before now = now ≡ changed (taken_and_settled usn (all_came_by tries) (asks_in tries)) before
+
+took_then : (usn : ℤ) (a b : List TriedAsk) (k0 k1 k2 : Keeping) → TookAll usn a k0 k1 → TookAll usn b k1 k2 → TookAll usn (a ++ b) k0 k2
+took_then usn a b k0 k1 k2 one two =
+    more_taken usn (all_came_by a) (all_came_by b) (asks_in a) (asks_in b) k0 k1 k2 one two
+    ∙ ap (λ (came : Received). changed (taken_and_settled usn came (asks_in a ++ asks_in b)) k0) (sym (came_append a b))
+    ∙ ap (λ (sent : List Ask). changed (taken_and_settled usn (all_came_by (a ++ b)) sent) k0) (sym (asks_append a b))
+
+exchanged_then : (usn : ℤ) (a b : List TriedAsk) (k0 k1 k2 : Keeping) → HasExchanged usn a k0 k1 → HasExchanged usn b k1 k2 → HasExchanged usn (a ++ b) k0 k2
+exchanged_then usn a b k0 k1 k2 one two =
+    subst (λ (l : List TriedAsk). TookAll usn l k0 k2) (sym (filter-append (λ (it : TriedAsk). grants it.ask it.answer) a b))
+    (took_then usn (granted_of a) (granted_of b) k0 k1 k2 one two)
+
+pub exchanged_one : (usn : ℤ) (it : TriedAsk) (granted : IsGranted it) (k0 k1 k2 : Keeping)
+    → k1 ≡ changed (received usn (replied granted.reply.give)) k0 → k2 ≡ changed (settled_by usn it.ask) k1 → HasExchanged usn (it ∷ []) k0 k2
+exchanged_one usn it granted k0 k1 k2 one two =
+    subst (λ (b : Bool). TookAll usn (if b then it ∷ [] else []) k0 k2) (sym (granted_shows it granted))
+    (changed_then (received usn (replied granted.reply.give)) (settled_by usn it.ask) (taken_and_settled usn (replied granted.reply.give) (it.ask ∷ [])) (λ h. refl) k0 k1 k2 one two
+    ∙ ap (λ (came : Received). changed (taken_and_settled usn came (it.ask ∷ [])) k0) (sym (nothing_last (came_by it.answer) ∙ ap came_by granted.is)))
+
+-- it was not granted
+exchanged_none : (usn : ℤ) (it : TriedAsk) (why : Unanswered) (k0 k1 : Keeping) → IsNotGranted it why → k1 ≡ k0 → HasExchanged usn (it ∷ []) k0 k1
+exchanged_none usn it why k0 k1 not_so same =
+    subst (λ (b : Bool). TookAll usn (if b then it ∷ [] else []) k0 k1) (sym (refusal_shows it why not_so)) (same ∙ received_nothing usn k0)
+
+-- a part that was refused once it had asked one: it was granted, so the keeper or memory refused what was left to do, or it was not
+exchanged_refused : {T G : Type 0} (usn : ℤ) (it : TriedAsk) (given : Result G Unanswered) (k0 k1 : Keeping) (result : Result T Stop)
+    → ((g : G) → given ≡ Ok g → IsGranted it) → ((why : Unanswered) → given ≡ Err why → IsNotGranted it why) → IsKept given k0 k1 → IsRefusedAfter given result
+    → UnlessHalfDone (it ∷ []) result (HasExchanged usn (it ∷ []) k0 k1)
+exchanged_refused {G = G} usn it given k0 k1 (Ok x) so not_so kept is = absurd is
+exchanged_refused {G = G} usn it given k0 k1 (Err stop) so not_so kept is = by given refl is
+  where
+    own : Bool
+    own = is_keep_or_memory stop
+
+    shown : (g : G) → given ≡ Ok g → own ≡ true → (own && are_granted (it ∷ [])) ≡ true
+    shown g was quiet =
+        ap (λ (b : Bool). b && are_granted (it ∷ [])) quiet ∙ ap (λ (b : Bool). b && true) (granted_shows it (so g was))
+
+    by : (r : Result G Unanswered) → given ≡ r → (own ≡ true) ⊎ ((why : Unanswered) × (given ≡ Err why) × (stop ≡ wire_stop why))
+        → (own && are_granted (it ∷ [])) ≡ false → HasExchanged usn (it ∷ []) k0 k1
+    by (Ok g) was (inl quiet) whole = absurd (not_both (shown g was quiet) whole)
+    by (Ok g) was (inr (why, came, same)) whole = absurd (ok-err g why (sym was ∙ came))
+    by (Err why) was shows whole = exchanged_none usn it why k0 k1 (not_so why was) (kept why was)
+
+-- whether a head is held stays
+pub advances_held : {T : Type 0} (p q o : ℕ) (from to : Place) (met : Met) (k0 k1 : Keeping) (t0 t1 : Talk) (result : Result T Stop)
+    → Advances p q o from to met k0 k1 t0 t1 result → k0.headed.current ≡ true → OnOk result (k1.headed.current ≡ true)
+advances_held {T} p q o from to met k0 k1 t0 t1 result one held =
+    by result one.device
+  where
+    by : (r : Result T Stop) → UnlessHalfDone one.tries r (HasExchanged met.meta.usn one.tries k0 k1) → OnOk r (k1.headed.current ≡ true)
+    by (Ok x) is = ap (λ (k : Keeping). k.headed.current) is ∙ held
+    by (Err stop) is = tt
 
 -- ---- one part after another
 pub advances_then : {T U : Type 0} (p q o p2 q2 o2 : ℕ) (from mid to : Place) (met : Met) (k0 k1 k2 : Keeping) (t0 t1 t2 : Talk) (x : T) (result : Result U Stop)
@@ -82,6 +151,9 @@ advances_then p q o p2 q2 o2 from mid to met k0 k1 k2 t0 t1 t2 x result one two 
   rows = rows_then one.tries two.tries one.rows two.rows;
   plain = subst (AllByRecursion IsPlain) (sym (asks_append one.tries two.tries)) (all_append IsPlain (asks_in one.tries) (asks_in two.tries) one.plain two.plain);
   ends = part_stops one.tries two.tries t2.wire result two.ends;
+  device = unless_then one.tries two.tries result (HasExchanged met.meta.usn (one.tries ++ two.tries) k0 k2) one.granted
+      (unless_map two.tries result (HasExchanged met.meta.usn two.tries k1 k2) (HasExchanged met.meta.usn (one.tries ++ two.tries) k0 k2)
+      (exchanged_then met.meta.usn one.tries two.tries k0 k1 k2 one.device) two.device);
   leads = λ c s account earlier met_is at.
       let there = two.leads c s account (earlier ++ asks_in one.tries) met_is (one.leads c s account earlier met_is at).1 in
       subst (λ (l : List Ask). IsLeft c s account (asker t0.envelopes.ids) l t2 × OnOk result (IsAt c s account l to k2 t2) × IfErr result (IsFairStop c s))
@@ -113,6 +185,7 @@ advances_to p q o from mid to met k0 k1 t0 t1 x y so one = record {
   rows = one.rows;
   plain = one.plain;
   ends = tt;
+  device = one.device;
   leads = λ c s account earlier met_is at.
       let there = one.leads c s account earlier met_is at in (
         there.0,
@@ -148,6 +221,7 @@ at_start p q o from to met k0 k1 was now x on so kept health wire envelopes = re
   rows = tt;
   plain = tt;
   ends = tt;
+  device = kept ∙ received_nothing met.meta.usn k0;
   leads = λ c s account earlier met_is at.
       subst (λ (l : List Ask). IsLeft c s account (asker was.envelopes.ids) l now × IsAt c s account l to k1 now × Unit {0}) (sym (append-nil earlier)) (
         left_here from on c s account earlier was now at.has wire,
@@ -178,6 +252,7 @@ advances_place p q o from mid to met k0 k1 t0 t1 (Err stop) so one = record {
   rows = one.rows;
   plain = one.plain;
   ends = one.ends;
+  device = one.device;
   leads = λ c s account earlier met_is at. let led = one.leads c s account earlier met_is at in (led.0, tt, led.2);
 }
 
@@ -192,6 +267,7 @@ advances_more p q o p2 q2 o2 from to met k0 k1 t0 t1 result pulled pushed others
   rows = one.rows;
   plain = one.plain;
   ends = one.ends;
+  device = one.device;
   leads = one.leads;
 }
 
@@ -199,8 +275,8 @@ advances_more p q o p2 q2 o2 from to met k0 k1 t0 t1 result pulled pushed others
 advances_stopped : {T U : Type 0} (p q o : ℕ) (from mid to : Place) (met : Met) (k0 k1 k2 : Keeping) (t0 t1 : Talk) (x : T) (result : Result U Stop)
     → (one : Advances p q o from mid met k0 k1 t0 t1 (Ok x)) → IsErrAnd result (StopsFor one.tries t1.wire)
     → ((c s : Collection) (account : AccountState) (asked : List Ask) → IsAt c s account asked mid k1 t1 → IfErr result (IsFairStop c s))
-    → Advances p q o from to met k0 k2 t0 t1 result
-advances_stopped {U = U} p q o from mid to met k0 k1 k2 t0 t1 x result one is fair = record {
+    → UnlessHalfDone one.tries result (k2 ≡ k1) → Advances p q o from to met k0 k2 t0 t1 result
+advances_stopped {U = U} p q o from mid to met k0 k1 k2 t0 t1 x result one is fair kept = record {
   tries = one.tries;
   asked = one.asked;
   few = one.few;
@@ -208,6 +284,7 @@ advances_stopped {U = U} p q o from mid to met k0 k1 k2 t0 t1 x result one is fa
   rows = one.rows;
   plain = one.plain;
   ends = if_refused result is;
+  device = unless_map one.tries result (k2 ≡ k1) (HasExchanged met.meta.usn one.tries k0 k2) (λ same. same ∙ one.device) kept;
   leads = λ c s account earlier met_is at. (
     (one.leads c s account earlier met_is at).0,
     not_ok result (StopsFor one.tries t1.wire) (IsAt c s account (earlier ++ asks_in one.tries) to k2 t1) is,
@@ -228,6 +305,7 @@ pub advances_left : {T U : Type 0} (p q o : ℕ) (from mid to : Place) (met : Me
     → Advances p q o from mid met k0 k1 t0 t1 (Ok x) → Advances p q o from to met k0 k2 t0 t1 result
 advances_left {U = U} p q o from mid to met k0 k1 k2 t0 t1 x result is one =
     advances_stopped p q o from mid to met k0 k1 k2 t0 t1 x result one (each result is) (λ c s account asked there. refused_is_fair c s result is)
+    (spoilt one.tries result (k2 ≡ k1) (all_granted one.tries one.granted) is)
   where
     each : (r : Result U Stop) → IsRefused r → IsErrAnd r (StopsFor one.tries t1.wire)
     each (Ok y) is = is
@@ -237,9 +315,9 @@ advances_left {U = U} p q o from mid to met k0 k1 k2 t0 t1 x result is one =
 pub advances_many : {T U : Type 0} (p q o : ℕ) (from mid to : Place) (met : Met) (k0 k1 k2 : Keeping) (t0 t1 : Talk) (x : T)
     → (one : Advances p q o from mid met k0 k1 t0 t1 (Ok x)) → AreTooMany one.tries
     → ((c s : Collection) (account : AccountState) (asked : List Ask) → IsAt c s account asked mid k1 t1 → MaySync c s → HasTenMillionRows c s)
-    → Advances {T = U} p q o from to met k0 k2 t0 t1 (Err stops.TooManyChunks)
-advances_many p q o from mid to met k0 k1 k2 t0 t1 x one many rows =
-    advances_stopped p q o from mid to met k0 k1 k2 t0 t1 x (Err stops.TooManyChunks) one many rows
+    → k2 ≡ k1 → Advances {T = U} p q o from to met k0 k2 t0 t1 (Err stops.TooManyChunks)
+advances_many p q o from mid to met k0 k1 k2 t0 t1 x one many rows same =
+    advances_stopped p q o from mid to met k0 k1 k2 t0 t1 x (Err stops.TooManyChunks) one many rows (λ whole. same)
 
 -- a refusal that was handed on
 pub advances_passed : {T U : Type 0} (p q o : ℕ) (from mid to : Place) (met : Met) (k0 k1 : Keeping) (t0 t1 : Talk) (e : Stop) (result : Result U Stop)
@@ -253,6 +331,7 @@ advances_passed p q o from mid to met k0 k1 t0 t1 e (Err stop) is one = record {
   rows = one.rows;
   plain = one.plain;
   ends = subst (StopsFor one.tries t1.wire) (sym is) one.ends;
+  device = λ whole. one.device (ap (λ (it : Stop). is_keep_or_memory it && are_granted one.tries) (sym is) ∙ whole);
   leads = λ c s account earlier met_is at.
       let led = one.leads c s account earlier met_is at in (led.0, tt, subst (IsFairStop c s) (sym is) led.2);
 }
@@ -261,6 +340,11 @@ advances_passed p q o from mid to met k0 k1 t0 t1 e (Err stop) is one = record {
 pub advances_kept : {T : Type 0} (p q o : ℕ) (from to : Place) (met : Met) (k0 k1 : Keeping) (t0 t1 : Talk) (result : Result T Stop)
     → k1 ≡ k0 → Advances p q o from to met k0 k0 t0 t1 result → Advances p q o from to met k0 k1 t0 t1 result
 advances_kept p q o from to met k0 k1 t0 t1 result same one = subst (λ (k : Keeping). Advances p q o from to met k0 k t0 t1 result) (sym same) one
+
+-- over a keeper that was as this one is
+pub advances_from : {T : Type 0} (p q o : ℕ) (from to : Place) (met : Met) (k0 k1 k2 : Keeping) (t0 t1 : Talk) (result : Result T Stop)
+    → k1 ≡ k0 → Advances p q o from to met k1 k2 t0 t1 result → Advances p q o from to met k0 k2 t0 t1 result
+advances_from p q o from to met k0 k1 k2 t0 t1 result same one = subst (λ (k : Keeping). Advances p q o from to met k k2 t0 t1 result) same one
 
 -- ---- one request
 module _ {G : Type 0} (was now : Talk) (ask : Ask) (it : Request) (part : Give → Option G) (given : Result G Unanswered)
@@ -315,13 +399,17 @@ module _ {G : Type 0} (was now : Talk) (ask : Ask) (it : Request) (part : Give �
       }
 
       module _ (form : (give : Give) → is_in_form ask give ≡ is_some (part give)) (sends : SendsRows ask) where
+        -- what the reply brought was taken, and what was sent was settled
+        abbrev IsTaken : Give → Keeping → Type 0
+        IsTaken give after = (mid : Keeping) × (mid ≡ changed (received met.meta.usn (replied give)) before) × (after ≡ changed (settled_by met.meta.usn ask) mid)
+
         abbrev Why : Stop → Type 0
-        Why stop = (is_quiet stop ≡ true) ⊎ ((why : Unanswered) × (given ≡ Err why) × (stop ≡ wire_stop why))
+        Why stop = (is_keep_or_memory stop ≡ true) ⊎ ((why : Unanswered) × (given ≡ Err why) × (stop ≡ wire_stop why))
 
         -- the part was refused once it had asked this
-        pub refused_after : {T : Type 0} (to : Place) (after : Keeping) (result : Result T Stop) → IsRefusedAfter given result
+        pub refused_after : {T : Type 0} (to : Place) (after : Keeping) (result : Result T Stop) → IsKept given before after → IsRefusedAfter given result
             → Advances p q o from to met before after was now result
-        refused_after {T} to after result is = record {
+        refused_after {T} to after result kept is = record {
           tries = tried_one ∷ [];
           asked = asked_one;
           few = few;
@@ -330,14 +418,16 @@ module _ {G : Type 0} (was now : Talk) (ask : Ask) (it : Request) (part : Give �
           plain = (plain, tt);
           ends = refused_after_stops (tried_one ∷ []) now.wire tried_one given result last_one
               (λ why came. was_not_granted part ask form call.answer why (sym call.came ∙ came)) is;
+          device = exchanged_refused met.meta.usn tried_one given before after result
+              (λ g came. (was_granted part ask form call.answer g (sym call.came ∙ came)).granted)
+              (λ why came. was_not_granted part ask form call.answer why (sym call.came ∙ came)) kept is;
           leads = λ c s account earlier met_is at.
               (left_one c s account earlier met_is at, not_ok result Why (IsAt c s account (earlier ++ ask ∷ []) to after now) is, refused_after_is_fair c s given result is);
         }
 
         -- it was given this, the device took it, and that leads to a place
         pub took_after : {T : Type 0} (to : Place) (after : Keeping) (x : T) (g : G) → given ≡ Ok g
-            → ((c s : Collection) (asked : List Ask) → IsMet c s met → part (answer_to s asked ask) ≡ Some g
-            → after ≡ changed (received s.head.usn (replied (answer_to s asked ask))) before)
+            → ((give : Give) → part give ≡ Some g → IsTaken give after)
             → ((c s : Collection) (account : AccountState) (asked : List Ask) → IsMet c s met → IsAt c s account asked from before was
             → part (answer_to s asked ask) ≡ Some g → MaySync c s → to c s (asked ++ ask ∷ []))
             → Advances p q o from to met before after was now (Ok x)
@@ -349,6 +439,10 @@ module _ {G : Type 0} (was now : Talk) (ask : Ask) (it : Request) (part : Give �
           rows = (sends, tt);
           plain = (plain, tt);
           ends = tt;
+          device =
+              let gave = was_granted part ask form call.answer g (sym call.came ∙ came) in
+              let taken = took gave.granted.reply.give gave.gave in
+              exchanged_one met.meta.usn tried_one gave.granted before taken.0 after taken.1 taken.2;
           leads = λ c s account earlier met_is at.
               let told : part (answer_to s earlier ask) ≡ Some g =
               subst (λ (r : Result G Unanswered). IfOk r (λ (it : G). part (answer_to s earlier ask) ≡ Some it)) came
@@ -356,10 +450,12 @@ module _ {G : Type 0} (was now : Talk) (ask : Ask) (it : Request) (part : Give �
                 left_one c s account earlier met_is at,
                 record {
                   has = has_one c s account earlier from to at.has (leads c s account earlier met_is at told);
-                  device = took c s earlier met_is told
-                      ∙ ap (changed (received s.head.usn (replied (answer_to s earlier ask)))) at.device
-                      ∙ received_then s.head.usn (all_replied s earlier) (replied (answer_to s earlier ask)) (marked_at c)
-                      ∙ ap (λ (came : Received). changed (received s.head.usn came) (marked_at c)) (sym (replies_go_on s earlier ask));
+                  device =
+                      let taken = took (answer_to s earlier ask) told in
+                      one_more_taken s.head.usn (all_replied s earlier) (replied (answer_to s earlier ask)) earlier ask (marked_at c) before taken.0 after at.device
+                      (subst (λ (usn : ℤ). taken.0 ≡ changed (received usn (replied (answer_to s earlier ask))) before) met_is.usn taken.1)
+                      (subst (λ (usn : ℤ). after ≡ changed (settled_by usn ask) taken.0) met_is.usn taken.2)
+                      ∙ ap (λ (came : Received). changed (taken_and_settled s.head.usn came (earlier ++ ask ∷ [])) (marked_at c)) (sym (replies_go_on s earlier ask));
                 },
                 tt,
               );
@@ -367,8 +463,7 @@ module _ {G : Type 0} (was now : Talk) (ask : Ask) (it : Request) (part : Give �
 
         -- with what was tried
         pub one_tried : {T : Type 0} (to : Place) (after : Keeping) (x : T) (g : G) → given ≡ Ok g
-            → ((c s : Collection) (asked : List Ask) → IsMet c s met → part (answer_to s asked ask) ≡ Some g
-            → after ≡ changed (received s.head.usn (replied (answer_to s asked ask))) before)
+            → ((give : Give) → part give ≡ Some g → IsTaken give after)
             → ((c s : Collection) (account : AccountState) (asked : List Ask) → IsMet c s met → IsAt c s account asked from before was
             → part (answer_to s asked ask) ≡ Some g → MaySync c s → to c s (asked ++ ask ∷ []))
             → (it : Advances p q o from to met before after was now (Ok x)) × (it.tries ≡ tried_one ∷ [])

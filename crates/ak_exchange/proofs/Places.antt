@@ -8,7 +8,8 @@ use Rattle.std.proofs.lemmas.List.{length-map, map-append}
 use Rattle.std.proofs.lemmas.List.FromFn.{length-map-range_with_len}
 use Rattle.ak_exchange.proofs.Chunking.{ends_short, front_below, is_filled, is_until_short, left_after_slice, next_slice, slices_go_on}
 use Rattle.ak_exchange.proofs.Passing.{LeadsOn}
-use Rattle.ak_exchange.specs.Loops.{HasPulledOne, HavePulled, HavePushed, HaveSentGraves, rows_to_push}
+use Rattle.ak_exchange.proofs.SentRows.{ahead_stays, pushes_left}
+use Rattle.ak_exchange.specs.Loops.{HasPulledOne, HavePulled, HavePushed, HaveSentGraves, rows_once_sent, rows_to_push}
 use Rattle.ak_exchange.specs.Phases.{at_end_of, at_meta}
 use Rattle.ak_base.specs.declared.names.Name.{Name}
 use Rattle.ak_base.specs.declared.names.Table.TheVariants as tables
@@ -242,15 +243,18 @@ next_push k from c s asked at =
     next_ahead push_request list (planned_chunks c s) k (length list / 250 + 1) (planned c s) asked (is_until_short k (length list) at.full) at.asked_is
     (after_pushes c s)
 
-pub none_pushed : (c s : Collection) (asked : List Ask) → asked ≡ planned_chunks c s → HavePushed 0 (record { table = tables.Review; id = pos 0 }) c s asked
-none_pushed c s asked is = record { asked_is = is ∙ sym (append-nil (planned_chunks c s)); full = omega arith; ahead = refl }
+pub none_pushed : (c s : Collection) (asked : List Ask) → MaySync c s → asked ≡ planned_chunks c s → HavePushed 0 (record { table = tables.Review; id = pos 0 }) c s asked
+none_pushed c s asked may is = record {
+  asked_is = is ∙ sym (append-nil (planned_chunks c s));
+  full = omega arith;
+  ahead = ap (λ (l : List Ask). wanted_in_chunks Unsent (rows_once_sent c s l)) is ∙ pushes_left c s may;
+}
 
 module _ (k : ℕ) (from next : Name) (c s : Collection) (asked : List Ask) (at : HavePushed k from c s asked) (part : List Row)
-    (cut : IsSlice (ahead_of Unsent from (device_rows c s (planned_chunks c s))) part (ahead_of Unsent next (device_rows c s (planned_chunks c s)))) where
+    (cut : IsSlice (ahead_of Unsent from (rows_once_sent c s asked)) part (ahead_of Unsent next (rows_once_sent c s asked))) where
   -- what is sent is the next slice
   pub part_sent : part ≡ slice k (rows_to_push c s)
-  part_sent = next_slice k (rows_to_push c s) (ahead_of Unsent from (device_rows c s (planned_chunks c s))) part
-      (ahead_of Unsent next (device_rows c s (planned_chunks c s))) at.ahead cut
+  part_sent = next_slice k (rows_to_push c s) (ahead_of Unsent from (rows_once_sent c s asked)) part (ahead_of Unsent next (rows_once_sent c s asked)) at.ahead cut
 
   one_pushed : asked ++ push_request part ∷ [] ≡ planned_chunks c s ++ map push_request (slices (k + 1) (rows_to_push c s))
   one_pushed = ap (λ (l : List Row). asked ++ push_request l ∷ []) part_sent
@@ -268,8 +272,8 @@ module _ (k : ℕ) (from next : Name) (c s : Collection) (asked : List Ask) (at 
       one_pushed ∙ ap (λ (n : ℕ). planned_chunks c s ++ map push_request (slices n list)) (ends_short k (length list) full ((short_slices k list).0 short))
 
   -- and after a full one the next begins
-  pub pushed_full : nat_lt (length part) 250 ≡ false → HavePushed (k + 1) next c s (asked ++ push_request part ∷ [])
-  pushed_full is =
+  pub pushed_full : MaySync c s → nat_lt (length part) 250 ≡ false → HavePushed (k + 1) next c s (asked ++ push_request part ∷ [])
+  pushed_full may is =
       let list = rows_to_push c s in
       let same : length part ≡ length (slice k list) = ap length part_sent in
       let short = cut.short in
@@ -278,6 +282,6 @@ module _ (k : ℕ) (from next : Name) (c s : Collection) (asked : List Ask) (at 
       record {
         asked_is = one_pushed;
         full = not_less (length list) (250 * (k + 1)) (λ less. let fewer = (short_slices k list).1 less in absurd (omega (arith, most, fewer)));
-        ahead = left_after_slice k list (ahead_of Unsent from (device_rows c s (planned_chunks c s))) part
-            (ahead_of Unsent next (device_rows c s (planned_chunks c s))) at.ahead cut long;
+        ahead = ahead_stays c s may asked k next part (ahead_of Unsent next (rows_once_sent c s asked)) part_sent (sym cut.whole ∙ at.ahead) refl
+            ∙ left_after_slice k list (ahead_of Unsent from (rows_once_sent c s asked)) part (ahead_of Unsent next (rows_once_sent c s asked)) at.ahead cut long;
       }

@@ -1,17 +1,18 @@
 -- Why a part of a sync stopped, and what it was granted before.
 use Rattle.std.specs.List.{AllByRecursion}
-use Rattle.std.specs.Prelude.{◌≡◌, ◌≢◌, ◌==◌, ℕ, ◌+◌, ◌≤◌, Bool, true, false, is_some, cond, if◌then◌else◌, List, [], ◌∷◌, ◌++◌, count_by, Option, Some, None, Result, Ok, Err, IsErrAnd, IfErr, OnOk, ok_or, ◌⊎◌}
+use Rattle.std.specs.Prelude.{◌≡◌, ◌≢◌, ◌==◌, ◌&&◌, ℕ, ◌≤◌, Bool, true, false, is_some, cond, if◌then◌else◌, List, [], ◌∷◌, ◌++◌, count_by, Option, Some, None, Result, Ok, Err, IsErrAnd, IfErr, OnOk, ok_or, ◌⊎◌}
 use Rattle.std.proofs.Common.{refl, sym, ap, subst, ◌∙◌, inl, inr, append_assoc, arith}
 use Rattle.std.proofs.lemmas.List.Sums.{sum_by-append}
 use Rattle.ak_exchange.proofs.Faults.{IsUnkept}
 use Rattle.ak_exchange.proofs.Tried.{asks_append}
 use Rattle.ak_exchange.specs.Asked.{TriedAsk, asks_in, sends_unfinished}
-use Rattle.ak_exchange.specs.Grants.{AllGranted, AllGrantedButLast, AreGranted, AreTooMany, EndsUnanswered, IsCheckedLast, IsGranted, IsLast, IsNotGranted, SendsRows, StopsFor, came_unfinished, is_in_form}
-use Rattle.ak_exchange.specs.Phases.{IsFairStop}
-use Rattle.ak_exchange.specs.Stops.{check_stop, is_keep, keep_stop, shows_bad_check, verdict_of, wire_stop}
+use Rattle.ak_exchange.specs.Grants.{AllGranted, AllGrantedButLast, AreGranted, AreTooMany, EndsUnanswered, IsCheckedLast, IsGranted, IsLast, IsNotGranted, SendsRows, StopsFor, are_granted, came_unfinished, grants, is_in_form}
+use Rattle.ak_exchange.specs.Phases.{IsFairStop, UnlessHalfDone}
+use Rattle.ak_exchange.specs.Stops.{check_stop, is_keep, is_keep_or_memory, keep_stop, shows_bad_check, verdict_of, wire_stop}
 use Rattle.ak_exchange.specs.declared.stops.Stop.{Stop}
 use Rattle.ak_exchange.specs.declared.stops.Stop.TheVariants as stops
 use Rattle.ak_keep.specs.Collections.{Collection}
+use Rattle.ak_keep.specs.Keepers.{Keeping}
 use Rattle.ak_keep.specs.declared.keepers.KeepFault.{KeepFault}
 use Rattle.ak_keep.specs.declared.keepers.KeepFault.TheVariants as faults
 use Rattle.ak_merge.specs.declared.checks.CheckFault.{CheckFault}
@@ -19,7 +20,7 @@ use Rattle.ak_messages.specs.declared.replies.Give.{Give}
 use Rattle.ak_messages.specs.declared.replies.Reply.{Reply}
 use Rattle.ak_messages.specs.declared.replies.SanityReply.{SanityReply}
 use Rattle.ak_messages.specs.declared.requests.Ask.{Ask}
-use Rattle.ak_session.proofs.Ranges.{all_append}
+use Rattle.ak_session.proofs.Ranges.{all_append, not_both}
 use Rattle.ak_wires.specs.Tries.{granted_in, in_form}
 use Rattle.ak_wires.specs.Wires.{WireState}
 use Rattle.ak_wires.specs.declared.asks.Unanswered.{Unanswered}
@@ -28,23 +29,17 @@ use Rattle.ak_wires.specs.declared.wires.WireEnd.{WireEnd}
 use Rattle.ak_wires.specs.declared.wires.WireEnd.TheVariants as ends
 
 -- ---- a part that was refused
--- by the keeper, or for want of memory
-abbrev pub is_quiet : Stop → Bool
-is_quiet stops.Keep = true
-is_quiet stops.Memory = true
-is_quiet stop = false
-
 -- a part was refused, and not by what it asked
 abbrev pub IsRefused : {T : Type 0} → Result T Stop → Type 0
-IsRefused result = IsErrAnd result (λ (stop : Stop). is_quiet stop ≡ true)
+IsRefused result = IsErrAnd result (λ (stop : Stop). is_keep_or_memory stop ≡ true)
 
 -- or because what it asked was not granted
 abbrev pub IsRefusedAfter : {T G : Type 0} → Result G Unanswered → Result T Stop → Type 0
-IsRefusedAfter given result = IsErrAnd result (λ (stop : Stop). (is_quiet stop ≡ true) ⊎ ((why : Unanswered) × (given ≡ Err why) × (stop ≡ wire_stop why)))
+IsRefusedAfter given result = IsErrAnd result (λ (stop : Stop). (is_keep_or_memory stop ≡ true) ⊎ ((why : Unanswered) × (given ≡ Err why) × (stop ≡ wire_stop why)))
 
-refused_as : {T : Type 0} (result : Result T Stop) (why : Stop) → is_quiet why ≡ true → IsErrAnd result (λ (stop : Stop). stop ≡ why) → IsRefused result
+refused_as : {T : Type 0} (result : Result T Stop) (why : Stop) → is_keep_or_memory why ≡ true → IsErrAnd result (λ (stop : Stop). stop ≡ why) → IsRefused result
 refused_as (Ok x) why quiet is = is
-refused_as (Err stop) why quiet is = ap is_quiet is ∙ quiet
+refused_as (Err stop) why quiet is = ap is_keep_or_memory is ∙ quiet
 
 pub by_memory : {T : Type 0} (result : Result T Stop) → IsErrAnd result (λ (stop : Stop). stop ≡ stops.Memory) → IsRefused result
 by_memory result is = refused_as result stops.Memory refl is
@@ -52,7 +47,7 @@ by_memory result is = refused_as result stops.Memory refl is
 pub by_keeper : {T : Type 0} (result : Result T Stop) (fault : KeepFault) → IsErrAnd result (λ (stop : Stop). stop ≡ keep_stop fault) → IsRefused result
 by_keeper result fault is = refused_as result (keep_stop fault) (each fault) is
   where
-    each : (f : KeepFault) → is_quiet (keep_stop f) ≡ true
+    each : (f : KeepFault) → is_keep_or_memory (keep_stop f) ≡ true
     each faults.Failed = refl
     each faults.Memory = refl
 
@@ -74,7 +69,7 @@ not_ok (Ok x) Q P is = absurd is
 not_ok (Err e) Q P is = tt
 
 -- ---- what a refusal says
-pub quiet_stops : (tries : List TriedAsk) (wire : WireState) (stop : Stop) → is_quiet stop ≡ true → StopsFor tries wire stop
+pub quiet_stops : (tries : List TriedAsk) (wire : WireState) (stop : Stop) → is_keep_or_memory stop ≡ true → StopsFor tries wire stop
 quiet_stops tries wire stops.Keep quiet = tt
 quiet_stops tries wire stops.Memory quiet = tt
 quiet_stops tries wire stops.NoChanges quiet = absurd (grind (arith, quiet))
@@ -109,7 +104,7 @@ refused_after_stops tries wire it given (Err stop) last so (inr (why, came, is))
     subst (StopsFor tries wire) (sym is) (unanswered_stops tries wire it why last (so why came))
 
 -- ---- a stop that is no bad sanity check is fair to the server
-pub quiet_is_fair : (c s : Collection) (stop : Stop) → is_quiet stop ≡ true → IsFairStop c s stop
+pub quiet_is_fair : (c s : Collection) (stop : Stop) → is_keep_or_memory stop ≡ true → IsFairStop c s stop
 quiet_is_fair c s stops.Keep quiet = tt
 quiet_is_fair c s stops.Memory quiet = tt
 quiet_is_fair c s stops.NoChanges quiet = tt
@@ -154,7 +149,7 @@ same_why one other is = grind (arith, is)
 err-ok : {T : Type 0} (why : Unanswered) (it : T) → Err why ≡ Ok it → ⊥
 err-ok why it is = grind (arith, is)
 
-ok-err : {T : Type 0} (it : T) (why : Unanswered) → Ok it ≡ Err why → ⊥
+pub ok-err : {T : Type 0} (it : T) (why : Unanswered) → Ok it ≡ Err why → ⊥
 ok-err it why is = grind (arith, is)
 
 same_ok : {T : Type 0} (one other : T) → (let granted : Result T Unanswered = Ok one in granted ≡ Ok other) → one ≡ other
@@ -206,6 +201,64 @@ module _ {G : Type 0} (part : Give → Option G) (ask : Ask) (form : (give : Giv
   was_not_granted (Err ends.Failed) why is = subst (IsNotGranted (tried (Err ends.Failed))) (same_why unanswered.Lost why is) refl
   was_not_granted (Err ends.BadReply) why is = subst (IsNotGranted (tried (Err ends.BadReply))) (same_why unanswered.BadReply why is) (inl refl)
   was_not_granted (Err ends.Memory) why is = subst (IsNotGranted (tried (Err ends.Memory))) (same_why unanswered.Memory why is) refl
+
+-- whether it was granted shows in its answer
+pub granted_shows : (it : TriedAsk) → IsGranted it → grants it.ask it.answer ≡ true
+granted_shows it granted =
+    ap (grants it.ask) granted.is
+    ∙ ap (λ (status : ℕ). (status == 200) && is_in_form it.ask granted.reply.give) granted.status
+    ∙ granted.form
+
+pub refusal_shows : (it : TriedAsk) (why : Unanswered) → IsNotGranted it why → grants it.ask it.answer ≡ false
+refusal_shows it unanswered.Lost is = ap (grants it.ask) is
+refusal_shows it unanswered.BadReply (inl is) = ap (grants it.ask) is
+refusal_shows it unanswered.BadReply (inr (reply, is, status, form)) =
+    ap (grants it.ask) is ∙ ap (λ (b : Bool). (reply.status == 200) && b) form ∙ never (reply.status == 200)
+  where
+    never : (b : Bool) → (b && false) ≡ false
+    never true = refl
+    never false = refl
+refusal_shows it (unanswered.Refused status word seen) (reply, is, differs, one, two, three) =
+    ap (grants it.ask) is ∙ ap (λ (b : Bool). b && is_in_form it.ask reply.give) (other (reply.status == 200) refl)
+  where
+    other : (b : Bool) → (reply.status == 200) ≡ b → b ≡ false
+    other true same = absurd (differs (status_is reply.status same))
+    other false same = refl
+refusal_shows it unanswered.Memory is = ap (grants it.ask) is
+
+-- all of these were granted
+pub all_granted : (tries : List TriedAsk) → AllGranted tries → are_granted tries ≡ true
+all_granted [] all = refl
+all_granted (it ∷ more) all =
+    ap (λ (b : Bool). b && are_granted more) (granted_shows it all.0) ∙ all_granted more all.1
+
+pub granted_before : (a b : List TriedAsk) → AllGranted a → are_granted (a ++ b) ≡ are_granted b
+granted_before [] b all = refl
+granted_before (it ∷ more) b all =
+    ap (λ (own : Bool). own && are_granted (more ++ b)) (granted_shows it all.0) ∙ granted_before more b all.1
+
+-- ---- a part that may be half done
+-- it was refused by the keeper or by memory, though all was granted
+pub spoilt : {T : Type 0} (tries : List TriedAsk) (result : Result T Stop) (P : Type 0) → are_granted tries ≡ true → IsRefused result → UnlessHalfDone tries result P
+spoilt tries (Ok x) P all is = absurd is
+spoilt tries (Err stop) P all is = λ whole. absurd (not_both (ap (λ (b : Bool). b && are_granted tries) is ∙ all) whole)
+
+pub unless_map : {T : Type 0} (tries : List TriedAsk) (result : Result T Stop) (P Q : Type 0) → (P → Q) → UnlessHalfDone tries result P → UnlessHalfDone tries result Q
+unless_map tries (Ok x) P Q f p = f p
+unless_map tries (Err stop) P Q f p = λ whole. f (p whole)
+
+-- what was granted before makes no difference
+pub unless_then : {T : Type 0} (a b : List TriedAsk) (result : Result T Stop) (P : Type 0) → AllGranted a → UnlessHalfDone b result P → UnlessHalfDone (a ++ b) result P
+unless_then a b (Ok x) P all p = p
+unless_then a b (Err stop) P all p = λ whole. p (ap (λ (own : Bool). is_keep_or_memory stop && own) (sym (granted_before a b all)) ∙ whole)
+
+-- if one request was not granted the keeper is as it was
+abbrev pub IsKept : {G : Type 0} → Result G Unanswered → Keeping → Keeping → Type 0
+IsKept given before after = (why : Unanswered) → given ≡ Err why → after ≡ before
+
+-- it was granted
+pub kept_granted : {G : Type 0} (given : Result G Unanswered) (it : G) (k0 k1 : Keeping) → given ≡ Ok it → IsKept given k0 k1
+kept_granted given it k0 k1 was why came = absurd (ok-err it why (sym was ∙ came))
 
 -- ---- one part after another
 pub last_then : (a b : List TriedAsk) (it : TriedAsk) → IsLast it b → IsLast it (a ++ b)

@@ -1,10 +1,10 @@
 -- What was granted, and why a sync stopped at what it tried last.
 use Rattle.std.specs.List.{AllByRecursion}
 use Rattle.std.specs.Option.{option_map_or}
-use Rattle.std.specs.Prelude.{◌≡◌, ◌≢◌, ◌≤◌, ◌&&◌, Bool, false, true, not, is_some, List, [], ◌∷◌, ◌++◌, count_by, Some, Result, Ok, Err, ◌⊎◌, ⊤}
+use Rattle.std.specs.Prelude.{◌≡◌, ◌≢◌, ◌≤◌, ◌==◌, ◌&&◌, Bool, false, true, not, is_some, List, [], ◌∷◌, ◌++◌, filter, count_by, Some, Result, Ok, Err, ◌⊎◌, ⊤}
 use Rattle.ak_device.specs.Devices.{IsFullIfMore}
 use Rattle.ak_exchange.specs.Asked.{TriedAsk, asks_chunk, asks_in, sends_unfinished}
-use Rattle.ak_exchange.specs.Stops.{verdict_of}
+use Rattle.ak_exchange.specs.Stops.{verdict_of, wire_stop}
 use Rattle.ak_exchange.specs.declared.stops.Stop.{Stop}
 use Rattle.ak_exchange.specs.declared.stops.Stop.TheVariants as stops
 use Rattle.ak_messages.specs.declared.replies.Give.{Give}
@@ -42,6 +42,20 @@ pub record IsGranted (it : TriedAsk) : Type 0 where
   pub is : it.answer ≡ Ok reply
   pub status : reply.status ≡ 200
   pub form : is_in_form it.ask reply.give ≡ true
+
+-- whether an answer grants what was asked
+abbrev pub grants : Ask → Result Reply WireEnd → Bool
+grants ask (Ok reply) = (reply.status == 200) && is_in_form ask reply.give
+grants ask (Err end) = false
+
+-- those of these that were granted
+abbrev pub granted_of : List TriedAsk → List TriedAsk
+granted_of tries = filter (λ (it : TriedAsk). grants it.ask it.answer) tries
+
+-- whether all of these were granted
+abbrev pub are_granted : List TriedAsk → Bool
+are_granted [] = true
+are_granted (it ∷ more) = grants it.ask it.answer && are_granted more
 
 -- each of these was granted
 abbrev pub AllGranted : List TriedAsk → Type 0
@@ -82,6 +96,10 @@ IsNotGranted it unanswered.Memory = it.answer ≡ Err ends.Memory
 -- the last that was tried was not granted, for this reason
 abbrev pub EndsUnanswered : List TriedAsk → Unanswered → Type 0
 EndsUnanswered tries why = (it : TriedAsk) × IsLast it tries × IsNotGranted it why
+
+-- a part stopped because the last that was tried was not granted
+abbrev pub StopsUnanswered : List TriedAsk → Stop → Type 0
+StopsUnanswered tries stop = (why : Unanswered) × (stop ≡ wire_stop why) × EndsUnanswered tries why
 
 -- the last that was tried is a sanity check, and this is what its reply showed
 pub record IsCheckedLast (tries : List TriedAsk) (stop : Stop) (wire : WireState) : Type 0 where

@@ -1,14 +1,15 @@
 -- How far a sync came: what it asked, what the log of its wire shows of it, and what the device took.
 use Rattle.std.specs.Int.{div_ceil}
 use Rattle.std.specs.List.{AllByRecursion}
-use Rattle.std.specs.Prelude.{◌≡◌, ℕ, ℤ, ◌+◌, ◌≤◌, false, true, List, [], ◌∷◌, ◌++◌, length, Option, Some, None, Result, OnOk, IfOk, IfErr, ◌⊎◌, ⊤}
+use Rattle.std.specs.Prelude.{◌≡◌, ℕ, ℤ, ◌+◌, ◌^◌, ◌≤◌, ◌&&◌, false, List, [], ◌∷◌, ◌++◌, length, Option, Some, None, Result, Ok, Err, OnOk, IfOk, IfErr, ◌⊎◌, ⊤}
 use Rattle.ak_exchange.specs.Asked.{AreAsked, AreFew, Talk, TriedAsk, asker, asks_in, request_at}
-use Rattle.ak_exchange.specs.Grants.{AreGranted, SendsRows, StopsFor}
-use Rattle.ak_exchange.specs.Stops.{comes_before_finish}
+use Rattle.ak_exchange.specs.Grants.{AreGranted, SendsRows, StopsFor, StopsUnanswered, are_granted, granted_of}
+use Rattle.ak_exchange.specs.Stops.{comes_before_finish, is_keep_or_memory}
 use Rattle.ak_exchange.specs.declared.envelopes.Met.{Met}
 use Rattle.ak_exchange.specs.declared.stops.Stop.{Stop}
 use Rattle.ak_exchange.specs.declared.stops.Stop.TheVariants as stops
-use Rattle.ak_device.specs.Devices.{Settles, received}
+use Rattle.ak_device.specs.Devices.{received}
+use Rattle.ak_device.specs.Settlings.{taken_and_settled}
 use Rattle.ak_keep.specs.Collections.{Collection, Holding}
 use Rattle.ak_keep.specs.Keepers.{Keeping, WhereTold, all_known, changed}
 use Rattle.ak_keep.specs.declared.keepers.Wanted.TheVariants.{From, Unsent}
@@ -16,18 +17,21 @@ use Rattle.ak_merge.specs.Commits.{Received}
 use Rattle.ak_merge.specs.Holdings.{row_under}
 use Rattle.ak_merge.specs.Joins.{joined_under}
 use Rattle.ak_merge.specs.Soundness.{IsSound}
+use Rattle.ak_messages.specs.declared.replies.Reply.{Reply}
 use Rattle.ak_messages.specs.declared.requests.Ask.{Ask}
 use Rattle.ak_messages.specs.declared.requests.Ask.TheVariants.{Finish}
 use Rattle.ak_messages.specs.declared.requests.Request.{Request}
 use Rattle.ak_protocol.specs.Accounts.{AccountState}
 use Rattle.ak_protocol.specs.Logs.{Log, commits_of}
 use Rattle.ak_protocol.specs.Syncs.{IsUnderWay, world_of}
+use Rattle.ak_session.specs.Asks.{and_then, nothing}
 use Rattle.ak_session.specs.Contents.{closed, refusal}
 use Rattle.ak_session.specs.Plans.{Asker, planned, planned_check, requests_from}
-use Rattle.ak_session.specs.Replies.{all_replied}
+use Rattle.ak_session.specs.Replies.{all_replied, replied}
 use Rattle.ak_session.specs.Requests.{asks_commit}
 use Rattle.ak_session.specs.Sessions.{MaySync}
 use Rattle.ak_session.specs.Slices.{wanted_graves, wanted_in_chunks}
+use Rattle.ak_wires.specs.declared.wires.WireEnd.{WireEnd}
 
 -- ---- the device
 -- what a keeper holds if it holds this collection
@@ -45,6 +49,28 @@ marked_at c = all_known (record { current = held_by c; mark = Some (held_by c) }
 -- a keeper once something came to it, which was taken with the server's number
 abbrev pub HasReceived : ℤ → Keeping → Keeping → Type 0
 HasReceived usn before now = (came : Received) × (now ≡ changed (received usn came) before)
+
+-- what an answer brings to a device, if it is a reply
+abbrev pub came_by : Result Reply WireEnd → Received
+came_by (Ok reply) = replied reply.give
+came_by (Err end) = nothing
+
+-- what the answers to these brought, in order
+abbrev pub all_came_by : List TriedAsk → Received
+all_came_by [] = nothing
+all_came_by (it ∷ more) = and_then (came_by it.answer) (all_came_by more)
+
+-- of these, a keeper took what the answers brought to those that were granted, and settled what those sent, and nothing else. So nothing is
+-- settled before its request was granted
+abbrev pub HasExchanged : ℤ → List TriedAsk → Keeping → Keeping → Type 0
+HasExchanged usn tries before now =
+    let granted = granted_of tries in now ≡ changed (taken_and_settled usn (all_came_by granted) (asks_in granted)) before
+
+-- something holds once a part went well, or stopped at what it asked last. If the keeper failed or memory ran out although all was granted that
+-- it asked, the part may be half done
+abbrev pub UnlessHalfDone : {T : Type 0} → List TriedAsk → Result T Stop → Type 0 → Type 0
+UnlessHalfDone tries (Ok it) P = P
+UnlessHalfDone tries (Err stop) P = (is_keep_or_memory stop && are_granted tries) ≡ false → P
 
 -- ---- places of a plan
 -- what is true of a sync of c with s, once these were asked, wherever the two may sync
@@ -83,11 +109,11 @@ pub record HasAsked (c s : Collection) (account : AccountState) (asked : List As
   pub reached : IsReached (asker talk.envelopes.ids) account s asked talk.wire.log
   pub placed : MaySync c s → place c s asked
 
--- and the device, which is marked at c, took what the replies brought
+-- and the device, which is marked at c, took what the replies brought, and settled what these sent and nothing else
 pub record IsAt (c s : Collection) (account : AccountState) (asked : List Ask) (place : Place)
     (keeping : Keeping) (talk : Talk) : Type 0 where
   pub has : HasAsked c s account asked place talk
-  pub device : keeping ≡ changed (received s.head.usn (all_replied s asked)) (marked_at c)
+  pub device : keeping ≡ changed (taken_and_settled s.head.usn (all_replied s asked) asked) (marked_at c)
 
 -- a sync was left once it had asked these, a front of its plan if the two may sync
 pub record IsLeft (c s : Collection) (account : AccountState) (who : Asker) (asked : List Ask) (talk : Talk) : Type 0 where
@@ -108,8 +134,9 @@ IsFairStop c s (stops.BadCounts client server) = MaySync c s → ⊥
 IsFairStop c s stops.TooManyChunks = MaySync c s → HasTenMillionRows c s
 IsFairStop c s stop = ⊤
 
--- a part of a sync: what it asked, and that nothing of it commits; and where keeper and wire tell what they hold, that it leads from one
--- place of the plan to another. If it is refused, the sync is left where it is
+-- a part of a sync: what it asked, and that nothing of it commits; what the device took and settled, also if it stopped, unless it is half
+-- done; and where keeper and wire tell what they hold, that it leads from one place of the plan to another. If it is refused, the
+-- sync is left where it is
 pub record Advances {T : Type 0} (pulled pushed others : ℕ) (from to : Place) (met : Met)
     (before after : Keeping) (was now : Talk) (result : Result T Stop) : Type 0 where
   pub tries : List TriedAsk
@@ -119,6 +146,7 @@ pub record Advances {T : Type 0} (pulled pushed others : ℕ) (from to : Place) 
   pub rows : AllByRecursion SendsRows (asks_in tries)
   pub plain : AllByRecursion (λ (ask : Ask). asks_commit ask ≡ false) (asks_in tries)
   pub ends : IfErr result (StopsFor tries now.wire)
+  pub device : UnlessHalfDone tries result (HasExchanged met.meta.usn tries before after)
   pub leads : (c s : Collection) (account : AccountState) (earlier : List Ask) → IsMet c s met
       → IsAt c s account earlier from before was
       → IsLeft c s account (asker was.envelopes.ids) (earlier ++ asks_in tries) now
@@ -130,8 +158,8 @@ abbrev pub AreGraveRequests : Keeping → ℕ → Type 0
 AreGraveRequests keeping graves = WhereTold keeping (λ h. graves ≤ div_ceil (length (wanted_graves Unsent h.rows)) 250)
 
 -- ---- all but the finish
--- what a sync asks between its meta and its finish; and where keeper and wire tell what they hold, that it was left in its plan, or that all
--- of the plan but the finish was asked, and the device took what the replies brought and settled what it had sent
+-- what a sync asks between its meta and its finish, and what the device took and settled; and where keeper and wire tell what they hold, that
+-- it was left in its plan, or that all of the plan but the finish was asked
 pub record Exchanges (met : Met) (before after : Keeping) (was now : Talk) (result : Result (Unit {0}) Stop) : Type 0 where
   pub tries : List TriedAsk
   pub asked : AreAsked tries was now
@@ -143,10 +171,10 @@ pub record Exchanges (met : Met) (before after : Keeping) (was now : Talk) (resu
   pub rows : AllByRecursion SendsRows (asks_in tries)
   pub plain : AllByRecursion (λ (ask : Ask). asks_commit ask ≡ false) (asks_in tries)
   pub ends : IfErr result (StopsFor tries now.wire)
+  pub device : UnlessHalfDone tries result (HasExchanged met.meta.usn tries before after)
   pub leads : (c s : Collection) (account : AccountState) → IsMet c s met → IsAt c s account [] at_meta before was
       → IsLeft c s account (asker was.envelopes.ids) (asks_in tries) now
-      × OnOk result (HasAsked c s account (asks_in tries) HasPassedCheck now
-      × Settles s.head.usn (changed (received s.head.usn (all_replied s (asks_in tries))) (marked_at c)) after)
+      × OnOk result (IsAt c s account (asks_in tries) HasPassedCheck after now)
       × IfErr result (IsFairStop c s)
 
 -- ---- the finish
@@ -167,7 +195,14 @@ pub record HasCommitted (c s : Collection) (account : AccountState) (who : Asker
   pub allowed : refusal s (requests_from who s.head.moment 1 before) (finish_after who s before) ≡ None
   pub moment_is : moment ≡ after.head.moment
 
--- a finish: what it asked; and where the wire tells its log, that the sync was left, or that its session committed
+-- memory is told to have run out since the last step has no successor in 64 bits, and nothing was asked
+pub record IsOutOfSteps (was : Talk) (tries : List TriedAsk) (stop : Stop) : Type 0 where
+  pub unasked : tries ≡ []
+  pub last : was.envelopes.step + 1 ≡ 2 ^ 64
+  pub memory : stop ≡ stops.Memory
+
+-- a finish: what it asked; and where the wire tells its log, that the sync was left, or that its session committed. It stops only because no
+-- step was left, so that it was not asked, or because it was not granted
 pub record Finishes (was now : Talk) (result : Result ℤ Stop) : Type 0 where
   pub tries : List TriedAsk
   pub asked : AreAsked tries was now
@@ -176,6 +211,7 @@ pub record Finishes (was now : Talk) (result : Result ℤ Stop) : Type 0 where
   pub rows : AllByRecursion SendsRows (asks_in tries)
   pub ends : IfErr result (StopsFor tries now.wire)
   pub late : IfErr result (λ stop. comes_before_finish stop ≡ false)
+  pub why : IfErr result (λ stop. IsOutOfSteps was tries stop ⊎ StopsUnanswered tries stop)
   pub leads : (c s : Collection) (account : AccountState) (earlier : List Ask)
       → HasAsked c s account earlier HasPassedCheck was
       → IsLeft c s account (asker was.envelopes.ids) (earlier ++ asks_in tries) now

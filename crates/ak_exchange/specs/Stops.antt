@@ -64,3 +64,9 @@ shows_bad_check stop = false
 abbrev pub is_keep : Stop → Bool
 is_keep stops.Keep = true
 is_keep stop = false
+
+-- whether a sync stops because the keeper failed or memory ran out
+abbrev pub is_keep_or_memory : Stop → Bool
+is_keep_or_memory stops.Keep = true
+is_keep_or_memory stops.Memory = true
+is_keep_or_memory stop = false

@@ -1,24 +1,23 @@
 // What a sync asks after its meta, and what the device does with the replies. The keeper is marked throughout.
 ghost use Rattle.std.specs.Int.{div_ceil};
-ghost use Rattle.std.specs.Prelude.{◌≡◌, ◌+◌, ◌<◌, ◌*◌, ℕ, pos, true, false, length, IfOk, IfErr, OnOk};
+ghost use Rattle.std.specs.Prelude.{◌≡◌, ◌+◌, ◌<◌, ◌*◌, ℕ, pos, true, length, IfOk, OnOk};
 ghost use Rattle.ak_base.specs.Heads.{IsMoment, IsWithin};
 ghost use Rattle.ak_base.specs.Limits.{last_head_usn};
 ghost use Rattle.ak_device.specs.Devices.{IsFullIfMore, IsNextToSend};
 ghost use Rattle.ak_exchange.specs.Loops.{HaveSentGraves, PullsOne, PushesOne, SendsOne};
 ghost use Rattle.ak_exchange.specs.Phases.{Advances, AreGraveRequests, Exchanges, Finishes, HasPassedCheck, HasReceived, at_end_of, at_meta};
-ghost use Rattle.ak_exchange.specs.Stops.{is_keep, verdict_of};
-ghost use Rattle.ak_exchange.specs.declared.envelopes.Met.{Met};
+ghost use Rattle.ak_exchange.specs.Stops.{verdict_of};
 ghost use Rattle.ak_exchange.specs.declared.stops.Stop.TheVariants as stops;
 ghost use Rattle.ak_faults.specs.Causes.{HasCauseOf};
-ghost use Rattle.ak_keep.specs.Keepers.{IsMarkedAt, Keeping, WhereTold, back, is_marked};
+ghost use Rattle.ak_keep.specs.Keepers.{IsMarkedAt, WhereTold, back, is_marked};
 ghost use Rattle.ak_session.specs.Plans.{planned_start, planned_graves, planned_changes, planned_chunks, planned_pushes};
 
 use crate::envelopes::{Envelopes, Met};
 use crate::stops::Stop;
 use ak_base::{Name, Row};
 use ak_device::{
-    FIRST_PLACE, Gathered, graves_part, next_chunk, settle, take_changes, take_chunk, take_graves,
-    unsent_changes,
+    FIRST_PLACE, Gathered, graves_part, next_chunk, settle_sent, take_changes, take_chunk,
+    take_graves, unsent_changes,
 };
 use ak_keep::{Keeper, Wanted};
 use ak_messages::{Ask, Chunk, SanityReply};
@@ -32,8 +31,8 @@ const MOST_PULLED: u64 = 40_000;
 /// The most chunks that are sent and are not the last one. A 40,000th is sent only if it is the last.
 const MOST_UNFINISHED: u64 = 39_999;
 
-/// All that a sync asks between its meta and its finish. The device holds then what it has to commit, all of it settled. A
-/// refusal leaves the keeper marked, with some of it taken.
+/// All that a sync asks between its meta and its finish. What it sends is settled when its request was granted, so the device
+/// holds then what it has to commit. A refusal leaves the keeper marked, with some of it taken and settled.
 pub fn exchange<K: Keeper, W: Wire>(
     alloc: Global,
     keeper: &mut K,
@@ -53,9 +52,7 @@ pub fn exchange<K: Keeper, W: Wire>(
 {
     exchange_first(alloc, keeper, wire, envelopes, met)?;
     exchange_chunks(alloc, keeper, wire, envelopes, met)?;
-    compare(keeper, wire, envelopes, met)?;
-    settle(keeper, met.meta.usn)?;
-    Ok(())
+    compare(keeper, wire, envelopes, met)
 }
 
 /// The start, the graves and the changes.
@@ -74,7 +71,6 @@ fn exchange_first<K: Keeper, W: Wire>(
         (record { health = W.health wire.old; wire = W.state wire.old; envelopes = envelopes.old })
         (record { health = W.health wire.new; wire = W.state wire.new; envelopes = envelopes.new }) result }
     ensures stays { IsMarkedAt (back (K.keeping keeper.old)) (K.keeping keeper.new) }
-    ensures took { OnOk result (HasReceived met.now.meta.usn (K.keeping keeper.old) (K.keeping keeper.new)) }
     ensures keeper { HasCauseOf stops.Keep (K.health keeper.old) (K.health keeper.new) result }
 {
     start(keeper, wire, envelopes, met)?;
@@ -97,7 +93,6 @@ fn exchange_chunks<K: Keeper, W: Wire>(
         (record { health = W.health wire.old; wire = W.state wire.old; envelopes = envelopes.old })
         (record { health = W.health wire.new; wire = W.state wire.new; envelopes = envelopes.new }) result }
     ensures stays { IsMarkedAt (back (K.keeping keeper.old)) (K.keeping keeper.new) }
-    ensures took { OnOk result (HasReceived met.now.meta.usn (K.keeping keeper.old) (K.keeping keeper.new)) }
     ensures keeper { HasCauseOf stops.Keep (K.health keeper.old) (K.health keeper.new) result }
 {
     pull(keeper, wire, envelopes, met)?;
@@ -130,8 +125,8 @@ pub fn start<K: Keeper, W: Wire>(
     Ok(())
 }
 
-/// Sends the graves that were not sent yet: of notes, then of cards, then of decks, at most 250 a request. If there are none,
-/// nothing is asked.
+/// Sends the graves that were not sent yet: of notes, then of cards, then of decks, at most 250 a request. Those of a request
+/// are settled once it was granted. If there are none, nothing is asked.
 pub fn send_graves<K: Keeper, W: Wire>(
     alloc: Global,
     keeper: &mut K,
@@ -140,61 +135,73 @@ pub fn send_graves<K: Keeper, W: Wire>(
     met: &Met,
 ) -> Result<(), Stop>
     requires marked { is_marked (K.keeping keeper.old) ≡ true }
+    requires number { IsWithin (pos 0) last_head_usn met.now.meta.usn }
     ensures leads { (graves : ℕ) × AreGraveRequests (K.keeping keeper.old) graves
         × Advances 0 0 graves (at_end_of (λ c s. planned_start c)) (at_end_of planned_graves) met.now
         (K.keeping keeper.old) (K.keeping keeper.new)
         (record { health = W.health wire.old; wire = W.state wire.old; envelopes = envelopes.old })
         (record { health = W.health wire.new; wire = W.state wire.new; envelopes = envelopes.new }) result }
-    ensures same { K.keeping keeper.new ≡ K.keeping keeper.old }
+    ensures stays { IsMarkedAt (back (K.keeping keeper.old)) (K.keeping keeper.new) }
     ensures keeper { HasCauseOf stops.Keep (K.health keeper.old) (K.health keeper.new) result }
 {
     let graves = wanted_graves(keeper, Wanted::Unsent)?;
-    send_parts(alloc, wire, envelopes, graves.as_slice())
+    send_parts(alloc, keeper, wire, envelopes, met, graves.as_slice())
 }
 
 /// Sends these graves, at most 250 a request.
-fn send_parts<W: Wire>(
+fn send_parts<K: Keeper, W: Wire>(
     alloc: Global,
+    keeper: &mut K,
     wire: &mut W,
     envelopes: &mut Envelopes,
+    met: &Met,
     graves: &[Row],
 ) -> Result<(), Stop>
-    ensures leads { (met : Met) (keeping : Keeping)
-        → Advances 0 0 (div_ceil (length graves.now) 250)
-        (HaveSentGraves 0 graves.now) (HaveSentGraves (div_ceil (length graves.now) 250) graves.now) met keeping keeping
+    requires marked { is_marked (K.keeping keeper.old) ≡ true }
+    requires number { IsWithin (pos 0) last_head_usn met.now.meta.usn }
+    ensures leads { Advances 0 0 (div_ceil (length graves.now) 250)
+        (HaveSentGraves 0 graves.now) (HaveSentGraves (div_ceil (length graves.now) 250) graves.now) met.now
+        (K.keeping keeper.old) (K.keeping keeper.new)
         (record { health = W.health wire.old; wire = W.state wire.old; envelopes = envelopes.old })
         (record { health = W.health wire.new; wire = W.state wire.new; envelopes = envelopes.new }) result }
-    ensures unkept { IfErr result (λ stop. is_keep stop ≡ false) }
+    ensures stays { IsMarkedAt (back (K.keeping keeper.old)) (K.keeping keeper.new) }
+    ensures keeper { HasCauseOf stops.Keep (K.health keeper.old) (K.health keeper.new) result }
 {
     let parts = graves.len().div_ceil(250);
     for part in 0..parts {
-        send_part(alloc, wire, envelopes, graves, part)?;
+        send_part(alloc, keeper, wire, envelopes, met, graves, part)?;
     }
     Ok(())
 }
 
-/// Sends one part of the graves.
-fn send_part<W: Wire>(
+/// Sends one part of the graves, and settles them.
+fn send_part<K: Keeper, W: Wire>(
     alloc: Global,
+    keeper: &mut K,
     wire: &mut W,
     envelopes: &mut Envelopes,
+    met: &Met,
     graves: &[Row],
     part: usize,
 ) -> Result<(), Stop>
-    requires { 250 * part < length graves.now }
-    ensures leads { (met : Met) (keeping : Keeping)
-        → Advances 0 0 1 (HaveSentGraves part graves.now) (HaveSentGraves (part + 1) graves.now) met keeping keeping
+    requires part { 250 * part < length graves.now }
+    requires marked { is_marked (K.keeping keeper.old) ≡ true }
+    requires number { IsWithin (pos 0) last_head_usn met.now.meta.usn }
+    ensures leads { Advances 0 0 1 (HaveSentGraves part graves.now) (HaveSentGraves (part + 1) graves.now) met.now
+        (K.keeping keeper.old) (K.keeping keeper.new)
         (record { health = W.health wire.old; wire = W.state wire.old; envelopes = envelopes.old })
         (record { health = W.health wire.new; wire = W.state wire.new; envelopes = envelopes.new }) result }
-    ensures unkept { IfErr result (λ stop. is_keep stop ≡ false) }
+    ensures stays { IsMarkedAt (back (K.keeping keeper.old)) (K.keeping keeper.new) }
+    ensures keeper { HasCauseOf stops.Keep (K.health keeper.old) (K.health keeper.new) result }
 {
     let ids = graves_part(alloc, graves, part)?;
     let request = envelopes.request(Ask::ApplyGraves(ids))?;
     ask_nothing(wire, &request)?;
+    settle_sent(keeper, &request.ask, met.meta.usn)?;
     Ok(())
 }
 
-/// Sends the changes that were not sent yet, and takes the server's.
+/// Sends the changes that were not sent yet, takes the server's, and settles what it sent.
 pub fn exchange_changes<K: Keeper, W: Wire>(
     alloc: Global,
     keeper: &mut K,
@@ -210,13 +217,13 @@ pub fn exchange_changes<K: Keeper, W: Wire>(
         (record { health = W.health wire.old; wire = W.state wire.old; envelopes = envelopes.old })
         (record { health = W.health wire.new; wire = W.state wire.new; envelopes = envelopes.new }) result }
     ensures stays { IsMarkedAt (back (K.keeping keeper.old)) (K.keeping keeper.new) }
-    ensures took { OnOk result (HasReceived met.now.meta.usn (K.keeping keeper.old) (K.keeping keeper.new)) }
     ensures keeper { HasCauseOf stops.Keep (K.health keeper.old) (K.health keeper.new) result }
 {
     let changes = unsent_changes(alloc, keeper, met.meta.moment)?;
     let request = envelopes.request(Ask::ApplyChanges(changes))?;
     let came = ask_changes(wire, &request)?;
     take_changes(keeper, &came, met.meta.usn)?;
+    settle_sent(keeper, &request.ask, met.meta.usn)?;
     Ok(())
 }
 
@@ -267,7 +274,8 @@ fn pull_chunk<K: Keeper, W: Wire>(
     Ok(chunk.done)
 }
 
-/// Sends the rows that were not sent yet, chunk by chunk. A 40,000th chunk that is not the last one is not sent.
+/// Sends the rows that were not sent yet, chunk by chunk, and settles those of each chunk. A 40,000th chunk that is not the
+/// last one is not sent.
 pub fn push<K: Keeper, W: Wire>(
     alloc: Global,
     keeper: &mut K,
@@ -276,16 +284,17 @@ pub fn push<K: Keeper, W: Wire>(
     met: &Met,
 ) -> Result<(), Stop>
     requires marked { is_marked (K.keeping keeper.old) ≡ true }
+    requires number { IsWithin (pos 0) last_head_usn met.now.meta.usn }
     ensures leads { Advances 0 39_999 1 (at_end_of planned_chunks) (at_end_of planned_pushes) met.now
         (K.keeping keeper.old) (K.keeping keeper.new)
         (record { health = W.health wire.old; wire = W.state wire.old; envelopes = envelopes.old })
         (record { health = W.health wire.new; wire = W.state wire.new; envelopes = envelopes.new }) result }
-    ensures same { K.keeping keeper.new ≡ K.keeping keeper.old }
+    ensures stays { IsMarkedAt (back (K.keeping keeper.old)) (K.keeping keeper.new) }
     ensures keeper { HasCauseOf stops.Keep (K.health keeper.old) (K.health keeper.new) result }
 {
     let mut from = FIRST_PLACE;
     for _turn in 0..MOST_UNFINISHED {
-        match push_chunk(alloc, keeper, wire, envelopes, from)? {
+        match push_chunk(alloc, keeper, wire, envelopes, met, from)? {
             Some(next) => from = next,
             None => return Ok(()),
         }
@@ -295,7 +304,7 @@ pub fn push<K: Keeper, W: Wire>(
         drop(chunk);
         return Err(Stop::TooManyChunks);
     }
-    send_chunk(wire, envelopes, chunk)
+    send_chunk(keeper, wire, envelopes, met, chunk)
 }
 
 /// Sends the chunk that begins at this place, and answers where the next one begins, if there is one.
@@ -304,32 +313,45 @@ fn push_chunk<K: Keeper, W: Wire>(
     keeper: &mut K,
     wire: &mut W,
     envelopes: &mut Envelopes,
+    met: &Met,
     from: Name,
 ) -> Result<Option<Name>, Stop>
-    ensures leads { (count : ℕ) (met : Met) → PushesOne count from met (K.keeping keeper.old) (K.keeping keeper.new)
+    requires marked { is_marked (K.keeping keeper.old) ≡ true }
+    requires number { IsWithin (pos 0) last_head_usn met.now.meta.usn }
+    ensures leads { (count : ℕ) → PushesOne count from met.now (K.keeping keeper.old) (K.keeping keeper.new)
         (record { health = W.health wire.old; wire = W.state wire.old; envelopes = envelopes.old })
         (record { health = W.health wire.new; wire = W.state wire.new; envelopes = envelopes.new }) result }
-    ensures same { K.keeping keeper.new ≡ K.keeping keeper.old }
+    ensures stays { IsMarkedAt (back (K.keeping keeper.old)) (K.keeping keeper.new) }
     ensures keeper { HasCauseOf stops.Keep (K.health keeper.old) (K.health keeper.new) result }
 {
     let Gathered { chunk, next } = next_chunk(alloc, keeper, from)?;
     let done = chunk.done;
-    send_chunk(wire, envelopes, chunk)?;
+    send_chunk(keeper, wire, envelopes, met, chunk)?;
     if done { Ok(None) } else { Ok(Some(next)) }
 }
 
-/// Sends this chunk. One that is not the last one is full.
-fn send_chunk<W: Wire>(wire: &mut W, envelopes: &mut Envelopes, chunk: Chunk) -> Result<(), Stop>
+/// Sends this chunk, and settles its rows. One that is not the last one is full.
+fn send_chunk<K: Keeper, W: Wire>(
+    keeper: &mut K,
+    wire: &mut W,
+    envelopes: &mut Envelopes,
+    met: &Met,
+    chunk: Chunk,
+) -> Result<(), Stop>
     requires full { IsFullIfMore chunk }
-    ensures leads { (count : ℕ) (from next : Name) (met : Met) (keeping : Keeping)
-        → WhereTold keeping (λ h. IsNextToSend h.rows from chunk next)
-        → SendsOne chunk count from next met keeping
+    requires marked { is_marked (K.keeping keeper.old) ≡ true }
+    requires number { IsWithin (pos 0) last_head_usn met.now.meta.usn }
+    ensures leads { (count : ℕ) (from next : Name)
+        → WhereTold (K.keeping keeper.old) (λ h. IsNextToSend h.rows from chunk next)
+        → SendsOne chunk count from next met.now (K.keeping keeper.old) (K.keeping keeper.new)
         (record { health = W.health wire.old; wire = W.state wire.old; envelopes = envelopes.old })
         (record { health = W.health wire.new; wire = W.state wire.new; envelopes = envelopes.new }) result }
-    ensures unkept { IfErr result (λ stop. is_keep stop ≡ false) }
+    ensures stays { IsMarkedAt (back (K.keeping keeper.old)) (K.keeping keeper.new) }
+    ensures keeper { HasCauseOf stops.Keep (K.health keeper.old) (K.health keeper.new) result }
 {
     let request = envelopes.request(Ask::ApplyChunk(chunk))?;
     ask_nothing(wire, &request)?;
+    settle_sent(keeper, &request.ask, met.meta.usn)?;
     Ok(())
 }
 

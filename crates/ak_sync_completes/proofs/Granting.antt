@@ -26,7 +26,7 @@ use Rattle.ak_session.specs.Requests.{asks_commit, is_meta}
 use Rattle.ak_session.specs.Sessions.{HaveRoom, MaySync}
 
 -- a meta begins a session
-meta_begins : (w : World) (meta other : Request) (now : ℤ) (setback : Setback) → is_meta meta.ask ≡ true → other ≡ meta → setback ≡ Undisturbed
+pub meta_begins : (w : World) (meta other : Request) (now : ℤ) (setback : Setback) → is_meta meta.ask ≡ true → other ≡ meta → setback ≡ Undisturbed
     → served w.state other now setback ≡ begun w.state meta now
 meta_begins w meta other now setback begins same quiet =
     ap (λ (r : Request). served w.state r now setback) same

@@ -1,16 +1,16 @@
-mod Asking
+pub mod Asking
 mod Bases
 mod Checks
 mod Completing
 mod Disturbed
 mod Faults
-mod Forming
-mod Granting
+pub mod Forming
+pub mod Granting
 mod Graves
-mod Metas
+pub mod Metas
 mod Reading
-mod Running
-mod Serving
-mod Sides
+pub mod Running
+pub mod Serving
+pub mod Sides
 mod Stopping
-mod Undisturbed
+pub mod Undisturbed

@@ -130,7 +130,7 @@ module _ (ids : Ids) (account : AccountState) (old now : Log) (growth : List Eve
           (all_back (IsMetaNear at) r.before (Asked (meta_of ids) r.now r.setback ∷ r.after) (subst (AllByRecursion (IsMetaNear at)) (sym r.place) close)).0 told
 
 -- ---- it lets the sync go on
-clocks_pass : (s : Collection) (at : ℤ) (said : MetaSaid) → Says s at said → clock_stop said (second_of at) ≡ None
+pub clocks_pass : (s : Collection) (at : ℤ) (said : MetaSaid) → Says s at said → clock_stop said (second_of at) ≡ None
 clocks_pass s at said says =
     ap (λ (b : Bool). if not b then Some stops.Stopped else if are_far_apart (second_of at) said.ts then Some (stops.ClockOff (second_of at) said.ts) else None) says.cont
     ∙ ap (λ (b : Bool). if b then Some (stops.ClockOff (second_of at) said.ts) else None) says.near
@@ -163,7 +163,7 @@ module _ (c s : Collection) (schema : c.head.schema ≡ s.head.schema) (differ :
       ∙ ap (option_map (λ (fault : CheckFault). stops.OwnCheck fault)) sound
 
 -- the clock gives the moment that it told
-gives_told : (at other : ℤ) (later : List ℤ) (new : Option (List ℤ)) → GivesNext (Some (at ∷ later)) new other → other ≡ at
+pub gives_told : (at other : ℤ) (later : List ℤ) (new : Option (List ℤ)) → GivesNext (Some (at ∷ later)) new other → other ≡ at
 gives_told at other [] new given = given.0
 gives_told at other (next ∷ later) new given = given.0
 

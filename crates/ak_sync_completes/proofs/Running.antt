@@ -20,7 +20,7 @@ use Rattle.ak_sync_completes.specs.Runs.{RunEndsWell, ends_of}
 use Rattle.ak_sync_runs.specs.SyncRuns.{EndsPrinting, EndsSync, EndsSyncOn, HasStatusCause, SyncOutside, TellsOutcome, ids_of}
 
 -- chance gives the word that it told
-word_told : (word other : ℕ) (words : List ℕ) (new : Option (List ℕ)) → GivesNext (Some (word ∷ words)) new other → other ≡ word
+pub word_told : (word other : ℕ) (words : List ℕ) (new : Option (List ℕ)) → GivesNext (Some (word ∷ words)) new other → other ≡ word
 word_told word other [] new given = given.0
 word_told word other (next ∷ words) new given = given.0
 
@@ -51,23 +51,23 @@ module _ (growth : List Event) (status : ℕ) (old new : Option (List ℕ)) (wri
   told_well outcomes.Memory well text is ends = inr (inl (printed text 8 ends).0)
 
   -- a fault of the device's keeper, and a lost request, have statuses of their own
-  told_by_fault : (outcome : Outcome) → EndsWell growth outcome ⊎ ((outcome ≡ outcomes.Lost) ⊎ (outcome ≡ outcomes.Keep)) → TellsOutcome outcome status old new
+  pub told_by_fault : (outcome : Outcome) → EndsWell growth outcome ⊎ ((outcome ≡ outcomes.Lost) ⊎ (outcome ≡ outcomes.Keep)) → TellsOutcome outcome status old new
       → RunEndsWell growth status old new ⊎ (status ≡ 7)
   told_by_fault outcome how (inr (made, (memory, nothing))) = inl (inr (inl memory))
   told_by_fault outcome (inl well) (inl (text, is, ends)) = inl (told_well outcome well text is ends)
   told_by_fault outcome (inr (inl lost)) (inl (text, is, ends)) = inr ((printed text (outcome_status outcome) ends).0 ∙ ap outcome_status lost)
   told_by_fault outcome (inr (inr kept)) (inl (text, is, ends)) = absurd (keeps ((printed text (outcome_status outcome) ends).0 ∙ ap outcome_status kept))
 
-module _ (host : HostKey) (c : Collection) (account : AccountState) (status : ℕ) (before after : SyncOutside)
+module _ (spares : Bool) (host : HostKey) (c : Collection) (account : AccountState) (status : ℕ) (before after : SyncOutside)
     (keeper_before keeper_now out_before out_now : Health) (old new : Option (List ℕ)) (word : ℕ) (words : List ℕ)
-    (ends : EndsSync host status before after old new) (out : HasStatusCause 5 out_before out_now status)
+    (ends : EndsSync spares host status before after old new) (out : HasStatusCause 5 out_before out_now status)
     (keeper : HasStatusCause 6 keeper_before keeper_now status) (chance : before.words ≡ Some (word ∷ words))
     (it : IsUnhindered (ids_of host word) c account (ends_of keeper_before before) (ends_of keeper_now after))
     (written : Rose out_before out_now → ⊥) where
   pub run_ends_lossy : RunEndsWell it.growth status old new ⊎ (status ≡ 7)
-  run_ends_lossy = by (subst (λ (b : Bool). EndsSyncOn b host status before after old new) (ap (λ (k : Keeping). k.headed.current) it.begins.holds) ends)
+  run_ends_lossy = by (subst (λ (b : Bool). EndsSyncOn spares b host status before after old new) (ap (λ (k : Keeping). k.headed.current) it.begins.holds) ends)
     where
-      by : EndsSyncOn true host status before after old new → RunEndsWell it.growth status old new ⊎ (status ≡ 7)
+      by : EndsSyncOn spares true host status before after old new → RunEndsWell it.growth status old new ⊎ (status ≡ 7)
       by (inr (same, (memory, nothing))) = inl (inr (inl memory))
       by (inl run) =
           let drawn : run.word ≡ word = word_told word run.word words after.words (subst (λ (o : Option (List ℕ)). GivesNext o after.words run.word) chance run.drawn) in
@@ -75,7 +75,7 @@ module _ (host : HostKey) (c : Collection) (account : AccountState) (status : �
           run.outcome
           (ends_by_fault (ids_of host word) c account (ends_of keeper_before before) (ends_of keeper_now after) run.outcome it
           (subst (λ (w : ℕ). IsSyncEnded (ids_of host w) before.keeping after.keeping before.health after.health before.wire after.wire before.moments run.outcome)
-          drawn run.ended))
+          drawn run.sparing.ended))
           run.told
 
   pub run_ends_well : HasStatusCause 7 before.health after.health status → (Rose before.health after.health → ⊥) → RunEndsWell it.growth status old new

@@ -10,7 +10,7 @@ use Rattle.ak_client.specs.declared.outcomes.Outcome.TheVariants as outcomes
 use Rattle.ak_faults.specs.Causes.{Health}
 use Rattle.ak_keep.specs.Keepers.{Keeping}
 use Rattle.ak_outcomes.specs.OutcomeTexts.{has_fixed_text, outcome_text, outcome_status}
-use Rattle.ak_sync_runs.specs.SyncRuns.{AgreesNext, CommitsNextOnce, EndsPrinting, EndsSync, EndsSyncOn, FinishesNext, HasStatusCause, IsSyncRun, SyncOutside, TellsOutcome, is_early_status, is_sync_status}
+use Rattle.ak_sync_runs.specs.SyncRuns.{AgreesNext, CommitsNextOnce, EndsPrinting, EndsSync, EndsSyncOn, FinishesNext, HasRunOutEarly, HasStatusCause, IsSyncRun, RunsOutNextEarly, SyncOutside, TellsOutcome, ids_of, is_early_status, is_sync_status}
 
 -- the line of a sync that is finished
 abbrev pub finished_line : List ℕ
@@ -21,11 +21,11 @@ abbrev pub unchanged_line : List ℕ
 unchanged_line = codes "no changes" ++ 10 ∷ []
 
 -- over a keeper that holds a collection, a run of a sync is how it ends
-pub ran : (host : HostKey) (status : ℕ) (before after : SyncOutside) (old new : Option (List ℕ))
-    → true ≡ before.keeping.headed.current → IsSyncRun host status before after old new
-    → EndsSync host status before after old new
-ran host status before after old new held run =
-    subst (λ b. EndsSyncOn b host status before after old new) held (inl run)
+pub ran : (spares : Bool) (host : HostKey) (status : ℕ) (before after : SyncOutside) (old new : Option (List ℕ))
+    → true ≡ before.keeping.headed.current → IsSyncRun spares host status before after old new
+    → EndsSync spares host status before after old new
+ran spares host status before after old new held run =
+    subst (λ b. EndsSyncOn spares b host status before after old new) held (inl run)
 
 -- the two outcomes with status 0
 done_by : (outcome : Outcome) → 0 ≡ outcome_status outcome → (outcome ≡ outcomes.Finished) ⊎ (outcome ≡ outcomes.NoChanges)
@@ -88,46 +88,46 @@ unchanged_by outcome old (inl (text, is, inr (status, part))) = absurd (search (
 unchanged_by outcome old (inr (made, (status, nothing))) = absurd (search (status, rules))
 
 -- a run that finished
-run_finished : (host : HostKey) (before after : SyncOutside) (old : List ℕ)
-    → IsSyncRun host 0 before after (Some old) (Some (old ++ finished_line)) → FinishesNext host before after
-run_finished host before after old run =
+run_finished : (spares : Bool) (host : HostKey) (before after : SyncOutside) (old : List ℕ)
+    → IsSyncRun spares host 0 before after (Some old) (Some (old ++ finished_line)) → FinishesNext host before after
+run_finished spares host before after old run =
     let finished : run.outcome ≡ outcomes.Finished = finished_by run.outcome old run.told in (
       run.word,
       run.drawn,
       λ c account log holds tells may.
-          let (now, grown, synced) = run.ended.sync.told log tells in (
+          let (now, grown, synced) = run.sparing.ended.sync.told log tells in (
             now,
             grown,
             λ newer. let it = (synced c account holds may newer).finished finished in (
               (synced c account holds may newer).base,
               it,
-              λ alone. (run.ended.sync.commits alone log now account tells grown may.unused).one _ it.only,
+              λ alone. (run.sparing.ended.sync.commits alone log now account tells grown may.unused).one _ it.only,
             ),
           ),
     )
 
 -- a sync that ended so, by whether a collection was held
-finished_on : (held : Bool) (host : HostKey) (before after : SyncOutside) (old : List ℕ)
-    → EndsSyncOn held host 0 before after (Some old) (Some (old ++ finished_line)) → FinishesNext host before after
-finished_on true host before after old (inl run) = run_finished host before after old run
-finished_on true host before after old (inr (same, (status, nothing))) = absurd (search (status, rules))
-finished_on false host before after old (same, inl (status, written)) = absurd (search (status, rules))
-finished_on false host before after old (same, inr (status, part)) = absurd (search (status, rules))
+finished_on : (spares held : Bool) (host : HostKey) (before after : SyncOutside) (old : List ℕ)
+    → EndsSyncOn spares held host 0 before after (Some old) (Some (old ++ finished_line)) → FinishesNext host before after
+finished_on spares true host before after old (inl run) = run_finished spares host before after old run
+finished_on spares true host before after old (inr (same, (status, nothing))) = absurd (search (status, rules))
+finished_on spares false host before after old (same, inl (status, written)) = absurd (search (status, rules))
+finished_on spares false host before after old (same, inr (status, part)) = absurd (search (status, rules))
 
 -- what `finished` tells
-pub printed_finish : (host : HostKey) (before after : SyncOutside) (old : List ℕ)
-    → EndsSync host 0 before after (Some old) (Some (old ++ (codes "finished" ++ 10 ∷ []))) → FinishesNext host before after
-printed_finish host before after old ends = finished_on before.keeping.headed.current host before after old ends
+pub printed_finish : (spares : Bool) (host : HostKey) (before after : SyncOutside) (old : List ℕ)
+    → EndsSync spares host 0 before after (Some old) (Some (old ++ (codes "finished" ++ 10 ∷ []))) → FinishesNext host before after
+printed_finish spares host before after old ends = finished_on spares before.keeping.headed.current host before after old ends
 
 -- a run that found nothing to sync
-run_agreed : (host : HostKey) (before after : SyncOutside) (old : List ℕ)
-    → IsSyncRun host 0 before after (Some old) (Some (old ++ unchanged_line)) → AgreesNext host before after
-run_agreed host before after old run =
+run_agreed : (spares : Bool) (host : HostKey) (before after : SyncOutside) (old : List ℕ)
+    → IsSyncRun spares host 0 before after (Some old) (Some (old ++ unchanged_line)) → AgreesNext host before after
+run_agreed spares host before after old run =
     let unchanged : run.outcome ≡ outcomes.NoChanges = unchanged_by run.outcome old run.told in (
       run.word,
       run.drawn,
       λ c account log holds tells may.
-          let (now, grown, synced) = run.ended.sync.told log tells in (
+          let (now, grown, synced) = run.sparing.ended.sync.told log tells in (
             now,
             grown,
             λ newer. let it = synced c account holds may newer in
@@ -137,17 +137,17 @@ run_agreed host before after old run =
     )
 
 -- a sync that ended so, by whether a collection was held
-agreed_on : (held : Bool) (host : HostKey) (before after : SyncOutside) (old : List ℕ)
-    → EndsSyncOn held host 0 before after (Some old) (Some (old ++ unchanged_line)) → AgreesNext host before after
-agreed_on true host before after old (inl run) = run_agreed host before after old run
-agreed_on true host before after old (inr (same, (status, nothing))) = absurd (search (status, rules))
-agreed_on false host before after old (same, inl (status, written)) = absurd (search (status, rules))
-agreed_on false host before after old (same, inr (status, part)) = absurd (search (status, rules))
+agreed_on : (spares held : Bool) (host : HostKey) (before after : SyncOutside) (old : List ℕ)
+    → EndsSyncOn spares held host 0 before after (Some old) (Some (old ++ unchanged_line)) → AgreesNext host before after
+agreed_on spares true host before after old (inl run) = run_agreed spares host before after old run
+agreed_on spares true host before after old (inr (same, (status, nothing))) = absurd (search (status, rules))
+agreed_on spares false host before after old (same, inl (status, written)) = absurd (search (status, rules))
+agreed_on spares false host before after old (same, inr (status, part)) = absurd (search (status, rules))
 
 -- what `no changes` tells
-pub printed_agreement : (host : HostKey) (before after : SyncOutside) (old : List ℕ)
-    → EndsSync host 0 before after (Some old) (Some (old ++ (codes "no changes" ++ 10 ∷ []))) → AgreesNext host before after
-printed_agreement host before after old ends = agreed_on before.keeping.headed.current host before after old ends
+pub printed_agreement : (spares : Bool) (host : HostKey) (before after : SyncOutside) (old : List ℕ)
+    → EndsSync spares host 0 before after (Some old) (Some (old ++ (codes "no changes" ++ 10 ∷ []))) → AgreesNext host before after
+printed_agreement spares host before after old ends = agreed_on spares before.keeping.headed.current host before after old ends
 
 -- an outcome with another status leaves the device as it was
 kept_by : (outcome : Outcome) (status : ℕ) (before left : Keeping) (moments to_come : Option (List ℤ))
@@ -177,23 +177,23 @@ status_of_told outcome status old new (inl (text, is, inr (same, part))) no_writ
 status_of_told outcome status old new (inr (made, (same, nothing))) no_write no_memory = absurd (no_memory same)
 
 -- by whether a collection was held
-kept_on : (held : Bool) (host : HostKey) (status : ℕ) (before after : SyncOutside) (old new : Option (List ℕ))
-    → EndsSyncOn held host status before after old new → status ≢ 0 → status ≢ 5 → status ≢ 8 → status ≢ 11
+kept_on : (spares held : Bool) (host : HostKey) (status : ℕ) (before after : SyncOutside) (old new : Option (List ℕ))
+    → EndsSyncOn spares held host status before after old new → status ≢ 0 → status ≢ 5 → status ≢ 8 → status ≢ 11
     → after.keeping ≡ before.keeping
-kept_on true host status before after old new (inl run) done no_write no_memory sanity =
+kept_on spares true host status before after old new (inl run) done no_write no_memory sanity =
     kept_by run.outcome status before.keeping after.keeping before.moments after.moments
     (status_of_told run.outcome status old new run.told no_write no_memory) done sanity run.device
-kept_on true host status before after old new (inr (same, ends)) done no_write no_memory sanity =
+kept_on spares true host status before after old new (inr (same, ends)) done no_write no_memory sanity =
     ap (λ (s : SyncOutside). s.keeping) same
-kept_on false host status before after old new (same, ends) done no_write no_memory sanity =
+kept_on spares false host status before after old new (same, ends) done no_write no_memory sanity =
     ap (λ (s : SyncOutside). s.keeping) same
 
 -- what other statuses tell
-pub other_status : (host : HostKey) (status : ℕ) (before after : SyncOutside) (old new : Option (List ℕ))
-    → EndsSync host status before after old new → status ≢ 0 → status ≢ 5 → status ≢ 8 → status ≢ 11
+pub other_status : (spares : Bool) (host : HostKey) (status : ℕ) (before after : SyncOutside) (old new : Option (List ℕ))
+    → EndsSync spares host status before after old new → status ≢ 0 → status ≢ 5 → status ≢ 8 → status ≢ 11
     → after.keeping ≡ before.keeping
-other_status host status before after old new ends =
-    kept_on before.keeping.headed.current host status before after old new ends
+other_status spares host status before after old new ends =
+    kept_on spares before.keeping.headed.current host status before after old new ends
 
 -- ---- status 8
 -- an outcome whose text is not fixed leaves the device as it was, or with its moments risen
@@ -226,18 +226,84 @@ kept_at_eight outcome before left moments to_come old new (inr (made, untold)) k
     kept_untold outcome before left moments to_come made kept
 
 -- by whether a collection was held
-untold_on : (held : Bool) (host : HostKey) (before after : SyncOutside) (old new : Option (List ℕ))
-    → EndsSyncOn held host 8 before after old new
+untold_on : (spares held : Bool) (host : HostKey) (before after : SyncOutside) (old new : Option (List ℕ))
+    → EndsSyncOn spares held host 8 before after old new
     → (after.keeping ≡ before.keeping) ⊎ HasRaised 1 before.keeping after.keeping before.moments after.moments
-untold_on true host before after old new (inl run) =
+untold_on spares true host before after old new (inl run) =
     kept_at_eight run.outcome before.keeping after.keeping before.moments after.moments old new run.told run.device
-untold_on true host before after old new (inr (same, ends)) = inl (ap (λ (s : SyncOutside). s.keeping) same)
-untold_on false host before after old new (same, ends) = inl (ap (λ (s : SyncOutside). s.keeping) same)
+untold_on spares true host before after old new (inr (same, ends)) = inl (ap (λ (s : SyncOutside). s.keeping) same)
+untold_on spares false host before after old new (same, ends) = inl (ap (λ (s : SyncOutside). s.keeping) same)
 
 -- what status 8 tells
-pub untold_end : (host : HostKey) (before after : SyncOutside) (old new : Option (List ℕ)) → EndsSync host 8 before after old new
+pub untold_end : (spares : Bool) (host : HostKey) (before after : SyncOutside) (old new : Option (List ℕ)) → EndsSync spares host 8 before after old new
     → (after.keeping ≡ before.keeping) ⊎ HasRaised 1 before.keeping after.keeping before.moments after.moments
-untold_end host before after old new ends = untold_on before.keeping.headed.current host before after old new ends
+untold_end spares host before after old new ends = untold_on spares before.keeping.headed.current host before after old new ends
+
+-- 8 tells that memory ran out, if the text of an outcome was printed
+only_memory : (outcome : Outcome) → outcome_status outcome ≡ 8 → outcome ≡ outcomes.Memory
+only_memory outcomes.Finished is = absurd (search (is, rules))
+only_memory outcomes.NoChanges is = absurd (search (is, rules))
+only_memory (outcomes.FullSchema device server) is = absurd (search (is, rules))
+only_memory (outcomes.FullSequence usn) is = absurd (search (is, rules))
+only_memory (outcomes.BadRow fault) is = absurd (search (is, rules))
+only_memory (outcomes.BadCounts client server) is = absurd (search (is, rules))
+only_memory (outcomes.ClockOff device server) is = absurd (search (is, rules))
+only_memory (outcomes.OwnCheck fault) is = absurd (search (is, rules))
+only_memory outcomes.Stopped is = absurd (search (is, rules))
+only_memory (outcomes.Refused code word seen) is = absurd (search (is, rules))
+only_memory outcomes.Lost is = absurd (search (is, rules))
+only_memory outcomes.BadReply is = absurd (search (is, rules))
+only_memory outcomes.TooManyChunks is = absurd (search (is, rules))
+only_memory outcomes.Keep is = absurd (search (is, rules))
+only_memory outcomes.Memory is = refl
+
+-- an outcome without a fixed text is out of memory, or it has a text
+has_text : (outcome : Outcome) → has_fixed_text outcome ≡ false → (outcome ≡ outcomes.Memory) ⊎ ((text : List ℕ) × (outcome_text outcome ≡ Some text))
+has_text outcomes.Finished made = absurd (search (made, rules))
+has_text outcomes.NoChanges made = absurd (search (made, rules))
+has_text (outcomes.FullSchema device server) made = inr (_, refl)
+has_text (outcomes.FullSequence usn) made = inr (_, refl)
+has_text (outcomes.BadRow fault) made = inr (_, refl)
+has_text (outcomes.BadCounts client server) made = inr (_, refl)
+has_text (outcomes.ClockOff device server) made = inr (_, refl)
+has_text (outcomes.OwnCheck fault) made = inr (_, refl)
+has_text outcomes.Stopped made = absurd (search (made, rules))
+has_text (outcomes.Refused code word seen) made = inr (_, refl)
+has_text outcomes.Lost made = absurd (search (made, rules))
+has_text outcomes.BadReply made = absurd (search (made, rules))
+has_text outcomes.TooManyChunks made = absurd (search (made, rules))
+has_text outcomes.Keep made = absurd (search (made, rules))
+has_text outcomes.Memory made = inl refl
+
+-- a run with status 8 over a keeper that spares memory
+run_out_early : (host : HostKey) (before after : SyncOutside) (old new : Option (List ℕ)) → (run : IsSyncRun true host 8 before after old new)
+    → HasRunOutEarly (ids_of host run.word) before after
+run_out_early host before after old new run = by run.told
+  where
+    early : run.outcome ≡ outcomes.Memory → HasRunOutEarly (ids_of host run.word) before after
+    early out = (run.outcome, run.sparing, inl (out, run.sparing.memory refl out))
+
+    either : has_fixed_text run.outcome ≡ false → (run.outcome ≡ outcomes.Memory) ⊎ ((text : List ℕ) × (outcome_text run.outcome ≡ Some text))
+        → HasRunOutEarly (ids_of host run.word) before after
+    either made (inl out) = early out
+    either made (inr (text, is)) = (run.outcome, run.sparing, inr (text, is, made))
+
+    by : TellsOutcome run.outcome 8 old new → HasRunOutEarly (ids_of host run.word) before after
+    by (inl (text, is, inl (status, written))) = early (only_memory run.outcome (sym status))
+    by (inl (text, is, inr (status, part))) = absurd (search (status, rules))
+    by (inr (made, untold)) = either made (has_text run.outcome made)
+
+-- by whether a collection was held
+out_on : (held : Bool) (host : HostKey) (before after : SyncOutside) (old new : Option (List ℕ))
+    → EndsSyncOn true held host 8 before after old new → RunsOutNextEarly host before after
+out_on true host before after old new (inl run) = inr (run.word, run.drawn, run_out_early host before after old new run)
+out_on true host before after old new (inr (same, ends)) = inl same
+out_on false host before after old new (same, ends) = inl same
+
+-- what status 8 tells over a keeper that spares memory
+pub out_early : (host : HostKey) (before after : SyncOutside) (old new : Option (List ℕ)) → EndsSync true host 8 before after old new
+    → RunsOutNextEarly host before after
+out_early host before after old new ends = out_on before.keeping.headed.current host before after old new ends
 
 -- a device without changes is left as it was
 kept_unchanged : (outcome : Outcome) (before left : Keeping) (moments to_come : Option (List ℤ)) → outcome ≡ outcomes.NoChanges
@@ -246,17 +312,17 @@ kept_unchanged outcome before left moments to_come unchanged kept =
     subst (λ o. KeepsDevice 1 before left moments to_come o) unchanged kept
 
 -- by whether a collection was held
-unchanged_on : (held : Bool) (host : HostKey) (before after : SyncOutside) (old : List ℕ)
-    → EndsSyncOn held host 0 before after (Some old) (Some (old ++ unchanged_line)) → after.keeping ≡ before.keeping
-unchanged_on true host before after old (inl run) =
+unchanged_on : (spares held : Bool) (host : HostKey) (before after : SyncOutside) (old : List ℕ)
+    → EndsSyncOn spares held host 0 before after (Some old) (Some (old ++ unchanged_line)) → after.keeping ≡ before.keeping
+unchanged_on spares true host before after old (inl run) =
     kept_unchanged run.outcome before.keeping after.keeping before.moments after.moments (unchanged_by run.outcome old run.told) run.device
-unchanged_on true host before after old (inr (same, ends)) = ap (λ (s : SyncOutside). s.keeping) same
-unchanged_on false host before after old (same, ends) = ap (λ (s : SyncOutside). s.keeping) same
+unchanged_on spares true host before after old (inr (same, ends)) = ap (λ (s : SyncOutside). s.keeping) same
+unchanged_on spares false host before after old (same, ends) = ap (λ (s : SyncOutside). s.keeping) same
 
 -- what `no changes` tells
-pub printed_no_changes : (host : HostKey) (before after : SyncOutside) (old : List ℕ)
-    → EndsSync host 0 before after (Some old) (Some (old ++ (codes "no changes" ++ 10 ∷ []))) → after.keeping ≡ before.keeping
-printed_no_changes host before after old ends = unchanged_on before.keeping.headed.current host before after old ends
+pub printed_no_changes : (spares : Bool) (host : HostKey) (before after : SyncOutside) (old : List ℕ)
+    → EndsSync spares host 0 before after (Some old) (Some (old ++ (codes "no changes" ++ 10 ∷ []))) → after.keeping ≡ before.keeping
+printed_no_changes spares host before after old ends = unchanged_on spares before.keeping.headed.current host before after old ends
 
 -- ---- what is committed
 -- an outcome with a status that comes before a finish alone
@@ -286,26 +352,26 @@ early_told outcome status old new told early =
     early_by outcome (sym (ap is_early_status (status_of_told outcome status old new told no_write no_memory)) ∙ early)
 
 -- by whether a collection was held
-once_on : (held : Bool) (host : HostKey) (status : ℕ) (before after : SyncOutside) (old new : Option (List ℕ))
-    → EndsSyncOn held host status before after old new → CommitsNextOnce host status before after
-once_on true host status before after old new (inl run) = inr (
+once_on : (spares held : Bool) (host : HostKey) (status : ℕ) (before after : SyncOutside) (old new : Option (List ℕ))
+    → EndsSyncOn spares held host status before after old new → CommitsNextOnce host status before after
+once_on spares true host status before after old new (inl run) = inr (
   run.word,
   run.drawn,
   λ c account log holds tells may.
-      let (now, grown, synced) = run.ended.sync.told log tells in (
+      let (now, grown, synced) = run.sparing.ended.sync.told log tells in (
         now,
         grown,
         λ newer. let it = synced c account holds may newer in
             (it.growth, it.base, _, _, it.grown, it.at_meta, it.once, λ early. it.early (early_told run.outcome status old new run.told early)),
       ),
 )
-once_on true host status before after old new (inr (same, ends)) = inl same
-once_on false host status before after old new (same, ends) = inl same
+once_on spares true host status before after old new (inr (same, ends)) = inl same
+once_on spares false host status before after old new (same, ends) = inl same
 
 -- what any end tells
-pub any_end : (host : HostKey) (status : ℕ) (before after : SyncOutside) (old new : Option (List ℕ))
-    → EndsSync host status before after old new → CommitsNextOnce host status before after
-any_end host status before after old new ends = once_on before.keeping.headed.current host status before after old new ends
+pub any_end : (spares : Bool) (host : HostKey) (status : ℕ) (before after : SyncOutside) (old new : Option (List ℕ))
+    → EndsSync spares host status before after old new → CommitsNextOnce host status before after
+any_end spares host status before after old new ends = once_on spares before.keeping.headed.current host status before after old new ends
 
 -- ---- which statuses there are
 -- an outcome has one of them

@@ -3,8 +3,9 @@ use Rattle.std.specs.Prelude.{◌≡◌, ◌≢◌, ◌⊎◌, ℕ, ℤ, ◌==�
 use Rattle.std.specs.Io.KnownBytes.{Appends, Keeps}
 use Rattle.ak_base.specs.declared.keys.HostKey.{HostKey}
 use Rattle.ak_client.specs.Outcomes.{HasLostThrice, ShowsRefusal}
-use Rattle.ak_client.specs.Syncs.{IsCommittedIn, IsSyncEnded, IsSyncFinished, KeepsDevice, MayBegin, StaysOnce, TakesMoments, world_at}
+use Rattle.ak_client.specs.Syncs.{IsCommittedIn, IsSyncFinished, IsSyncSparing, KeepsDevice, LacksMemoryEarly, MayBegin, StaysOnce, TakesMoments, meta_tried, world_at}
 use Rattle.ak_client.specs.declared.outcomes.Outcome.{Outcome}
+use Rattle.ak_client.specs.declared.outcomes.Outcome.TheVariants as outcomes
 use Rattle.ak_exchange.specs.Asked.{asker}
 use Rattle.ak_exchange.specs.Phases.{holding}
 use Rattle.ak_exchange.specs.declared.envelopes.Ids.{Ids}
@@ -74,14 +75,14 @@ sync_outside keeping health wire moments words =
 abbrev pub ids_of : HostKey → ℕ → Ids
 ids_of host word = record { host = host; session = record { 0 = word } }
 
--- one sync ran, in a session whose key is the next word of chance, and its outcome was told. Whatever the status, device and server are as
--- that outcome leaves them
-pub record IsSyncRun (host : HostKey) (status : ℕ) (before after : SyncOutside) (old new : Option (List ℕ)) : Type 0 where
+-- one sync ran, over a keeper that spares memory or not, in a session whose key is the next word of chance, and its outcome was told.
+-- Whatever the status, device and server are as that outcome leaves them
+pub record IsSyncRun (spares : Bool) (host : HostKey) (status : ℕ) (before after : SyncOutside) (old new : Option (List ℕ)) : Type 0 where
   pub word : ℕ
   pub outcome : Outcome
   pub drawn : GivesNext before.words after.words word
-  -- what it asked, what that made of the log and left on the device, and why it ended
-  pub ended : IsSyncEnded (ids_of host word) before.keeping after.keeping before.health after.health before.wire after.wire
+  -- what it asked, what that made of the log and left on the device, why it ended, and where it may have run out of memory
+  pub sparing : IsSyncSparing spares (ids_of host word) before.keeping after.keeping before.health after.health before.wire after.wire
       before.moments outcome
   pub thrice : HasLostThrice before.health after.health before.wire.silence after.wire.silence outcome
   pub shown : ShowsRefusal before.wire.reading after.wire.reading after.wire.said outcome
@@ -91,16 +92,16 @@ pub record IsSyncRun (host : HostKey) (status : ℕ) (before after : SyncOutside
 
 -- the same, by whether a collection is held. If none is, `no collection` is printed, and the status is 3. Memory may run out before
 -- anything is asked
-abbrev pub EndsSyncOn : Bool → HostKey → ℕ → SyncOutside → SyncOutside → Option (List ℕ) → Option (List ℕ) → Type 0
-EndsSyncOn true host status before after old new =
-    IsSyncRun host status before after old new ⊎ (after ≡ before) × EndsUntold status old new
-EndsSyncOn false host status before after old new =
+abbrev pub EndsSyncOn : Bool → Bool → HostKey → ℕ → SyncOutside → SyncOutside → Option (List ℕ) → Option (List ℕ) → Type 0
+EndsSyncOn spares true host status before after old new =
+    IsSyncRun spares host status before after old new ⊎ (after ≡ before) × EndsUntold status old new
+EndsSyncOn spares false host status before after old new =
     (after ≡ before) × EndsPrinting (codes "no collection") 3 status old new
 
--- how `sync` ends for the account of this host key
-abbrev pub EndsSync : HostKey → ℕ → SyncOutside → SyncOutside → Option (List ℕ) → Option (List ℕ) → Type 0
-EndsSync host status before after old new =
-    EndsSyncOn before.keeping.headed.current host status before after old new
+-- how `sync` ends for the account of this host key, over a keeper that spares memory or not
+abbrev pub EndsSync : Bool → HostKey → ℕ → SyncOutside → SyncOutside → Option (List ℕ) → Option (List ℕ) → Type 0
+EndsSync spares host status before after old new =
+    EndsSyncOn spares before.keeping.headed.current host status before after old new
 
 -- ---- what `finished` means
 -- where the keeper told a collection with which this sync could begin, and the wire a log, and no upload in between gave just the device's
@@ -152,3 +153,18 @@ CommitsOnce ids status before after = let who = asker ids in (c : Collection) (a
 abbrev pub CommitsNextOnce : HostKey → ℕ → SyncOutside → SyncOutside → Type 0
 CommitsNextOnce host status before after = (after ≡ before)
     ⊎ ((word : ℕ) × GivesNext before.words after.words word × CommitsOnce (ids_of host word) status before after)
+
+-- ---- what status 8 means
+-- over a keeper that spares memory: the sync ran out of memory before it asked its finish, or in the last call of its wire, which answered so;
+-- or it ended for another reason, whose text has to be made, and memory ran out for the text
+abbrev pub HasRunOutEarly : Ids → SyncOutside → SyncOutside → Type 0
+HasRunOutEarly ids before after = (outcome : Outcome)
+    × (sparing : IsSyncSparing true ids before.keeping after.keeping before.health after.health before.wire after.wire
+    before.moments outcome)
+    × (((outcome ≡ outcomes.Memory) × LacksMemoryEarly (meta_tried sparing.ended.sync.meta ∷ sparing.ended.sync.tries))
+    ⊎ ((text : List ℕ) × (outcome_text outcome ≡ Some text) × (has_fixed_text outcome ≡ false)))
+
+-- a sync of the session whose key was the next word of chance ended so; or nothing was asked
+abbrev pub RunsOutNextEarly : HostKey → SyncOutside → SyncOutside → Type 0
+RunsOutNextEarly host before after = (after ≡ before)
+    ⊎ ((word : ℕ) × GivesNext before.words after.words word × HasRunOutEarly (ids_of host word) before after)

@@ -9,6 +9,6 @@ mod sync_runs;
 pub use no_servers::NoServer;
 pub use run_laws::{
     a_printed_finish_joins, a_printed_no_changes_agrees, a_sync_commits_once,
-    other_ends_keep_the_device,
+    memory_runs_out_early, other_ends_keep_the_device,
 };
 pub use sync_runs::{NO_COLLECTION, print_ending, run_sync, tell_outcome};

@@ -32,7 +32,7 @@ pub fn run_sync<K: Keeper, W: Wire, C: Clock, R: Chance, O: Sink>(
 
     // What it leaves on the device and on the server, whatever the keeper and the wire, and what is written of it. A finished
     // sync is told by 0, or by 5 if the output failed in its line.
-    ensures ends { EndsSync host result
+    ensures ends { EndsSync K.spares_memory host result
         (sync_outside (K.keeping keeper.old) (W.health wire.old) (W.state wire.old)
         (C.to_come clock.old) (R.to_come chance.old))
         (sync_outside (K.keeping keeper.new) (W.health wire.new) (W.state wire.new)

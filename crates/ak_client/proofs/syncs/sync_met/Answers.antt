@@ -1,5 +1,5 @@
-use Rattle.std.specs.Prelude.{◌+ℤ◌, pos, Result}
-use Rattle.std.proofs.Common.{refl, rules, arith, w64, SFits}
+use Rattle.std.specs.Prelude.{◌+ℤ◌, pos, Result, Err}
+use Rattle.std.proofs.Common.{refl, ap, rules, arith, w64, SFits}
 use Rattle.std.proofs.lemmas.Int.{to_z-of_z}
 use Rattle.ak_client.proofs.Clocks.{fault_takes}
 use Rattle.ak_client.proofs.Committing.{commits_head}
@@ -18,23 +18,24 @@ use Rattle.ak_client.proofs.syncs.sync_met.Goals as goal
 pub returns-in_err-mark-clause-ends : goal.returns-in_err-mark-clause-ends
 returns-in_err-mark-clause-ends g c =
     exits c.from_residual.result (keep_stop c.in_err-mark.field-0.0)
-    (λ (r : Result (Unit {0}) Stop). Ends c.args.ids c.args.met.now (g.K.Lookup.keeping c.args.keeper.now) (g.K.Lookup.keeping c.mark.new.self)
+    (λ (r : Result (Unit {0}) Stop). Ends g.K.Keeper.spares_memory c.args.ids c.args.met.now (g.K.Lookup.keeping c.args.keeper.now) (g.K.Lookup.keeping c.mark.new.self)
     (g.W.End.health c.args.wire.now) (g.W.End.health c.args.wire.now) (g.W.Wire.state c.args.wire.now) (g.W.Wire.state c.args.wire.now) (outcome_of r))
     c.from_residual.ensures.1
-    (asked_nothing c.args.ids c.args.met.now (g.K.Lookup.keeping c.args.keeper.now) (g.K.Lookup.keeping c.mark.new.self)
+    (asked_nothing g.K.Keeper.spares_memory c.args.ids c.args.met.now (g.K.Lookup.keeping c.args.keeper.now) (g.K.Lookup.keeping c.mark.new.self)
     (g.W.End.health c.args.wire.now) (g.W.Wire.state c.args.wire.now) c.in_err-mark.field-0.0)
 
 pub returns-in_err-commit_at-in-Ok-clause-ends : goal.returns-in_err-commit_at-in-Ok-clause-ends
 returns-in_err-commit_at-in-Ok-clause-ends g c =
     exits c.from_residual-in_err-commit_at-in-Ok.result (keep_stop c.in_err-commit_at-in-Ok.field-0.0)
-    (λ (r : Result (Unit {0}) Stop). Ends c.args.ids c.args.met.now (g.K.Lookup.keeping c.args.keeper.now) (g.K.Lookup.keeping c.commit_at.new.keeper)
+    (λ (r : Result (Unit {0}) Stop). Ends g.K.Keeper.spares_memory c.args.ids c.args.met.now (g.K.Lookup.keeping c.args.keeper.now) (g.K.Lookup.keeping c.commit_at.new.keeper)
     (g.W.End.health c.args.wire.now) (g.W.End.health c.exchange_all.new.wire) (g.W.Wire.state c.args.wire.now) (g.W.Wire.state c.exchange_all.new.wire)
     (outcome_of r))
     c.from_residual-in_err-commit_at-in-Ok.ensures.1
-    (ends_refused c.args.ids c.args.met.now (g.K.Lookup.keeping c.args.keeper.now) (g.K.Lookup.keeping c.mark.new.self)
+    (ends_refused g.K.Keeper.spares_memory c.args.ids c.args.met.now (g.K.Lookup.keeping c.args.keeper.now) (g.K.Lookup.keeping c.mark.new.self)
     (g.K.Lookup.keeping c.exchange_all.new.keeper) (g.K.Lookup.keeping c.commit_at.new.keeper)
     (g.W.End.health c.args.wire.now) (g.W.End.health c.exchange_all.new.wire) (g.W.Wire.state c.args.wire.now) (g.W.Wire.state c.exchange_all.new.wire)
-    c.in_ok-mark.ensures.ok c.in-Ok.moment c.in_err-commit_at-in-Ok.field-0.0 c.in-Ok.ensures.exchanges)
+    c.in_ok-mark.ensures.ok c.in-Ok.moment c.in_err-commit_at-in-Ok.field-0.0
+    (λ spared is. c.in_err-commit_at-in-Ok.ensures.spares spared (ap (λ f. Err f) is)) c.in-Ok.ensures.exchanges)
 
 pub returns-in_err-commit_at-in-Ok-clause-clock : goal.returns-in_err-commit_at-in-Ok-clause-clock
 returns-in_err-commit_at-in-Ok-clause-clock g c =
@@ -48,7 +49,7 @@ returns-in_ok-commit_at-in-Ok-clause-ends g c =
     let moment : SFits w64 c.in-Ok.moment = search rules in
     let schema : SFits w64 c.args.met.now.head.schema = search rules in
     let usn : SFits w64 c.args.met.now.meta.usn = search rules in
-    ends_finished c.args.ids c.args.met.now (g.K.Lookup.keeping c.args.keeper.now) (g.K.Lookup.keeping c.mark.new.self)
+    ends_finished g.K.Keeper.spares_memory c.args.ids c.args.met.now (g.K.Lookup.keeping c.args.keeper.now) (g.K.Lookup.keeping c.mark.new.self)
     (g.K.Lookup.keeping c.exchange_all.new.keeper) (g.K.Lookup.keeping c.commit_at.new.keeper)
     (g.W.End.health c.args.wire.now) (g.W.End.health c.exchange_all.new.wire) (g.W.Wire.state c.args.wire.now) (g.W.Wire.state c.exchange_all.new.wire)
     c.in_ok-mark.ensures.ok c.in-Ok.moment c.in-Ok.ensures.exchanges
@@ -67,7 +68,7 @@ returns-in_ok-commit_at-in-Ok-clause-device g c =
 
 pub returns-in-Err-clause-ends : goal.returns-in-Err-clause-ends
 returns-in-Err-clause-ends g c =
-    ends_stopped c.args.ids c.args.met.now (g.K.Lookup.keeping c.args.keeper.now) (g.K.Lookup.keeping c.mark.new.self)
+    ends_stopped g.K.Keeper.spares_memory c.args.ids c.args.met.now (g.K.Lookup.keeping c.args.keeper.now) (g.K.Lookup.keeping c.mark.new.self)
     (g.K.Lookup.keeping c.exchange_all.new.keeper) (g.K.Lookup.keeping c.after_stop.new.keeper)
     (g.W.End.health c.args.wire.now) (g.W.End.health c.exchange_all.new.wire) (g.W.Wire.state c.args.wire.now) (g.W.Wire.state c.exchange_all.new.wire)
     c.in_ok-mark.ensures.ok c.in-Err.stop c.after_stop.result c.in-Err.ensures.exchanges c.after_stop.ensures.ends

@@ -24,7 +24,7 @@ returns-clause-lost g c =
     subst (λ (outcome : Outcome). HasOutcomeCause outcomes.Lost (g.W.End.health c.args.wire.now) (g.W.End.health c.sync_device.new.wire) outcome)
     (sym c.outcome_of.ensures) (lost_cause c.args.ids (g.K.Lookup.keeping c.args.keeper.now) (g.K.Lookup.keeping c.sync_device.new.keeper)
     (g.W.End.health c.args.wire.now) (g.W.End.health c.sync_device.new.wire) (g.W.Wire.state c.args.wire.now) (g.W.Wire.state c.sync_device.new.wire)
-    (outcome_of c.sync_device.result) c.sync_device.ensures.ended.sync)
+    (outcome_of c.sync_device.result) c.sync_device.ensures.spares.ended.sync)
 
 pub returns-clause-thrice : goal.returns-clause-thrice
 returns-clause-thrice g c =
@@ -32,7 +32,7 @@ returns-clause-thrice g c =
     (g.W.Wire.state c.args.wire.now).silence (g.W.Wire.state c.sync_device.new.wire).silence outcome)
     (sym c.outcome_of.ensures) (lost_thrice c.args.ids (g.K.Lookup.keeping c.args.keeper.now) (g.K.Lookup.keeping c.sync_device.new.keeper)
     (g.W.End.health c.args.wire.now) (g.W.End.health c.sync_device.new.wire) (g.W.Wire.state c.args.wire.now) (g.W.Wire.state c.sync_device.new.wire)
-    (outcome_of c.sync_device.result) c.sync_device.ensures.ended.sync)
+    (outcome_of c.sync_device.result) c.sync_device.ensures.spares.ended.sync)
 
 pub returns-clause-shown : goal.returns-clause-shown
 returns-clause-shown g c =
@@ -40,17 +40,17 @@ returns-clause-shown g c =
     (g.W.Wire.state c.sync_device.new.wire).said outcome)
     (sym c.outcome_of.ensures) (shows_refusal c.args.ids (g.K.Lookup.keeping c.args.keeper.now) (g.K.Lookup.keeping c.sync_device.new.keeper)
     (g.W.End.health c.args.wire.now) (g.W.End.health c.sync_device.new.wire) (g.W.Wire.state c.args.wire.now) (g.W.Wire.state c.sync_device.new.wire)
-    (outcome_of c.sync_device.result) c.sync_device.ensures.ended.sync)
+    (outcome_of c.sync_device.result) c.sync_device.ensures.spares.ended.sync)
 
 pub returns-clause-wire : goal.returns-clause-wire
 returns-clause-wire g c =
     (lost_cause c.args.ids (g.K.Lookup.keeping c.args.keeper.now) (g.K.Lookup.keeping c.sync_device.new.keeper)
     (g.W.End.health c.args.wire.now) (g.W.End.health c.sync_device.new.wire) (g.W.Wire.state c.args.wire.now) (g.W.Wire.state c.sync_device.new.wire)
-    (outcome_of c.sync_device.result) c.sync_device.ensures.ended.sync).goes
+    (outcome_of c.sync_device.result) c.sync_device.ensures.spares.ended.sync).goes
 
 pub returns-clause-reading : goal.returns-clause-reading
 returns-clause-reading g c =
-    tried_reads (meta_of c.args.ids ∷ requests_from (asker c.args.ids) c.sync_device.ensures.ended.sync.moment 1 (asks_in c.sync_device.ensures.ended.sync.tries))
-    (c.sync_device.ensures.ended.sync.meta ∷ answers_in c.sync_device.ensures.ended.sync.tries)
+    tried_reads (meta_of c.args.ids ∷ requests_from (asker c.args.ids) c.sync_device.ensures.spares.ended.sync.moment 1 (asks_in c.sync_device.ensures.spares.ended.sync.tries))
+    (c.sync_device.ensures.spares.ended.sync.meta ∷ answers_in c.sync_device.ensures.spares.ended.sync.tries)
     (g.W.End.health c.args.wire.now) (g.W.End.health c.sync_device.new.wire) (g.W.Wire.state c.args.wire.now) (g.W.Wire.state c.sync_device.new.wire)
-    c.sync_device.ensures.ended.sync.tried
+    c.sync_device.ensures.spares.ended.sync.tried

@@ -3,7 +3,7 @@ use Rattle.std.proofs.lemmas.Int.{to_z-of_z}
 use Rattle.ak_base.specs.Heads.{IsHeadInRange}
 use Rattle.ak_device.proofs.Heads.{head_is}
 use Rattle.ak_device.proofs.Settling.{settled_head_fits}
-use Rattle.ak_merge.specs.Exchanges.{settled_tags}
+use Rattle.ak_device.specs.Settlings.{tags_settled}
 use Rattle.ak_device.proofs.settlings.settled_head.Goals as goal
 
 pub returns-clause-made : goal.returns-clause-made
@@ -14,7 +14,7 @@ returns-clause-made c =
     let number : SFits w64 c.args.head.usn = search rules in
     let sync : SFits w64 c.args.head.last_sync = search rules in
     let usn : SFits w64 c.args.usn = search rules in
-    head_is (record c.args.head { tags = settled_tags c.args.usn c.args.head.tags }) _ _ _ _ _ _ _
+    head_is (tags_settled c.args.usn c.args.head) _ _ _ _ _ _ _
     (to_z-of_z w64 c.args.head.crt crt)
     (to_z-of_z w64 c.args.head.moment moment)
     (to_z-of_z w64 c.args.head.schema schema)

@@ -1,19 +1,21 @@
-use Rattle.std.proofs.Common.{◌+◌, sym, subst, rules, arith, w64, SFits}
-use Rattle.std.proofs.lemmas.Int.{to_z-of_z}
-use Rattle.ak_exchange.proofs.Faults.{cause_keeper, cause_ok, cause_passed}
-use Rattle.ak_exchange.proofs.Parts.{exchanges_refused, exchanges_settled}
-use Rattle.ak_exchange.proofs.Passing.{advances_left, advances_more, advances_passed, advances_then}
-use Rattle.ak_exchange.proofs.Stopping.{by_keeper}
+use Rattle.std.proofs.Common.{◌+◌, sym, ap, subst, ◌∙◌, arith, Result, Ok, Err, OnOk}
+use Rattle.ak_exchange.proofs.Faults.{cause_passed}
+use Rattle.ak_exchange.proofs.Parts.{exchanges_all, exchanges_refused}
+use Rattle.ak_exchange.proofs.Passing.{advances_held, advances_more, advances_passed, advances_then}
 use Rattle.ak_exchange.specs.Phases.{at_meta}
 use Rattle.ak_faults.proofs.Healths.{cause_after, goes_further}
 use Rattle.ak_keep.specs.Keepers.{IsMarkedAt, Keeping, back}
 use Rattle.ak_parts.proofs.Taking.{stays_marked}
 use Rattle.ak_exchange.proofs.exchanges.exchange.Goals as goal
 
+all_ok : {T E P : Type 0} (r : Result T E) → P → OnOk r P
+all_ok (Ok x) p = p
+all_ok (Err e) p = tt
+
 pub returns-in_err-exchange_first-clause-exchanges : goal.returns-in_err-exchange_first-clause-exchanges
 returns-in_err-exchange_first-clause-exchanges g c =
     let first = c.in_err-exchange_first.ensures.leads in
-    exchanges_refused at_meta _ _ (g.K.Lookup.keeping c.exchange_first.new.keeper) _ _ _ _ first.0 first.1 c.from_residual.ensures.0
+    exchanges_refused at_meta _ _ _ _ _ _ first.0 first.1 c.from_residual.ensures.0
     (advances_more 0 0 (2 + first.0) _ _ _ _ _ _ _ _ _ _ _ (omega arith) (omega arith) (omega arith)
     (advances_passed _ _ _ _ _ _ _ _ _ _ _ _ _ c.from_residual.ensures.1 first.2))
 
@@ -23,7 +25,7 @@ exchange_chunks-requires-clause-marked g c = c.in_ok-exchange_first.ensures.stay
 pub returns-in_err-exchange_chunks-clause-exchanges : goal.returns-in_err-exchange_chunks-clause-exchanges
 returns-in_err-exchange_chunks-clause-exchanges g c =
     let first = c.in_ok-exchange_first.ensures.leads in
-    exchanges_refused at_meta _ _ (g.K.Lookup.keeping c.exchange_chunks.new.keeper) _ _ _ _ first.0 first.1 c.from_residual-in_err-exchange_chunks.ensures.0
+    exchanges_refused at_meta _ _ _ _ _ _ first.0 first.1 c.from_residual-in_err-exchange_chunks.ensures.0
     (advances_more 40000 39999 (2 + first.0 + 1) _ _ _ _ _ _ _ _ _ _ _ (omega arith) (omega arith) (omega arith)
     (advances_passed _ _ _ _ _ _ _ _ _ _ _ _ _ c.from_residual-in_err-exchange_chunks.ensures.1
     (advances_then _ _ _ _ _ _ _ _ _ _ _ _ _ _ _ _ _ _ first.2 c.in_err-exchange_chunks.ensures.leads)))
@@ -41,55 +43,28 @@ returns-in_err-exchange_chunks-clause-keeper g c =
 pub compare-requires : goal.compare-requires
 compare-requires g c = record { marked = c.in_ok-exchange_chunks.ensures.stays.marked }
 
-pub returns-in_err-compare-clause-exchanges : goal.returns-in_err-compare-clause-exchanges
-returns-in_err-compare-clause-exchanges g c =
+pub returns-clause-exchanges : goal.returns-clause-exchanges
+returns-clause-exchanges g c =
     let first = c.in_ok-exchange_first.ensures.leads in
-    exchanges_refused at_meta _ _ (g.K.Lookup.keeping c.compare.new.keeper) _ _ _ _ first.0 first.1 c.from_residual-in_err-compare.ensures.0
+    exchanges_all _ _ _ _ _ first.0 _ first.1
     (advances_more 40000 39999 (2 + first.0 + 1 + 1) _ _ _ _ _ _ _ _ _ _ _ (omega arith) (omega arith) (omega arith)
-    (advances_passed _ _ _ _ _ _ _ _ _ _ _ _ _ c.from_residual-in_err-compare.ensures.1
     (advances_then _ _ _ _ _ _ _ _ _ _ _ _ _ _ _ _ _ _
-    (advances_then _ _ _ _ _ _ _ _ _ _ _ _ _ _ _ _ _ _ first.2 c.in_ok-exchange_chunks.ensures.leads) c.in_err-compare.ensures.leads)))
+    (advances_then _ _ _ _ _ _ _ _ _ _ _ _ _ _ _ _ _ _ first.2 c.in_ok-exchange_chunks.ensures.leads) c.compare.ensures.leads))
 
-pub returns-in_err-compare-clause-stays : goal.returns-in_err-compare-clause-stays
-returns-in_err-compare-clause-stays g c =
-    subst (λ (k : Keeping). IsMarkedAt (back (g.K.Lookup.keeping c.args.keeper.now)) k) (sym c.in_err-compare.ensures.same)
+pub returns-clause-stays : goal.returns-clause-stays
+returns-clause-stays g c =
+    subst (λ (k : Keeping). IsMarkedAt (back (g.K.Lookup.keeping c.args.keeper.now)) k) (sym c.compare.ensures.same)
     (stays_marked (back (g.K.Lookup.keeping c.args.keeper.now)) (g.K.Lookup.keeping c.exchange_first.new.keeper) (g.K.Lookup.keeping c.exchange_chunks.new.keeper)
     c.in_ok-exchange_first.ensures.stays c.in_ok-exchange_chunks.ensures.stays)
 
-pub returns-in_err-compare-clause-keeper : goal.returns-in_err-compare-clause-keeper
-returns-in_err-compare-clause-keeper g c =
-    cause_after (goes_further c.in_ok-exchange_first.ensures.keeper.goes c.in_ok-exchange_chunks.ensures.keeper.goes)
-    (cause_passed _ _ c.in_err-compare.ensures.keeper c.from_residual-in_err-compare.ensures.1)
-
-pub returns-in_err-settle-clause-exchanges : goal.returns-in_err-settle-clause-exchanges
-returns-in_err-settle-clause-exchanges g c =
-    let first = c.in_ok-exchange_first.ensures.leads in
-    exchanges_refused at_meta _ _ (g.K.Lookup.keeping c.compare.new.keeper) (g.K.Lookup.keeping c.settle.new.keeper) _ _ _ first.0 first.1
-    c.from_residual-in_err-settle.ensures.0
-    (advances_more 40000 39999 (2 + first.0 + 1 + 1) _ _ _ _ _ _ _ _ _ _ _ (omega arith) (omega arith) (omega arith)
-    (advances_left _ _ _ _ _ _ _ _ _ _ _ _ _ _ (by_keeper _ _ c.from_residual-in_err-settle.ensures.1)
-    (advances_then _ _ _ _ _ _ _ _ _ _ _ _ _ _ _ _ _ _
-    (advances_then _ _ _ _ _ _ _ _ _ _ _ _ _ _ _ _ _ _ first.2 c.in_ok-exchange_chunks.ensures.leads) c.in_ok-compare.ensures.leads)))
-
-pub returns-clause-exchanges : goal.returns-clause-exchanges
-returns-clause-exchanges g c =
-    let usn : SFits w64 c.args.met.now.meta.usn = search rules in
-    let first = c.in_ok-exchange_first.ensures.leads in
-    exchanges_settled _ _ (g.K.Lookup.keeping c.compare.new.keeper) (g.K.Lookup.keeping c.settle.new.keeper) _ _ first.0 first.1
-    (advances_more 40000 39999 (2 + first.0 + 1 + 1) _ _ _ _ _ _ _ _ _ _ _ (omega arith) (omega arith) (omega arith)
-    (advances_then _ _ _ _ _ _ _ _ _ _ _ _ _ _ _ _ _ _
-    (advances_then _ _ _ _ _ _ _ _ _ _ _ _ _ _ _ _ _ _ first.2 c.in_ok-exchange_chunks.ensures.leads) c.in_ok-compare.ensures.leads))
-    (rw (to_z-of_z w64 c.args.met.now.meta.usn usn) at c.in_ok-settle.ensures.ok)
+pub returns-clause-held : goal.returns-clause-held
+returns-clause-held g c =
+    all_ok c.compare.result
+    (ap (λ (k : Keeping). k.headed.current) c.compare.ensures.same
+    ∙ advances_held _ _ _ _ _ _ _ _ _ _ _ c.in_ok-exchange_chunks.ensures.leads (advances_held _ _ _ _ _ _ _ _ _ _ _ c.in_ok-exchange_first.ensures.leads.2 c.requires.held))
 
 pub returns-in_err-exchange_first-clause-keeper : goal.returns-in_err-exchange_first-clause-keeper
 returns-in_err-exchange_first-clause-keeper g c = cause_passed _ _ c.in_err-exchange_first.ensures.keeper c.from_residual.ensures.1
 
-pub returns-in_err-settle-clause-keeper : goal.returns-in_err-settle-clause-keeper
-returns-in_err-settle-clause-keeper g c =
-    cause_after (goes_further (goes_further c.in_ok-exchange_first.ensures.keeper.goes c.in_ok-exchange_chunks.ensures.keeper.goes) c.in_ok-compare.ensures.keeper.goes)
-    (cause_keeper _ _ c.in_err-settle.ensures.cause c.from_residual-in_err-settle.ensures.1)
-
 pub returns-clause-keeper : goal.returns-clause-keeper
-returns-clause-keeper g c =
-    cause_ok _ (goes_further (goes_further (goes_further c.in_ok-exchange_first.ensures.keeper.goes c.in_ok-exchange_chunks.ensures.keeper.goes) c.in_ok-compare.ensures.keeper.goes)
-    c.in_ok-settle.ensures.cause.goes)
+returns-clause-keeper g c = cause_after (goes_further c.in_ok-exchange_first.ensures.keeper.goes c.in_ok-exchange_chunks.ensures.keeper.goes) c.compare.ensures.keeper

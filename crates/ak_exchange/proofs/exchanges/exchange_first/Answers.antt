@@ -1,12 +1,10 @@
-use Rattle.std.proofs.Common.{◌+◌, ap, sym, subst, ◌∙◌, arith}
+use Rattle.std.proofs.Common.{◌+◌, arith}
 use Rattle.ak_exchange.proofs.Faults.{cause_passed}
-use Rattle.ak_exchange.proofs.Held.{received_held, received_more}
+use Rattle.ak_exchange.proofs.Held.{received_held}
 use Rattle.ak_exchange.proofs.Parts.{no_grave_requests, requests_before}
-use Rattle.ak_exchange.proofs.Passing.{advances_more, advances_passed, advances_then}
-use Rattle.ak_exchange.specs.Phases.{HasReceived}
+use Rattle.ak_exchange.proofs.Passing.{advances_held, advances_more, advances_passed, advances_then}
 use Rattle.ak_faults.proofs.Healths.{cause_after, goes_further}
-use Rattle.ak_keep.specs.Keepers.{IsMarkedAt, Keeping, back, is_marked}
-use Rattle.ak_parts.proofs.Parted.{if_ok}
+use Rattle.ak_keep.specs.Keepers.{back}
 use Rattle.ak_parts.proofs.Taking.{stays_marked}
 use Rattle.ak_exchange.proofs.exchanges.exchange_first.Goals as goal
 
@@ -29,21 +27,25 @@ returns-in_err-send_graves-clause-leads g c =
           (advances_then _ _ _ _ _ _ _ _ _ _ _ _ _ _ _ _ _ _ c.in_ok-start.ensures.leads sent.2)),
     )
 
+pub send_graves-requires-clause-marked : goal.send_graves-requires-clause-marked
+send_graves-requires-clause-marked g c = c.in_ok-start.ensures.stays.marked
+
 pub returns-in_err-send_graves-clause-stays : goal.returns-in_err-send_graves-clause-stays
 returns-in_err-send_graves-clause-stays g c =
-    subst (λ (k : Keeping). IsMarkedAt (back (g.K.Lookup.keeping c.args.keeper.now)) k) (sym c.in_err-send_graves.ensures.same) c.in_ok-start.ensures.stays
+    stays_marked (back (g.K.Lookup.keeping c.args.keeper.now)) (g.K.Lookup.keeping c.start.new.keeper) (g.K.Lookup.keeping c.send_graves.new.keeper)
+    c.in_ok-start.ensures.stays c.in_err-send_graves.ensures.stays
 
 pub returns-in_err-send_graves-clause-keeper : goal.returns-in_err-send_graves-clause-keeper
 returns-in_err-send_graves-clause-keeper g c =
     cause_after c.in_ok-start.ensures.keeper.goes (cause_passed _ _ c.in_err-send_graves.ensures.keeper c.from_residual-in_err-send_graves.ensures.1)
 
 pub exchange_changes-requires-clause-marked : goal.exchange_changes-requires-clause-marked
-exchange_changes-requires-clause-marked g c = ap is_marked c.in_ok-send_graves.ensures.same ∙ c.in_ok-start.ensures.stays.marked
+exchange_changes-requires-clause-marked g c = c.in_ok-send_graves.ensures.stays.marked
 
 pub exchange_changes-requires-clause-held : goal.exchange_changes-requires-clause-held
 exchange_changes-requires-clause-held g c =
-    ap (λ (k : Keeping). k.headed.current) c.in_ok-send_graves.ensures.same
-    ∙ received_held c.args.met.now.meta.usn (g.K.Lookup.keeping c.args.keeper.now) (g.K.Lookup.keeping c.start.new.keeper) c.in_ok-start.ensures.took c.requires.held
+    advances_held _ _ _ _ _ _ _ _ _ _ _ c.in_ok-send_graves.ensures.leads.2
+    (received_held c.args.met.now.meta.usn (g.K.Lookup.keeping c.args.keeper.now) (g.K.Lookup.keeping c.start.new.keeper) c.in_ok-start.ensures.took c.requires.held)
 
 pub returns-clause-leads : goal.returns-clause-leads
 returns-clause-leads g c =
@@ -59,21 +61,13 @@ returns-clause-leads g c =
 pub returns-clause-stays : goal.returns-clause-stays
 returns-clause-stays g c =
     stays_marked (back (g.K.Lookup.keeping c.args.keeper.now)) (g.K.Lookup.keeping c.send_graves.new.keeper) (g.K.Lookup.keeping c.exchange_changes.new.keeper)
-    (subst (λ (k : Keeping). IsMarkedAt (back (g.K.Lookup.keeping c.args.keeper.now)) k) (sym c.in_ok-send_graves.ensures.same) c.in_ok-start.ensures.stays)
+    (stays_marked (back (g.K.Lookup.keeping c.args.keeper.now)) (g.K.Lookup.keeping c.start.new.keeper) (g.K.Lookup.keeping c.send_graves.new.keeper)
+    c.in_ok-start.ensures.stays c.in_ok-send_graves.ensures.stays)
     c.exchange_changes.ensures.stays
 
 pub returns-clause-keeper : goal.returns-clause-keeper
 returns-clause-keeper g c =
     cause_after (goes_further c.in_ok-start.ensures.keeper.goes c.in_ok-send_graves.ensures.keeper.goes) c.exchange_changes.ensures.keeper
-
-pub returns-clause-took : goal.returns-clause-took
-returns-clause-took g c =
-    if_ok c.exchange_changes.result _ _
-    (λ took. received_more c.args.met.now.meta.usn (g.K.Lookup.keeping c.args.keeper.now) (g.K.Lookup.keeping c.send_graves.new.keeper)
-    (g.K.Lookup.keeping c.exchange_changes.new.keeper)
-    (subst (λ (k : Keeping). HasReceived c.args.met.now.meta.usn (g.K.Lookup.keeping c.args.keeper.now) k) (sym c.in_ok-send_graves.ensures.same) c.in_ok-start.ensures.took)
-    took)
-    c.exchange_changes.ensures.took
 
 pub returns-in_err-start-clause-keeper : goal.returns-in_err-start-clause-keeper
 returns-in_err-start-clause-keeper g c = cause_passed _ _ c.in_err-start.ensures.keeper c.from_residual.ensures.1

@@ -6,7 +6,7 @@ use Rattle.ak_wires.specs.Forms.{moment_in}
 use Rattle.ak_exchange.proofs.exchanges.finish.Goals as goal
 
 pub returns-in_err-request-clause-leads : goal.returns-in_err-request-clause-leads
-returns-in_err-request-clause-leads g c = finishes_unasked _ _ _ c.from_residual.ensures.1 refl refl c.in_err-request.ensures.stays
+returns-in_err-request-clause-leads g c = finishes_unasked _ _ _ c.in_err-request.ensures.full c.from_residual.ensures.1 refl refl c.in_err-request.ensures.stays
 
 pub returns-in_err-moment-clause-leads : goal.returns-in_err-moment-clause-leads
 returns-in_err-moment-clause-leads g c =

@@ -79,7 +79,7 @@ returns-clause-leads g c =
     let counted = c.loop-turn.invariant.turned.many in
     advances_more c.loop-turn._turn 0 0 _ _ _ _ _ _ _ _ _ _ _ most (omega arith) (omega arith)
     (advances_many _ _ _ _ _ _ _ _ _ _ _ _ _ c.loop-turn.invariant.turned.leads (inl (omega (arith, counted, least)))
-    (too_many_pulled c.loop-turn._turn _ _ (omega (arith, least))))
+    (too_many_pulled c.loop-turn._turn _ _ (omega (arith, least))) refl)
 
 pub returns-clause-keeper : goal.returns-clause-keeper
 returns-clause-keeper g c = cause_unkept _ c.loop-turn.invariant.goes refl

@@ -3,7 +3,7 @@ use Rattle.std.proofs.lemmas.Int.{to_z-of_z}
 use Rattle.ak_exchange.proofs.Granted.{chunk_are, granted_give}
 use Rattle.ak_exchange.proofs.Parts.{pull_left, pull_stays, pull_took}
 use Rattle.ak_exchange.proofs.Faults.{cause_keeper, cause_memory, cause_ok, cause_wire}
-use Rattle.ak_exchange.proofs.Stopping.{by_memory, by_wire, keeper_after}
+use Rattle.ak_exchange.proofs.Stopping.{by_memory, by_wire, keeper_after, kept_granted}
 use Rattle.ak_faults.proofs.Healths.{goes_nowhere}
 use Rattle.ak_messages.specs.declared.replies.Give.TheVariants as gives
 use Rattle.ak_session.specs.Replies.{replied}
@@ -18,7 +18,7 @@ pub returns-in_err-chunk-clause-leads : goal.returns-in_err-chunk-clause-leads
 returns-in_err-chunk-clause-leads g c = λ count.
     pull_left c.args.met.now (g.K.Lookup.keeping c.args.keeper.now) _ _ c.ask_chunk.result count
     (record { it = c.in_ok-request.request; made = c.in_ok-request.ensures.made; envelopes = c.in_ok-request.ensures.next; call = c.ask_chunk.ensures })
-    _ _ (by_wire _ _ _ c.in_err-chunk.was c.from_residual-in_err-chunk.ensures.1)
+    _ _ (λ why came. refl) (by_wire _ _ _ c.in_err-chunk.was c.from_residual-in_err-chunk.ensures.1)
 
 pub take_chunk-requires-clause-taken : goal.take_chunk-requires-clause-taken
 take_chunk-requires-clause-taken g c =
@@ -29,7 +29,7 @@ pub returns-in_err-take_chunk-clause-leads : goal.returns-in_err-take_chunk-clau
 returns-in_err-take_chunk-clause-leads g c = λ count.
     pull_left c.args.met.now (g.K.Lookup.keeping c.args.keeper.now) _ _ c.ask_chunk.result count
     (record { it = c.in_ok-request.request; made = c.in_ok-request.ensures.made; envelopes = c.in_ok-request.ensures.next; call = c.ask_chunk.ensures })
-    _ _ (keeper_after _ _ _ c.from_residual-in_err-take_chunk.ensures.1)
+    _ _ (kept_granted _ _ _ _ c.in_ok-chunk.was) (keeper_after _ _ _ c.from_residual-in_err-take_chunk.ensures.1)
 
 pub returns-clause-leads : goal.returns-clause-leads
 returns-clause-leads g c = λ count.

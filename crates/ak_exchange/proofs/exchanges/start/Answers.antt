@@ -4,7 +4,7 @@ use Rattle.ak_exchange.proofs.Granted.{granted_give, graves_are}
 use Rattle.ak_exchange.proofs.Parts.{start_refused, start_took}
 use Rattle.ak_exchange.proofs.Faults.{cause_keeper, cause_memory, cause_ok, cause_wire}
 use Rattle.ak_exchange.proofs.Passing.{stays_here}
-use Rattle.ak_exchange.proofs.Stopping.{by_memory, by_wire, keeper_after}
+use Rattle.ak_exchange.proofs.Stopping.{by_memory, by_wire, keeper_after, kept_granted}
 use Rattle.ak_faults.proofs.Healths.{goes_nowhere}
 use Rattle.ak_exchange.proofs.Places.{meta_leads}
 use Rattle.ak_messages.specs.declared.replies.Give.TheVariants as gives
@@ -22,7 +22,7 @@ returns-in_err-graves-clause-leads g c =
     let moment : SFits w64 c.args.met.now.head.moment = search rules in
     start_refused c.args.met.now (g.K.Lookup.keeping c.args.keeper.now) _ _ c.ask_graves.result
     (record { it = c.in_ok-request.request; made = rw (to_z-of_z w64 c.args.met.now.head.usn usn, to_z-of_z w64 c.args.met.now.head.moment moment) at c.in_ok-request.ensures.made; envelopes = c.in_ok-request.ensures.next; call = c.ask_graves.ensures })
-    _ _ (by_wire _ _ _ c.in_err-graves.was c.from_residual-in_err-graves.ensures.1)
+    _ _ (λ why came. refl) (by_wire _ _ _ c.in_err-graves.was c.from_residual-in_err-graves.ensures.1)
 
 pub take_graves-requires-clause-taken : goal.take_graves-requires-clause-taken
 take_graves-requires-clause-taken g c =
@@ -35,7 +35,7 @@ returns-in_err-take_graves-clause-leads g c =
     let moment : SFits w64 c.args.met.now.head.moment = search rules in
     start_refused c.args.met.now (g.K.Lookup.keeping c.args.keeper.now) _ _ c.ask_graves.result
     (record { it = c.in_ok-request.request; made = rw (to_z-of_z w64 c.args.met.now.head.usn usn, to_z-of_z w64 c.args.met.now.head.moment moment) at c.in_ok-request.ensures.made; envelopes = c.in_ok-request.ensures.next; call = c.ask_graves.ensures })
-    _ _ (keeper_after _ _ _ c.from_residual-in_err-take_graves.ensures.1)
+    _ _ (kept_granted _ _ _ _ c.in_ok-graves.was) (keeper_after _ _ _ c.from_residual-in_err-take_graves.ensures.1)
 
 pub returns-clause-leads : goal.returns-clause-leads
 returns-clause-leads g c =

@@ -3,11 +3,11 @@ use Rattle.std.proofs.Common.{rules}
 use Rattle.ak_sync_runs.proofs.sync_runs.run_sync.Goals as goal
 
 pub returns-clause-ends : goal.returns-clause-ends
-returns-clause-ends g c = ran _ _ _ _ _ _ c.if-not-held.ensures.held (record {
+returns-clause-ends g c = ran _ _ _ _ _ _ _ c.if-not-held.ensures.held (record {
   word = c.word.result;
   outcome = c.sync_over-outcome.result;
   drawn = c.word.ensures.given;
-  ended = c.sync_over-outcome.ensures.ended;
+  sparing = c.sync_over-outcome.ensures.spares;
   thrice = c.sync_over-outcome.ensures.thrice;
   shown = c.sync_over-outcome.ensures.shown;
   device = c.sync_over-outcome.ensures.device;
