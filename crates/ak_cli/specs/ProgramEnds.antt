@@ -2,7 +2,7 @@
 use Rattle.std.specs.Io.KnownBytes.{Appends, Keeps}
 use Rattle.std.specs.Prelude.{◌≡◌, ◌⊎◌, ℕ, ℤ, Bool, true, false, List, Option, Some, None}
 use Rattle.ak_base.specs.declared.keys.HostKey.{HostKey}
-use Rattle.ak_cli.specs.Programs.{Named, Lab, Init, Desk, Sync, Upload, Download, Import, Export, command_status, status_of, usage_line}
+use Rattle.ak_cli.specs.Programs.{Named, Lab, Init, Desk, Sync, Upload, Download, Import, Export, Make, command_status, status_of, usage_line}
 use Rattle.ak_csv_runs.specs.ExportRuns.{EndsExport}
 use Rattle.ak_csv_runs.specs.FileRuns.{FileOutside, file_outside}
 use Rattle.ak_csv_runs.specs.ImportRuns.{EndsImport}
@@ -20,6 +20,7 @@ use Rattle.ak_io.specs.declared.lines.Line.{Line}
 use Rattle.ak_keep.specs.Keepers.{Keeping}
 use Rattle.ak_lab.specs.LabRuns.{RunsLab}
 use Rattle.ak_loops.specs.declared.logs.Entry.{Entry}
+use Rattle.ak_makes.specs.MakeLines.{EndsMake}
 use Rattle.ak_sync_runs.specs.SyncRuns.{EndsSync, SyncOutside, sync_outside}
 use Rattle.ak_transfer_runs.specs.TransferRuns.{EndsDownload, EndsUpload}
 use Rattle.ak_wires.specs.Wires.{WireState}
@@ -78,6 +79,7 @@ reads_input (Some (Upload digits)) = false
 reads_input (Some (Download digits)) = false
 reads_input (Some (Import place)) = true
 reads_input (Some (Export note_type)) = false
+reads_input (Some (Make seed size)) = false
 reads_input None = false
 
 -- whether a command works on the keeper's collection
@@ -90,6 +92,7 @@ uses_keeper (Some (Upload digits)) = true
 uses_keeper (Some (Download digits)) = true
 uses_keeper (Some (Import place)) = true
 uses_keeper (Some (Export note_type)) = true
+uses_keeper (Some (Make seed size)) = false
 uses_keeper None = false
 
 -- how `lab` ends over these lines: a lab ran them, and its server's log is handed out. Or memory was out before the first of them, and
@@ -101,7 +104,7 @@ EndsLab end all a b =
 -- how a command ends with a status. `lab` runs the lines of the input in a lab of its own, and ends with 0, 3, 4, 5 or 8; `init` puts the
 -- opening collection of the next moment; `desk` does the lines of the input; `sync` syncs with the account of its key, and `upload` and
 -- `download` send and fetch the whole collection, a sync and an upload over a keeper that spares memory or not; `import` takes notes from the
--- input, and `export` writes them; and if there is none, `usage` is printed
+-- input, and `export` writes them; `make` makes a collection of its own and prints one line on it; and if there is no command, `usage` is printed
 abbrev pub EndsBy : Bool → Option Named → ℕ → ProgramOutside → ProgramOutside → Type 0
 EndsBy spares (Some Lab) status a b = (end : ScriptEnd) × (status ≡ status_of end) × EndsLab end (input_lines a.left) a b
 EndsBy spares (Some Init) status a b = (at : ℤ) × (end : CommandEnd)
@@ -117,6 +120,7 @@ EndsBy spares (Some (Download digits)) status a b = (host : HostKey)
     × (host.digits ≡ digits) × EndsDownload host status (sync_of a) (sync_of b) a.written b.written
 EndsBy spares (Some (Import place)) status a b = EndsImport place status (import_of a) (import_of b)
 EndsBy spares (Some (Export note_type)) status a b = EndsExport note_type status (export_of a) (export_of b)
+EndsBy spares (Some (Make seed size)) status a b = EndsMake seed size status a.written b.written
 EndsBy spares None status a b =
     (status ≡ 2) × Appends a.written b.written usage_line ⊎ (status ≡ 5) × AppendsPart a.written b.written usage_line
 
@@ -148,4 +152,5 @@ LeavesBy (Some (Upload digits)) a b = KeepsButSync a b
 LeavesBy (Some (Download digits)) a b = KeepsButSync a b
 LeavesBy (Some (Import place)) a b = b ≡ record a { left = b.left; written = b.written; keeping = b.keeping; moments = b.moments }
 LeavesBy (Some (Export note_type)) a b = b ≡ record a { written = b.written; moments = b.moments }
+LeavesBy (Some (Make seed size)) a b = b ≡ record a { written = b.written }
 LeavesBy None a b = b ≡ record a { written = b.written }

@@ -3,6 +3,7 @@ use Rattle.std.specs.Cmp.Lexicographic.{pointwise}
 use Rattle.std.specs.Prelude.{◌≡◌, ◌⊎◌, ◌==◌, ◌<◌, ℕ, ℤ, Bool, if◌then◌else◌, List, [], ◌∷◌, ◌++◌, Option, Some, None, String, string_bytes, codes}
 use Rattle.std.specs.Option.{option_and_then, option_map}
 use Rattle.std.specs.declared.alloc.Global.{Global}
+use Rattle.ak_base.specs.Decimals.{number_of}
 use Rattle.ak_base.specs.Keys.{host_digits}
 use Rattle.ak_cli.specs.declared.program_commands.ProgramCommand.{ProgramCommand}
 use Rattle.ak_cli.specs.declared.program_commands.ProgramCommand.TheVariants as programs
@@ -12,9 +13,11 @@ use Rattle.ak_faults.specs.Causes.{Health}
 use Rattle.ak_io.specs.declared.endings.ScriptEnd.{ScriptEnd}
 use Rattle.ak_io.specs.declared.endings.ScriptEnd.TheVariants as ends
 use Rattle.ak_lines.specs.Reading.{number_in}
+use Rattle.ak_made_collections.specs.Sizes.{size_in}
 use Rattle.ak_note_files.specs.declared.places.ImportPlace.{ImportPlace}
 
--- the commands as words name them. Those of a sync and of whole collections have the digits of their host key
+-- the commands as words name them. Those of a sync and of whole collections have the digits of their host key, and `make` has its seed and how
+-- many notes there are to be
 pub data Named : Type 0 where
   Lab : Named
   Init : Named
@@ -24,6 +27,7 @@ pub data Named : Type 0 where
   Download : List ℕ → Named
   Import : ImportPlace → Named
   Export : ℤ → Named
+  Make : ℕ → ℕ → Named
 
 -- how a command is named
 abbrev pub named_by : ProgramCommand → Named
@@ -35,6 +39,7 @@ named_by (programs.Upload host) = Upload host.digits
 named_by (programs.Download host) = Download host.digits
 named_by (programs.Import place) = Import place
 named_by (programs.Export note_type) = Export note_type
+named_by (programs.Make plan) = Make plan.seed plan.size.notes
 
 -- the two texts are one
 abbrev pub same_text : List ℕ → List ℕ → Bool
@@ -65,15 +70,32 @@ valued_named word value =
 abbrev pub import_to : ℤ → ℤ → Named
 import_to note_type deck = Import (record { note_type = note_type; deck = deck })
 
--- the command of three words: `import`, the id of a type and that of a deck
+-- the seed that a word is: decimal digits without sign or leading zero, at most 18,446,744,073,709,551,615
+abbrev pub seed_named : List ℕ → Option ℕ
+seed_named = number_of 18_446_744_073_709_551_615
+
+-- how many notes a word asks for: a number in the same form, from 1 to 20,000
+abbrev pub size_named : List ℕ → Option ℕ
+size_named word = option_and_then size_in (number_of 18_446_744_073_709_551_615 word)
+
+-- `make`, a seed and a size
+abbrev pub make_named : List ℕ → List ℕ → Option Named
+make_named seed size = option_and_then (λ n. option_map (Make n) (size_named size)) (seed_named seed)
+
+-- `import`, the id of a type and that of a deck
 abbrev pub import_named : List ℕ → List ℕ → List ℕ → Option Named
 import_named word note_type deck =
     if same_text word (codes "import") then option_and_then (λ k. option_map (import_to k) (id_of deck)) (id_of note_type) else None
 
+-- the command of three words
+abbrev pub three_named : List ℕ → List ℕ → List ℕ → Option Named
+three_named word first second =
+    if same_text word (codes "make") then make_named first second else import_named word first second
+
 -- the command of two words, and maybe a third
 abbrev pub command_with : List ℕ → List ℕ → List (String Global) → Option Named
 command_with word value [] = valued_named word value
-command_with word value (second ∷ []) = import_named word value (string_bytes second)
+command_with word value (second ∷ []) = three_named word value (string_bytes second)
 command_with word value (second ∷ other ∷ others) = None
 
 -- the command that the words name

@@ -1,10 +1,11 @@
 ghost use Rattle.std.specs.Prelude.{◌≡◌};
 ghost use Rattle.std.specs.Option.{option_map};
-ghost use Rattle.ak_cli.specs.Programs.{command_named, command_of, command_with, id_of, import_named, named_by, valued_named};
+ghost use Rattle.ak_cli.specs.Programs.{command_named, command_of, command_with, id_of, import_named, make_named, named_by, size_named, three_named, valued_named};
 
-use ak_base::HostKey;
+use ak_base::{HostKey, read_number};
 use ak_csv_runs::ImportPlace;
 use ak_lines::number_in;
+use ak_made_collections::{MakePlan, MakeSize};
 
 /// The greatest number that fits 64 bits with its sign. Whether an id is that of a row is not asked of a word.
 const LAST: u64 = 9_223_372_036_854_775_807;
@@ -28,6 +29,8 @@ pub enum ProgramCommand {
     Import(ImportPlace),
     /// `export TYPE`: the notes of a type to the output.
     Export(i64),
+    /// `make SEED SIZE`: a collection that is made, answered and synced, and one line on it.
+    Make(MakePlan),
 }
 
 /// The command that the words name.
@@ -65,7 +68,7 @@ fn command_with(word: &str, value: &str, more: &[String]) -> Option<ProgramComma
         None => valued_named(word, value),
         Some((second, others)) => {
             if others.is_empty() {
-                import_named(word, value, second.as_str())
+                three_named(word, value, second.as_str())
             } else {
                 None
             }
@@ -96,7 +99,34 @@ fn valued_named(word: &str, value: &str) -> Option<ProgramCommand>
     None
 }
 
-/// The command of three words: `import` and two ids.
+/// The command of three words: `import` and two ids, or `make`, a seed and a size.
+fn three_named(word: &str, first: &str, second: &str) -> Option<ProgramCommand>
+    ensures { option_map named_by result ≡ three_named word.now first.now second.now }
+{
+    if word == "make" {
+        return make_named(first, second);
+    }
+    import_named(word, first, second)
+}
+
+/// `make`, a seed and a size.
+fn make_named(seed: &str, size: &str) -> Option<ProgramCommand>
+    ensures { option_map named_by result ≡ make_named seed.now size.now }
+{
+    let seed = read_number(seed, u64::MAX)?;
+    let size = size_named(size)?;
+    Some(ProgramCommand::Make(MakePlan { seed, size }))
+}
+
+/// The size that the whole word is.
+fn size_named(word: &str) -> Option<MakeSize>
+    ensures { option_map (λ size. size.notes) result ≡ size_named word.now }
+{
+    let notes = read_number(word, u64::MAX)?;
+    MakeSize::of(notes)
+}
+
+/// `import` and two ids.
 fn import_named(word: &str, note_type: &str, deck: &str) -> Option<ProgramCommand>
     ensures { option_map named_by result ≡ import_named word.now note_type.now deck.now }
 {

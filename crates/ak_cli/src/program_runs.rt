@@ -15,14 +15,15 @@ use ak_io::{Chance, Clock, Failed, Sink, Source, write_all};
 use ak_keep::Keeper;
 use ak_lab::run_lab;
 use ak_loops::Log;
+use ak_makes::make;
 use ak_sync_runs::run_sync;
 use ak_transfer_runs::{run_download, run_upload};
 use ak_wires::Wire;
 use std::alloc::Global;
 
-/// Does the command that the words name, and answers the status with which the program ends. All but `lab` work on the collection
-/// of the keeper, and `sync`, `upload` and `download` on the server to which the wire leads; `lab` has collections of its own, and
-/// hands out the log of what came to its server.
+/// Does the command that the words name, and answers the status with which the program ends. All but `lab` and `make` work on the collection
+/// of the keeper, and `sync`, `upload` and `download` on the server to which the wire leads; `lab` and `make` have collections of their
+/// own, and `lab` hands out the log of what came to its server.
 pub fn run<I: Source, O: Sink, K: Keeper, W: Wire, C: Clock, R: Chance>(
     alloc: Global,
     words: &[String],
@@ -62,7 +63,7 @@ pub fn run<I: Source, O: Sink, K: Keeper, W: Wire, C: Clock, R: Chance>(
     ensures usage { result ≡ 2 → command_of words.now ≡ None }
     ensures only_usage { command_of words.now ≡ None → (result ≡ 2) ⊎ (result ≡ 5) }
 
-    // Why it ends with the other statuses. Out of memory alone has no cause.
+    // Why it ends with the other statuses. The status 8 has no cause: memory ran out, or `make` came to something else.
     ensures ended { result ≡ 0 → reads_input (command_of words.now) ≡ true → IsAtEnd (I.left input.new) }
     ensures read { result ≡ 4 → Rose (I.health input.old) (I.health input.new) }
     ensures write { result ≡ 5 → Rose (O.health out.old) (O.health out.new) }
@@ -184,6 +185,7 @@ fn run_command<I: Source, O: Sink, K: Keeper, W: Wire, C: Clock, R: Chance>(
         }
         ProgramCommand::Import(place) => run_import(alloc, keeper, clock, &place, input, out),
         ProgramCommand::Export(note_type) => run_export(alloc, keeper, clock, note_type, out),
+        ProgramCommand::Make(plan) => make(alloc, plan, out),
     }
 }
 

@@ -32,6 +32,9 @@ returns-in-Export-clause-ends g c =
     let fits : SFits w64 c.in-Export.note_type = search rules in
     rw c.in-Export.is (rw (to_z-of_z w64 c.in-Export.note_type fits) at c.run_export.ensures.ends)
 
+pub returns-in-Make-clause-ends : goal.returns-in-Make-clause-ends
+returns-in-Make-clause-ends g c = rw c.in-Make.is c.make.ensures.ends
+
 pub returns-in-Lab-clause-leaves : goal.returns-in-Lab-clause-leaves
 returns-in-Lab-clause-leaves g c = rw c.in-Lab.is refl
 
@@ -55,3 +58,6 @@ returns-in-Import-clause-leaves g c = rw c.in-Import.is refl
 
 pub returns-in-Export-clause-leaves : goal.returns-in-Export-clause-leaves
 returns-in-Export-clause-leaves g c = rw c.in-Export.is (same_keeping _ _ _ _ _ _ _ _ _ _ c.run_export.ensures.same)
+
+pub returns-in-Make-clause-leaves : goal.returns-in-Make-clause-leaves
+returns-in-Make-clause-leaves g c = rw c.in-Make.is refl

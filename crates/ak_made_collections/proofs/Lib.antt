@@ -1,0 +1,5 @@
+pub mod CheckedCards
+pub mod CheckedNotes
+pub mod MadeLawful
+pub mod Runs
+pub mod SizeLaws

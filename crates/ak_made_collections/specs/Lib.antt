@@ -1,0 +1,9 @@
+pub mod MadeCards
+pub mod MadeCollections
+pub mod MadeLaws
+pub mod MadeLists
+pub mod MadeNotes
+pub mod RowIds
+pub mod RowNumbers
+pub mod SeedWords
+pub mod Sizes

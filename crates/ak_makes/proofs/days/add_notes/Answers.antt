@@ -1,0 +1,15 @@
+use Rattle.std.proofs.Common.{◌∙◌}
+use Rattle.ak_faults.proofs.Healths.{goes_further}
+use Rattle.ak_makes.proofs.DayEdits.{one_more}
+use Rattle.ak_makes.proofs.days.add_notes.Goals as goal
+use Rattle.ak_makes.specs.Days.{AddsNote}
+
+pub loop-number-preserved : goal.loop-number-preserved
+loop-number-preserved g c =
+    let K = g.K.Lookup in
+    record {
+      made = one_more (AddsNote c.args.plan.seed c.args.plan.size.notes) c.loop-number.number (K.keeping c.args.keeper.now) (K.keeping c.loop-number.keeper) (K.keeping c.add_one.new.keeper)
+          c.args.undo.now c.loop-number.undo c.add_one.new.undo c.loop-number.invariant.made c.in-Ok.ensures.ok;
+      stays = c.add_one.ensures.stays ∙ c.loop-number.invariant.stays;
+      goes = goes_further c.loop-number.invariant.goes c.add_one.ensures.cause.goes;
+    }

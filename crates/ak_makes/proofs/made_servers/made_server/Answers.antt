@@ -1,0 +1,10 @@
+use Rattle.std.proofs.Common.{ℕ, List, ap, ◌∙◌}
+use Rattle.ak_loops.specs.LoggedServers.{begins_with}
+use Rattle.ak_makes.proofs.made_servers.made_server.Goals as goal
+
+pub returns : goal.returns
+returns c = (
+  c.in_ok-made.made,
+  c.in_ok-made.ensures.is,
+  c.in_ok-server.ensures ∙ ap (λ (host : List ℕ). begins_with host c.in_ok-made.made) c.make_key.ensures,
+)

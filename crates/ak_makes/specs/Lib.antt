@@ -1,0 +1,4 @@
+pub mod Days
+pub mod MadeServers
+pub mod MakeLines
+pub mod Measures
