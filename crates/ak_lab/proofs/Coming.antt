@@ -1,5 +1,5 @@
 -- What a line comes to if it stops.
-use Rattle.std.proofs.Common.{◌≡◌, ◌<◌, ℕ, ℤ, [], ◌∷◌, ◌++◌, List, length, Some, None, Result, Ok, Err, IfOk, IfErr, IsErrAnd, refl, sym, ap, subst, inl, inr, append-nil}
+use Rattle.std.proofs.Common.{◌≡◌, ◌<◌, ℕ, ℤ, [], ◌∷◌, List, length, None, Result, Ok, Err, IfOk, IfErr, IsErrAnd, refl, sym, ap, subst, inl, inr, append-nil}
 use Rattle.ak_edit.specs.declared.desk_faults.DeskFault.{DeskFault}
 use Rattle.ak_lab.specs.LabDesks.{EndsDo, EndsReview}
 use Rattle.ak_lab.specs.LabStates.{LabState}
@@ -32,6 +32,7 @@ short (lines.Shift name by) s = refl
 short (lines.Review name card ease count) s = inl refl
 short (lines.Do name text) s = inl refl
 short (lines.Sync name) s = inl refl
+short (lines.Transfer direction name) s = inl refl
 short (lines.Show sides.Server what) s = as_it_was s
 short (lines.Show (sides.Device name) what) s = refl
 short (lines.Count sides.Server) s = as_it_was s

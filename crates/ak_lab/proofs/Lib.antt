@@ -11,3 +11,4 @@ mod Printing
 mod Stopping
 mod SyncChains
 mod Syncing
+pub mod Transferring

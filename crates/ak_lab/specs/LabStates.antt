@@ -7,7 +7,7 @@ use Rattle.ak_loops.specs.Entries.{LoggedState, health_in}
 use Rattle.ak_loops.specs.LoggedServers.{begins_with}
 use Rattle.ak_openings.specs.declared.whole_collections.Opening.{Opening}
 
--- a lab: its clock in milliseconds, its server with all that came to it, how many syncs began, and its devices in the order of their lines
+-- a lab: its clock in milliseconds, its server with all that came to it, how many sessions began, and its devices in the order of their lines
 pub record LabState : Type 0 where
   pub clock : ℤ
   pub server : LoggedState

@@ -1,18 +1,17 @@
 -- What the lines of a lab's script do, each by its form.
-use Rattle.std.specs.Prelude.{◌≡◌, ◌⊎◌, ℕ, ℤ, ◌+ℤ◌, true, false, ◌<◌, ◌≤◌, List, [], ◌∷◌, ◌++◌, length, Option, Some, None, Result, Ok, Err, codes}
+use Rattle.std.specs.Prelude.{◌≡◌, ◌⊎◌, ℕ, ℤ, ◌+ℤ◌, true, false, ◌<◌, ◌≤◌, List, [], ◌∷◌, ◌++◌, length, Some, None, Result, Ok, Err, codes}
 use Rattle.ak_client.specs.declared.outcomes.Outcome.{Outcome}
-use Rattle.ak_base.specs.declared.names.Name.{Name}
 use Rattle.ak_desk_runs.specs.LineOutcomes.{SaysNoLine}
 use Rattle.ak_edit.specs.declared.desk_faults.DeskFault.{DeskFault}
 use Rattle.ak_keep.specs.Collections.{Collection}
 use Rattle.ak_lab_devices.specs.Devices.{are_in_time, device_of, is_clock_moment, new_device}
 use Rattle.ak_lab.specs.LabDesks.{EndsDo, EndsReview}
 use Rattle.ak_lab.specs.LabStates.{LabState, with_changed}
-use Rattle.ak_lab.specs.LabSyncs.{EndsSync}
+use Rattle.ak_lab.specs.LabSyncs.{EndsSync, EndsTransfer}
 use Rattle.ak_lab_devices.specs.declared.devices.Device.{Device}
 use Rattle.ak_lab_keepers.specs.RestingKeepers.{Holds}
 use Rattle.ak_lab_keepers.specs.Shown.{shown_lines}
-use Rattle.ak_lab_lines.specs.LabTexts.{counts_text, no_device_text, requests_text, sync_text}
+use Rattle.ak_lab_lines.specs.LabTexts.{counts_text, direction_word, ending_text, no_device_text, requests_text, sync_text}
 use Rattle.ak_lab_lines.specs.declared.lab_lines.LabLine.{LabLine}
 use Rattle.ak_lab_lines.specs.declared.lab_lines.LabLine.TheVariants as lines
 use Rattle.ak_lab_lines.specs.declared.lab_lines.Side.{Side}
@@ -67,6 +66,9 @@ Accepts (lines.Do name text) s t printed =
 Accepts (lines.Sync name) s t printed =
     (outcome : Outcome) × (text : List ℕ) × EndsSync name s t outcome × (outcome_text outcome ≡ Some text)
     × (printed ≡ sync_text name text ∷ [])
+Accepts (lines.Transfer direction name) s t printed =
+    (outcome : Outcome) × (text : List ℕ) × EndsTransfer direction name s t outcome × (outcome_text outcome ≡ Some text)
+    × (printed ≡ ending_text (direction_word direction) name text ∷ [])
 Accepts (lines.Show side what) s t printed = (c : Collection) × SideHolds side s t c × (printed ≡ shown_lines what c)
 Accepts (lines.Count side) s t printed =
     (c : Collection) × SideHolds side s t c × (printed ≡ counts_text (counts_of c.rows) ∷ [])
@@ -113,6 +115,7 @@ RefusesWith (lines.Review name card ease count) s t why = NoDevice name s t why
 RefusesWith (lines.Do name text) s t why = NoDevice name s t why ⊎ SaysNoDeskLine name text s t why
     ⊎ (fault : DeskFault) × EndsDo name text s t (Err fault) × (desk_fault_text fault ≡ Some why)
 RefusesWith (lines.Sync name) s t why = NoDevice name s t why
+RefusesWith (lines.Transfer direction name) s t why = NoDevice name s t why
 RefusesWith (lines.Show side what) s t why = NoSide side s t why
 RefusesWith (lines.Count side) s t why = NoSide side s t why
 RefusesWith (lines.Requests name) s t why = NoDevice name s t why
@@ -131,7 +134,7 @@ abbrev pub OnlyLooks : Side → LabState → LabState → Type 0
 OnlyLooks sides.Server s t = OnlyViews s t
 OnlyLooks (sides.Device name) s t = t ≡ s
 
--- memory ran out in a line: before it did anything; or after views of the server, which only a new device and what looks at the server make; or at the desk or in the sync, or for the text of what these came to
+-- memory ran out in a line: before it did anything; or after views of the server, which only a new device and what looks at the server make; or at the desk or in the session, or for the text of what these came to
 abbrev pub RunsShort : LabLine → LabState → LabState → Type 0
 RunsShort (lines.Clock at) s t = t ≡ s
 RunsShort (lines.Device name) s t = (t ≡ s) ⊎ HasRoomFor name s × OnlyViews s t
@@ -140,6 +143,7 @@ RunsShort (lines.Review name card ease count) s t = (t ≡ s)
     ⊎ (result : Result (Unit {0}) DeskFault) × EndsReview name (plan_of card ease count) s t result
 RunsShort (lines.Do name text) s t = (t ≡ s) ⊎ (result : Result DeskAnswer DeskFault) × EndsDo name text s t result
 RunsShort (lines.Sync name) s t = (t ≡ s) ⊎ (outcome : Outcome) × EndsSync name s t outcome
+RunsShort (lines.Transfer direction name) s t = (t ≡ s) ⊎ (outcome : Outcome) × EndsTransfer direction name s t outcome
 RunsShort (lines.Show side what) s t = OnlyLooks side s t
 RunsShort (lines.Count side) s t = OnlyLooks side s t
 RunsShort (lines.Requests name) s t = t ≡ s

@@ -2,9 +2,11 @@
 use Rattle.std.specs.Prelude.{◌≡◌, ⊤, ℕ, List, [], ◌∷◌, Some, Result, Ok, Err}
 use Rattle.ak_client.specs.declared.outcomes.Outcome.{Outcome}
 use Rattle.ak_edit.specs.declared.desk_faults.DeskFault.{DeskFault}
+use Rattle.ak_lab.specs.LabSyncs.{session_word}
 use Rattle.ak_lab.specs.declared.lab_stops.LabStop.{LabStop}
 use Rattle.ak_lab.specs.declared.lab_stops.LabStop.TheVariants as stops
-use Rattle.ak_lab_lines.specs.LabTexts.{sync_text}
+use Rattle.ak_lab.specs.declared.lab_syncs.SessionKind.{SessionKind}
+use Rattle.ak_lab_lines.specs.LabTexts.{ending_text}
 use Rattle.ak_lines.specs.declared.line_faults.LineFault.{LineFault}
 use Rattle.ak_outcomes.specs.OutcomeTexts.{outcome_text}
 use Rattle.ak_texts.specs.FaultTexts.{desk_fault_text, line_fault_text}
@@ -24,8 +26,8 @@ abbrev pub IsDeskStop : DeskFault → LabStop → Type 0
 IsDeskStop fault (stops.Refused why) = desk_fault_text fault ≡ Some why
 IsDeskStop fault stops.Memory = ⊤
 
--- the line of a sync that ended so, or memory was out for it. An outcome that has no text is that memory was out
-abbrev pub PrintsOutcome : List ℕ → Outcome → Result (List (List ℕ)) LabStop → Type 0
-PrintsOutcome name outcome (Ok printed) =
-    (text : List ℕ) × (outcome_text outcome ≡ Some text) × (printed ≡ sync_text name text ∷ [])
-PrintsOutcome name outcome (Err stop) = stop ≡ stops.Memory
+-- the line of a session that ended so, or memory was out for it. An outcome that has no text is that memory was out
+abbrev pub PrintsOutcome : SessionKind → List ℕ → Outcome → Result (List (List ℕ)) LabStop → Type 0
+PrintsOutcome kind name outcome (Ok printed) =
+    (text : List ℕ) × (outcome_text outcome ≡ Some text) × (printed ≡ ending_text (session_word kind) name text ∷ [])
+PrintsOutcome kind name outcome (Err stop) = stop ≡ stops.Memory

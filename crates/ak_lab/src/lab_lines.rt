@@ -26,7 +26,7 @@ ghost use Rattle.ak_session.specs.Answers.{counts_of};
 ghost use Rattle.ak_texts.specs.AnswerTexts.{answer_text};
 
 use crate::lab_stops::{LabStop, desk_stop, line_stop, no_device, stop_by};
-use crate::lab_syncs::sync;
+use crate::lab_syncs::{SessionKind, run_session};
 use crate::labs::Lab;
 use crate::server_copies::{copy_for_device, counted_of_server, shown_of_server};
 use ak_base::{List, Memory, Text};
@@ -78,7 +78,10 @@ pub(crate) fn obey(lab: Lab, said: LabLine) -> (Lab, Result<List<Text>, LabStop>
             let came = lab.do_line(&device, &line);
             (lab, came)
         }
-        LabLine::Sync(name) => sync(lab, &name),
+        LabLine::Sync(name) => run_session(lab, SessionKind::Sync, &name),
+        LabLine::Transfer { direction, device } => {
+            run_session(lab, SessionKind::Transfer(direction), &device)
+        }
         LabLine::Show { side, what } => {
             let came = lab.show(&side, what);
             (lab, came)

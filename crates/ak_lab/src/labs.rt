@@ -20,7 +20,7 @@ pub(crate) struct Lab {
     /// In milliseconds.
     pub(crate) clock: i64,
     pub(crate) server: LoggedServer,
-    /// How many syncs began. At the last `u64` it stays.
+    /// How many syncs, uploads and downloads began. At the last `u64` it stays.
     pub(crate) sessions: u64,
     pub(crate) devices: Vec<Device>,
 }

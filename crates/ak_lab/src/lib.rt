@@ -9,3 +9,4 @@ mod labs;
 mod server_copies;
 
 pub use lab_runs::run_lab;
+pub use lab_syncs::SessionKind;

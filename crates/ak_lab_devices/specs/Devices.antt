@@ -2,10 +2,13 @@
 use Rattle.std.specs.Cmp.Lexicographic.{pointwise}
 use Rattle.std.specs.List.{list_all, slice_get, slice_set}
 use Rattle.std.specs.Prelude.{◌≡◌, ℕ, ℤ, pos, ◌+ℤ◌, Bool, not, ◌&&◌, ◌==◌, ◌<◌, int_lt, if◌then◌else◌, List, [], ◌∷◌, length, Option, Some, None}
+use Rattle.ak_faults.specs.Causes.{Health}
 use Rattle.ak_keep.specs.Collections.{Collection}
 use Rattle.ak_keep.specs.Keepers.{Keeping, all_known}
 use Rattle.ak_lab_keepers.specs.RestingKeepers.{kept_of}
 use Rattle.ak_lab_devices.specs.declared.devices.Device.{Device}
+use Rattle.ak_transfers.specs.Greetings.{TransferOutside}
+use Rattle.ak_wires.specs.Wires.{WireState}
 
 -- what is known of the keeper of a device
 abbrev pub keeping_of : Device → Keeping
@@ -25,6 +28,10 @@ new_device name c = record {
   done = 0;
   calls = 0;
 }
+
+-- what a session is given, by what is known of its wire, which is its health and its state, and by the moments that its clock has still to give
+abbrev pub given_outside : Health → WireState → Option (List ℤ) → TransferOutside
+given_outside health wire moments = record { line = record { health = health; wire = wire }; moments = moments }
 
 -- ---- by name
 abbrev pub same_name : List ℕ → List ℕ → Bool

@@ -2,6 +2,7 @@ use crate::held_collections::HeldCollection;
 use ak_client::{Ids, Outcome, sync_over};
 use ak_io::ListClock;
 use ak_loops::{LoopWire, NothingBetween};
+use ak_transfers::{download_over, upload_over};
 use ak_undo::UndoList;
 
 impl HeldCollection {
@@ -9,7 +10,9 @@ impl HeldCollection {
     ghost use Rattle.ak_client.specs.Syncs.{IsSyncEnded, KeepsDevice};
     ghost use Rattle.ak_client.specs.declared.outcomes.Outcome.TheVariants as outcomes;
     ghost use Rattle.ak_keep.specs.Keepers.{all_known};
+    ghost use Rattle.ak_lab_devices.specs.Devices.{given_outside};
     ghost use Rattle.ak_loops.specs.LoopWires.{health_over, state_over};
+    ghost use Rattle.ak_transfers.specs.Transfers.{IsDownload, IsUpload, StaysUnlessFinished, may_end_download, may_end_upload};
     ghost use Rattle.std.specs.Prelude.{◌≡◌, ◌≢◌, [], true, Some};
 
     /// Syncs over a wire, by a clock. It never ends because the keeper failed.
@@ -31,5 +34,51 @@ impl HeldCollection {
         ensures undo { undo.new ≡ [] }
     {
         sync_over(&mut self.keeper, undo, wire, clock, ids)
+    }
+
+    /// Uploads over a wire, by a clock. It never ends because the keeper failed.
+    pub fn upload(
+        &mut self,
+        undo: &mut UndoList,
+        wire: &mut LoopWire<NothingBetween>,
+        clock: &mut ListClock,
+        ids: Ids,
+    ) -> Outcome
+        ensures uploads { IsUpload true ids (all_known self.old) (all_known self.new)
+            (given_outside (health_over wire.old.counts wire.old.mishaps)
+            (state_over wire.old.server wire.old.counts wire.old.moment true) (Some clock.old))
+            (given_outside (health_over wire.new.counts wire.new.mishaps)
+            (state_over wire.new.server wire.new.counts wire.new.moment true) (Some clock.new)) result }
+        ensures device { StaysUnlessFinished (all_known self.old) (all_known self.new) result }
+        ensures ends { may_end_upload result ≡ true }
+        ensures unfailed { result ≢ outcomes.Keep }
+        ensures lost { HasOutcomeCause outcomes.Lost (health_over wire.old.counts wire.old.mishaps)
+            (health_over wire.new.counts wire.new.mishaps) result }
+        ensures undo { undo.new ≡ [] }
+    {
+        upload_over(&mut self.keeper, undo, wire, clock, ids)
+    }
+
+    /// Downloads over a wire, by a clock. It never ends because the keeper failed.
+    pub fn download(
+        &mut self,
+        undo: &mut UndoList,
+        wire: &mut LoopWire<NothingBetween>,
+        clock: &mut ListClock,
+        ids: Ids,
+    ) -> Outcome
+        ensures downloads { IsDownload ids (all_known self.old) (all_known self.new)
+            (given_outside (health_over wire.old.counts wire.old.mishaps)
+            (state_over wire.old.server wire.old.counts wire.old.moment true) (Some clock.old))
+            (given_outside (health_over wire.new.counts wire.new.mishaps)
+            (state_over wire.new.server wire.new.counts wire.new.moment true) (Some clock.new)) result }
+        ensures device { StaysUnlessFinished (all_known self.old) (all_known self.new) result }
+        ensures ends { may_end_download result ≡ true }
+        ensures unfailed { result ≢ outcomes.Keep }
+        ensures lost { HasOutcomeCause outcomes.Lost (health_over wire.old.counts wire.old.mishaps)
+            (health_over wire.new.counts wire.new.mishaps) result }
+        ensures undo { undo.new ≡ [] }
+    {
+        download_over(&mut self.keeper, undo, wire, clock, ids)
     }
 }

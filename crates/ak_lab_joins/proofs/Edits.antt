@@ -1,6 +1,6 @@
 -- A line of the desk and new reviews leave a device linked with the server.
 use Rattle.std.specs.List.{All}
-use Rattle.std.specs.Prelude.{◌≡◌, ◌||◌, ℕ, zero, suc, ℤ, pos, ◌+ℤ◌, ◌≤ℤ◌, ◌<ℤ◌, Bool, true, false, if◌then◌else◌, is_some, List, ◌∷◌, Option, Some, None}
+use Rattle.std.specs.Prelude.{◌≡◌, ◌||◌, ◌≢◌, ◌⊎◌, ℕ, zero, suc, ℤ, pos, ◌+ℤ◌, ◌≤ℤ◌, ◌<ℤ◌, Bool, false, if◌then◌else◌, is_some, List, [], ◌∷◌, Option, Some, None}
 use Rattle.std.proofs.Common.{refl, sym, ap, subst, ◌∙◌, inl, inr, arith, rules}
 use Rattle.std.proofs.lemmas.Int.{ints}
 use Rattle.std.proofs.lemmas.List.Elements.{All-cons, All-head, All-nil, All-tail, All-take, All-weaker}
@@ -20,12 +20,13 @@ use Rattle.ak_edit.specs.Undos.{IsLatestUndone, SuitsNow}
 use Rattle.ak_exchange.specs.Phases.{holding}
 use Rattle.ak_keep.specs.Collections.{Collection}
 use Rattle.ak_keep.specs.Keepers.{Keeping}
+use Rattle.ak_lab_joins.specs.LabJoins.{IsFreshSchema}
 use Rattle.ak_lab_sides.specs.NewReviews.{AreNewReviews, new_review, with_reviews}
 use Rattle.ak_lab_sides.specs.declared.new_reviews.ReviewPlan.{ReviewPlan}
 use Rattle.ak_merge.proofs.EditBuildingLaws.{edits_keep_all, puts_are_admitted}
 use Rattle.ak_merge.proofs.EditFacts.{advanced_past}
 use Rattle.ak_merge.proofs.Sweeps.{lists_after_suit}
-use Rattle.ak_merge.specs.EditBuilding.{MayPut, with_row}
+use Rattle.ak_merge.specs.EditBuilding.{MayPut, unedited, with_row}
 use Rattle.ak_merge.specs.Edits.{Admits, Edit, GivesFreshSchema, Reversal, advanced, reversal_of}
 use Rattle.ak_keep.specs.Graves.{RowsByName, is_dead}
 use Rattle.ak_merge.specs.Holdings.{AreNamed, name_in, row_under}
@@ -40,7 +41,6 @@ pub record AreLinkedSo (s c : Collection) (steps : List Step) : Type 0 where
   pub named : AreNamed (row_under c)
   pub links : LinksWith c steps s
   pub suits : SuitsNow steps c
-  pub schema : s.head.schema ≤ℤ c.head.schema
 
 -- a keeper holds such a collection
 pub record HoldsLinked (s : Collection) (keeping : Keeping) (steps : List Step) : Type 0 where
@@ -49,14 +49,19 @@ pub record HoldsLinked (s : Collection) (keeping : Keeping) (steps : List Step) 
   pub linked : AreLinkedSo s c steps
 
 -- ---- an edit
-differs : (s c at : ℤ) → s ≤ℤ c → advanced at c ≡ s → ⊥
-differs s c at low is = let up : s <ℤ advanced at c = advanced_past s at c low in omega (arith, ints, up, is)
+-- a schema moment that rises is another
+rises : (at c : ℤ) → advanced at c ≡ c → ⊥
+rises at c is = let up : c <ℤ advanced at c = advanced_past c at c (itself c) in omega (arith, ints, up, is)
+  where
+    itself : (a : ℤ) → a ≤ℤ a
+    itself a = omega (arith, ints)
 
-schema_after : (b : Bool) (at s c after : ℤ) → after ≡ (if b then advanced at c else c) → s ≤ℤ c → s ≤ℤ after
-schema_after true at s c after is low = let up : s <ℤ advanced at c = advanced_past s at c low in omega (arith, ints, up, is)
-schema_after false at s c after is low = omega (arith, ints, is, low)
+pub risen_is_fresh : (at s c after : ℤ) → after ≡ advanced at c → (after ≡ c) ⊎ (after ≢ s) → advanced at c ≡ s → ⊥
+risen_is_fresh at s c after up (inl same) is = rises at c (sym up ∙ same)
+risen_is_fresh at s c after up (inr differs) is = differs (up ∙ is)
 
-module _ (at : ℤ) (c after s : Collection) (edit : Edit) (steps left : List Step) (is : IsEdit at c edit after) (linked : AreLinkedSo s c steps) where
+module _ (at : ℤ) (c after s : Collection) (edit : Edit) (steps left : List Step) (is : IsEdit at c edit after) (linked : AreLinkedSo s c steps)
+    (new : IsFreshSchema s c after) where
   abbrev keeps : undoing.KeepsAll at c edit after
   keeps = edits_keep_all at c after edit is linked.named
 
@@ -68,7 +73,9 @@ module _ (at : ℤ) (c after s : Collection) (edit : Edit) (steps left : List St
         (subst (λ (list : List Reversal). All (λ step. StepFits c step s) list) (sym kept.list) linked.links.fit);
   }
   edited_links (inr (inl emptied)) =
-      let fresh : GivesFreshSchema at c s = differs s.head.schema c.head.schema at linked.schema in
+      let up : after.head.schema ≡ advanced at c.head.schema =
+      is.leaves.schema ∙ ap (λ (b : Bool). if b then advanced at c.head.schema else c.head.schema) emptied.schema in
+      let fresh : GivesFreshSchema at c s = risen_is_fresh at s.head.schema c.head.schema after.head.schema up new in
       record {
         linked = keeps.parted s emptied.schema fresh;
         fit = subst (λ (list : List Reversal). All (λ step. StepFits after step s) list) (sym emptied.list) (All-nil (λ step. StepFits after step s));
@@ -87,15 +94,14 @@ module _ (at : ℤ) (c after s : Collection) (edit : Edit) (steps left : List St
     named = keeps.named;
     links = edited_links list;
     suits = lists_after_suit at c after edit (reversals_in steps) (reversals_in left) is linked.named list linked.suits;
-    schema = schema_after edit.schema at s.head.schema c.head.schema after.head.schema is.leaves.schema linked.schema;
   }
 
 pub finished_so : (at : ℤ) (c s : Collection) (edit : Edit) (now : Keeping) (steps left : List Step) → Admits c edit
-    → IsFinished at c edit (holding c) now steps left → AreLinkedSo s c steps → HoldsLinked s now left
-finished_so at c s edit now steps left admits done linked = record {
+    → (done : IsFinished at c edit (holding c) now steps left) → AreLinkedSo s c steps → IsFreshSchema s c done.after → HoldsLinked s now left
+finished_so at c s edit now steps left admits done linked new = record {
   c = done.after;
   holds = done.held;
-  linked = edited_so at c done.after s edit steps left (record { admits = admits; leaves = done.edited }) linked done.list;
+  linked = edited_so at c done.after s edit steps left (record { admits = admits; leaves = done.edited }) linked new done.list;
 }
 
 -- ---- an undo
@@ -117,23 +123,32 @@ undone_so at c s now steps left undone linked =
               (All-tail (λ step. StepFits c step s) (reversal_in undone.step) (reversals_in left) fit);
         };
         suits = keeps.suits;
-        schema = subst (λ (schema : ℤ). s.head.schema ≤ℤ schema) (sym undone.undone.schema) linked.schema;
       };
     }
 
 -- ---- a step of a line
 pub stepped_so : (at : ℤ) (c s : Collection) (was now : DeskState) → was.keeping ≡ holding c → IsOneStep at c was now
-    → AreLinkedSo s c was.steps → HoldsLinked s now.keeping now.steps
-stepped_so at c s was now holds (inl same) linked =
+    → AreLinkedSo s c was.steps → ((after : Collection) → now.keeping ≡ holding after → IsFreshSchema s c after) → HoldsLinked s now.keeping now.steps
+stepped_so at c s was now holds (inl same) linked new =
     subst (λ (n : DeskState). HoldsLinked s n.keeping n.steps) (sym same) (record { c = c; holds = holds; linked = linked })
-stepped_so at c s was now holds (inr (inl (edit, admits, done))) linked =
-    finished_so at c s edit now.keeping was.steps now.steps admits
-    (subst (λ (k : Keeping). IsFinished at c edit k now.keeping was.steps now.steps) holds done) linked
-stepped_so at c s was now holds (inr (inr undone)) linked =
+stepped_so at c s was now holds (inr (inl (edit, admits, done))) linked new =
+    let same = subst (λ (k : Keeping). IsFinished at c edit k now.keeping was.steps now.steps) holds done in
+    finished_so at c s edit now.keeping was.steps now.steps admits same linked (new same.after same.held)
+stepped_so at c s was now holds (inr (inr undone)) linked new =
     undone_so at c s now.keeping was.steps now.steps
     (subst (λ (k : Keeping). IsLatestUndone at c k now.keeping was.steps now.steps) holds undone) linked
 
 -- ---- new reviews
+-- they leave the schema
+reviews_leave_schema : (reviews : List Review) (edit : Edit) → (with_reviews reviews edit).schema ≡ edit.schema
+reviews_leave_schema [] edit = refl
+reviews_leave_schema (review ∷ reviews) edit = reviews_leave_schema reviews (with_row (rows.Review review) edit)
+
+pub reviews_keep_schema : (at : ℤ) (c : Collection) (reviews : List Review) (now : Keeping) (steps left : List Step)
+    → (done : IsFinished at c (with_reviews reviews (unedited c)) (holding c) now steps left) → done.after.head.schema ≡ c.head.schema
+reviews_keep_schema at c reviews now steps left done =
+    done.edited.schema ∙ ap (λ (b : Bool). if b then advanced at c.head.schema else c.head.schema) (reviews_leave_schema reviews (unedited c))
+
 unused_is_none : (at : RowsByName) (name : Name) → is_used at name ≡ false → at name ≡ None
 unused_is_none at name free = by (at name) (is_dead at name) free
   where

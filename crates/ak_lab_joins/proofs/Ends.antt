@@ -1,6 +1,7 @@
 -- The law of a lab's sync: finished, both sides hold the join; otherwise they hold what they held.
-use Rattle.std.specs.Prelude.{◌≡◌, ◌≢◌, ◌⊎◌, ℕ, ℤ, pos, ◌+◌, ◌<◌, ◌≤◌, ◌+ℤ◌, true, List, [], ◌∷◌, length, Some}
-use Rattle.std.proofs.Common.{refl, sym, ap, subst, ◌∙◌, inl, inr, arith, rules}
+use Rattle.std.specs.List.{AllByRecursion}
+use Rattle.std.specs.Prelude.{◌≡◌, ◌≢◌, ◌⊎◌, ℕ, suc, ℤ, pos, ◌+◌, ◌<◌, ◌≤◌, ◌+ℤ◌, Bool, true, false, List, [], ◌∷◌, ◌++◌, length, Some}
+use Rattle.std.proofs.Common.{refl, sym, ap, subst, ◌∙◌, inl, inr, append_assoc, length-append, arith, rules}
 use Rattle.std.proofs.lemmas.Option.{same_Some}
 use Rattle.ak_client.specs.Syncs.{ends_before_finish}
 use Rattle.ak_client.specs.declared.outcomes.Outcome.{Outcome}
@@ -11,12 +12,13 @@ use Rattle.ak_keep.specs.Collections.{Collection}
 use Rattle.ak_lab_joins.proofs.Devices.{changed_found, others_found}
 use Rattle.ak_lab_joins.proofs.Lines as law_lines
 use Rattle.ak_lab_joins.proofs.Lines.{LinesStep, all_linked, at_line_linked, base_of, opened_linked, sync_linked}
+use Rattle.ak_lab_joins.proofs.Ordered.{at_line_ordered, run_ordered, sync_fresh}
 use Rattle.ak_lab_joins.proofs.Servers.{committed_is}
 use Rattle.ak_lab_joins.proofs.Syncs.{CommitsNoneOrJoin}
 use Rattle.ak_lab_joins.proofs.Synced as synced
 use Rattle.ak_lab_joins.proofs.Synced.{holds_is}
 use Rattle.ak_lab_joins.proofs.Worlds.{commit_as, StaysQuiet}
-use Rattle.ak_lab_joins.specs.LabJoins.{Agrees, CommitsOnceIn, Finishes, HasSession, IsLinkedDevice, IsLinkedLab, IsLinkedServer, KeepsCommitted, KeepsOthers, KeepsSides, MayHoldJoin, RunsToSync, StillCommits, StillHolds, world_in}
+use Rattle.ak_lab_joins.specs.LabJoins.{Agrees, AllGoFresh, CommitsOnceIn, Finishes, GoFresh, HasFreshCheck, HasSession, IsLinkedDevice, IsLinkedLab, IsLinkedServer, KeepsCommitted, KeepsOthers, KeepsSides, MayHoldJoin, RunsToSync, SaysNoUpload, StillCommits, StillHolds, ends_at_check, world_in}
 use Rattle.ak_lab.specs.LabRuns.{AllGo, IsLabOpening}
 use Rattle.ak_lab.specs.LabStates.{LabState, at_line, lab_host, opened_lab}
 use Rattle.ak_lab.specs.LabSyncs.{EndsSync}
@@ -29,7 +31,7 @@ use Rattle.ak_merge.specs.Exchanges.{AreExchanged, HoldsJoin}
 use Rattle.ak_merge.specs.Holdings.{SameContent, content_of}
 use Rattle.ak_openings.specs.declared.whole_collections.Opening.{Opening}
 use Rattle.ak_protocol.specs.Accounts.{AccountState}
-use Rattle.ak_protocol.specs.Logs.{Commit, World}
+use Rattle.ak_protocol.specs.Logs.{World}
 
 -- ---- what is said of a session is said of the one of its number
 once_by_number : (key key' : ℕ) (before after : World) → key ≡ key' → CommitsOnceIn key before after → CommitsOnceIn key' before after
@@ -44,30 +46,30 @@ by_number key key' c before after own (inr (one, joins)) = inr (once_by_number k
 module _ (account : AccountState) (name : List ℕ) (s t : LabState) (outcome : Outcome) (linked : IsLinkedLab account s) (room : HasSession s)
     (ends : EndsSync name s t outcome) (enough : outcome ≢ outcomes.Memory) where
   abbrev host : List ℕ
-  host = ends.syncs.ids.host.digits
+  host = ends.session.ids.host.digits
 
   abbrev same_host : host ≡ lab_host
-  same_host = ends.syncs.of.host
+  same_host = ends.session.of.host
 
   abbrev own : IsLinkedDevice (base_of account s) ends.d
   own = linked.devices name ends.d ends.found
 
-  abbrev server_here : IsLinkedServer ends.syncs.ids.host.digits account s.sessions s.server
+  abbrev server_here : IsLinkedServer ends.session.ids.host.digits account s.sessions s.server
   server_here = law_lines.server_here account name s t outcome linked room ends enough
 
-  abbrev device_here : IsLinkedDevice (world_in ends.syncs.ids.host.digits account s.server).state.committed ends.d
+  abbrev device_here : IsLinkedDevice (world_in ends.session.ids.host.digits account s.server).state.committed ends.d
   device_here = law_lines.device_here account name s t outcome linked room ends enough
 
-  lab_now : IsLinkedLab account t
-  lab_now = sync_linked account name s t outcome linked room ends enough
+  lab_now : HasFreshCheck account name s t outcome → IsLinkedLab account t
+  lab_now fresh = sync_linked account name s t outcome linked room ends enough fresh
 
   -- the device of the name
   own_name : ends.made.name ≡ name
-  own_name = ap (λ (x : Device). x.name) ends.syncs.rest ∙ found_has_name name s.devices ends.d ends.found
+  own_name = ap (λ (x : Device). x.name) ends.session.rest ∙ found_has_name name s.devices ends.d ends.found
 
   -- whose clock stays
   own_shift : ends.made.shift ≡ ends.d.shift
-  own_shift = ap (λ (x : Device). x.shift) ends.syncs.rest
+  own_shift = ap (λ (x : Device). x.shift) ends.session.rest
 
   now_found : device_of name t.devices ≡ Some ends.made
   now_found =
@@ -88,27 +90,27 @@ module _ (account : AccountState) (name : List ℕ) (s t : LabState) (outcome : 
     made = ends.made;
     was = ends.found;
     now = now_found;
-    rest = ends.syncs.rest
+    rest = ends.session.rest
         ∙ ap (λ (n : ℕ). let made : Device = record ends.d { collection = ends.made.collection; undo = []; calls = n } in made)
-        (sym (ap (λ (x : Device). x.calls) ends.syncs.rest));
+        (sym (ap (λ (x : Device). x.calls) ends.session.rest));
   }
 
   -- what was committed, by the lab's host key
   abbrev Committed : List ℕ → Type 0
-  Committed h = CommitsNoneOrJoin ends.syncs.ids.session.0 own.c (world_in h account s.server) (world_in h account t.server)
+  Committed h = CommitsNoneOrJoin ends.session.ids.session.0 own.c (world_in h account s.server) (world_in h account t.server)
 
   pub committed_so : MayHoldJoin (one_more s.sessions) own.c (world_in lab_host account s.server) (world_in lab_host account t.server)
   committed_so =
-      by_number ends.syncs.ids.session.0 (one_more s.sessions) own.c (world_in lab_host account s.server) (world_in lab_host account t.server) ends.syncs.of.session
+      by_number ends.session.ids.session.0 (one_more s.sessions) own.c (world_in lab_host account s.server) (world_in lab_host account t.server) ends.session.of.session
       (subst Committed same_host
-      (synced.committed account s.sessions s.clock (s.clock +ℤ ends.d.shift) ends.d ends.made s.server t.server outcome room ends.syncs enough
+      (synced.committed account s.sessions s.clock (s.clock +ℤ ends.d.shift) ends.d ends.made s.server t.server outcome room ends.session enough
       server_here device_here))
 
   -- ---- not finished
   kept : ends_before_finish outcome ≡ true → KeepsCommitted (world_in lab_host account s.server) (world_in lab_host account t.server)
   kept early =
       let stays = subst (λ (h : List ℕ). StaysQuiet (world_in h account s.server) (world_in h account t.server)) same_host
-      (synced.early_quiet account s.sessions s.clock (s.clock +ℤ ends.d.shift) ends.d ends.made s.server t.server outcome room ends.syncs enough
+      (synced.early_quiet account s.sessions s.clock (s.clock +ℤ ends.d.shift) ends.d ends.made s.server t.server outcome room ends.session enough
       server_here device_here early) in
       (stays.committed, stays.commits)
 
@@ -125,22 +127,22 @@ module _ (account : AccountState) (name : List ℕ) (s t : LabState) (outcome : 
   still_commits other (outcomes.OwnCheck fault) is = kept (ap ends_before_finish is)
   still_commits other outcomes.Stopped is = kept (ap ends_before_finish is)
   still_commits other (outcomes.Refused status word seen) is = committed_so
-  still_commits other outcomes.Lost is = absurd (ends.syncs.unlost is)
+  still_commits other outcomes.Lost is = absurd (ends.session.unlost is)
   still_commits other outcomes.BadReply is = committed_so
   still_commits other outcomes.TooManyChunks is = kept (ap ends_before_finish is)
-  still_commits other outcomes.Keep is = absurd (ends.syncs.unfailed is)
+  still_commits other outcomes.Keep is = absurd (ends.session.unfailed is)
   still_commits other outcomes.Memory is = absurd (enough is)
 
-  pub keeps_sides : outcome ≢ outcomes.Finished → KeepsSides account name s t outcome
-  keeps_sides other = record {
+  pub keeps_sides : HasFreshCheck account name s t outcome → outcome ≢ outcomes.Finished → KeepsSides account name s t outcome
+  keeps_sides fresh other = record {
     c = own.c;
     held = was_held;
     device = λ d found. subst (λ (x : Device). StillHolds (s.clock +ℤ x.shift) own.c outcome x) (same_Some ends.made d (sym now_found ∙ found))
         (subst (λ (m : ℤ). StillHolds (s.clock +ℤ m) own.c outcome ends.made) (sym own_shift)
-        (synced.still_holds account s.sessions s.clock (s.clock +ℤ ends.d.shift) ends.d ends.made s.server t.server outcome room ends.syncs enough
-        server_here device_here other));
+        (synced.still_holds account s.sessions s.clock (s.clock +ℤ ends.d.shift) ends.d ends.made s.server t.server outcome room ends.session enough
+        server_here device_here (law_lines.check_here account name s t outcome linked room ends enough fresh) other));
     server = still_commits other outcome refl;
-    linked = lab_now;
+    linked = lab_now fresh;
     keeps = keeps_others;
   }
 
@@ -150,14 +152,22 @@ module _ (account : AccountState) (name : List ℕ) (s t : LabState) (outcome : 
     c = own.c;
     held = was_held;
     same = subst (λ (h : List ℕ). SameContent (content_of own.c) (content_of (world_in h account s.server).state.committed)) same_host
-        (synced.agreed_now account s.sessions s.clock (s.clock +ℤ ends.d.shift) ends.d ends.made s.server t.server outcome room ends.syncs enough
+        (synced.agreed_now account s.sessions s.clock (s.clock +ℤ ends.d.shift) ends.d ends.made s.server t.server outcome room ends.session enough
         server_here device_here is);
   }
 
   -- ---- finished
+  -- its sanity check was not bad
+  good : outcome ≡ outcomes.Finished → HasFreshCheck account name s t outcome
+  good is bad = absurd (not_both bad (ap ends_at_check is))
+    where
+      not_both : {b : Bool} → b ≡ true → b ≡ false → ⊥
+      not_both one other = grind (arith, one, other)
+
   pub finishes : outcome ≡ outcomes.Finished → Finishes account name s t
   finishes is =
-      let it = synced.finished_now account s.sessions s.clock (s.clock +ℤ ends.d.shift) ends.d ends.made s.server t.server outcome room ends.syncs enough
+      let now = lab_now (good is) in
+      let it = synced.finished_now account s.sessions s.clock (s.clock +ℤ ends.d.shift) ends.d ends.made s.server t.server outcome room ends.session enough
       server_here device_here is in
       let exchanged : AreExchanged own.c (base_of account s) it.device (base_of account t) =
       subst (λ (h : List ℕ). AreExchanged own.c (world_in h account s.server).state.committed it.device (world_in h account t.server).state.committed) same_host it.exchanged in
@@ -168,8 +178,8 @@ module _ (account : AccountState) (name : List ℕ) (s t : LabState) (outcome : 
       let device_number : it.device.head.usn ≡ (base_of account s).head.usn +ℤ pos 1 =
       subst (λ (h : List ℕ). it.device.head.usn ≡ (world_in h account s.server).state.committed.head.usn +ℤ pos 1) same_host it.device_number in
       let once : CommitsOnceIn (one_more s.sessions) (world_in lab_host account s.server) (world_in lab_host account t.server) =
-      once_by_number ends.syncs.ids.session.0 (one_more s.sessions) (world_in lab_host account s.server) (world_in lab_host account t.server) ends.syncs.of.session
-      (subst (λ (h : List ℕ). CommitsOnceIn ends.syncs.ids.session.0 (world_in h account s.server) (world_in h account t.server)) same_host it.once) in
+      once_by_number ends.session.ids.session.0 (one_more s.sessions) (world_in lab_host account s.server) (world_in lab_host account t.server) ends.session.of.session
+      (subst (λ (h : List ℕ). CommitsOnceIn ends.session.ids.session.0 (world_in h account s.server) (world_in h account t.server)) same_host it.once) in
       record {
         joins = record {
           device = own.c;
@@ -180,7 +190,7 @@ module _ (account : AccountState) (name : List ℕ) (s t : LabState) (outcome : 
           committed = committed_is lab_host account s.sessions s.server linked.server;
           held_now = λ d found. subst (λ (x : Device). Holds x.collection it.device) (same_Some ends.made d (sym now_found ∙ found))
               (holds_is ends.made it.device it.kept);
-          committed_now = committed_is lab_host account t.sessions t.server lab_now.server;
+          committed_now = committed_is lab_host account t.sessions t.server now.server;
           same = exchanged.same;
           joined = exchanged.server;
           past_device = exchanged.past_device;
@@ -192,7 +202,7 @@ module _ (account : AccountState) (name : List ℕ) (s t : LabState) (outcome : 
           linked = exchanged.linked;
         };
         once = once;
-        linked = lab_now;
+        linked = now;
         keeps = keeps_others;
       }
 
@@ -213,6 +223,18 @@ finished_joins account name s t linked room ends = finishes account name s t out
 
 -- ---- over a run
 -- the lab before a line of this number is the lab before it
+unfoldable pub lines_aside_others : (number : ℕ) (name : List ℕ) (s t : LabState) → KeepsOthers name (at_line number s) t → KeepsOthers name s t
+lines_aside_others number name s t it = record {
+  clock = it.clock;
+  sessions = it.sessions;
+  others = it.others;
+  d = it.d;
+  made = it.made;
+  was = it.was;
+  now = it.now;
+  rest = it.rest;
+}
+
 lines_aside_finishes : (account : AccountState) (number : ℕ) (name : List ℕ) (s t : LabState) → Finishes account name (at_line number s) t → Finishes account name s t
 lines_aside_finishes account number name s t it = record {
   joins = record {
@@ -238,18 +260,6 @@ lines_aside_finishes account number name s t it = record {
   linked = it.linked;
   keeps = lines_aside_others number name s t it.keeps;
 }
-  where
-    lines_aside_others : (number : ℕ) (name : List ℕ) (s t : LabState) → KeepsOthers name (at_line number s) t → KeepsOthers name s t
-    lines_aside_others number name s t it = record {
-      clock = it.clock;
-      sessions = it.sessions;
-      others = it.others;
-      d = it.d;
-      made = it.made;
-      was = it.was;
-      now = it.now;
-      rest = it.rest;
-    }
 
 lines_aside_keeps : (account : AccountState) (number : ℕ) (name : List ℕ) (s t : LabState) (outcome : Outcome) → KeepsSides account name (at_line number s) t outcome
     → KeepsSides account name s t outcome
@@ -259,22 +269,58 @@ lines_aside_keeps account number name s t outcome it = record {
   device = it.device;
   server = it.server;
   linked = it.linked;
-  keeps = record {
-    clock = it.keeps.clock;
-    sessions = it.keeps.sessions;
-    others = it.keeps.others;
-    d = it.keeps.d;
-    made = it.keeps.made;
-    was = it.keeps.was;
-    now = it.keeps.now;
-    rest = it.keeps.rest;
-  };
+  keeps = lines_aside_others number name s t it.keeps;
 }
 
--- after the lines of a run
+-- lines that took fresh schema moments went
+gone : (account : AccountState) (number : ℕ) (all : List Line) (s t : LabState) (printed : List (List ℕ)) → AllGoFresh account number all s t printed → AllGo number all s t printed
+gone account number [] s t printed goes = goes
+gone account number (line ∷ more) s t printed (mid, first, others, ends, takes, goes, is) =
+    (mid, first, others, ends, gone account (number + 1) more mid t others goes, is)
+
+-- such lines after such lines
+fresh_joined : (account : AccountState) (number next : ℕ) (front rest : List Line) (s mid t : LabState) (first later : List (List ℕ)) → next ≡ number + length front
+    → AllGoFresh account number front s mid first → AllGoFresh account next rest mid t later → AllGoFresh account number (front ++ rest) s t (first ++ later)
+fresh_joined account number next [] rest s mid t first later at (same, none) goes =
+    subst (λ (printed : List (List ℕ)). AllGoFresh account number rest s t (printed ++ later)) (sym none)
+    (subst (λ (x : LabState). AllGoFresh account number rest x t later) same
+    (subst (λ (n : ℕ). AllGoFresh account n rest mid t later) (here next number at) goes))
+  where
+    here : (n m : ℕ) → n ≡ m + 0 → n ≡ m
+    here n m is = omega (arith, is)
+fresh_joined account number next (line ∷ more) rest s mid t first later at (there, own, others, ends, takes, front_goes, is) goes = (
+  there,
+  own,
+  others ++ later,
+  ends,
+  takes,
+  fresh_joined account (number + 1) next more rest there mid t others later (further next number (length more) at) front_goes goes,
+  ap (λ (texts : List (List ℕ)). texts ++ later) is ∙ append_assoc own others later,
+)
+  where
+    further : (n m k : ℕ) → n ≡ m + suc k → n ≡ (m + 1) + k
+    further n m k is = omega (arith, is)
+
+-- after the lines of a run, of which none uploads at first, and whose schema moments are fresh then
+goes_fresh : LinesStep → (opening : Opening) (all : List Line) (s : LabState) (printed : List (List ℕ)) → IsLabOpening opening
+    → length all < 18_446_744_073_709_551_615 → GoFresh opening all s printed → AllGoFresh (account_opened opening) 1 all (opened_lab opening) s printed
+goes_fresh steps opening all s printed opens room it =
+    subst (λ (them : List Line). AllGoFresh (account_opened opening) 1 them (opened_lab opening) s printed) (sym it.parts)
+    (subst (λ (texts : List (List ℕ)). AllGoFresh (account_opened opening) 1 (it.front ++ it.rest) (opened_lab opening) s texts) (sym it.said)
+    (fresh_joined (account_opened opening) 1 (length it.front + 1) it.front it.rest (opened_lab opening) it.mid s it.first it.later (next (length it.front))
+    (run_ordered steps opening it.front it.mid it.first opens
+    (fewer (length all) (length it.front) (length it.rest) (ap length it.parts ∙ length-append it.front it.rest) room) it.plain it.goes).0 it.fresh))
+  where
+    next : (n : ℕ) → n + 1 ≡ 1 + n
+    next n = omega (arith)
+
+    fewer : (all front rest : ℕ) → all ≡ front + rest → all < 18_446_744_073_709_551_615 → front < 18_446_744_073_709_551_615
+    fewer all front rest is low = omega (arith, is, low)
+
 pub run_linked : LinesStep → (opening : Opening) (all : List Line) (s : LabState) (printed : List (List ℕ)) → IsLabOpening opening
-    → length all < 18_446_744_073_709_551_615 → AllGo 1 all (opened_lab opening) s printed → IsLinkedLab (account_opened opening) s × HasSession s
-run_linked steps opening all s printed opens room goes =
+    → length all < 18_446_744_073_709_551_615 → GoFresh opening all s printed → IsLinkedLab (account_opened opening) s × HasSession s
+run_linked steps opening all s printed opens room apart =
+    let goes = goes_fresh steps opening all s printed opens room apart in
     let it = all_linked steps (account_opened opening) 1 all (opened_lab opening) s printed (opened_linked opening opens) (few (length all) room) goes in
     (it.0, low s.sessions (length all) it.1 room)
   where
@@ -287,13 +333,24 @@ run_linked steps opening all s printed opens room goes =
 module _ (steps : LinesStep) (opening : Opening) (all : List Line) (name : List ℕ) (s t : LabState) (outcome : Outcome)
     (runs : RunsToSync opening all name s t outcome) where
   abbrev here : IsLinkedLab (account_opened opening) s × HasSession s
-  here = run_linked steps opening all s runs.printed runs.opens runs.room runs.goes
+  here = run_linked steps opening all s runs.printed runs.opens runs.room runs.goes.0
 
   abbrev before : LabState
   before = at_line (length all + 1) s
 
   linked_before : IsLinkedLab (account_opened opening) (at_line (length all + 1) s)
   linked_before = at_line_linked (account_opened opening) (length all + 1) s here.0
+
+  goes : AllGo 1 all (opened_lab opening) s runs.printed
+  goes =
+      gone (account_opened opening) 1 all (opened_lab opening) s runs.printed (goes_fresh steps opening all s runs.printed runs.opens runs.room runs.goes.0)
+
+  fresh_before : outcome ≢ outcomes.Memory → AllByRecursion SaysNoUpload all ⊎ HasFreshCheck (account_opened opening) name s t outcome
+      → HasFreshCheck (account_opened opening) name (at_line (length all + 1) s) t outcome
+  fresh_before enough (inl plain) =
+      sync_fresh (account_opened opening) name before t outcome linked_before here.1
+      (at_line_ordered (account_opened opening) (length all + 1) s (run_ordered steps opening all s runs.printed runs.opens runs.room plain goes).1) runs.comes enough
+  fresh_before enough (inr fresh) = fresh
 
   pub run_finishes : outcome ≡ outcomes.Finished → Finishes (account_opened opening) name s t
   run_finishes is =
@@ -303,4 +360,4 @@ module _ (steps : LinesStep) (opening : Opening) (all : List Line) (name : List 
   pub run_keeps : outcome ≢ outcomes.Finished → outcome ≢ outcomes.Memory → KeepsSides (account_opened opening) name s t outcome
   run_keeps other enough =
       lines_aside_keeps (account_opened opening) (length all + 1) name s t outcome
-      (keeps_sides (account_opened opening) name before t outcome linked_before here.1 runs.comes enough other)
+      (keeps_sides (account_opened opening) name before t outcome linked_before here.1 runs.comes enough (fresh_before enough runs.goes.1) other)

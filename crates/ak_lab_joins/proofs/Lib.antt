@@ -1,10 +1,15 @@
 mod Devices
 mod Edits
 mod Ends
+mod Here
 mod Lines
 mod Metas
+mod Ordered
 mod Prints
+mod ScriptTransfers
 mod Servers
 mod Synced
 mod Syncs
+mod Transferred
+mod Transfers
 mod Worlds

@@ -1,14 +1,14 @@
 -- Each accepted line of a lab's script leaves its devices linked with the server.
-use Rattle.std.specs.Prelude.{◌≡◌, ◌≢◌, ◌⊎◌, ℕ, suc, ℤ, ◌+◌, ◌<◌, ◌≤◌, ◌≤ℤ◌, ◌+ℤ◌, List, [], ◌∷◌, length, Some, None, Result, Ok}
+use Rattle.std.specs.Prelude.{◌≡◌, ◌≢◌, ◌⊎◌, ℕ, suc, ℤ, ◌+◌, ◌<◌, ◌≤◌, ◌+ℤ◌, true, List, [], ◌∷◌, length, Some, Result, Ok}
 use Rattle.std.proofs.Common.{refl, sym, ap, subst, ◌∙◌, inl, inr, arith}
-use Rattle.std.proofs.lemmas.Int.{ints}
 use Rattle.std.proofs.lemmas.List.Elements.{All-nil}
 use Rattle.std.proofs.lemmas.Option.{none-some, same_Some}
 use Rattle.ak_client.specs.declared.outcomes.Outcome.{Outcome}
 use Rattle.ak_client.specs.declared.outcomes.Outcome.TheVariants as client_outcomes
 use Rattle.ak_desk_lines.specs.DeskStates.{DeskState}
+use Rattle.ak_desk_runs.specs.LineOutcomes.{is_skipped_line}
 use Rattle.ak_desk_lines.specs.LineEnds.{EndsLine}
-use Rattle.ak_desk_lines.specs.LineSteps.{IsOneStep, LinksWith}
+use Rattle.ak_desk_lines.specs.LineSteps.{IsOneStep}
 use Rattle.ak_desk_lines.specs.declared.turns.Turn.{Turn}
 use Rattle.ak_edit.specs.declared.desk_faults.DeskFault.{DeskFault}
 use Rattle.ak_exchange.specs.Phases.{holding}
@@ -17,19 +17,25 @@ use Rattle.ak_io.specs.declared.lines.Line.{Line}
 use Rattle.ak_keep.specs.Collections.{Collection}
 use Rattle.ak_keep.specs.Keepers.{Keeping, WhereHeld}
 use Rattle.ak_lab_joins.proofs.Devices.{changed_or_old, new_or_old}
-use Rattle.ak_lab_joins.proofs.Edits.{finished_so, reviews_are_admitted, stepped_so}
+use Rattle.ak_lab_joins.proofs.Edits.{finished_so, reviews_are_admitted, reviews_keep_schema, stepped_so}
+use Rattle.ak_lab_joins.proofs.Here as here
+use Rattle.ak_lab_joins.proofs.Here.{changed_holds, here_holds}
 use Rattle.ak_lab_joins.proofs.Servers.{committed_is, opened_server, viewed_grows, viewed_server, views_stay_quiet}
 use Rattle.ak_lab_joins.proofs.Synced as synced
-use Rattle.ak_lab_joins.proofs.Synced.{device_linked, held_once, linked_device}
+use Rattle.ak_lab_joins.proofs.Synced.{device_linked, known_is, linked_device}
+use Rattle.ak_lab_joins.proofs.Transfers.{download_keeps_schema, transfer_linked}
 use Rattle.ak_lab.specs.LabDesks.{EndsDo, EndsReview, desk_of, turn_of}
-use Rattle.ak_lab_joins.specs.LabJoins.{HasSession, IsLinkedDevice, IsLinkedLab, IsLinkedServer, world_in}
-use Rattle.ak_lab.specs.LabRuns.{AllGo, IsLabOpening}
+use Rattle.ak_lab_joins.specs.LabJoins.{AllGoFresh, HasFreshCheck, HasFreshDevice, HasOtherSchema, HasSession, IsLinkedDevice, IsLinkedLab, IsLinkedServer, TakesFreshSchema, TakesFreshSchemas, world_in}
+use Rattle.ak_lab.specs.LabRuns.{IsLabOpening}
 use Rattle.ak_lab.specs.LabStates.{LabState, at_line, lab_host, opened_lab, with_changed}
 use Rattle.ak_lab.specs.LabSteps.{Accepts, AddsDevice, Shifts, SideHolds, plan_of}
 use Rattle.ak_lab.specs.LabSyncs.{EndsSync}
-use Rattle.ak_lab.specs.LineOutcomes.{Accepted, EndsAs}
+use Rattle.ak_lab.specs.LineOutcomes.{Accepted, EndsAs, Says}
+use Rattle.ak_lab.specs.declared.lab_syncs.SessionKind.TheVariants as kinds
 use Rattle.ak_lab_devices.specs.Devices.{as_downloaded, device_of, keeping_of, new_device}
 use Rattle.ak_lab_devices.specs.declared.devices.Device.{Device}
+use Rattle.ak_lab_lines.specs.LabLines.{lab_line_of}
+use Rattle.ak_lab_lines.specs.declared.lab_lines.Direction.TheVariants as directions
 use Rattle.ak_lab_lines.specs.declared.lab_lines.LabLine.{LabLine}
 use Rattle.ak_lab_lines.specs.declared.lab_lines.LabLine.TheVariants as lines
 use Rattle.ak_lab_lines.specs.declared.lab_lines.Side.{Side}
@@ -40,9 +46,7 @@ use Rattle.ak_loops.specs.Entries.{LoggedState, account_opened}
 use Rattle.ak_merge.proofs.EditBuildingLaws.{unedited_is_admitted}
 use Rattle.ak_merge.proofs.FirstLinks.{copies_are_linked}
 use Rattle.ak_merge.specs.Commits.{IsCommitted}
-use Rattle.ak_merge.specs.Conflicts.{first_conflict}
 use Rattle.ak_merge.specs.EditBuilding.{unedited}
-use Rattle.ak_merge.specs.Holdings.{row_under}
 use Rattle.ak_merge.specs.Undoing.{StepFits}
 use Rattle.ak_openings.specs.declared.whole_collections.Opening.{Opening}
 use Rattle.ak_outcomes.specs.OutcomeTexts.{outcome_text}
@@ -104,11 +108,7 @@ copy_linked base name lawful = record {
     fit = All-nil (λ step. StepFits (as_downloaded base) step base);
   };
   suits = lawful.single;
-  schema = itself base.head.schema;
 }
-  where
-    itself : (a : ℤ) → a ≤ℤ a
-    itself a = omega (arith, ints)
 
 device_added : (account : AccountState) (name : List ℕ) (s t : LabState) → IsLinkedLab account s → AddsDevice name s t → IsLinkedLab account t
 device_added account name s t linked adds =
@@ -134,7 +134,7 @@ shifted account name by s t linked shifts =
     let it = linked.devices name shifts.d shifts.found in
     subst (IsLinkedLab account) (sym shifts.left)
     (changed_linked account s (record shifts.d { shift = by }) linked
-    (record { c = it.c; holds = it.holds; named = it.named; links = it.links; suits = it.suits; schema = it.schema }))
+    (record { c = it.c; holds = it.holds; named = it.named; links = it.links; suits = it.suits }))
 
 -- ---- new reviews, and lines of the desk
 reviewed : (account : AccountState) (name : List ℕ) (card ease : ℤ) (count : ℕ) (s t : LabState) → IsLinkedLab account s
@@ -149,11 +149,11 @@ reviewed account name card ease count s t linked ends =
     (linked_device (base_of account s) ends.made
     (finished_so (s.clock +ℤ ends.d.shift) it.c (base_of account s) (with_reviews adds.reviews (unedited it.c)) (keeping_of ends.made) ends.d.undo ends.made.undo
     (reviews_are_admitted it.c (plan_of card ease count) _ count adds.reviews (unedited it.c) refl adds.planned (unedited_is_admitted it.c it.linked.named))
-    adds.done it.linked)))
+    adds.done it.linked (inl (reviews_keep_schema (s.clock +ℤ ends.d.shift) it.c adds.reviews (keeping_of ends.made) ends.d.undo ends.made.undo adds.done)))))
 
 obeyed : LinesStep → (account : AccountState) (name text : List ℕ) (s t : LabState) (result : Result DeskAnswer DeskFault) → IsLinkedLab account s
-    → EndsDo name text s t result → IsLinkedLab account t
-obeyed steps account name text s t result linked ends =
+    → EndsDo name text s t result → HasFreshDevice account name s t → IsLinkedLab account t
+obeyed steps account name text s t result linked ends fresh =
     let it = device_linked (base_of account s) ends.d (linked.devices name ends.d ends.found) in
     let at : ℤ = s.clock +ℤ ends.d.shift in
     let step : IsOneStep at it.c (desk_of ends.d) (desk_of ends.made) =
@@ -161,7 +161,9 @@ obeyed steps account name text s t result linked ends =
     (steps ends.said (turn_of at ends.d) (desk_of ends.d) (desk_of ends.made) result ends.ends) in
     subst (IsLinkedLab account) (sym ends.left)
     (changed_linked account s ends.made linked
-    (linked_device (base_of account s) ends.made (stepped_so at it.c (base_of account s) (desk_of ends.d) (desk_of ends.made) it.holds step it.linked)))
+    (linked_device (base_of account s) ends.made (stepped_so at it.c (base_of account s) (desk_of ends.d) (desk_of ends.made) it.holds step it.linked
+    (λ after held. fresh it.c after (here_holds name s ends.d it.c ends.found it.holds)
+    (changed_holds name s t ends.d ends.made after (ap (λ (x : LabState). x.devices) ends.left) ends.found (ap (λ (x : Device). x.name) ends.rest) held)))))
 
 -- ---- what is looked at
 looked : (account : AccountState) (side : Side) (s t : LabState) (c : Collection) → IsLinkedLab account s → SideHolds side s t c → IsLinkedLab account t
@@ -176,78 +178,80 @@ told_enough outcome text told is = none-some text (sym (ap outcome_text is) ∙ 
 
 module _ (account : AccountState) (name : List ℕ) (s t : LabState) (outcome : Outcome) (linked : IsLinkedLab account s) (room : HasSession s)
     (ends : EndsSync name s t outcome) (enough : outcome ≢ client_outcomes.Memory) where
-  -- by the host key of the sync, which is the lab's
-  abbrev pub host : List ℕ
-  host = ends.syncs.ids.host.digits
+  abbrev pub same_host : lab_host ≡ ends.session.ids.host.digits
+  same_host = here.same_host kinds.Sync account name s t outcome linked ends
 
-  abbrev pub same_host : lab_host ≡ host
-  same_host = sym ends.syncs.of.host
+  pub server_here : IsLinkedServer ends.session.ids.host.digits account s.sessions s.server
+  server_here = here.server_here kinds.Sync account name s t outcome linked ends
 
-  abbrev own : IsLinkedDevice (base_of account s) ends.d
-  own = linked.devices name ends.d ends.found
-
-  -- the server and a device, by that host key
-  pub server_here : IsLinkedServer host account s.sessions s.server
-  server_here = subst (λ (h : List ℕ). IsLinkedServer h account s.sessions s.server) same_host linked.server
-
-  linked_here : (d : Device) → IsLinkedDevice (base_of account s) d → IsLinkedDevice (world_in host account s.server).state.committed d
-  linked_here d it = subst (λ (h : List ℕ). IsLinkedDevice (world_in h account s.server).state.committed d) same_host it
-
-  pub base_here : (world_in host account s.server).state.committed ≡ base_of account s
-  base_here = ap (λ (h : List ℕ). (world_in h account s.server).state.committed) (sym same_host)
-
-  -- the device that syncs
-  abbrev pub device_here : IsLinkedDevice (world_in host account s.server).state.committed ends.d
-  device_here = record {
-    c = own.c;
-    holds = own.holds;
-    named = own.named;
-    links = subst (λ (base : Collection). LinksWith own.c ends.d.undo base) (sym base_here) own.links;
-    suits = own.suits;
-    schema = subst (λ (base : Collection). base.head.schema ≤ℤ own.c.head.schema) (sym base_here) own.schema;
-  }
+  abbrev pub device_here : IsLinkedDevice (world_in ends.session.ids.host.digits account s.server).state.committed ends.d
+  device_here = here.device_here kinds.Sync account name s t outcome linked ends
 
   server_left : IsLinkedServer lab_host account (one_more s.sessions) t.server
   server_left =
       subst (λ (h : List ℕ). IsLinkedServer h account (one_more s.sessions) t.server) (sym same_host)
-      (synced.server_now account s.sessions s.clock (s.clock +ℤ ends.d.shift) ends.d ends.made s.server t.server outcome room ends.syncs enough server_here device_here)
+      (synced.server_now account s.sessions s.clock (s.clock +ℤ ends.d.shift) ends.d ends.made s.server t.server outcome room ends.session enough server_here device_here)
 
-  made_left : IsLinkedDevice (world_in lab_host account t.server).state.committed ends.made
-  made_left =
+  -- the schema moment of a device whose sanity check was bad is not the server's
+  other_here : HasOtherSchema account name s t → synced.HasOther account s.sessions s.clock (s.clock +ℤ ends.d.shift) ends.d ends.made s.server t.server outcome room ends.session enough server_here device_here
+  other_here other left kept is =
+      other left (here.left_holds kinds.Sync account name s t outcome linked ends left (known_is ends.made left kept))
+      (is ∙ ap (λ (base : Collection). base.head.schema) (here.base_here kinds.Sync account name s t outcome linked ends))
+
+  pub check_here : HasFreshCheck account name s t outcome
+      → synced.HasOtherAt account s.sessions s.clock (s.clock +ℤ ends.d.shift) ends.d ends.made s.server t.server outcome room ends.session enough server_here device_here outcome
+  check_here fresh bad = other_here (fresh bad)
+
+  made_left : HasFreshCheck account name s t outcome → IsLinkedDevice (world_in lab_host account t.server).state.committed ends.made
+  made_left fresh =
       subst (λ (h : List ℕ). IsLinkedDevice (world_in h account t.server).state.committed ends.made) (sym same_host)
-      (synced.device_now account s.sessions s.clock (s.clock +ℤ ends.d.shift) ends.d ends.made s.server t.server outcome room ends.syncs enough server_here device_here)
+      (synced.device_now account s.sessions s.clock (s.clock +ℤ ends.d.shift) ends.d ends.made s.server t.server outcome room ends.session enough server_here device_here (check_here fresh))
 
   other_left : (e : Device) → IsLinkedDevice (base_of account s) e → IsLinkedDevice (world_in lab_host account t.server).state.committed e
   other_left e it =
       subst (λ (h : List ℕ). IsLinkedDevice (world_in h account t.server).state.committed e) (sym same_host)
-      (synced.others_now account s.sessions s.clock (s.clock +ℤ ends.d.shift) ends.d ends.made s.server t.server outcome room ends.syncs enough server_here device_here
-      e (linked_here e it))
+      (synced.others_now account s.sessions s.clock (s.clock +ℤ ends.d.shift) ends.d ends.made s.server t.server outcome room ends.session enough server_here device_here
+      e (here.linked_here kinds.Sync account name s t outcome linked ends e it))
 
-  pub sync_linked : IsLinkedLab account t
-  sync_linked =
+  pub sync_linked : HasFreshCheck account name s t outcome → IsLinkedLab account t
+  sync_linked fresh =
       subst (IsLinkedLab account) (sym ends.left) (record {
         server = server_left;
         devices = λ other d found. by other d (changed_or_old ends.made s.devices other d found);
       })
     where
       by : (other : List ℕ) (d : Device) → (ends.made ≡ d) ⊎ (device_of other s.devices ≡ Some d) → IsLinkedDevice (world_in lab_host account t.server).state.committed d
-      by other d (inl is) = subst (λ (x : Device). IsLinkedDevice (world_in lab_host account t.server).state.committed x) is made_left
+      by other d (inl is) = subst (λ (x : Device). IsLinkedDevice (world_in lab_host account t.server).state.committed x) is (made_left fresh)
       by other d (inr found) = other_left d (linked.devices other d found)
 
 -- ---- a line
 said_linked : LinesStep → (account : AccountState) (said : LabLine) (s t : LabState) (printed : List (List ℕ)) → IsLinkedLab account s → HasSession s
-    → Accepts said s t printed → IsLinkedLab account t
-said_linked steps account (lines.Clock at) s t printed linked room (in_time, left, none) =
+    → Accepts said s t printed → TakesFreshSchema account said s t → IsLinkedLab account t
+said_linked steps account (lines.Clock at) s t printed linked room (in_time, left, none) fresh =
     subst (IsLinkedLab account) (sym left) (record { server = linked.server; devices = linked.devices })
-said_linked steps account (lines.Device name) s t printed linked room (adds, none) = device_added account name s t linked adds
-said_linked steps account (lines.Shift name by) s t printed linked room (shifts, none) = shifted account name by s t linked shifts
-said_linked steps account (lines.Review name card ease count) s t printed linked room (ends, none) = reviewed account name card ease count s t linked ends
-said_linked steps account (lines.Do name text) s t printed linked room (answer, ends, is) = obeyed steps account name text s t (Ok answer) linked ends
-said_linked steps account (lines.Sync name) s t printed linked room (outcome, text, ends, told, is) =
-    sync_linked account name s t outcome linked room ends (told_enough outcome text told)
-said_linked steps account (lines.Show side what) s t printed linked room (c, holds, is) = looked account side s t c linked holds
-said_linked steps account (lines.Count side) s t printed linked room (c, holds, is) = looked account side s t c linked holds
-said_linked steps account (lines.Requests name) s t printed linked room is = subst (IsLinkedLab account) (sym is.0) linked
+said_linked steps account (lines.Device name) s t printed linked room (adds, none) fresh = device_added account name s t linked adds
+said_linked steps account (lines.Shift name by) s t printed linked room (shifts, none) fresh = shifted account name by s t linked shifts
+said_linked steps account (lines.Review name card ease count) s t printed linked room (ends, none) fresh = reviewed account name card ease count s t linked ends
+said_linked steps account (lines.Do name text) s t printed linked room (answer, ends, is) fresh = obeyed steps account name text s t (Ok answer) linked ends fresh
+said_linked steps account (lines.Sync name) s t printed linked room (outcome, text, ends, told, is) fresh =
+    sync_linked account name s t outcome linked room ends (told_enough outcome text told) (fresh outcome ends)
+said_linked steps account (lines.Transfer directions.Upload name) s t printed linked room (outcome, text, ends, told, is) fresh =
+    transfer_linked account directions.Upload name s t outcome linked room ends fresh
+said_linked steps account (lines.Transfer directions.Download name) s t printed linked room (outcome, text, ends, told, is) fresh =
+    transfer_linked account directions.Download name s t outcome linked room ends
+    (inl (download_keeps_schema account name s t outcome linked room ends))
+said_linked steps account (lines.Show side what) s t printed linked room (c, holds, is) fresh = looked account side s t c linked holds
+said_linked steps account (lines.Count side) s t printed linked room (c, holds, is) fresh = looked account side s t c linked holds
+said_linked steps account (lines.Requests name) s t printed linked room is fresh = subst (IsLinkedLab account) (sym is.0) linked
+
+-- a line says one thing
+pub says_one : (line : Line) (one other : LabLine) → Says line one → Says line other → one ≡ other
+says_one line one other (goes, text, is, said) (goes', text', is', said') =
+    let same : text ≡ text' = same_Some text text' (sym is ∙ is') in
+    same_Some one other (sym said ∙ ap lab_line_of same ∙ said')
+
+pub skips_nothing : (line : Line) (said : LabLine) → Says line said → is_skipped_line line ≡ true → ⊥
+skips_nothing line said says skipped = let at = says.0 in grind (arith, at, skipped)
 
 -- what comes to the server later is written down with another line
 pub at_line_linked : (account : AccountState) (number : ℕ) (s : LabState) → IsLinkedLab account s → IsLinkedLab account (at_line number s)
@@ -257,17 +261,16 @@ at_line_linked account number s linked = record {
     unused = linked.server.unused;
     lawful = linked.server.lawful;
     number = linked.server.number;
-    schema = linked.server.schema;
   };
   devices = linked.devices;
 }
 
 pub line_linked : LinesStep → (account : AccountState) (number : ℕ) (line : Line) (s t : LabState) (printed : List (List ℕ)) → IsLinkedLab account s → HasSession s
-    → EndsAs number line s t (Accepted printed) → IsLinkedLab account t
-line_linked steps account number line s t printed linked room (inl nothing) =
+    → EndsAs number line s t (Accepted printed) → TakesFreshSchemas account number line s t → IsLinkedLab account t
+line_linked steps account number line s t printed linked room (inl nothing) fresh =
     subst (IsLinkedLab account) (sym nothing.0) (at_line_linked account number s linked)
-line_linked steps account number line s t printed linked room (inr (said, says, accepts)) =
-    said_linked steps account said (at_line number s) t printed (at_line_linked account number s linked) room accepts
+line_linked steps account number line s t printed linked room (inr (said, says, accepts)) fresh =
+    said_linked steps account said (at_line number s) t printed (at_line_linked account number s linked) room accepts (fresh said says)
 
 -- ---- the count of sessions rises by at most one in a line
 one_at_most : (n : ℕ) → one_more n ≤ n + 1
@@ -287,6 +290,8 @@ said_count (lines.Review name card ease count) s t printed (ends, none) = same_c
 said_count (lines.Do name text) s t printed (answer, ends, is) = same_count s t (ap (λ (x : LabState). x.sessions) ends.left)
 said_count (lines.Sync name) s t printed (outcome, text, ends, told, is) =
     subst (λ (n : ℕ). n ≤ s.sessions + 1) (sym (ap (λ (x : LabState). x.sessions) ends.left)) (one_at_most s.sessions)
+said_count (lines.Transfer direction name) s t printed (outcome, text, ends, told, is) =
+    subst (λ (n : ℕ). n ≤ s.sessions + 1) (sym (ap (λ (x : LabState). x.sessions) ends.left)) (one_at_most s.sessions)
 said_count (lines.Show sides.Server what) s t printed (c, holds, is) = same_count s t (ap (λ (x : LabState). x.sessions) holds.2)
 said_count (lines.Show (sides.Device name) what) s t printed (c, holds, is) = same_count s t (ap (λ (x : LabState). x.sessions) holds.0)
 said_count (lines.Count sides.Server) s t printed (c, holds, is) = same_count s t (ap (λ (x : LabState). x.sessions) holds.2)
@@ -299,16 +304,16 @@ line_count number line s t printed (inr (said, says, accepts)) = said_count said
 
 -- ---- all lines
 pub all_linked : LinesStep → (account : AccountState) (number : ℕ) (all : List Line) (s t : LabState) (printed : List (List ℕ)) → IsLinkedLab account s
-    → s.sessions + length all < 18_446_744_073_709_551_615 → AllGo number all s t printed → IsLinkedLab account t × (t.sessions ≤ s.sessions + length all)
+    → s.sessions + length all < 18_446_744_073_709_551_615 → AllGoFresh account number all s t printed → IsLinkedLab account t × (t.sessions ≤ s.sessions + length all)
 all_linked steps account number [] s t printed linked room (same, none) =
     (subst (IsLinkedLab account) (sym same) linked, still t.sessions s.sessions (ap (λ (x : LabState). x.sessions) same))
   where
     still : (a b : ℕ) → a ≡ b → a ≤ b + 0
     still a b is = omega (arith, is)
-all_linked steps account number (line ∷ more) s t printed linked room (mid, first, others, ends, goes, is) =
+all_linked steps account number (line ∷ more) s t printed linked room (mid, first, others, ends, fresh, goes, is) =
     let count = line_count number line s mid first ends in
     let rest = all_linked steps account (number + 1) more mid t others
-    (line_linked steps account number line s mid first linked (enough s.sessions (length more) room) ends)
+    (line_linked steps account number line s mid first linked (enough s.sessions (length more) room) ends fresh)
     (enough_left s.sessions mid.sessions (length more) room count) goes in
     (rest.0, all s.sessions mid.sessions t.sessions (length more) count rest.1)
   where

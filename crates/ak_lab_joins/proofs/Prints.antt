@@ -1,22 +1,20 @@
 -- What the printed line of a sync tells of its outcome.
-use Rattle.std.specs.Prelude.{◌≡◌, ◌<◌, ◌+◌, ℕ, true, List, [], ◌∷◌, ◌++◌, length, Option, Some, None, codes}
+use Rattle.std.specs.Prelude.{◌≡◌, ◌<◌, ◌+◌, ℕ, true, false, List, [], ◌∷◌, ◌++◌, length, Option, Some, None, codes}
 use Rattle.std.proofs.Common.{refl, sym, ap, subst, ◌∙◌, inl, inr, arith}
 use Rattle.std.proofs.lemmas.List.{append_cancel_left}
-use Rattle.std.proofs.lemmas.Option.{none-some, same_Some}
+use Rattle.std.proofs.lemmas.Option.{none-some}
 use Rattle.ak_client.specs.declared.outcomes.Outcome.{Outcome}
 use Rattle.ak_client.specs.declared.outcomes.Outcome.TheVariants as outcomes
-use Rattle.ak_desk_runs.specs.LineOutcomes.{is_skipped_line}
 use Rattle.ak_io.specs.declared.lines.Line.{Line}
 use Rattle.ak_lab_joins.proofs.Ends.{run_finishes}
-use Rattle.ak_lab_joins.proofs.Lines.{LinesStep}
-use Rattle.ak_lab_joins.specs.LabJoins.{Finishes}
-use Rattle.ak_lab.specs.LabRuns.{AllGo, IsLabOpening}
-use Rattle.ak_lab.specs.LabStates.{LabState, at_line, opened_lab}
+use Rattle.ak_lab_joins.proofs.Lines.{LinesStep, says_one, skips_nothing}
+use Rattle.ak_lab_joins.specs.LabJoins.{Finishes, GoFresh}
+use Rattle.ak_lab.specs.LabRuns.{IsLabOpening}
+use Rattle.ak_lab.specs.LabStates.{LabState, at_line}
 use Rattle.ak_lab.specs.LabSteps.{Accepts}
 use Rattle.ak_lab.specs.LabSyncs.{EndsSync}
 use Rattle.ak_lab.specs.LineOutcomes.{Accepted, EndsAs, Says}
-use Rattle.ak_lab_lines.specs.LabLines.{lab_line_of}
-use Rattle.ak_lab_lines.specs.LabTexts.{sync_text}
+use Rattle.ak_lab_lines.specs.LabTexts.{ending_text, sync_text}
 use Rattle.ak_lab_lines.specs.declared.lab_lines.LabLine.{LabLine}
 use Rattle.ak_lab_lines.specs.declared.lab_lines.LabLine.TheVariants as lines
 use Rattle.ak_loops.specs.Entries.{account_opened}
@@ -54,24 +52,15 @@ first_of : List (List ℕ) → List ℕ
 first_of [] = []
 first_of (text ∷ texts) = text
 
-text_told : (name text other : List ℕ) → sync_text name text ∷ [] ≡ sync_text name other ∷ [] → text ≡ other
+pub text_told : (word name text other : List ℕ) → ending_text word name text ∷ [] ≡ ending_text word name other ∷ [] → text ≡ other
 unfolding first_of
-text_told name text other is =
-    append_cancel_left (codes "sync " ++ name ++ codes ": ") text other (ap first_of is)
+text_told word name text other is =
+    append_cancel_left (word ++ codes " " ++ name ++ codes ": ") text other (ap first_of is)
 
 sync_told : (name : List ℕ) (s t : LabState) → Accepts (lines.Sync name) s t (sync_text name (codes "finished") ∷ []) → EndsSync name s t outcomes.Finished
 sync_told name s t (outcome, text, ends, told, is) =
     subst (λ (o : Outcome). EndsSync name s t o)
-    (finished_told outcome (told ∙ ap Some (sym (text_told name (codes "finished") text is)))) ends
-
--- a line says one thing
-says_one : (line : Line) (one other : LabLine) → Says line one → Says line other → one ≡ other
-says_one line one other (goes, text, is, said) (goes', text', is', said') =
-    let same : text ≡ text' = same_Some text text' (sym is ∙ is') in
-    same_Some one other (sym said ∙ ap lab_line_of same ∙ said')
-
-skips_nothing : (line : Line) (said : LabLine) → Says line said → is_skipped_line line ≡ true → ⊥
-skips_nothing line said says skipped = let at = says.0 in grind (arith, at, skipped)
+    (finished_told outcome (told ∙ ap Some (sym (text_told (codes "sync") name (codes "finished") text is)))) ends
 
 line_told : (number : ℕ) (line : Line) (name : List ℕ) (s t : LabState) → Says line (lines.Sync name)
     → EndsAs number line s t (Accepted (sync_text name (codes "finished") ∷ [])) → EndsSync name (at_line number s) t outcomes.Finished
@@ -82,8 +71,18 @@ line_told number line name s t says (inr (said, others, accepts)) =
 
 -- ---- in a script
 pub printed_joins : LinesStep → (opening : Opening) (all : List Line) (earlier : List (List ℕ)) (line : Line) (name : List ℕ) (s t : LabState) → IsLabOpening opening
-    → length all < 18_446_744_073_709_551_615 → AllGo 1 all (opened_lab opening) s earlier → Says line (lines.Sync name)
+    → length all < 18_446_744_073_709_551_615 → GoFresh opening all s earlier → Says line (lines.Sync name)
     → EndsAs (length all + 1) line s t (Accepted (sync_text name (codes "finished") ∷ [])) → Finishes (account_opened opening) name s t
 printed_joins steps opening all earlier line name s t opens room goes says ends =
     run_finishes steps opening all name s t outcomes.Finished
-    (record { opens = opens; printed = earlier; goes = goes; room = room; comes = line_told (length all + 1) line name s t says ends }) refl
+    (record {
+      opens = opens;
+      printed = earlier;
+      goes = (goes, inr (λ bad. absurd (not_checked bad)));
+      room = room;
+      comes = line_told (length all + 1) line name s t says ends;
+    }) refl
+  where
+    -- a sync that finished took no schema moment
+    not_checked : false ≡ true → ⊥
+    not_checked bad = grind (arith, bad)

@@ -93,7 +93,6 @@ module _ (host : List ℕ) (account : AccountState) (old new : LoggedState) (gro
     lawful = subst (λ (w : World). IsLawfulAccount w.state) (sym grown_world)
         (lawful_stays_lawful was (events_of host grows.growth) (views_are_timely (events_of host grows.growth) own_views) linked.lawful);
     number = subst (λ (s : Collection). pos 0 <ℤ s.head.usn) (sym views_stay_quiet.committed) linked.number;
-    schema = subst (λ (s : Collection). s.head.schema <ℤ last_moment) (sym views_stay_quiet.committed) linked.schema;
   }
 
 -- ---- the server that a lab opens with
@@ -112,11 +111,14 @@ opened_server opening is =
       };
       lawful = (opened_lawful lab_host (collection_in opening) holds).account;
       number = one opening.head.usn is.head.usn;
-      schema = early opening.head.schema is.head.schema;
     }
   where
     one : (usn : ℤ) → usn ≡ pos 1 → pos 0 <ℤ usn
     one usn is = omega (arith, ints, is)
 
+-- its schema moment is not the last one, and there is no device
+pub opened_schema : (opening : Opening) → IsLabOpening opening → opening.head.schema <ℤ last_moment
+opened_schema opening is = early opening.head.schema is.head.schema
+  where
     early : (schema : ℤ) → schema ≡ pos 1_700_000_000_000 → schema <ℤ last_moment
     early schema is = omega (arith, ints, is)

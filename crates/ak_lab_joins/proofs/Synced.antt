@@ -24,8 +24,8 @@ use Rattle.ak_keep.specs.Marks.{WithMark}
 use Rattle.ak_lab_joins.proofs.Edits.{HoldsLinked}
 use Rattle.ak_lab_joins.proofs.Syncs as syncs
 use Rattle.ak_lab_joins.proofs.Syncs.{CommitsNoneOrJoin}
-use Rattle.ak_lab_joins.proofs.Worlds.{commit_as, StaysQuiet, others_of_session}
-use Rattle.ak_lab_joins.specs.LabJoins.{HasRisen, IsLinkedDevice, IsLinkedServer, StillHolds, world_in}
+use Rattle.ak_lab_joins.proofs.Worlds.{GrowsSo, IsOfSession, commit_as, StaysQuiet, others_of_session}
+use Rattle.ak_lab_joins.specs.LabJoins.{HasRisen, ends_at_check, IsLinkedDevice, IsLinkedServer, StillHolds, world_in}
 use Rattle.ak_lab.specs.LabSyncs.{IsLabSync}
 use Rattle.ak_lab_devices.specs.Devices.{keeping_of}
 use Rattle.ak_lab_devices.specs.declared.devices.Device.{Device}
@@ -69,32 +69,51 @@ linked_device s d it = record {
   named = it.linked.named;
   links = it.linked.links;
   suits = it.linked.suits;
-  schema = it.linked.schema;
 }
 
 pub device_linked : (s : Collection) (d : Device) → IsLinkedDevice s d → HoldsLinked s (keeping_of d) d.undo
 device_linked s d it = record {
   c = it.c;
   holds = known_is d it.c it.holds;
-  linked = record { named = it.named; links = it.links; suits = it.suits; schema = it.schema };
+  linked = record { named = it.named; links = it.links; suits = it.suits };
 }
 
 -- no row stands beside its own grave where an undo list suits
-single_of : (steps : List Reversal) (at : RowsByName) (tags : List Tag) → StepsSuit steps at tags → IsSingle at
+pub single_of : (steps : List Reversal) (at : RowsByName) (tags : List Tag) → StepsSuit steps at tags → IsSingle at
 single_of [] at tags suits = suits
 single_of (step ∷ steps) at tags suits = suits.0
 
 -- a device with nothing to undo
-nothing_to_undo : (s c : Collection) (d : Device) → d.collection ≡ kept_of c → d.undo ≡ [] → AreNamed (row_under c) → IsSingle (row_under c) → AreLinked c s
-    → s.head.schema ≤ℤ c.head.schema → IsLinkedDevice s d
-nothing_to_undo s c d holds none named single linked schema = record {
+pub nothing_to_undo : (s c : Collection) (d : Device) → d.collection ≡ kept_of c → d.undo ≡ [] → AreNamed (row_under c) → IsSingle (row_under c) → AreLinked c s
+    → IsLinkedDevice s d
+nothing_to_undo s c d holds none named single linked = record {
   c = c;
   holds = holds;
   named = named;
   links = record { linked = linked; fit = subst (λ (steps : List Step). All (λ step. StepFits c step s) (reversals_in steps)) (sym none) (All-nil (λ step. StepFits c step s)) };
   suits = subst (λ (steps : List Step). SuitsNow steps c) (sym none) single;
-  schema = schema;
 }
+
+-- ---- the session keys
+-- the keys past the next one stay unused, if nothing but requests of that one came
+pub unused_next : (host : List ℕ) (account : AccountState) (sessions session : ℕ) (old now : Log) → sessions < 18_446_744_073_709_551_615 → session ≡ one_more sessions
+    → ((key : ℕ) → sessions < key → IsUnused host key account old) → GrowsSo (IsOfSession session) old now
+    → (key : ℕ) → one_more sessions < key → IsUnused host key account now
+unused_next host account sessions session old now room own unused grows key over =
+    subst (λ (log : Log). IsUnused host key account log) (sym grows.grown)
+    (events_leave_unused host key account old (unused key (further sessions key room over)) grows.growth
+    (some_of_all (IsMetaOrOther key) host grows.growth
+    (others_of_session session key grows.growth (λ same. never (one_more sessions) key over (sym own ∙ same)) grows.all)))
+  where
+    further : (n key : ℕ) → n < 18_446_744_073_709_551_615 → one_more n < key → n < key
+    further n key low high = omega (arith, low, high)
+
+    never : (a b : ℕ) → a < b → a ≡ b → ⊥
+    never a b low is = omega (arith, low, is)
+
+-- the next key is past the last one
+pub next_over : (n : ℕ) → n < 18_446_744_073_709_551_615 → n < one_more n
+next_over n low = omega (arith, low)
 
 -- a list is not one longer than itself
 not_one_more : (one : Commit) (commits : List Commit) → commits ≡ one ∷ commits → ⊥
@@ -104,7 +123,7 @@ not_one_more one commits is = over (length commits) (ap length is)
     over n is = omega (arith, is)
 
 -- ---- a moment that rises
-raised_past : (at c s : ℤ) → s ≤ℤ c → s <ℤ last_moment → s <ℤ advanced_moment at c
+pub raised_past : (at c s : ℤ) → s ≤ℤ c → s <ℤ last_moment → s <ℤ advanced_moment at c
 raised_past at c s low early = grind (arith, ints, low, early)
 
 -- a clock that stands still gives one moment
@@ -112,12 +131,6 @@ stands_still : (device_at at : ℤ) (to_come : Option (List ℤ)) → GivesAfter
 stands_still device_at at to_come (mid, earlier, first, next) =
     let given : GivesNext (Some (device_at ∷ [])) to_come at = subst (λ (m : Option (List ℤ)). GivesNext m to_come at) first.1 next in
     given.0
-
-not_itself : (a b : ℤ) → a <ℤ b → b ≡ a → ⊥
-not_itself a b low is = omega (arith, ints, low, is)
-
-no_more : (a b : ℤ) → a <ℤ b → a ≤ℤ b
-no_more a b low = omega (arith, ints, low)
 
 -- ---- the sync
 module _ (account : AccountState) (sessions : ℕ) (at device_at : ℤ) (d made : Device) (met new : LoggedState) (outcome : Outcome) (room : sessions < 18_446_744_073_709_551_615)
@@ -138,9 +151,6 @@ module _ (account : AccountState) (sessions : ℕ) (at device_at : ℤ) (d made 
 
   below_next : sessions < one_more sessions
   below_next = next_over sessions room
-    where
-      next_over : (n : ℕ) → n < 18_446_744_073_709_551_615 → n < one_more n
-      next_over n low = omega (arith, low)
 
   abbrev pub known : keeping_of d ≡ holding c
   known = known_is d c linked.holds
@@ -161,7 +171,7 @@ module _ (account : AccountState) (sessions : ℕ) (at device_at : ℤ) (d made 
       syncs.committed sync.ids account (log_in met) (log_in new) (keeping_of d) (keeping_of made) (health_over no_calls []) sync.health (state_over met no_calls at true) sync.wire
       (Some (device_at ∷ [])) outcome c refl refl sync.log known sync.ended.sync ended sync.unfailed enough may
 
-  schema_stays : is_now.state.committed.head.schema ≡ was.state.committed.head.schema
+  pub schema_stays : is_now.state.committed.head.schema ≡ was.state.committed.head.schema
   schema_stays =
       syncs.schema_stays sync.ids account (log_in met) (log_in new) (keeping_of d) (keeping_of made) (health_over no_calls []) sync.health (state_over met no_calls at true) sync.wire
       (Some (device_at ∷ [])) outcome c refl refl sync.log known sync.ended.sync ended sync.unfailed enough may server.number
@@ -176,37 +186,22 @@ module _ (account : AccountState) (sessions : ℕ) (at device_at : ℤ) (d made 
       syncs.fits_now sync.ids account (log_in met) (log_in new) (keeping_of d) (keeping_of made) (health_over no_calls []) sync.health (state_over met no_calls at true) sync.wire
       (Some (device_at ∷ [])) outcome c refl refl sync.log known sync.ended.sync ended sync.unfailed enough may server.number e step is
 
-  abbrev own_growth : syncs.GrowsOwn sync.ids.session.0 (log_in met) (log_in new)
+  abbrev own_growth : GrowsSo (IsOfSession sync.ids.session.0) (log_in met) (log_in new)
   own_growth =
       syncs.own_growth sync.ids account (log_in met) (log_in new) (keeping_of d) (keeping_of made) (health_over no_calls []) sync.health (state_over met no_calls at true) sync.wire
       (Some (device_at ∷ [])) outcome c refl refl sync.log known sync.ended.sync ended sync.unfailed enough may
 
   -- ---- the server
-  unused_now : (key : ℕ) → one_more sessions < key → IsUnused host key account (log_in new)
-  unused_now key over =
-      subst (λ (log : Log). IsUnused host key account log) (sym own_growth.grown)
-      (events_leave_unused host key account (log_in met) (server.unused key (further sessions (one_more sessions) key below_next over)) own_growth.growth
-      (some_of_all (IsMetaOrOther key) host own_growth.growth
-      (others_of_session sync.ids.session.0 key own_growth.growth
-      (λ same. never (one_more sessions) key over (sym sync.of.session ∙ same)) own_growth.all)))
-    where
-      further : (a b e : ℕ) → a < b → b < e → a < e
-      further a b e low high = omega (arith, low, high)
-
-      never : (a b : ℕ) → a < b → a ≡ b → ⊥
-      never a b low is = omega (arith, low, is)
-
   pub server_now : IsLinkedServer host account (one_more sessions) new
   server_now = record {
     host_is = sync.served.host ∙ server.host_is;
-    unused = unused_now;
+    unused = unused_next host account sessions sync.ids.session.0 (log_in met) (log_in new) room sync.of.session server.unused own_growth;
     lawful =
         syncs.lawful_now sync.ids account (log_in met) (log_in new) (keeping_of d) (keeping_of made) (health_over no_calls []) sync.health (state_over met no_calls at true) sync.wire
         (Some (device_at ∷ [])) outcome c refl refl sync.log known sync.ended.sync ended sync.unfailed enough may server.number;
     number =
         syncs.number_stays sync.ids account (log_in met) (log_in new) (keeping_of d) (keeping_of made) (health_over no_calls []) sync.health (state_over met no_calls at true) sync.wire
         (Some (device_at ∷ [])) outcome c refl refl sync.log known sync.ended.sync ended sync.unfailed enough may server.number;
-    schema = subst (λ (schema : ℤ). schema <ℤ last_moment) (sym schema_stays) server.schema;
   }
 
   -- ---- the other devices
@@ -221,7 +216,6 @@ module _ (account : AccountState) (sessions : ℕ) (at device_at : ℤ) (d made 
           (λ step. fits_now it.c step) (reversals_in e.undo) it.links.fit;
     };
     suits = it.suits;
-    schema = subst (λ (schema : ℤ). schema ≤ℤ it.c.head.schema) (sym schema_stays) it.schema;
   }
 
   -- ---- the device
@@ -231,29 +225,31 @@ module _ (account : AccountState) (sessions : ℕ) (at device_at : ℤ) (d made 
   single : IsSingle (row_under c)
   single = single_of (reversals_in d.undo) (row_under c) c.head.tags linked.suits
 
-  schema_low : is_now.state.committed.head.schema ≤ℤ c.head.schema
-  schema_low = subst (λ (schema : ℤ). schema ≤ℤ c.head.schema) (sym schema_stays) linked.schema
-
   -- a device that is as it was
   same_now : keeping_of made ≡ keeping_of d → IsLinkedDevice is_now.state.committed made × Holds made.collection c
   same_now is =
       let kept : made.collection ≡ kept_of c = kept_is made c (is ∙ known) in (
-        nothing_to_undo is_now.state.committed c made kept undone linked.named single (linked_now c linked.links.linked) schema_low,
+        nothing_to_undo is_now.state.committed c made kept undone linked.named single (linked_now c linked.links.linked),
         holds_is made c kept,
       )
 
+  -- the schema moment that the device has then is not the server's
+  abbrev pub HasOther : Type 0
+  HasOther = (left : Collection) → made.collection ≡ kept_of left → left.head.schema ≢ was.state.committed.head.schema
+
+  -- so it is after a bad sanity check
+  abbrev pub HasOtherAt : Outcome → Type 0
+  HasOtherAt o = ends_at_check o ≡ true → HasOther
+
   -- a device whose moments have risen, to the one at which its clock stands
-  raised_now : (after : Option (List ℤ)) → HasRaised 1 (keeping_of d) (keeping_of made) (Some (device_at ∷ [])) after
+  raised_now : (after : Option (List ℤ)) → HasRaised 1 (keeping_of d) (keeping_of made) (Some (device_at ∷ [])) after → HasOther
       → IsLinkedDevice is_now.state.committed made × HasRisen device_at c made
-  raised_now after raised =
+  raised_now after raised other =
       let head : Head = record c.head { moment = advanced_moment raised.at c.head.moment; schema = advanced_moment raised.at c.head.schema } in
       let left : Collection = record c { head = head } in
       let kept : made.collection ≡ kept_of left =
-      kept_is made left (raised.raises ∙ ap (changed (moments_raised raised.at)) known) in
-      let past : is_now.state.committed.head.schema <ℤ head.schema =
-      raised_past raised.at c.head.schema is_now.state.committed.head.schema schema_low server_now.schema in (
-        nothing_to_undo is_now.state.committed left made kept undone linked.named single
-            (inl (not_itself is_now.state.committed.head.schema head.schema past)) (no_more is_now.state.committed.head.schema head.schema past),
+      kept_is made left (raised.raises ∙ ap (changed (moments_raised raised.at)) known) in (
+        nothing_to_undo is_now.state.committed left made kept undone linked.named single (inl (λ is. other left kept (is ∙ schema_stays))),
         subst (λ (m : ℤ). HasRisen m c made) (stands_still device_at raised.at after raised.given) (holds_is made left kept),
       )
 
@@ -261,6 +257,7 @@ module _ (account : AccountState) (sessions : ℕ) (at device_at : ℤ) (d made 
   pub record FinishedSo : Type 0 where
     pub device : Collection
     pub kept : made.collection ≡ kept_of device
+    pub schema : device.head.schema ≡ c.head.schema
     pub exchanged : AreExchanged c was.state.committed device is_now.state.committed
     pub moment : device.head.moment ≡ is_now.state.committed.head.moment
     pub once : is_now.commits ≡ commit_as sync.ids.session.0 was.state.committed is_now.state.committed ∷ was.commits
@@ -284,39 +281,39 @@ module _ (account : AccountState) (sessions : ℕ) (at device_at : ℤ) (d made 
       record {
         device = device;
         kept = kept;
+        schema = it.0.schema;
         exchanged = it.1;
         moment = it.2;
         once = it.3;
         device_number = it.5;
         server_number = next_number it.3 committed;
-        linked_made = nothing_to_undo is_now.state.committed device made kept undone it.1.named it.1.linked.own_single it.4
-            (subst (λ (schema : ℤ). is_now.state.committed.head.schema ≤ℤ schema) (sym it.0.schema) schema_low);
+        linked_made = nothing_to_undo is_now.state.committed device made kept undone it.1.named it.1.linked.own_single it.4;
       }
 
   -- the device after any end
-  device_by : (o : Outcome) → outcome ≡ o → KeepsDevice 1 (keeping_of d) (keeping_of made) (Some (device_at ∷ [])) sync.to_come o
+  device_by : (o : Outcome) → outcome ≡ o → KeepsDevice 1 (keeping_of d) (keeping_of made) (Some (device_at ∷ [])) sync.to_come o → HasOtherAt o
       → IsLinkedDevice is_now.state.committed made × (o ≢ outcomes.Finished → StillHolds device_at c o made)
-  device_by outcomes.Finished is keeps = ((finished_now is).linked_made, λ other. absurd (other refl))
-  device_by (outcomes.BadRow fault) is keeps = let it = raised_now sync.to_come keeps in (it.0, λ _. it.1)
-  device_by (outcomes.BadCounts client server) is keeps = let it = raised_now sync.to_come keeps in (it.0, λ _. it.1)
-  device_by outcomes.NoChanges is keeps = let it = same_now keeps in (it.0, λ _. it.1)
-  device_by (outcomes.FullSchema device server) is keeps = let it = same_now keeps in (it.0, λ _. it.1)
-  device_by (outcomes.FullSequence usn) is keeps = let it = same_now keeps in (it.0, λ _. it.1)
-  device_by (outcomes.ClockOff device server) is keeps = let it = same_now keeps in (it.0, λ _. it.1)
-  device_by (outcomes.OwnCheck fault) is keeps = let it = same_now keeps in (it.0, λ _. it.1)
-  device_by outcomes.Stopped is keeps = let it = same_now keeps in (it.0, λ _. it.1)
-  device_by (outcomes.Refused status word seen) is keeps = let it = same_now keeps in (it.0, λ _. it.1)
-  device_by outcomes.Lost is keeps = let it = same_now keeps in (it.0, λ _. it.1)
-  device_by outcomes.BadReply is keeps = let it = same_now keeps in (it.0, λ _. it.1)
-  device_by outcomes.TooManyChunks is keeps = let it = same_now keeps in (it.0, λ _. it.1)
-  device_by outcomes.Keep is keeps = let it = same_now keeps in (it.0, λ _. it.1)
-  device_by outcomes.Memory is keeps = let it = same_now keeps in (it.0, λ _. it.1)
+  device_by outcomes.Finished is keeps new = ((finished_now is).linked_made, λ other. absurd (other refl))
+  device_by (outcomes.BadRow fault) is keeps new = let it = raised_now sync.to_come keeps (new refl) in (it.0, λ _. it.1)
+  device_by (outcomes.BadCounts client server) is keeps new = let it = raised_now sync.to_come keeps (new refl) in (it.0, λ _. it.1)
+  device_by outcomes.NoChanges is keeps new = let it = same_now keeps in (it.0, λ _. it.1)
+  device_by (outcomes.FullSchema device server) is keeps new = let it = same_now keeps in (it.0, λ _. it.1)
+  device_by (outcomes.FullSequence usn) is keeps new = let it = same_now keeps in (it.0, λ _. it.1)
+  device_by (outcomes.ClockOff device server) is keeps new = let it = same_now keeps in (it.0, λ _. it.1)
+  device_by (outcomes.OwnCheck fault) is keeps new = let it = same_now keeps in (it.0, λ _. it.1)
+  device_by outcomes.Stopped is keeps new = let it = same_now keeps in (it.0, λ _. it.1)
+  device_by (outcomes.Refused status word seen) is keeps new = let it = same_now keeps in (it.0, λ _. it.1)
+  device_by outcomes.Lost is keeps new = let it = same_now keeps in (it.0, λ _. it.1)
+  device_by outcomes.BadReply is keeps new = let it = same_now keeps in (it.0, λ _. it.1)
+  device_by outcomes.TooManyChunks is keeps new = let it = same_now keeps in (it.0, λ _. it.1)
+  device_by outcomes.Keep is keeps new = let it = same_now keeps in (it.0, λ _. it.1)
+  device_by outcomes.Memory is keeps new = let it = same_now keeps in (it.0, λ _. it.1)
 
-  pub device_now : IsLinkedDevice is_now.state.committed made
-  device_now = (device_by outcome refl sync.device).0
+  pub device_now : HasOtherAt outcome → IsLinkedDevice is_now.state.committed made
+  device_now new = (device_by outcome refl sync.device new).0
 
-  pub still_holds : outcome ≢ outcomes.Finished → StillHolds device_at c outcome made
-  still_holds other = (device_by outcome refl sync.device).1 other
+  pub still_holds : HasOtherAt outcome → outcome ≢ outcomes.Finished → StillHolds device_at c outcome made
+  still_holds new other = (device_by outcome refl sync.device new).1 other
 
   -- a device that found nothing to sync has the content of what is committed
   pub agreed_now : outcome ≡ outcomes.NoChanges → SameContent (content_of c) (content_of was.state.committed)

@@ -1,5 +1,6 @@
 -- What a user may rely on in a lab: each device stays linked with the server, so that a finished sync leaves both with the join.
-use Rattle.std.specs.Prelude.{◌≡◌, ◌≢◌, ◌⊎◌, ℕ, ℤ, pos, ◌+◌, ◌+ℤ◌, ◌<◌, ◌≤ℤ◌, ◌<ℤ◌, List, [], ◌∷◌, length, Some}
+use Rattle.std.specs.List.{AllByRecursion}
+use Rattle.std.specs.Prelude.{◌≡◌, ◌≢◌, ◌⊎◌, ℕ, ℤ, pos, ◌+◌, ◌+ℤ◌, ◌<◌, ◌≤ℤ◌, ◌<ℤ◌, Bool, true, false, List, [], ◌∷◌, ◌++◌, length, Some, ⊤}
 use Rattle.ak_base.specs.Limits.{last_moment}
 use Rattle.ak_client.specs.declared.outcomes.Outcome.{Outcome}
 use Rattle.ak_client.specs.declared.outcomes.Outcome.TheVariants as outcomes
@@ -12,10 +13,16 @@ use Rattle.ak_keep.specs.Collections.{Collection}
 use Rattle.ak_lab.specs.LabRuns.{AllGo, IsLabOpening}
 use Rattle.ak_lab.specs.LabStates.{LabState, at_line, lab_host, opened_lab}
 use Rattle.ak_lab.specs.LabSyncs.{EndsSync}
+use Rattle.ak_lab.specs.LineOutcomes.{Accepted, EndsAs, Says}
 use Rattle.ak_lab_devices.specs.Devices.{device_of}
 use Rattle.ak_lab_devices.specs.declared.devices.Device.{Device}
 use Rattle.ak_lab_keepers.specs.RestingKeepers.{Holds, kept_of}
-use Rattle.ak_loops.specs.Entries.{LoggedState, log_in}
+use Rattle.ak_lab_lines.specs.declared.lab_lines.Direction.{Direction}
+use Rattle.ak_lab_lines.specs.declared.lab_lines.Direction.TheVariants as directions
+use Rattle.ak_lab_lines.specs.declared.lab_lines.LabLine.{LabLine}
+use Rattle.ak_lab_lines.specs.declared.lab_lines.LabLine.TheVariants as lines
+use Rattle.ak_loops.specs.Entries.{LoggedState, account_opened, log_in}
+use Rattle.ak_merge.specs.Commits.{IsCopyOf}
 use Rattle.ak_merge.specs.Exchanges.{HoldsJoin}
 use Rattle.ak_merge.specs.Holdings.{AreNamed, SameContent, content_of, row_under}
 use Rattle.ak_merge.specs.Joins.{join}
@@ -26,17 +33,16 @@ use Rattle.ak_protocol.specs.LawfulServers.{IsLawfulAccount}
 use Rattle.ak_protocol.specs.Logs.{World}
 use Rattle.ak_protocol.specs.Syncs.{IsUnused, world_of}
 use Rattle.ak_server_copies.specs.Copies.{committed_in}
+use Rattle.ak_transfers.specs.Transfers.{HoldsUpload}
 
 -- ---- between two lines
--- a device holds a collection that is linked with what the server committed, and its undo list suits the one and fits the other. Its schema
--- moment is at least the server's, which stays: nothing is uploaded in a lab
+-- a device holds a collection that is linked with what the server committed, and its undo list suits the one and fits the other
 pub record IsLinkedDevice (committed : Collection) (d : Device) : Type 0 where
   pub c : Collection
   pub holds : d.collection ≡ kept_of c
   pub named : AreNamed (row_under c)
   pub links : LinksWith c d.undo committed
   pub suits : SuitsNow d.undo c
-  pub schema : committed.head.schema ≤ℤ c.head.schema
 
 -- the account that a lab's server was opened with, as all that came to it left it
 abbrev pub world_in : List ℕ → AccountState → LoggedState → World
@@ -47,13 +53,12 @@ abbrev pub lab_world : AccountState → LabState → World
 lab_world account s = world_in lab_host account s.server
 
 -- the server has one account, of this host key, which was opened so. Of the requests that came to it none but metas has the key of a session past
--- the last one. What it committed is what a server may hold, gives a number over 0 in the next sync, and has a schema moment that is not the last one
+-- the last one. What it committed is what a server may hold, and gives a number over 0 in the next sync
 pub record IsLinkedServer (host : List ℕ) (account : AccountState) (sessions : ℕ) (server : LoggedState) : Type 0 where
   pub host_is : server.host ≡ host
   pub unused : (key : ℕ) → sessions < key → IsUnused host key account (log_in server)
   pub lawful : IsLawfulAccount (world_in host account server).state
   pub number : pos 0 <ℤ (world_in host account server).state.committed.head.usn
-  pub schema : (world_in host account server).state.committed.head.schema <ℤ last_moment
 
 -- a lab whose devices are each linked with what its server committed
 pub record IsLinkedLab (account : AccountState) (s : LabState) : Type 0 where
@@ -61,12 +66,99 @@ pub record IsLinkedLab (account : AccountState) (s : LabState) : Type 0 where
   pub devices : (name : List ℕ) (d : Device) → device_of name s.devices ≡ Some d
       → IsLinkedDevice (lab_world account s).state.committed d
 
--- another sync may begin: its session has a key that none had before. At the last `u64` keys would come again
+-- another session may begin: it has a key that none had before. At the last `u64` keys would come again
 abbrev pub HasSession : LabState → Type 0
 HasSession s = s.sessions < 18_446_744_073_709_551_615
 
+-- ---- schema moments
+-- what a lab's server has committed
+abbrev pub committed_of : AccountState → LabState → Collection
+committed_of account s = (lab_world account s).state.committed
+
+-- the device of this name holds this collection
+abbrev pub DeviceHolds : List ℕ → LabState → Collection → Type 0
+DeviceHolds name s c = (d : Device) × (device_of name s.devices ≡ Some d) × Holds d.collection c
+
+-- a device's schema moment was c's and is this one's now: it is as it was, or is not the server's
+abbrev pub IsFreshSchema : (s c now : Collection) → Type 0
+IsFreshSchema s c now = (now.head.schema ≡ c.head.schema) ⊎ (now.head.schema ≢ s.head.schema)
+
+-- so it is with the device of this name
+abbrev pub HasFreshDevice : AccountState → List ℕ → LabState → LabState → Type 0
+HasFreshDevice account name s t =
+    (c now : Collection) → DeviceHolds name s c → DeviceHolds name t now → IsFreshSchema (committed_of account s) c now
+
+-- the schema moment that the device of this name has now is not the server's
+abbrev pub HasOtherSchema : AccountState → List ℕ → LabState → LabState → Type 0
+HasOtherSchema account name s t =
+    (now : Collection) → DeviceHolds name t now → now.head.schema ≢ (committed_of account s).head.schema
+
+-- whether a sync ended at a bad sanity check
+abbrev pub ends_at_check : Outcome → Bool
+ends_at_check (outcomes.BadRow fault) = true
+ends_at_check (outcomes.BadCounts client server) = true
+ends_at_check outcome = false
+
+-- so it is if a sync of the device ended at one
+abbrev pub HasFreshCheck : AccountState → List ℕ → LabState → LabState → Outcome → Type 0
+HasFreshCheck account name s t outcome = ends_at_check outcome ≡ true → HasOtherSchema account name s t
+
+-- the schema moment of the server is as it was, or is that of no device
+abbrev pub HasFreshServer : AccountState → LabState → LabState → Type 0
+HasFreshServer account s t = ((committed_of account t).head.schema ≡ (committed_of account s).head.schema)
+    ⊎ ((name : List ℕ) (c : Collection) → DeviceHolds name s c → c.head.schema ≢ (committed_of account t).head.schema)
+
+-- each schema moment that a line takes is fresh. A line of the desk takes one for its device, if it changes the schema, and so does a sync whose sanity
+-- check is bad. An upload takes one for the server. No other line takes any
+abbrev pub TakesFreshSchema : AccountState → LabLine → LabState → LabState → Type 0
+TakesFreshSchema account (lines.Do name text) s t = HasFreshDevice account name s t
+TakesFreshSchema account (lines.Sync name) s t =
+    (outcome : Outcome) → EndsSync name s t outcome → HasFreshCheck account name s t outcome
+TakesFreshSchema account (lines.Transfer directions.Upload name) s t = HasFreshServer account s t
+TakesFreshSchema account said s t = ⊤
+
+-- the same of the line of this number of a script, if it says anything
+abbrev pub TakesFreshSchemas : AccountState → ℕ → Line → LabState → LabState → Type 0
+TakesFreshSchemas account number line s t =
+    (said : LabLine) → Says line said → TakesFreshSchema account said (at_line number s) t
+
+-- lines go one after another, and each takes such schema moments
+abbrev pub AllGoFresh : AccountState → ℕ → List Line → LabState → LabState → List (List ℕ) → Type 0
+AllGoFresh account number [] s t printed = (t ≡ s) × (printed ≡ [])
+AllGoFresh account number (line ∷ more) s t printed =
+    (mid : LabState) × (first : List (List ℕ)) × (others : List (List ℕ)) × EndsAs number line s mid (Accepted first)
+    × TakesFreshSchemas account number line s mid × AllGoFresh account (number + 1) more mid t others × (printed ≡ first ++ others)
+
+-- a line does not upload
+abbrev pub IsNoUpload : LabLine → Type 0
+IsNoUpload (lines.Transfer directions.Upload name) = ⊥
+IsNoUpload said = ⊤
+
+-- a line of a script does not
+abbrev pub SaysNoUpload : Line → Type 0
+SaysNoUpload line = (said : LabLine) → Says line said → IsNoUpload said
+
+-- the schema moment of each device is at least the server's, which is not the last one. So it stays if nothing is uploaded
+pub record HasOrderedSchemas (account : AccountState) (s : LabState) : Type 0 where
+  pub server : (committed_of account s).head.schema <ℤ last_moment
+  pub devices : (name : List ℕ) (c : Collection) → DeviceHolds name s c → (committed_of account s).head.schema ≤ℤ c.head.schema
+
+-- lines went one after another in a lab that was opened so, and printed this: first some of which none uploads, whatever schema moments they took;
+-- and then some, each of which took schema moments that no other collection has
+pub record GoFresh (opening : Opening) (all : List Line) (t : LabState) (printed : List (List ℕ)) : Type 0 where
+  pub front : List Line
+  pub rest : List Line
+  pub parts : all ≡ front ++ rest
+  pub plain : AllByRecursion SaysNoUpload front
+  pub mid : LabState
+  pub first : List (List ℕ)
+  pub later : List (List ℕ)
+  pub goes : AllGo 1 front (opened_lab opening) mid first
+  pub fresh : AllGoFresh (account_opened opening) (length front + 1) rest mid t later
+  pub said : printed ≡ first ++ later
+
 -- ---- what a sync leaves
--- what a line leaves as it was that syncs the device of this name: the clock, the other devices, and of the device its name, its clock and its
+-- what a session of the device of this name leaves as it was: the clock, the other devices, and of the device its name, its clock and its
 -- count of answers. There is nothing to undo then
 pub record KeepsOthers (name : List ℕ) (s t : LabState) : Type 0 where
   pub clock : t.clock ≡ s.clock
@@ -163,9 +255,68 @@ pub record Agrees (account : AccountState) (name : List ℕ) (s : LabState) : Ty
   pub held : (d : Device) → device_of name s.devices ≡ Some d → Holds d.collection c
   pub same : SameContent (content_of c) (content_of (lab_world account s).state.committed)
 
+-- ---- what an upload and a download leave
+-- the device of this name holds what the server has committed, graves and numbers too, with the last sync at its moment. It is linked with that
+pub record HoldsCopy (account : AccountState) (name : List ℕ) (t : LabState) : Type 0 where
+  pub device : Collection
+  pub holds : DeviceHolds name t device
+  pub committed : committed_in t.server ≡ Some (committed_of account t)
+  pub copy : IsCopyOf (committed_of account t) device
+  pub linked : AreLinkedParts device (committed_of account t)
+
+-- an upload of the device of this name finished: the server committed once, the device's content without its graves, and the device holds that
+-- collection. All devices are linked with it whose schema moment is not its own, by chance
+pub record LeavesUpload (account : AccountState) (name : List ℕ) (s t : LabState) : Type 0 where
+  pub c : Collection
+  pub held : DeviceHolds name s c
+  pub once : CommitsOnceIn (one_more s.sessions) (lab_world account s) (lab_world account t)
+  pub upload : HoldsUpload c (committed_of account s) (committed_of account t)
+  pub copy : HoldsCopy account name t
+  pub linked : HasFreshServer account s t → IsLinkedLab account t
+  pub keeps : KeepsOthers name s t
+  pub calls : keeps.made.calls ≡ keeps.d.calls
+
+-- a download of the device of this name finished: the server has committed what it had, and the device holds that
+pub record LeavesDownload (account : AccountState) (name : List ℕ) (s t : LabState) : Type 0 where
+  pub kept : KeepsCommitted (lab_world account s) (lab_world account t)
+  pub copy : HoldsCopy account name t
+  pub linked : IsLinkedLab account t
+  pub keeps : KeepsOthers name s t
+  pub calls : keeps.made.calls ≡ keeps.d.calls
+
+-- whether an upload that did not finish may have ended so after its request: that was refused, or its reply was no good, or memory ran out
+abbrev pub may_have_uploaded : Outcome → Bool
+may_have_uploaded (outcomes.Refused status word seen) = true
+may_have_uploaded outcomes.BadReply = true
+may_have_uploaded outcomes.Memory = true
+may_have_uploaded outcome = false
+
+-- a server has committed what it had. After an upload that ended so it may have committed once, in the session of this key: the upload of c
+abbrev pub MayHoldUpload : Direction → ℕ → Collection → World → World → Outcome → Type 0
+MayHoldUpload directions.Upload key c before after outcome = KeepsCommitted before after
+    ⊎ (may_have_uploaded outcome ≡ true) × CommitsOnceIn key before after × HoldsUpload c before.state.committed after.state.committed
+MayHoldUpload directions.Download key c before after outcome = KeepsCommitted before after
+
+-- an upload or a download of the device of this name ended so and did not finish: the device holds what it held, and knows of no other calls
+pub record KeepsTransferSides (direction : Direction) (account : AccountState) (name : List ℕ) (s t : LabState) (outcome : Outcome) : Type 0 where
+  pub c : Collection
+  pub held : DeviceHolds name s c
+  pub holds : DeviceHolds name t c
+  pub server : MayHoldUpload direction (one_more s.sessions) c (lab_world account s) (lab_world account t) outcome
+  pub linked : HasFreshServer account s t → IsLinkedLab account t
+  pub keeps : KeepsOthers name s t
+  pub calls : keeps.made.calls ≡ keeps.d.calls
+
+-- ---- over a script
 -- the line of this number syncs the device of this name, and comes to this outcome
 abbrev pub ComesTo : ℕ → List ℕ → LabState → LabState → Outcome → Type 0
 ComesTo number name s t outcome = EndsSync name (at_line number s) t outcome
+
+-- the same, and a sync of the device of this name comes next. None of the lines uploads, or the sync takes a fresh schema moment too if its sanity
+-- check is bad
+abbrev pub SyncsFresh : Opening → List Line → List ℕ → LabState → LabState → List (List ℕ) → Outcome → Type 0
+SyncsFresh opening all name s t printed outcome =
+    GoFresh opening all s printed × (AllByRecursion SaysNoUpload all ⊎ HasFreshCheck (account_opened opening) name s t outcome)
 
 -- a lab was opened and ran these lines one after another, and a sync of the device of this name came next, with this outcome. There are too few
 -- lines for the sessions to reach the last `u64`
@@ -173,6 +324,6 @@ pub record RunsToSync (opening : Opening) (all : List Line) (name : List ℕ) (s
     (outcome : Outcome) : Type 0 where
   pub opens : IsLabOpening opening
   pub printed : List (List ℕ)
-  pub goes : AllGo 1 all (opened_lab opening) s printed
+  pub goes : SyncsFresh opening all name s t printed outcome
   pub room : length all < 18_446_744_073_709_551_615
   pub comes : ComesTo (length all + 1) name s t outcome

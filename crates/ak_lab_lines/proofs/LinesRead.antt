@@ -10,6 +10,7 @@ use Rattle.ak_lines.specs.Reading.{number_in, next_number}
 use Rattle.ak_lines.proofs.Numerals.{number_read}
 use Rattle.ak_lab_lines.specs.LabLines.{side_of, shown_of, signed_number, reviews_of, lab_line_of}
 use Rattle.ak_lab_lines.specs.Written.{IsShown, AreReviews, IsLabLine, side_word, shown_word, reviews_text, line_text, IsMinusZero, SaysLine}
+use Rattle.ak_lab_lines.specs.declared.lab_lines.Direction.TheVariants as directions
 use Rattle.ak_lab_lines.specs.declared.lab_lines.LabLine.{LabLine}
 use Rattle.ak_lab_lines.specs.declared.lab_lines.LabLine.TheVariants as lines
 use Rattle.ak_lab_lines.specs.declared.lab_lines.Shown.{Shown}
@@ -54,6 +55,8 @@ written_read (lines.Review device card ease count) h =
     ap (option_and_then (λ (p : List ℕ × List ℕ). reviews_of p.0 p.1)) (next_word_read device (reviews_text card ease count) h.0) ∙ reviews_read device card ease count h.1
 written_read (lines.Do device line) h = ap (option_map (λ (p : List ℕ × List ℕ). lines.Do p.0 p.1)) (next_word_read device line h)
 written_read (lines.Sync device) h = ap (option_map lines.Sync) (word_read device h)
+written_read (lines.Transfer directions.Upload device) h = ap (option_map (lines.Transfer directions.Upload)) (word_read device h)
+written_read (lines.Transfer directions.Download device) h = ap (option_map (lines.Transfer directions.Download)) (word_read device h)
 written_read (lines.Show side what) h =
     ap (option_and_then (λ (p : List ℕ × List ℕ). option_map (lines.Show (side_of p.0)) (shown_of p.1))) (next_word_read (side_word side) (shown_word what) (side_filled side h.0))
     ∙ ap (λ s. option_map (lines.Show s) (shown_of (shown_word what))) (side_read side h.0)

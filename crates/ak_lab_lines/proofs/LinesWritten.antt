@@ -16,8 +16,11 @@ use Rattle.ak_base.specs.declared.names.Table.TheVariants as tables
 use Rattle.ak_lines.specs.Reading.{is_word, number_in, next_number}
 use Rattle.ak_lines.proofs.Numerals.{number_written}
 use Rattle.ak_lines.proofs.Spaces.{cut_back}
-use Rattle.ak_lab_lines.specs.LabLines.{filled, word_of, next_word, is_device_name, side_of, shown_of, negated, signed_number, clock_line, device_line, shift_line, reviews_of, review_line, do_line, sync_line, show_line, count_line, requests_line, line_of, lab_line_of}
+use Rattle.ak_lab_lines.specs.LabLines.{filled, word_of, next_word, is_device_name, side_of, shown_of, negated, signed_number, clock_line, device_line, shift_line, reviews_of, review_line, do_line, sync_line, transfer_line, show_line, count_line, requests_line, line_of, lab_line_of}
+use Rattle.ak_lab_lines.specs.LabTexts.{direction_word}
 use Rattle.ak_lab_lines.specs.Written.{IsWord, IsSide, IsShown, AreReviews, side_word, shown_word, reviews_text, SaysLine}
+use Rattle.ak_lab_lines.specs.declared.lab_lines.Direction.{Direction}
+use Rattle.ak_lab_lines.specs.declared.lab_lines.Direction.TheVariants as directions
 use Rattle.ak_lab_lines.specs.declared.lab_lines.LabLine.{LabLine}
 use Rattle.ak_lab_lines.specs.declared.lab_lines.LabLine.TheVariants as lines
 use Rattle.ak_lab_lines.specs.declared.lab_lines.Shown.{Shown}
@@ -231,6 +234,12 @@ sync_written text line h =
     let w = word_written text word one in
     subst (SaysAfter (codes "sync") text) is (w.1, inl (ap (λ t. codes "sync " ++ t) w.0)))
 
+transfer_written : (direction : Direction) (text : List ℕ) (line : LabLine) → transfer_line direction text ≡ Some line → SaysAfter (direction_word direction) text line
+transfer_written direction text line h =
+    map_some (lines.Transfer direction) (word_of text) line h (λ word one is.
+    let w = word_written text word one in
+    subst (SaysAfter (direction_word direction) text) is (w.1, inl (ap (λ t. direction_word direction ++ (32 ∷ t)) w.0)))
+
 requests_written : (text : List ℕ) (line : LabLine) → requests_line text ≡ Some line → SaysAfter (codes "requests") text line
 requests_written text line h =
     map_some lines.Requests (word_of text) line h (λ word one is.
@@ -266,9 +275,11 @@ line_written word text line =
     named_or_other word (codes "review") _ _ line (by_verb word (codes "review") text line _ (review_written text line)) (
     named_or_other word (codes "do") _ _ line (by_verb word (codes "do") text line _ (do_written text line)) (
     named_or_other word (codes "sync") _ _ line (by_verb word (codes "sync") text line _ (sync_written text line)) (
+    named_or_other word (codes "upload") _ _ line (by_verb word (codes "upload") text line _ (transfer_written directions.Upload text line)) (
+    named_or_other word (codes "download") _ _ line (by_verb word (codes "download") text line _ (transfer_written directions.Download text line)) (
     named_or_other word (codes "show") _ _ line (by_verb word (codes "show") text line _ (show_written text line)) (
     named_or_other word (codes "count") _ _ line (by_verb word (codes "count") text line _ (count_written text line)) (
-    named_or_other word (codes "requests") _ None line (by_verb word (codes "requests") text line _ (requests_written text line)) (none_is line)))))))))
+    named_or_other word (codes "requests") _ None line (by_verb word (codes "requests") text line _ (requests_written text line)) (none_is line)))))))))))
 
 pub read_said : (text : List ℕ) (line : LabLine) → lab_line_of text ≡ Some line → SaysLine text line
 read_said text line h =

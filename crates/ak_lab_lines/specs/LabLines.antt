@@ -7,6 +7,8 @@ use Rattle.ak_base.specs.Cuts.{begins, has, front, behind}
 use Rattle.ak_base.specs.Decimals.{number_of}
 use Rattle.ak_base.specs.declared.names.Table.TheVariants as tables
 use Rattle.ak_lines.specs.Reading.{is_word, number_in, next_number}
+use Rattle.ak_lab_lines.specs.declared.lab_lines.Direction.{Direction}
+use Rattle.ak_lab_lines.specs.declared.lab_lines.Direction.TheVariants as directions
 use Rattle.ak_lab_lines.specs.declared.lab_lines.LabLine.{LabLine}
 use Rattle.ak_lab_lines.specs.declared.lab_lines.LabLine.TheVariants as lines
 use Rattle.ak_lab_lines.specs.declared.lab_lines.Shown.{Shown}
@@ -98,6 +100,10 @@ do_line text = option_map (λ p. lines.Do p.0 p.1) (next_word text)
 abbrev pub sync_line : List ℕ → Option LabLine
 sync_line text = option_map lines.Sync (word_of text)
 
+-- `upload <device>`, `download <device>`
+abbrev pub transfer_line : Direction → List ℕ → Option LabLine
+transfer_line direction text = option_map (lines.Transfer direction) (word_of text)
+
 -- `show <side> <table>`
 abbrev pub show_line : List ℕ → Option LabLine
 show_line text = option_and_then (λ p. option_map (lines.Show (side_of p.0)) (shown_of p.1)) (next_word text)
@@ -119,6 +125,8 @@ line_of word text =
     else if is_word word (codes "review") then review_line text
     else if is_word word (codes "do") then do_line text
     else if is_word word (codes "sync") then sync_line text
+    else if is_word word (codes "upload") then transfer_line directions.Upload text
+    else if is_word word (codes "download") then transfer_line directions.Download text
     else if is_word word (codes "show") then show_line text
     else if is_word word (codes "count") then count_line text
     else if is_word word (codes "requests") then requests_line text

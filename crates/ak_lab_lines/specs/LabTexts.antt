@@ -1,10 +1,21 @@
--- What the lab prints of syncs, wire calls and counts, and of names of no device.
+-- What the lab prints of syncs, uploads, downloads, wire calls and counts, and of names of no device.
 use Rattle.std.specs.Prelude.{ℕ, List, ◌++◌, codes, decimal}
+use Rattle.ak_lab_lines.specs.declared.lab_lines.Direction.{Direction}
+use Rattle.ak_lab_lines.specs.declared.lab_lines.Direction.TheVariants as directions
 use Rattle.ak_messages.specs.declared.requests.SanityCounts.{SanityCounts}
+
+-- `<word> <device>: <outcome>`
+abbrev pub ending_text : List ℕ → List ℕ → List ℕ → List ℕ
+ending_text word device outcome = word ++ codes " " ++ device ++ codes ": " ++ outcome
 
 -- `sync <device>: <outcome>`
 abbrev pub sync_text : List ℕ → List ℕ → List ℕ
-sync_text device outcome = codes "sync " ++ device ++ codes ": " ++ outcome
+sync_text = ending_text (codes "sync")
+
+-- the first word of an upload's line or of a download's
+abbrev pub direction_word : Direction → List ℕ
+direction_word directions.Upload = codes "upload"
+direction_word directions.Download = codes "download"
 
 -- `requests <device>: <n>`
 abbrev pub requests_text : List ℕ → ℕ → List ℕ

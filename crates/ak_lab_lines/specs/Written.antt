@@ -7,6 +7,7 @@ use Rattle.ak_base.specs.Tables.{buried_in}
 use Rattle.ak_base.specs.declared.names.Table.{Table}
 use Rattle.ak_base.specs.declared.names.Table.TheVariants as tables
 use Rattle.ak_lab_lines.specs.LabLines.{is_device_name}
+use Rattle.ak_lab_lines.specs.LabTexts.{direction_word}
 use Rattle.ak_lab_lines.specs.declared.lab_lines.LabLine.{LabLine}
 use Rattle.ak_lab_lines.specs.declared.lab_lines.LabLine.TheVariants as lines
 use Rattle.ak_lab_lines.specs.declared.lab_lines.Shown.{Shown}
@@ -47,6 +48,7 @@ IsLabLine (lines.Shift device by) =
 IsLabLine (lines.Review device card ease count) = IsWord device × AreReviews card ease count
 IsLabLine (lines.Do device line) = IsWord device
 IsLabLine (lines.Sync device) = IsWord device
+IsLabLine (lines.Transfer direction device) = IsWord device
 IsLabLine (lines.Show side what) = IsSide side × IsShown what
 IsLabLine (lines.Count side) = IsSide side
 IsLabLine (lines.Requests device) = IsWord device
@@ -90,6 +92,7 @@ line_text (lines.Review device card ease count) =
     spaced (codes "review") (spaced device (reviews_text card ease count))
 line_text (lines.Do device line) = spaced (codes "do") (spaced device line)
 line_text (lines.Sync device) = spaced (codes "sync") device
+line_text (lines.Transfer direction device) = spaced (direction_word direction) device
 line_text (lines.Show side what) = spaced (codes "show") (spaced (side_word side) (shown_word what))
 line_text (lines.Count side) = spaced (codes "count") (side_word side)
 line_text (lines.Requests device) = spaced (codes "requests") device

@@ -1,5 +1,5 @@
 ghost use Rattle.std.specs.Prelude.{◌≡◌, IfOk, IfErr, Some, None};
-ghost use Rattle.ak_lab_lines.specs.LabLines.{lab_line_of, line_of, clock_line, device_line, shift_line, review_line, reviews_of, do_line, sync_line, show_line, count_line, requests_line, side_of, shown_of};
+ghost use Rattle.ak_lab_lines.specs.LabLines.{lab_line_of, line_of, clock_line, device_line, shift_line, review_line, reviews_of, do_line, sync_line, transfer_line, show_line, count_line, requests_line, side_of, shown_of};
 ghost use Rattle.ak_lab_lines.specs.Reading.{Reads, Refuses};
 ghost use Rattle.ak_lab_lines.specs.Written.{IsLabLine};
 
@@ -36,6 +36,11 @@ pub enum LabLine {
     },
     /// `sync <device>`
     Sync(Text),
+    /// `upload <device>` and `download <device>`
+    Transfer {
+        direction: Direction,
+        device: Text,
+    },
     /// `show <side> <table>`
     Show {
         side: Side,
@@ -43,8 +48,17 @@ pub enum LabLine {
     },
     /// `count <side>`: the numbers of rows, by kind.
     Count(Side),
-    /// `requests <device>`: the calls of the wire in its last sync.
+    /// `requests <device>`: the calls of the wire in its last sync. Those of an upload or a download are not counted.
     Requests(Text),
+}
+
+/// Which way a whole collection goes.
+#[derive(Clone, Copy, Debug, PartialEq, Eq)]
+pub enum Direction {
+    /// The device's takes the place of the server's.
+    Upload,
+    /// The server's takes the place of the device's.
+    Download,
 }
 
 /// A side of a lab: whose collection is looked at.
@@ -98,6 +112,8 @@ fn read_words(alloc: Global, word: &str, text: &str) -> Result<LabLine, LabLineF
         "review" => read_review(alloc, text),
         "do" => read_do(alloc, text),
         "sync" => read_sync(alloc, text),
+        "upload" => read_transfer(alloc, Direction::Upload, text),
+        "download" => read_transfer(alloc, Direction::Download, text),
         "show" => read_show(alloc, text),
         "count" => read_count(alloc, text),
         "requests" => read_requests(alloc, text),
@@ -200,6 +216,18 @@ fn read_sync(alloc: Global, text: &str) -> Result<LabLine, LabLineFault>
     };
     let device = Text::of(alloc, device)?;
     Ok(LabLine::Sync(device))
+}
+
+/// What follows `upload` or `download`.
+fn read_transfer(alloc: Global, direction: Direction, text: &str) -> Result<LabLine, LabLineFault>
+    ensures line { IfOk result (Reads (transfer_line direction text.now)) }
+    ensures bad { IfErr result (Refuses (transfer_line direction text.now)) }
+{
+    let Some(device) = word_of(text) else {
+        return Err(LabLineFault::BadLine);
+    };
+    let device = Text::of(alloc, device)?;
+    Ok(LabLine::Transfer { direction, device })
 }
 
 /// What follows `show`.

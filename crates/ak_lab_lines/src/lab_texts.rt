@@ -1,17 +1,28 @@
 // What the lab prints of what its lines name.
 ghost use Rattle.std.specs.Prelude.{◌≡◌, ◌++◌, IfOk, decimal};
-ghost use Rattle.ak_lab_lines.specs.LabTexts.{sync_text, requests_text, counts_text, rows_text, others_text, no_device_text};
+ghost use Rattle.ak_lab_lines.specs.LabTexts.{direction_word, ending_text, requests_text, counts_text, rows_text, others_text, no_device_text};
 
+use crate::Direction;
 use ak_base::{Memory, Text};
 use ak_messages::SanityCounts;
 use std::alloc::Global;
 
-/// How a sync of a device ended.
-pub fn write_sync(alloc: Global, device: &str, outcome: &str) -> Result<Text, Memory>
-    ensures { IfOk result (λ text. text ≡ sync_text device.now outcome.now) }
+/// How a sync, an upload or a download of a device ended. The first word of its line tells which.
+pub fn write_ending(alloc: Global, word: &str, device: &str, outcome: &str) -> Result<Text, Memory>
+    ensures { IfOk result (λ text. text ≡ ending_text word.now device.now outcome.now) }
 {
-    let text = format!(in alloc; "sync {device}: {outcome}")?;
+    let text = format!(in alloc; "{word} {device}: {outcome}")?;
     Ok(Text::from(text))
+}
+
+/// The first word of an upload's line or of a download's.
+pub fn direction_word(direction: Direction) -> &'static str
+    ensures { result.now ≡ direction_word direction }
+{
+    match direction {
+        Direction::Upload => "upload",
+        Direction::Download => "download",
+    }
 }
 
 /// How many calls of the wire the last sync of a device made.

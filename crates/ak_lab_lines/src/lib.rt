@@ -8,6 +8,6 @@ mod laws;
 mod words;
 
 pub use lab_faults::LabLineFault;
-pub use lab_lines::{LabLine, Shown, Side, read_lab_line};
-pub use lab_texts::{write_counts, write_no_device, write_requests, write_sync};
+pub use lab_lines::{Direction, LabLine, Shown, Side, read_lab_line};
+pub use lab_texts::{direction_word, write_counts, write_ending, write_no_device, write_requests};
 pub use laws::{a_line_is_said_so, a_said_line_is_read};

@@ -1,0 +1,10 @@
+mod Asking
+mod Finishing
+mod Linking
+mod Meeting
+mod NextSyncs
+mod Reasons
+mod Running
+mod Sent
+mod Syncing
+mod Wholes
