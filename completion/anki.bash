@@ -8,7 +8,7 @@ _anki() {
     fi
     # If the second word is - or host:port, all words go to the program.
     if [ "$COMP_CWORD" -ge 3 ] && { [ "$second" = - ] || [[ $second == *:* ]] || [[ ${COMP_WORDS[3]} == : ]]; }; then
-        [ "$COMP_CWORD" -eq 3 ] && COMPREPLY=($(compgen -W "init desk sync upload download import export lab" -- "$word"))
+        [ "$COMP_CWORD" -eq 3 ] && COMPREPLY=($(compgen -W "init desk sync upload download import export make lab" -- "$word"))
         return
     fi
     case $first in
@@ -29,6 +29,6 @@ complete -o filenames -F _anki anki bin/anki ./anki
 anki_verbs() {
     case $1 in
     desk) compgen -W "note fields tags delete deck rename drop move adopt options unoptions type retype untype spread answer next counts find page mute suspend unsuspend bury flag undo check" -- "$2" ;;
-    lab) compgen -W "clock device shift review do sync show count requests" -- "$2" ;;
+    lab) compgen -W "clock device shift review do sync upload download show count requests" -- "$2" ;;
     esac
 }

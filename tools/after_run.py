@@ -77,12 +77,12 @@ def sentence_of(run, status):
         return refused_sentence(run, told)
     if number == 6:
         return file_sentence(run, told)
-    end = answers.status_told(told, number)
+    end = answers.status_told(told, number, run.command)
     if end is None:
         return "the program ended with status %d, of which docs/ANSWERS.md tells nothing" % number
     do = end["do"]
     if number in (4, 5, 8) and (run.file == "-" or run.command != "desk"):
-        return joined(end["what"], safe_beside_a_desk(run, number, told), end["again"])
+        return joined(end["what"], safe_beside_a_desk(run, number, told), end.get("again", do))
     return joined(end["what"], end["safe"], do)
 
 

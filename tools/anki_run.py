@@ -17,7 +17,7 @@ import sys
 import time
 
 # The commands that never put a collection where there is none.
-MAKE_NOTHING = ("desk", "lab", "sync", "upload", "download", "import", "export")
+MAKE_NOTHING = ("desk", "lab", "sync", "upload", "download", "import", "export", "make")
 
 # A name must leave room for `-wal` behind it, in bytes.
 LONGEST_NAME = 255 - len("-wal")

@@ -11,9 +11,9 @@ def read_answers():
 
 
 def status_told(answers, status, on=None):
-    """What is told of a status, of this kind where there are several; None if nothing is."""
-    found = [it for it in answers["statuses"] if it["status"] == status and ("on" not in it or it["on"] == on)]
-    return found[0] if found else None
+    """What is told of a status, of this kind if that is told by itself; None if nothing is."""
+    found = [it for it in answers["statuses"] if it["status"] == status and it.get("on") in (None, on)]
+    return max(found, key=lambda it: "on" in it, default=None)
 
 
 def pattern_of(text):

@@ -31,7 +31,7 @@ def answers_page():
         yield row(str(it["status"]), ON.get(it.get("on"), ""), it["what"], "nothing: " + it["safe"], it["do"])
     yield row("ended by a signal", "", told["signals"]["what"], "nothing: " + told["signals"]["safe"], told["signals"]["do"])
     yield ""
-    yield "Where the work is in memory alone (`-` as the file, and a lab) nothing of it is kept after any end."
+    yield "Where the work is in memory alone (`-` as the file, a lab, and `make`) nothing of it is kept after any end."
     yield ""
     yield "## Statuses of ankid"
     yield ""
@@ -54,7 +54,7 @@ def answers_page():
             yield row("`%s`" % it["text"], it["why"], it["lost"], it["do"])
 
 
-ON = {"desk": "a refused line of `desk`", "lab": "a refused line of `lab`", "import": "a refused record of `import`", "init": "`init`", "none": "`desk`, `sync`, `upload`, `download`, `import`, `export`"}
+ON = {"desk": "a refused line of `desk`", "lab": "a refused line of `lab`", "import": "a refused record of `import`", "init": "`init`", "make": "`make`", "none": "`desk`, `sync`, `upload`, `download`, `import`, `export`"}
 
 
 def row(*cells):

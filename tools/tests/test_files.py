@@ -370,7 +370,7 @@ def kill_at(step):
 
 
 class NamesThatComeToBe(Case):
-    @tells("`init` makes", "`desk`, `sync`, `lab` and words", "That is so of `bin/anki`")
+    @tells("`init` makes", "`desk`, `sync`, `lab`, `make` and words", "That is so of `bin/anki`")
     def test_which(self):
         # The rest of these sentences is in test_run.py, NoFiles.
         self.assertEqual(3, self.desk("check").returncode)

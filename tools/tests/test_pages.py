@@ -15,7 +15,7 @@ from tools.tests.support import TOP, Case, run
 # The crates that print, with the files that make what is printed.
 PRINTS = (
     "ak_texts/src/*.rt", "ak_outcomes/src/*.rt", "ak_desk_runs/src/*.rt", "ak_lab/src/*.rt", "ak_lab_lines/src/lab_texts.rt", "ak_lab_sides/src/*.rt",
-    "ak_cli/src/program_runs.rt", "ak_csv_runs/src/*.rt", "ak_sync_runs/src/*.rt", "ak_transfer_runs/src/*.rt", "ak_io/src/endings.rt", "ak_wire/src/words.rt", "ankid/src/*.rt",
+    "ak_cli/src/program_runs.rt", "ak_csv_runs/src/*.rt", "ak_sync_runs/src/*.rt", "ak_transfer_runs/src/*.rt", "ak_makes/src/makes.rt", "ak_io/src/endings.rt", "ak_wire/src/words.rt", "ankid/src/*.rt",
 )
 
 # Literals in these files that are not printed: the first words by which lines take a turn, the lab's own account.
@@ -230,7 +230,7 @@ class Completion(Case):
         self.assertEqual({"my.anki"} | set(completions.words()), self.completed("anki", ""))
         self.assertEqual({"doctor"}, self.completed("anki", "do"))
         self.assertEqual({"-"}, self.completed("anki", "my.anki", ""))
-        self.assertEqual({"init", "desk", "lab", "sync", "upload", "download", "import", "export"}, self.completed("anki", "my.anki", "-", ""))
+        self.assertEqual({"init", "desk", "lab", "sync", "upload", "download", "import", "export", "make"}, self.completed("anki", "my.anki", "-", ""))
         self.assertEqual({"desk", "download"}, self.completed("anki", "show", "-", "d"))
         self.assertEqual({"my.anki"}, self.completed("anki", "backup", ""))
         self.assertEqual({"decks", "types", "options", "notes"}, self.completed("anki", "show", "my.anki", ""))

@@ -284,6 +284,10 @@ class Sentences(Case):
         text = self.said(self.file, "-", "import", "1", "1", status=4, program=self.script("exit 4"))
         self.assertIn("; nothing of the input was taken; see to the input", text)
 
+    def test_make_without_its_line(self):
+        text = self.said("-", "-", "make", "7", "1", status=8, program=self.script("exit 8"))
+        self.assertIn("memory ran out, or what was made is not what its size comes to; free memory, or take a smaller size", text)
+
     def test_no_collection(self):
         self.make()
         self.assertIn("there is no file", self.said(self.path("other"), "-", "desk", status=3))
@@ -325,7 +329,7 @@ class NoFiles(Case):
     """No file is left where there was none."""
 
     def test_on_a_name_where_there_is_none(self):
-        for words in (["desk"], ["lab"], ["sync", "0" * 32], ["upload", "0" * 32], ["download", "0" * 32], ["import", "1", "1"], ["export", "1"], ["dekc"], []):
+        for words in (["desk"], ["lab"], ["sync", "0" * 32], ["upload", "0" * 32], ["download", "0" * 32], ["import", "1", "1"], ["export", "1"], ["make", "7", "1"], ["dekc"], []):
             for environment in (dict(os.environ), dict(os.environ, ANKI_QUIET="1")):
                 alone = run([self.program, self.path("alone"), "-"] + words, input=b"")
                 ran = self.around(self.path("new"), "-", *words, env=environment)

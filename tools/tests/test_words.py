@@ -71,7 +71,7 @@ class Words(Case):
             self.assertEqual(0, self.word("help", topic).returncode)
         self.assertEqual(3, self.word("help", "other").returncode)
         self.assertEqual(self.word("help").stdout, self.word("--help").stdout)
-        for command in ("init", "desk", "lab", "sync KEY", "upload KEY", "download KEY", "import TYPE DECK", "export TYPE"):
+        for command in ("init", "desk", "lab", "sync KEY", "upload KEY", "download KEY", "import TYPE DECK", "export TYPE", "make SEED SIZE"):
             self.assertRegex(self.word("--help").stdout.decode(), r"(?m)^anki <file> (-|<server>) %s$" % command)
         for word in anki_words.WORDS:
             self.assertIn(word, self.word("--help").stdout.decode())
