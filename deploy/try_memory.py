@@ -4,7 +4,7 @@
     deploy/try_memory.py [--anki PATH] [--ankid PATH] [--step N] [--first N] [TRIAL ...]
 
 Each trial counts the calls of malloc and realloc of a run, and makes the run again with the first of them failing, the next, and so on; with --step
-each Nth. Trials:
+each Nth. Each try begins with the same files. Trials:
 
     desk      a day at the desk: no run ends by a signal or goes on for 60 s; what was printed is the front of what a whole run prints; the file
               is sound and holds what the printed lines did, and at most the line that was not printed
@@ -152,44 +152,60 @@ def change(device, number):
         device.desk("delete %s" % told_note[1])
 
 
+class Kept:
+    """The files of a device and of its server, neither of which is open, as each try begins with them."""
+
+    def __init__(self, device, server):
+        self.paths = (device.path, server.file())
+        for path in self.paths:
+            copy_files(path, path + ".kept")
+
+    def put_back(self):
+        for path in self.paths:
+            copy_files(path + ".kept", path)
+
+
 def try_device(tools, room, words):
     server, device, memory = hungry_device(tools, room, Memory(room))
     change(device, 0)
-    device.memory, device.failing = memory, None
-    expect("a whole sync", device.sync(server.port), (0, "finished"))
-    count, ends, n = memory.calls(), collections.Counter(), 0
-    for failing in numbers(count, words):
-        n += 1
-        change(device, n)
-        before = content(device.path)
+    server.end()
+    kept, before, there, ends = Kept(device, server), content(device.path), content(server.file()), collections.Counter()
+
+    def synced(failing):
+        kept.put_back()
+        server.start()
         device.memory, device.failing = memory, failing
-        status, line = device.sync(server.port)
-        ends["%d %s" % (status, line or "nothing printed")] += 1
+        return device.sync(server.port)
+
+    expect("a whole sync", synced(None), (0, "finished"))
+    count = memory.calls()
+    server.end()
+    for failing in numbers(count, words):
+        status, line = synced(failing)
+        ends["%d %s%s" % (status, line or "nothing printed", "" if content(server.file()) == there else ", the server has the join")] += 1
         expect("call %d: the status" % failing, status, *range(0, 17))
         held = content(device.path)
         expect("call %d: as before, or the server's" % failing, held == before or held == content(server.file()), True)
         if line == "finished":
             expect("call %d: finished" % failing, held == content(server.file()), True)
         hold_the_same(device, server, "call %d" % failing, before)
-        device.memory = None
+        server.end()
     device.is_sound()
     integrity(server.file())
     told("device", count, words, ends)
-    server.end()
 
 
 def try_server(tools, room, words):
     server, device, memory = hungry_device(tools, room, Memory(room))
     server.end()
     change(device, 0)
+    kept, before, ends = Kept(device, server), content(device.path), collections.Counter()
     begin(server, memory.environment())
     expect("a whole sync", device.sync(server.port), (0, "finished"))
     server.end()
-    count, ends, n = memory.calls(), collections.Counter(), 0
+    count = memory.calls()
     for failing in numbers(count, words):
-        n += 1
-        change(device, n)
-        before = content(device.path)
+        kept.put_back()
         if begin(server, memory.environment(failing)) is None:
             ends["the server ends with %d" % server.process.wait()] += 1
             expect("call %d: the server's status" % failing, server.process.returncode, *range(1, 17))
