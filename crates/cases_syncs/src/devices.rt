@@ -1,3 +1,4 @@
+use crate::many_notes::put_notes;
 use crate::servers::{Host, upload};
 use crate::shown::{all, sum};
 use crate::syncs::{Actor, crossed, errand_of, lied_to, undisturbed};
@@ -53,6 +54,7 @@ impl Device {
             "upload" => self.upload(alloc, host, rest),
             "all" => all(alloc, &mut self.keeper),
             "sum" => sum(alloc, &mut self.keeper),
+            "put-notes" => put_notes(alloc, &mut self.keeper, rest),
             _ => answer_of(alloc, &mut self.keeper, word, rest),
         }
     }

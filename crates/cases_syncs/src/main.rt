@@ -9,6 +9,7 @@ mod intercepted_counts;
 mod intercepted_wires;
 mod liars;
 mod lies;
+mod many_notes;
 mod servers;
 mod shown;
 mod sides;
