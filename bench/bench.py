@@ -1,13 +1,14 @@
 #!/usr/bin/env python3
 """Measures this program beside plain Python with `sqlite3`, and beside the shell `sqlite3` where the work is the same, all in one run.
 
-    bench/bench.py [--anki PATH] [--ankid PATH] [--sizes N,N] [--runs N] [--seed N] [--room FOLDER] [--page PATH]
+    bench/bench.py [--anki PATH] [--ankid PATH] [--sizes N,N] [--runs N] [--seed N] [--room FOLDER] [--page PATH] [--transfers]
 
 Each size is a collection of so many notes, as `anki - - make` makes it. Each number is the median of the runs; a run is a process of its own over a file of its own,
 and the sides take turns. The first table is the work after the opening: what a process takes that does it, less one that only opens the file. The second is
 whole processes, from their start to their end. Processor time is of both kinds, user and system. What is printed is compared first: the program and
 Python must print the same for each line whose answer is not a matter of chance. Rows of what is not there are left out, and named. The files lie in a folder
-in FOLDER, which is to be on the disk that is measured, and goes at the end. With --page the tables are written to a page as well.
+in FOLDER, which is to be on the disk that is measured, and goes at the end. With --page the tables are written to a page as well. With --transfers
+only the third table is made, of what uploads, syncs and downloads take on both sides.
 """
 import argparse
 import collections
@@ -31,6 +32,7 @@ sys.path[:0] = [HERE, os.path.join(TOP, "deploy")]
 
 import in_python  # noqa: E402
 import made  # noqa: E402
+import transfers  # noqa: E402
 import try_server  # noqa: E402
 
 IN_PYTHON = os.path.join(HERE, "in_python.py")
@@ -346,27 +348,35 @@ def measure_whole(files, runs, table):
         table.put(work, side, files.size, taken)
 
 
-def measure_transfers(files, runs, table):
-    """Uploads, syncs after a day of answers, and downloads, over the loopback: what the device's process takes."""
+def measure_transfers(files, runs, table, sides):
+    """Uploads, syncs after a day of answers, and downloads, over the loopback: what both sides take, and the bytes between them."""
     tools = try_server.Tools(mock.Mock(anki=path_of(PROGRAM), ankid=path_of("ankid")))
     room = os.path.join(files.room, "server")
     server = try_server.Server(tools, room)
-    server.start()
+    device = files.copy(files.whole, "device.anki")
+    words = lambda path, where, word: [path_of(PROGRAM), path, where, word, server.key()]
+    works = {"upload": (lambda: device, "upload"), "sync after a day of answers": (lambda: answered(device, files), "sync"),
+             "download": (lambda: files.copy(files.new), "download")}
+    taken = collections.defaultdict(list)
     try:
-        device, where = files.copy(files.whole, "device.anki"), "127.0.0.1:%d" % server.port
-        words = lambda path, word: [path_of(PROGRAM), path, where, word, server.key()]
-        taken = collections.defaultdict(list)
         for _ in range(runs):
-            taken["upload"].append(run(words(device, "upload"))[0])
-            desk_on(device, files.day())
-            taken["sync after a day of answers"].append(run(words(device, "sync"))[0])
-            taken["download"].append(run(words(files.copy(files.new), "download"))[0])
-        for work, all_of in taken.items():
-            table.put(work + " over the loopback", PROGRAM, files.size, median(all_of))
+            for work, (path, word) in works.items():
+                file = path()
+                taken[work].append(transfers.over_fresh_server(server, lambda where: run(words(file, where, word))[0]))
+        for work, (path, word) in works.items():
+            file = path()
+            both = transfers.bytes_of(server, lambda where: run(words(file, where, word)))
+            table.put(work + " over the loopback", PROGRAM, files.size, median([device for device, *_ in taken[work]]))
+            sides.append((work, files.size, transfers.median_of(taken[work], *both)))
     finally:
-        server.end()
         tools.end_all()
         shutil.rmtree(room)
+
+
+def answered(path, files):
+    """The file, after a day of answers."""
+    desk_on(path, files.day())
+    return path
 
 
 def desk_on(path, said):
@@ -412,7 +422,7 @@ def machine():
     return "; ".join(said)
 
 
-def page_text(after, whole, sizes, runs, left_out):
+def page_text(after, whole, sides, sizes, runs, left_out):
     """The page: what was measured, where and when."""
     parts = ["# What everything costs", "",
              "Made by `bench/bench.py --page docs/SPEED.md`, which anybody can run again; the Python side is `bench/in_python.py`. %s, on %s." % (
@@ -422,28 +432,39 @@ def page_text(after, whole, sizes, runs, left_out):
              "the memory at its peak are those at the largest. A day is %d answers, or as many as there are cards; less than 9 MB of memory can't be told." % DAY, "",
              "## The work after the opening", "", after.text(sizes), behind_text(after, sizes[-1]),
              "## Whole processes", "", whole.text(sizes), behind_text(whole, sizes[-1])]
+    if sides:
+        parts += [sides_text(sides)]
     parts += ["## Targets", ""] + ["- %s" % line for line in targets(after, whole, sizes)] + [""]
     if left_out:
         parts += ["Left out: %s." % "; ".join(left_out), ""]
     return "\n".join(parts)
 
 
+def sides_text(sides):
+    """The section on what both sides of a transfer take."""
+    return "\n".join(["## Both sides of a transfer", "", "Over the loopback, each with a server process of its own. The bytes are all that went over the link, heads too.", "",
+                      transfers.text_of(sides)])
+
+
 def measure(given):
     """Measures all sizes, and gives the page."""
     left_out = places(given)
-    after, whole = Table(), Table()
+    after, whole, sides = Table(), Table(), []
     for size in given.sizes:
         room = tempfile.mkdtemp(prefix="anki-bench-", dir=given.room)
         try:
             files = Files(room, path_of(PROGRAM), given.seed, size)
-            compare(files)
-            measure_after(files, given.runs, after)
-            measure_whole(files, given.runs, whole)
+            if not given.transfers:
+                compare(files)
+                measure_after(files, given.runs, after)
+                measure_whole(files, given.runs, whole)
             if "ankid" in PLACES:
-                measure_transfers(files, given.runs, whole)
+                measure_transfers(files, given.runs, whole, sides)
         finally:
             shutil.rmtree(room)
-    return page_text(after, whole, given.sizes, given.runs, left_out)
+    if given.transfers:
+        return "%s.\n\n%s" % (machine(), sides_text(sides))
+    return page_text(after, whole, sides, given.sizes, given.runs, left_out)
 
 
 def arguments(words):
@@ -455,6 +476,7 @@ def arguments(words):
     reader.add_argument("--seed", default=7, type=int)
     reader.add_argument("--room")
     reader.add_argument("--page")
+    reader.add_argument("--transfers", action="store_true")
     given = reader.parse_args(words)
     if not all(1 <= size <= 20_000 for size in given.sizes) or given.runs < 1 or not 0 <= given.seed < 2**64:
         reader.error("a size is 1 to 20,000 notes, and there is at least one run")

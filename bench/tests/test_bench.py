@@ -6,9 +6,11 @@ import contextlib
 import io
 import os
 import shutil
+import socket
 import sqlite3
 import sys
 import tempfile
+import threading
 import unittest
 
 TOP = os.path.dirname(os.path.dirname(os.path.dirname(os.path.realpath(__file__))))
@@ -18,6 +20,7 @@ sys.path.insert(0, os.path.join(TOP, "bench"))
 import bench  # noqa: E402
 import in_python  # noqa: E402
 import made  # noqa: E402
+import transfers  # noqa: E402
 
 SIZE = 30
 
@@ -222,19 +225,59 @@ class Targets(unittest.TestCase):
         self.assertEqual(len(bench.targets(after, whole, [3_000])), 2)
 
 
+class Transfers(unittest.TestCase):
+    def test_a_relay_counts_the_bytes_of_each_way(self):
+        listener = socket.create_server(("127.0.0.1", 0))
+        self.addCleanup(listener.close)
+
+        def answer():
+            link, _ = listener.accept()
+            with link:
+                while link.recv(4096):
+                    pass
+                link.sendall(b"0123456789" * 30_000)
+
+        threading.Thread(target=answer, daemon=True).start()
+        relay = transfers.Relay(listener.getsockname()[1])
+        with socket.create_connection(("127.0.0.1", relay.port)) as link:
+            link.sendall(b"a" * 100_001)
+            link.shutdown(socket.SHUT_WR)
+            got = 0
+            while data := link.recv(65536):
+                got += len(data)
+        self.assertEqual(got, 300_000)
+        self.assertEqual(relay.end(), (100_001, 300_000))
+
+    def test_a_median_is_of_each_side(self):
+        runs = [(bench.Taken(0.1 * n, 1.0 * n, 10.0 * n), 0.01 * (4 - n), 20.0 * n) for n in (1, 3, 2)]
+        self.assertEqual(transfers.median_of(runs, 7, 8), transfers.Sides(0.2, 20.0, 0.02, 40.0, 2.0, 7, 8))
+
+    def test_the_table_tells_both_sides(self):
+        text = transfers.text_of([("upload", 3000, transfers.Sides(0.5, 20.4, 0.25, 31.0, 1.5, 1234567, 316))])
+        self.assertEqual(text.splitlines()[2], "| upload | 3,000 | 500 | 20 | 250 | 31 | 1500 | 1,234,567 | 316 |")
+
+
 class Whole(Rooms):
+    def test_transfers_alone_make_the_third_table(self):
+        with contextlib.redirect_stdout(io.StringIO()) as printed:
+            self.assertEqual(bench.main(["--sizes", str(SIZE), "--runs", "1", "--room", self.room, "--transfers"]), 0)
+        self.assertEqual([line.split("|")[1] for line in printed.getvalue().splitlines() if line.startswith("| ")][1:], [" upload ", " sync after a day of answers ", " download "])
+        self.assertNotIn("## Targets", printed.getvalue())
+
     def test_a_small_run_fills_both_tables(self):
         with contextlib.redirect_stdout(io.StringIO()) as printed:
             self.assertEqual(bench.main(["--sizes", str(SIZE), "--runs", "1", "--room", self.room, "--page", self.path("page.md")]), 0)
         with open(self.path("page.md"), encoding="utf-8") as file:
             page = file.read()
         self.assertEqual(printed.getvalue(), page)
-        after, whole = page.split("## The work after the opening")[1].split("## Whole processes")
+        after, whole = page.split("## Both sides of a transfer")[0].split("## The work after the opening")[1].split("## Whole processes")
         for part, works in ((after, (bench.A_DAY, "`find`", "`next`", "`counts`", "a page", "`check`")), (whole, ("opening", bench.A_DAY, "check", "import", "export"))):
             for work in works:
                 sides = [line.split("|")[2].strip() for line in part.splitlines() if line.startswith("| " + work)]
                 self.assertEqual(sides[:2], ["anki", "Python"], work)
         self.assertIn("| upload over the loopback | anki |", whole)
+        sides = page.split("## Both sides of a transfer")[1].split("## Targets")[0]
+        self.assertEqual([line.split("|")[1:3] for line in sides.splitlines()[6:9]], [[" upload ", " 30 "], [" sync after a day of answers ", " 30 "], [" download ", " 30 "]])
         self.assertIn("- opening ahead of Python's at each size: ", page.split("## Targets")[1])
         self.assertEqual(os.listdir(self.room), ["page.md"])
 
