@@ -1,5 +1,6 @@
 -- The queue of what was read is the queue of the deck.
-use Rattle.std.proofs.Common.{◌≡◌, ℕ, ℤ, List, map, take, Option, Some, None, IfSome, Result, Ok, Err, IfOk, option_map, sym, ap, ◌∙◌}
+use Rattle.std.proofs.Common.{◌≡◌, ℕ, ℤ, List, map, filter_map, take, Option, Some, None, IfSome, Result, Ok, Err, IfOk, option_map, sym, ap, ◌∙◌}
+use Rattle.std.proofs.lemmas.List.{take-map}
 use Rattle.ak_base.specs.declared.cards.Card.{Card}
 use Rattle.ak_base.specs.declared.days.Day.{Day}
 use Rattle.ak_base.specs.declared.decks.Deck.{Deck}
@@ -12,9 +13,9 @@ use Rattle.ak_queue.specs.Choices.{first_choice}
 use Rattle.ak_queue.specs.Gathering.{HasAllOf}
 use Rattle.ak_queue.specs.Homes.{cards_in}
 use Rattle.ak_queue.specs.Limits.{all_limits, limits_of, most_reviews}
-use Rattle.ak_queue.specs.Lists.{QueueView}
+use Rattle.ak_queue.specs.Lists.{QueueView, by_due, due_key, is_due_review}
 use Rattle.ak_queue.specs.Nexts.{mixing_in, next_of}
-use Rattle.ak_queue.specs.Orders.{DueKey, NewKey}
+use Rattle.ak_queue.specs.Orders.{DueKey, NewKey, due_cmp, in_order}
 use Rattle.ak_queue.specs.Queues.{ahead_in, queue_by, queue_of, queue_of_deck, queue_within, queue_under, scope_at, scope_of}
 use Rattle.ak_queue.specs.declared.day_queues.DayQueue.{DayQueue}
 use Rattle.ak_queue.specs.declared.gathered.Gathered.{Gathered}
@@ -23,13 +24,17 @@ use Rattle.ak_queue.specs.declared.queues.LookAhead.{LookAhead}
 use Rattle.ak_queue.specs.declared.nexts.Mixing.{Mixing}
 
 -- the lists of all that was gathered are those of the cards
-assembled : (s : QueueView) (cards : List Card) (g : Gathered) (own : DeckLimits) (limits : List DeckLimits) → HasAllOf s cards g → queue_by s.root g own limits ≡ queue_under s own limits cards
-assembled s cards g own limits has = λ i. record {
+assembled : (s : QueueView) (cards : List Card) (g : Gathered) (own : DeckLimits) (limits : List DeckLimits) → g.most ≡ most_reviews s.root own limits → HasAllOf s cards g
+    → queue_by g limits ≡ queue_under s own limits cards
+assembled s cards g own limits most has = λ i. record {
   learning = map (λ (key : DueKey). key.1) (has.learning i);
   soon = map (λ (key : DueKey). key.1) (has.soon i);
   new_cards = map (λ (key : NewKey). key.2) (first_choice limits (has.new_cards i));
   day_learning = map (λ (key : DueKey). key.1) (has.day_learning i);
-  reviews = take (most_reviews s.root own limits) (map (λ (key : DueKey). key.1) (has.reviews i));
+  reviews = (take-map (λ (key : DueKey). key.1) g.most g.reviews.keys
+      ∙ ap (map (λ (key : DueKey). key.1)) has.reviews
+      ∙ sym (take-map (λ (key : DueKey). key.1) g.most (in_order due_cmp (filter_map (due_key is_due_review s) cards)))
+      ∙ ap (λ n. take n (by_due is_due_review s cards)) most) i;
 }
 
 -- the view that was made is that of the deck
@@ -39,10 +44,10 @@ view_is h day deck head ahead decks s head_is ahead_is decks_are is =
     is ∙ (λ i. scope_at ((ahead_is ∙ ap (ahead_in day) head_is) i) deck (decks_are i))
 
 -- the lists of what was gathered, if it is told what is held
-pub lists_told : (told : Option (WithMark Holding)) (s : QueueView) (g : Gathered) (own : DeckLimits) (limits : List DeckLimits) (queue : DayQueue) → IfSome told (λ w. HasAllOf s (cards_in w.current.rows) g)
-    → queue ≡ queue_by s.root g own limits → IfSome told (λ w. queue ≡ queue_under s own limits (cards_in w.current.rows))
-lists_told None s g own limits queue has is = tt
-lists_told (Some w) s g own limits queue has is = is ∙ assembled s (cards_in w.current.rows) g own limits has
+pub lists_told : (told : Option (WithMark Holding)) (s : QueueView) (g : Gathered) (own : DeckLimits) (limits : List DeckLimits) (queue : DayQueue) → g.most ≡ most_reviews s.root own limits
+    → IfSome told (λ w. HasAllOf s (cards_in w.current.rows) g) → queue ≡ queue_by g limits → IfSome told (λ w. queue ≡ queue_under s own limits (cards_in w.current.rows))
+lists_told None s g own limits queue most has is = tt
+lists_told (Some w) s g own limits queue most has is = is ∙ assembled s (cards_in w.current.rows) g own limits most has
 
 -- the queue under limits that were read
 pub limits_told : (told : Option (WithMark Holding)) (s : QueueView) (deck : Deck) (decks : List Deck) (own : DeckLimits) (limits : List DeckLimits) (queue : DayQueue)

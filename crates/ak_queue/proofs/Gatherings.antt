@@ -1,5 +1,5 @@
 -- What one pass over the cards gathers, a part of them after another.
-use Rattle.std.proofs.Common.{◌≡◌, true, cond, List, [], ◌∷◌, ◌++◌, filter_map, Option, Some, None, IfSome, Ordering, refl, sym, ap, subst, ◌∙◌, append_assoc, append-nil}
+use Rattle.std.proofs.Common.{◌≡◌, ℕ, true, cond, List, [], ◌∷◌, ◌++◌, take, filter_map, Option, Some, None, IfSome, Ordering, refl, sym, ap, subst, ◌∙◌, append_assoc, append-nil}
 use Rattle.std.proofs.lemmas.List.Elements.{filter_map-append}
 use Rattle.std.specs.BTreeSet.{insert_key}
 use Rattle.ak_base.specs.declared.cards.Card.{Card}
@@ -13,6 +13,7 @@ use Rattle.ak_queue.specs.Gathering.{Gathers, HasNone, HasAllOf}
 use Rattle.ak_queue.specs.Lists.{QueueView, due_key, new_key, is_learning, is_soon, is_day_learning, is_due_review}
 use Rattle.ak_queue.specs.Orders.{put_among, due_cmp, new_cmp}
 use Rattle.ak_queue.specs.declared.gathered.Gathered.{Gathered}
+use Rattle.ak_queue.proofs.FirstKeys.{same_first}
 
 pub put_among-append : {K : Type 0} (cmp : K → K → Ordering) (sorted xs ys : List K) → put_among cmp sorted (xs ++ ys) ≡ put_among cmp (put_among cmp sorted xs) ys
 put_among-append cmp sorted [] ys = refl
@@ -26,19 +27,28 @@ two_parts cmp key a b c xs ys first then =
     ∙ sym (put_among-append cmp a (filter_map key xs) (filter_map key ys))
     ∙ ap (put_among cmp a) (sym (filter_map-append key xs ys))
 
+-- and the first of them
+first_of_two : {K : Type 0} (n : ℕ) (cmp : K → K → Ordering) (key : Card → Option K) (a b c : List K) (xs ys : List Card) → take n b ≡ take n (put_among cmp a (filter_map key xs))
+    → take n c ≡ take n (put_among cmp b (filter_map key ys)) → take n c ≡ take n (put_among cmp a (filter_map key (xs ++ ys)))
+first_of_two n cmp key a b c xs ys first then =
+    then ∙ same_first cmp n b (put_among cmp a (filter_map key xs)) (filter_map key ys) first
+    ∙ ap (take n) (sym (put_among-append cmp a (filter_map key xs) (filter_map key ys)) ∙ ap (put_among cmp a) (sym (filter_map-append key xs ys)))
+
 -- one part of the cards after another
 pub both_parts : (s : QueueView) (xs ys : List Card) (a b c : Gathered) → Gathers s xs a b → Gathers s ys b c → Gathers s (xs ++ ys) a c
 both_parts s xs ys a b c first then = record {
+  most = then.most ∙ first.most;
   learning = two_parts due_cmp (due_key is_learning s) a.learning.keys b.learning.keys c.learning.keys xs ys first.learning then.learning;
   soon = two_parts due_cmp (due_key is_soon s) a.soon.keys b.soon.keys c.soon.keys xs ys first.soon then.soon;
   day_learning = two_parts due_cmp (due_key is_day_learning s) a.day_learning.keys b.day_learning.keys c.day_learning.keys xs ys first.day_learning then.day_learning;
-  reviews = two_parts due_cmp (due_key is_due_review s) a.reviews.keys b.reviews.keys c.reviews.keys xs ys first.reviews then.reviews;
+  reviews = first_of_two a.most due_cmp (due_key is_due_review s) a.reviews.keys b.reviews.keys c.reviews.keys xs ys first.reviews
+      (subst (λ (n : ℕ). take n c.reviews.keys ≡ take n (put_among due_cmp b.reviews.keys (filter_map (due_key is_due_review s) ys))) first.most then.reviews);
   new_cards = two_parts new_cmp (new_key s) a.new_cards.keys b.new_cards.keys c.new_cards.keys xs ys first.new_cards then.new_cards;
 }
 
 -- no cards
 pub no_part : (s : QueueView) (a : Gathered) → Gathers s [] a a
-no_part s a = record { learning = refl; soon = refl; day_learning = refl; reviews = refl; new_cards = refl }
+no_part s a = record { most = refl; learning = refl; soon = refl; day_learning = refl; reviews = refl; new_cards = refl }
 
 -- ---- rows
 abbrev pub cards_among : List Row → List Card
@@ -71,22 +81,23 @@ pub page_told : (told : Option (WithMark Holding)) (s : QueueView) (start walk n
 page_told None s start walk next a b c page so_far split step = tt
 page_told (Some w) s start walk next a b c page so_far split step = next_page w.current s start walk next a b c page so_far split step
 
-from_none : (s : QueueView) (cards : List Card) (a b : Gathered) → HasNone a → Gathers s cards a b → HasAllOf s cards b
-from_none s cards a b none gathers = record {
+from_none : (most : ℕ) (s : QueueView) (cards : List Card) (a b : Gathered) → HasNone most a → Gathers s cards a b → HasAllOf s cards b
+from_none most s cards a b none gathers = record {
   learning = gathers.learning ∙ ap (λ ks. put_among due_cmp ks (filter_map (due_key is_learning s) cards)) none.learning;
   soon = gathers.soon ∙ ap (λ ks. put_among due_cmp ks (filter_map (due_key is_soon s) cards)) none.soon;
   day_learning = gathers.day_learning ∙ ap (λ ks. put_among due_cmp ks (filter_map (due_key is_day_learning s) cards)) none.day_learning;
-  reviews = gathers.reviews ∙ ap (λ ks. put_among due_cmp ks (filter_map (due_key is_due_review s) cards)) none.reviews;
+  reviews = subst (λ (n : ℕ). take n b.reviews.keys ≡ take n (put_among due_cmp [] (filter_map (due_key is_due_review s) cards))) (sym gathers.most)
+      (gathers.reviews ∙ ap (λ ks. take a.most (put_among due_cmp ks (filter_map (due_key is_due_review s) cards))) none.reviews);
   new_cards = gathers.new_cards ∙ ap (λ ks. put_among new_cmp ks (filter_map (new_key s) cards)) none.new_cards;
 }
 
-whole : (h : Holding) (s : QueueView) (start walk : Walk) (a b : Gathered) → HasNone a → walk.done ≡ true → GathersAll s start walk a b h → HasAllOf s (cards_among (ahead start h.rows)) b
-whole h s start walk a b none done so_far =
+whole : (most : ℕ) (h : Holding) (s : QueueView) (start walk : Walk) (a b : Gathered) → HasNone most a → walk.done ≡ true → GathersAll s start walk a b h → HasAllOf s (cards_among (ahead start h.rows)) b
+whole most h s start walk a b none done so_far =
     let nothing_ahead : so_far.passed ++ ahead walk h.rows ≡ so_far.passed = ap (λ v. so_far.passed ++ cond v [] (rows_past walk.past.table walk.past.id h.rows)) done ∙ append-nil so_far.passed in
-    from_none s (cards_among (ahead start h.rows)) a b none
+    from_none most s (cards_among (ahead start h.rows)) a b none
     (subst (λ (rows : List Row). Gathers s (cards_among rows) a b) (sym (so_far.split ∙ nothing_ahead)) so_far.gathered)
 
-pub whole_told : (told : Option (WithMark Holding)) (s : QueueView) (start walk : Walk) (a b : Gathered) → HasNone a → walk.done ≡ true → IfSome told (λ w. GathersAll s start walk a b w.current)
+pub whole_told : (most : ℕ) (told : Option (WithMark Holding)) (s : QueueView) (start walk : Walk) (a b : Gathered) → HasNone most a → walk.done ≡ true → IfSome told (λ w. GathersAll s start walk a b w.current)
     → IfSome told (λ w. HasAllOf s (cards_among (ahead start w.current.rows)) b)
-whole_told None s start walk a b none done so_far = tt
-whole_told (Some w) s start walk a b none done so_far = whole w.current s start walk a b none done so_far
+whole_told most None s start walk a b none done so_far = tt
+whole_told most (Some w) s start walk a b none done so_far = whole most w.current s start walk a b none done so_far

@@ -75,7 +75,7 @@ module _ {K : Type 0} (cmp : K → K → Ordering) (exact : IsAntisymmetric cmp)
   order_whole : (keys : List K) → list_all p (in_order cmp keys) ≡ list_all p keys
   order_whole keys = put_whole [] keys
 
-due_total : IsTotalOrder due_cmp
+pub due_total : IsTotalOrder due_cmp
 due_total = then_total (on_total (λ (k : DueKey). k.0) int_cmp_total) (on_total (λ (k : DueKey). k.1) int_cmp_total)
 
 new_total : IsTotalOrder new_cmp

@@ -1,5 +1,5 @@
 -- What one pass over the cards gathers.
-use Rattle.std.specs.Prelude.{◌≡◌, Bool, if◌then◌else◌, List, [], ◌∷◌, Some}
+use Rattle.std.specs.Prelude.{◌≡◌, ℕ, Bool, if◌then◌else◌, List, [], ◌∷◌, take, Some}
 use Rattle.std.specs.List.{filter_map}
 use Rattle.ak_base.specs.declared.cards.Card.{Card}
 use Rattle.ak_queue.specs.Homes.{Parts}
@@ -7,33 +7,39 @@ use Rattle.ak_queue.specs.Lists.{QueueView, due_key, key_under, new_key, is_lear
 use Rattle.ak_queue.specs.Orders.{DueKey, NewKey, put_among, due_cmp, new_cmp}
 use Rattle.ak_queue.specs.declared.gathered.Gathered.{Gathered}
 
--- each of the cards that passes was put in at its place
+-- each of the cards that passes was put in at its place; of the reviews the first are those
 pub record Gathers (s : QueueView) (cards : List Card) (old new : Gathered) : Type 0 where
+  pub most : new.most ≡ old.most
   pub learning : new.learning.keys ≡ put_among due_cmp old.learning.keys (filter_map (due_key is_learning s) cards)
   pub soon : new.soon.keys ≡ put_among due_cmp old.soon.keys (filter_map (due_key is_soon s) cards)
   pub day_learning : new.day_learning.keys ≡ put_among due_cmp old.day_learning.keys (filter_map (due_key is_day_learning s) cards)
-  pub reviews : new.reviews.keys ≡ put_among due_cmp old.reviews.keys (filter_map (due_key is_due_review s) cards)
+  pub reviews : take old.most new.reviews.keys ≡ take old.most (put_among due_cmp old.reviews.keys (filter_map (due_key is_due_review s) cards))
   pub new_cards : new.new_cards.keys ≡ put_among new_cmp old.new_cards.keys (filter_map (new_key s) cards)
 
--- nothing was gathered yet
-pub record HasNone (g : Gathered) : Type 0 where
+-- nothing was gathered yet, and so many reviews are looked for
+pub record HasNone (looked_for : ℕ) (g : Gathered) : Type 0 where
+  pub most : g.most ≡ looked_for
   pub learning : g.learning.keys ≡ []
   pub soon : g.soon.keys ≡ []
   pub day_learning : g.day_learning.keys ≡ []
   pub reviews : g.reviews.keys ≡ []
   pub new_cards : g.new_cards.keys ≡ []
 
--- those of the cards that pass, in their order
+-- those of the cards that pass, in their order, and of the reviews the first
 pub record HasAllOf (s : QueueView) (cards : List Card) (g : Gathered) : Type 0 where
   pub learning : g.learning.keys ≡ put_among due_cmp [] (filter_map (due_key is_learning s) cards)
   pub soon : g.soon.keys ≡ put_among due_cmp [] (filter_map (due_key is_soon s) cards)
   pub day_learning : g.day_learning.keys ≡ put_among due_cmp [] (filter_map (due_key is_day_learning s) cards)
-  pub reviews : g.reviews.keys ≡ put_among due_cmp [] (filter_map (due_key is_due_review s) cards)
+  pub reviews : take g.most g.reviews.keys ≡ take g.most (put_among due_cmp [] (filter_map (due_key is_due_review s) cards))
   pub new_cards : g.new_cards.keys ≡ put_among new_cmp [] (filter_map (new_key s) cards)
 
 -- a card was put in by when it is due, if it passes
 abbrev pub PutsDue : Bool → Card → List DueKey → List DueKey → Type 0
 PutsDue passes c old new = new ≡ put_among due_cmp old (if passes then (c.due, c.id) ∷ [] else [])
+
+-- the first so many are as if a card was put in by when it is due, if it passes
+abbrev pub PutsFirst : ℕ → Bool → Card → List DueKey → List DueKey → Type 0
+PutsFirst most passes c old new = take most new ≡ take most (put_among due_cmp old (if passes then (c.due, c.id) ∷ [] else []))
 
 -- a card was put in by the path of its deck, if it is a new one inside
 abbrev pub PutsNew : QueueView → Card → List NewKey → List NewKey → Type 0

@@ -73,11 +73,11 @@ abbrev pub queue_within : Holding → QueueView → Deck → List Deck → DayQu
 queue_within h s deck decks = queue_under s (limits_of h.rows s.day deck) (all_limits h.rows s.day s.root decks) (cards_in h.rows)
 
 -- the queue of what was gathered, under these limits
-abbrev pub queue_by : Parts → Gathered → DeckLimits → List DeckLimits → DayQueue
-queue_by root g own limits = record {
+abbrev pub queue_by : Gathered → List DeckLimits → DayQueue
+queue_by g limits = record {
   learning = map (λ (key : DueKey). key.1) g.learning.keys;
   soon = map (λ (key : DueKey). key.1) g.soon.keys;
   new_cards = map (λ (key : NewKey). key.2) (first_choice limits g.new_cards.keys);
   day_learning = map (λ (key : DueKey). key.1) g.day_learning.keys;
-  reviews = take (most_reviews root own limits) (map (λ (key : DueKey). key.1) g.reviews.keys);
+  reviews = take g.most (map (λ (key : DueKey). key.1) g.reviews.keys);
 }

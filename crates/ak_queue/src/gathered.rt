@@ -1,11 +1,13 @@
 // The cards that a day asks for, gathered in one pass over the cards.
-ghost use Rattle.std.specs.Prelude.{◌≡◌, ◌∷◌, [], map, take, IfOk, OnOk};
+ghost use Rattle.std.specs.Prelude.{◌≡◌, ◌∷◌, [], map, take, true, IfOk, OnOk};
+ghost use Rattle.std.specs.BTreeSet.{insert_key};
 ghost use Rattle.std.specs.List.{filter_map};
 ghost use Rattle.ak_base.specs.declared.rows.Row.TheVariants as rows;
 ghost use Rattle.ak_keep.specs.Lookups.{as_card};
 ghost use Rattle.ak_keep.specs.Readings.{ReadsBy};
-ghost use Rattle.ak_queue.specs.Gathering.{Gathers, HasAllOf, HasNone, PutsDue, PutsNew, PutsUnder};
+ghost use Rattle.ak_queue.specs.Gathering.{Gathers, HasAllOf, HasNone, PutsDue, PutsFirst, PutsNew, PutsUnder};
 ghost use Rattle.ak_queue.specs.Homes.{cards_in};
+ghost use Rattle.ak_queue.specs.Orders.{due_cmp};
 ghost use Rattle.ak_queue.specs.Scopes.{scope_seen};
 
 use crate::paths::Path;
@@ -13,27 +15,36 @@ use crate::scopes::Scope;
 use ak_base::{Card, List, Memory, Row, Table};
 use ak_keep::{KeepFault, Readable, Walk};
 use std::alloc::Global;
+use std::cmp::Ordering;
 use std::collections::BTreeSet;
 
 /// What waits, in order: when it is due, and the card's id.
 type DueKeys = BTreeSet<(i64, i64)>;
 
-/// The cards that a day asks for, before limits.
+/// The cards that a day asks for, before limits, but of the reviews only the first.
 #[derive(Debug, Drop)]
 pub(crate) struct Gathered {
+    /// How many reviews are looked for.
+    pub(crate) most: u64,
     pub(crate) learning: DueKeys,
     pub(crate) soon: DueKeys,
     pub(crate) day_learning: DueKeys,
+    /// The first of the reviews; more than `most` of them may be among these.
     pub(crate) reviews: DueKeys,
     /// New cards, by the path of their deck, their place among new cards, and their id.
     pub(crate) new_cards: BTreeSet<(Path, i64, i64)>,
 }
 
-/// The cards that the day asks for, a page of cards at a time.
-pub(crate) fn gather<R: Readable>(scope: &Scope, from: &mut R) -> Result<Gathered, KeepFault>
+/// The cards that the day asks for, a page of cards at a time; of the reviews the first `most`.
+pub(crate) fn gather<R: Readable>(
+    scope: &Scope,
+    most: u64,
+    from: &mut R,
+) -> Result<Gathered, KeepFault>
+    ensures most { IfOk result (λ gathered. gathered.most ≡ most) }
     ensures reads { ReadsBy R.Lookup from.old from.new result (λ h gathered. HasAllOf (scope_seen scope.now) (cards_in h.rows) gathered) }
 {
-    let mut gathered = Gathered::new(scope.alloc);
+    let mut gathered = Gathered::new(scope.alloc, most);
     let mut walk = Walk::over(Table::Card);
     'pages: while !walk.is_done() {
         let page = walk.next(from)?;
@@ -43,11 +54,12 @@ pub(crate) fn gather<R: Readable>(scope: &Scope, from: &mut R) -> Result<Gathere
 }
 
 impl Gathered {
-    /// No cards.
-    fn new(alloc: Global) -> Gathered
-        ensures { HasNone result }
+    /// No cards, and at most so many reviews are looked for.
+    fn new(alloc: Global, most: u64) -> Gathered
+        ensures { HasNone most result }
     {
         Gathered {
+            most,
             learning: BTreeSet::new(alloc),
             soon: BTreeSet::new(alloc),
             day_learning: BTreeSet::new(alloc),
@@ -90,7 +102,12 @@ impl Gathered {
             inside && scope.is_day_learning(card),
             card,
         )?;
-        add_due(&mut self.reviews, inside && scope.is_due_review(card), card)?;
+        add_first(
+            &mut self.reviews,
+            self.most,
+            inside && scope.is_due_review(card),
+            card,
+        )?;
         add_new(&mut self.new_cards, scope, card)
     }
 }
@@ -103,6 +120,47 @@ fn add_due(keys: &mut DueKeys, passes: bool, card: &Card) -> Result<(), Memory>
         keys.insert((card.due, card.id))?;
     }
     Ok(())
+}
+
+/// Adds the card by when it is due, if it passes and is among the first `most` of them then.
+fn add_first(keys: &mut DueKeys, most: u64, passes: bool, card: &Card) -> Result<(), Memory>
+    ensures { OnOk result (PutsFirst most passes card.now keys.old.keys keys.new.keys) }
+{
+    if passes {
+        put_first(keys, most, (card.due, card.id))?;
+    }
+    Ok(())
+}
+
+/// Puts the key in, but for one that comes after the first `most`; one that it pushes past them goes.
+fn put_first(keys: &mut DueKeys, most: u64, key: (i64, i64)) -> Result<(), Memory>
+    ensures { OnOk result (take most keys.new.keys ≡ take most (insert_key due_cmp keys.old.keys key)) }
+{
+    if comes_after(keys, most, &key) {
+        return Ok(());
+    }
+    keys.insert(key)?;
+    cut(keys, most);
+    Ok(())
+}
+
+/// Whether there are `most` of them that come before the key.
+fn comes_after(keys: &DueKeys, most: u64, key: &(i64, i64)) -> bool
+    ensures { result ≡ true → take most keys.now.keys ≡ take most (insert_key due_cmp keys.now.keys key.now) }
+{
+    match keys.last() {
+        Some(last) => most <= keys.len() as u64 && last.cmp(key) == Ordering::Less,
+        None => false,
+    }
+}
+
+/// Takes out the last key, if there are more than `most`.
+fn cut(keys: &mut DueKeys, most: u64)
+    ensures { take most keys.new.keys ≡ take most keys.old.keys }
+{
+    if most < keys.len() as u64 {
+        keys.pop_last();
+    }
 }
 
 /// Adds the card by the path of its deck, if it is a new one inside.

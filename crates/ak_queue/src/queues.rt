@@ -103,8 +103,9 @@ fn queue_under<R: Readable>(
 ) -> Result<DayQueue, KeepFault>
     ensures reads { ReadsBy R.Lookup from.old from.new result (λ h queue. queue ≡ queue_seen h scope.now own.now limits.now) }
 {
-    let gathered = gather(scope, from)?;
-    let queue = assembled(scope, &gathered, own, limits)?;
+    let most = most_reviews(&scope.root, own, limits);
+    let gathered = gather(scope, most, from)?;
+    let queue = assembled(scope.alloc, &gathered, limits)?;
     Ok(queue)
 }
 
@@ -129,24 +130,15 @@ fn scope_of(
 }
 
 /// The lists of what was gathered, within limits.
-fn assembled(
-    scope: &Scope,
-    gathered: &Gathered,
-    own: &DeckLimits,
-    limits: &[DeckLimits],
-) -> Result<DayQueue, Memory>
-    ensures { IfOk result (λ queue. queue ≡ queue_by scope.now.root gathered.now own.now limits.now) }
+fn assembled(alloc: Global, gathered: &Gathered, limits: &[DeckLimits]) -> Result<DayQueue, Memory>
+    ensures { IfOk result (λ queue. queue ≡ queue_by gathered.now limits.now) }
 {
     Ok(DayQueue {
-        learning: ids_of(scope.alloc, &gathered.learning)?,
-        soon: ids_of(scope.alloc, &gathered.soon)?,
-        new_cards: first_choice(scope.alloc, limits, &gathered.new_cards)?,
-        day_learning: ids_of(scope.alloc, &gathered.day_learning)?,
-        reviews: first_ids(
-            scope.alloc,
-            &gathered.reviews,
-            most_reviews(&scope.root, own, limits),
-        )?,
+        learning: ids_of(alloc, &gathered.learning)?,
+        soon: ids_of(alloc, &gathered.soon)?,
+        new_cards: first_choice(alloc, limits, &gathered.new_cards)?,
+        day_learning: ids_of(alloc, &gathered.day_learning)?,
+        reviews: first_ids(alloc, &gathered.reviews, gathered.most)?,
     })
 }
 

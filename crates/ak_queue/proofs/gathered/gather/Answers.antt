@@ -14,11 +14,12 @@ start = record { past = record { table = tables.Card; id = pos 0 }; done = false
 pub returns : goal.returns
 unfolding start
 returns g c = record {
+  most = c.pages.invariant.most ∙ c.pages.invariant.none.most;
   reads = record {
     kept = c.pages.invariant.kept;
     same = c.pages.invariant.same;
     cause = cause-ok c.pages.gathered c.pages.invariant.goes;
-    told = whole_told (g.R.Lookup.keeping c.args.from.now).told (scope_seen c.args.scope.now) start c.pages.walk c.new-gathered.result c.pages.gathered c.pages.invariant.none (sym c.is_done.ensures ∙ c.pages-test.false) c.pages.invariant.found;
+    told = whole_told c.args.most (g.R.Lookup.keeping c.args.from.now).told (scope_seen c.args.scope.now) start c.pages.walk c.new-gathered.result c.pages.gathered c.pages.invariant.none (sym c.is_done.ensures ∙ c.pages-test.false) c.pages.invariant.found;
   };
 }
 
@@ -29,6 +30,7 @@ pages-init g c = record {
   same = refl;
   goes = goes_nowhere (g.R.Lookup.health c.args.from.now);
   none = c.new-gathered.ensures;
+  most = refl;
   found = subst (λ (w : Walk). WhereTold (g.R.Lookup.keeping c.args.from.now) (GathersAll (scope_seen c.args.scope.now) start w c.new-gathered.result c.new-gathered.result)) (sym c.over-walk.ensures)
       (first_page_told (g.R.Lookup.keeping c.args.from.now).told (scope_seen c.args.scope.now) start c.new-gathered.result);
 }
@@ -40,6 +42,7 @@ pages-preserved g c = record {
   same = c.next.ensures.reads.same ∙ c.pages.invariant.same;
   goes = goes_further c.pages.invariant.goes c.next.ensures.reads.cause.goes;
   none = c.pages.invariant.none;
+  most = c.in_ok-add_rows.ensures.most ∙ c.pages.invariant.most;
   found = page_told (g.R.Lookup.keeping c.args.from.now).told (scope_seen c.args.scope.now) start c.pages.walk c.next.new.self c.new-gathered.result c.pages.gathered c.add_rows.new.self c.in_ok-page.page
       c.pages.invariant.found (rw c.pages.invariant.same at c.in_ok-page.ensures.reads.told) (rw c.as_slice.ensures at c.in_ok-add_rows.ensures);
 }

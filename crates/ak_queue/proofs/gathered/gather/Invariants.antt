@@ -14,7 +14,8 @@ invariant-pages g l = record {
   kept : g.R.Lookup.kept l.from ≡ g.R.Lookup.kept l.fn.from;
   same : g.R.Lookup.keeping l.from ≡ g.R.Lookup.keeping l.fn.from;
   goes : GoesOn (g.R.Lookup.health l.fn.from) (g.R.Lookup.health l.from);
-  none : HasNone l.initial.gathered;
+  none : HasNone l.most l.initial.gathered;
+  most : l.gathered.most ≡ l.initial.gathered.most;
   found : WhereTold (g.R.Lookup.keeping l.fn.from) (GathersAll (scope_seen l.scope) (record { past = record { table = tables.Card; id = pos 0 }; done = false }) l.walk l.initial.gathered l.gathered);
 }
 
