@@ -173,12 +173,11 @@ head_after true was None some same = absurd (false_true (some refl))
 head_after true was (Some head) some same = refl
 head_after false was now some same = sym (same refl)
 
-pub makes : (touched : Touched) (was now : Holding) (change : Change) → IsOfForm change → IsChangeOf touched now change → (touched.head ≡ true → is_some now.head ≡ true)
-    → Covers touched was now → after_change change was ≡ now
-makes touched was now change formed is some covers =
+pub makes : (touched : Touched) (was now : Holding) (change : Change) → IsOfForm change → IsChangeOf touched now change → Covers touched was now → after_change change was ≡ now
+makes touched was now change formed is covers =
     let rows : (after_change change was).rows ≡ now.rows = touched_suffice touched was now (after_change change was).rows covers (written_over touched was now change formed is) in
     let head : option_or change.head was.head ≡ now.head =
-    ap (λ (o : Option Head). option_or o was.head) is.head ∙ head_after touched.head was.head now.head some covers.head in
+    ap (λ (o : Option Head). option_or o was.head) is.head ∙ head_after touched.head was.head now.head covers.set covers.head in
     λ i. record { rows = rows i; head = head i }
 
 if_head : (set : Bool) (head : Option Head) → IfSome head IsHeadInRange → IfSome (if set then head else None) IsHeadInRange

@@ -29,6 +29,13 @@ impl<D: Disk> Journal<D> {
         self.ready
     }
 
+    /// The count of its disk's faults. It takes no memory.
+    pub fn faults(&self) -> u64
+        ensures { result ≡ (D.health self.now.disk).faults }
+    {
+        self.disk.faults()
+    }
+
     /// The disk, given back.
     pub fn into_disk(self) -> D
         ensures { result ≡ self.disk }

@@ -1,4 +1,4 @@
-ghost use Rattle.std.specs.Prelude.{◌≡◌, ◌≤◌, true, false, None, IfOk};
+ghost use Rattle.std.specs.Prelude.{◌≡◌, ◌≤◌, true, false, IfOk, ⊤};
 ghost use Rattle.ak_faults.specs.Causes.{one_more};
 ghost use Rattle.ak_sqlite.specs.declared.faults.FileFault.TheVariants.{Failed, Memory as WantOfMemory};
 
@@ -9,7 +9,7 @@ use crate::writes::{ended, write_all};
 use ak_base::Head;
 use ak_keep::KeepFault;
 use ak_memory::MarkedRows;
-use ak_tables::{StoredCollection, Tables, Touched};
+use ak_tables::{OpenTables, StoredCollection, Tables, Touched};
 use sqlite::{Alter, Connection, File, FileStore};
 use std::alloc::Global;
 use std::marker::Model;
@@ -59,14 +59,44 @@ impl Drop for SqliteTables {
 
 impl Tables for SqliteTables {
     // What a file holds is known to nobody.
-    ghost stored = { λ _. None };
+    ghost stores = { λ _ _. ⊤ };
+
+    ghost is_ready = { λ _. true };
 
     ghost health = { λ tables. record { faults = tables.0; calm = false } };
+
+    ghost moment = { λ _. 0 };
+
+    ghost may_have_left = { λ _ _ _. ⊤ };
+
+    ghost stands_for = { λ _ _ _. ⊤ };
 
     fn faults(&self) -> u64 {
         self.faults
     }
 
+    // A refused transaction was given up whole.
+    fn ready(&mut self) -> Result<(), KeepFault> {
+        Ok(())
+    }
+
+    fn write(
+        &mut self,
+        rows: &MarkedRows,
+        head: &Option<Head>,
+        touched: &Touched,
+    ) -> Result<(), KeepFault> {
+        match write_through(&mut self.conn, rows, head, touched) {
+            Ok(()) => return Ok(()),
+            Err(fault) => {
+                self.faults = faults_after(self.faults, fault);
+                return Err(KeepFault::from(fault));
+            }
+        }
+    }
+}
+
+impl OpenTables for SqliteTables {
     fn open(rt: &HostRuntime, path: &str) -> Result<SqliteTables, KeepFault> {
         let mut conn = opened(rt, path)?;
         make_tables(&mut conn)?;
@@ -80,21 +110,6 @@ impl Tables for SqliteTables {
     fn read(&mut self) -> Result<StoredCollection, KeepFault> {
         match read_all(self.alloc, &mut self.conn) {
             Ok(read) => return Ok(read),
-            Err(fault) => {
-                self.faults = faults_after(self.faults, fault);
-                return Err(KeepFault::from(fault));
-            }
-        }
-    }
-
-    fn write(
-        &mut self,
-        rows: &MarkedRows,
-        head: &Option<Head>,
-        touched: &Touched,
-    ) -> Result<(), KeepFault> {
-        match write_through(&mut self.conn, rows, head, touched) {
-            Ok(()) => return Ok(()),
             Err(fault) => {
                 self.faults = faults_after(self.faults, fault);
                 return Err(KeepFault::from(fault));

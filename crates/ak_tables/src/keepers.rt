@@ -1,4 +1,4 @@
-ghost use Rattle.std.specs.Prelude.{◌≡◌, ◌<◌, ◌≤◌, ◌≤ℤ◌, ◌^◌, pos, true, false, [], is_some, option_map, length, map, Err, IfOk, IfSome, OnOk, OnErr};
+ghost use Rattle.std.specs.Prelude.{◌≡◌, ◌⊎◌, ◌<◌, ◌≤◌, ◌≤ℤ◌, ◌^◌, pos, true, false, [], None, is_some, option_map, length, map, Err, IfOk, IfSome, OnOk, OnErr};
 ghost use Rattle.std.specs.FinMap as finite;
 ghost use Rattle.std.specs.List.{All, IsDistinct};
 ghost use Rattle.std.specs.List.Sorted.{IsStrictlySortedBy};
@@ -7,16 +7,16 @@ ghost use Rattle.std.specs.Result.{IsErrOf};
 ghost use Rattle.ak_base.specs.Heads.{AreMomentsInRange, IsHeadInRange};
 ghost use Rattle.ak_base.specs.Names.{name_cmp};
 ghost use Rattle.ak_base.specs.Rows.{IsChecked, name_of};
-ghost use Rattle.ak_keep.specs.Collections.{AscendsPast, IsId, IsPageOf, with_row, without, with_head, with_moments, made_of, rows_past, wanted_past, row_count, cards_of, is_wanted};
+ghost use Rattle.ak_keep.specs.Collections.{AscendsPast, Holding, IsId, IsPageOf, with_row, without, with_head, with_moments, made_of, rows_past, wanted_past, row_count, cards_of, is_wanted};
 ghost use Rattle.ak_keep.specs.FreeNames.{IsFirstFree, IsFoundFrom, is_used};
 ghost use Rattle.ak_keep.specs.HeadNumbers.{AreNumbersInRange, numbers_of};
 ghost use Rattle.ak_keep.specs.Keepers.{IsRightlyKnown, KeepCause, all_known, is_marked};
 ghost use Rattle.ak_keep.specs.Marks as marks;
 ghost use Rattle.ak_keep.specs.declared.keepers.KeepFault.TheVariants.{Failed, Memory as WantOfMemory};
-ghost use Rattle.ak_tables.specs.Tables.{Covers, committed, refused, with_kept};
+ghost use Rattle.ak_tables.specs.Tables.{Covers, CrashLeaves, LeavesNow, last_kept, with_kept};
 
 use crate::loads::memory_of;
-use crate::tables::Tables;
+use crate::tables::{OpenTables, Tables};
 use crate::touched::Touched;
 use ak_base::{Head, List, Memory, Name, Row, Table};
 use ak_keep::{KeepFault, Keeper, Lookup, Numbers, Readable, Wanted};
@@ -26,7 +26,7 @@ use std::marker::Model;
 use std::rt::HostRuntime;
 
 /// A keeper that stores its collection in tables. All of it is held in memory too, and is read from there; the
-/// tables are read once, when it is made, and written at each commit. So only `commit` can fail.
+/// tables are made ready at each mark and written at each commit. So only `mark` and `commit` can fail.
 #[derive(Drop)]
 pub struct TableKeeper<T: Tables> {
     tables: T,
@@ -38,28 +38,28 @@ impl<T: Tables> Model for TableKeeper<T> {
     ghost use Rattle.std.specs.Coded.{codes};
     ghost use Rattle.std.specs.FinMap as map;
     ghost use Rattle.ak_keep.specs.MemoryKeepers.{holding_code};
-    ghost use Rattle.ak_tables.specs.Tables.{IsConsistent, TableState, state_code};
+    ghost use Rattle.ak_tables.specs.Tables.{IsConsistent, LeavesNow, TableState, state_code};
 
-    ghost Value = { TableState };
+    ghost Value = { TableState T };
 
-    ghost coded = { state_code (holding_code (map.code (Prim.hlevel codes) (Prim.hlevel codes)) (Prim.hlevel codes)) };
+    ghost coded = { state_code (holding_code (map.code (Prim.hlevel codes) (Prim.hlevel codes)) (Prim.hlevel codes)) (Prim.hlevel codes) };
 
-    ghost view = { λ k. record { kept = k.memory.kept; stored = T.stored k.tables; health = T.health k.tables } };
+    ghost view = { λ k. record { kept = k.memory.kept; tables = k.tables } };
 
-    ghost invariant = { λ k. IsConsistent k.memory (T.stored k.tables) k.touched };
+    ghost invariant = { λ k. IsConsistent k.memory (T.stores k.tables) (T.is_ready k.tables) (LeavesNow T.moment T.may_have_left T.stands_for k.tables) k.touched };
 }
 
-impl<T: Tables> TableKeeper<T> {
+impl<T: OpenTables> TableKeeper<T> {
     /// A keeper over the tables in the file at this path. If the file has none, or is not there, they are made. It
     /// fails if anything else is stored there than rows and a head in their ranges, each row once.
     pub fn over_file(rt: &HostRuntime, path: &str) -> Result<TableKeeper<T>, KeepFault>
         ensures tells { IfOk result (λ keeper. is_some (all_known keeper.kept).told ≡ true) }
         ensures unmarked { IfOk result (λ keeper. is_marked (all_known keeper.kept) ≡ false) }
-        ensures faultless { IfOk result (λ keeper. keeper.health.faults ≡ 0) }
+        ensures faultless { IfOk result (λ keeper. (T.health keeper.tables).faults ≡ 0) }
         ensures range { IfOk result (λ keeper. IsRightlyKnown (all_known keeper.kept)) }
 
         // It keeps what is stored, where that is told.
-        ensures stored { IfOk result (λ keeper. IfSome keeper.stored (λ stored. stored ≡ keeper.kept.current)) }
+        ensures stored { IfOk result (λ keeper. T.stores keeper.tables keeper.kept.current) }
     {
         let tables = T::open(rt, path)?;
         TableKeeper::over(rt.alloc(), tables)
@@ -70,29 +70,55 @@ impl<T: Tables> TableKeeper<T> {
     pub fn over(alloc: Global, tables: T) -> Result<TableKeeper<T>, KeepFault>
         ensures tells { IfOk result (λ keeper. is_some (all_known keeper.kept).told ≡ true) }
         ensures unmarked { IfOk result (λ keeper. is_marked (all_known keeper.kept) ≡ false) }
-        ensures health { IfOk result (λ keeper. keeper.health ≡ T.health tables) }
+        ensures health { IfOk result (λ keeper. T.health keeper.tables ≡ T.health tables) }
         ensures range { IfOk result (λ keeper. IsRightlyKnown (all_known keeper.kept)) }
-        ensures tables { IfOk result (λ keeper. keeper.stored ≡ T.stored tables) }
-        ensures stored { IfOk result (λ keeper. IfSome keeper.stored (λ stored. stored ≡ keeper.kept.current)) }
+        ensures stored { IfOk result (λ keeper. T.stores keeper.tables keeper.kept.current) }
     {
         let mut tables = tables;
         let read = tables.read()?;
         let memory = memory_of(alloc, read)?;
+        Ok(TableKeeper::of(alloc, tables, memory))
+    }
+}
 
+impl<T: Tables> TableKeeper<T> {
+    /// A keeper over these tables, of what they store, which is held in this memory.
+    pub fn of(alloc: Global, tables: T, memory: MemoryKeeper) -> TableKeeper<T>
+        requires stored { T.stores tables memory.kept.current }
+        requires unmarked { memory.kept.mark ≡ None }
+        requires obeys { memory.fails ≡ [] }
+        ensures kept { result.kept ≡ memory.kept }
+        ensures tables { result.tables ≡ tables }
+        ensures range { IsRightlyKnown (all_known result.kept) }
+    {
         // It says that what is held is in its ranges.
         let _held = memory.held();
-        Ok(TableKeeper {
+        TableKeeper {
             tables,
             memory,
             touched: Touched::nothing(alloc),
-        })
+        }
+    }
+
+    /// The tables, given back.
+    pub fn into_tables(self) -> T
+        ensures { result ≡ self.tables }
+    {
+        let TableKeeper {
+            tables,
+            memory,
+            touched,
+        } = self;
+        drop(memory);
+        drop(touched);
+        tables
     }
 }
 
 impl<T: Tables> Lookup for TableKeeper<T> {
     ghost keeping = { λ keeper. all_known keeper.kept };
 
-    ghost health = { λ keeper. keeper.health };
+    ghost health = { λ keeper. T.health keeper.tables };
 
     ghost checks = { true };
 
@@ -112,7 +138,7 @@ impl<T: Tables> Lookup for TableKeeper<T> {
         ensures checked { IfOk result (λ row. IfSome row IsChecked) }
         ensures state { self.new ≡ self.old }
         ensures unfailing { IsErrOf result Failed → ⊥ }
-        ensures cause { KeepCause self.old.health self.new.health result }
+        ensures cause { KeepCause (T.health self.old.tables) (T.health self.new.tables) result }
     {
         self.memory.get(name)
     }
@@ -123,7 +149,7 @@ impl<T: Tables> Lookup for TableKeeper<T> {
         ensures range { IfOk result (λ ids. All IsId ids) }
         ensures state { self.new ≡ self.old }
         ensures unfailing { IsErrOf result Failed → ⊥ }
-        ensures cause { KeepCause self.old.health self.new.health result }
+        ensures cause { KeepCause (T.health self.old.tables) (T.health self.new.tables) result }
     {
         self.memory.cards_of(note)
     }
@@ -133,7 +159,7 @@ impl<T: Tables> Lookup for TableKeeper<T> {
         ensures range { IfOk result (λ head. IfSome head IsHeadInRange) }
         ensures state { self.new ≡ self.old }
         ensures unfailing { IsErrOf result Failed → ⊥ }
-        ensures cause { KeepCause self.old.health self.new.health result }
+        ensures cause { KeepCause (T.health self.old.tables) (T.health self.new.tables) result }
     {
         self.memory.head()
     }
@@ -149,7 +175,7 @@ impl<T: Tables> Readable for TableKeeper<T> {
         ensures checked { IfOk result (λ page. All IsChecked page) }
         ensures state { self.new ≡ self.old }
         ensures unfailing { IsErrOf result Failed → ⊥ }
-        ensures cause { KeepCause self.old.health self.new.health result }
+        ensures cause { KeepCause (T.health self.old.tables) (T.health self.new.tables) result }
     {
         self.memory.page(table, past, limit)
     }
@@ -159,7 +185,7 @@ impl<T: Tables> Readable for TableKeeper<T> {
         ensures small { IfOk result (λ count. count < 2 ^ 63) }
         ensures state { self.new ≡ self.old }
         ensures unfailing { IsErrOf result Failed → ⊥ }
-        ensures cause { KeepCause self.old.health self.new.health result }
+        ensures cause { KeepCause (T.health self.old.tables) (T.health self.new.tables) result }
     {
         self.memory.count(table)
     }
@@ -171,7 +197,7 @@ impl<T: Tables> Readable for TableKeeper<T> {
         ensures state { self.new ≡ self.old }
         ensures unfailing { IsErrOf result Failed → ⊥ }
         ensures spares { IsErrOf result WantOfMemory → ⊥ }
-        ensures cause { KeepCause self.old.health self.new.health result }
+        ensures cause { KeepCause (T.health self.old.tables) (T.health self.new.tables) result }
     {
         self.memory.free_name(first)
     }
@@ -189,7 +215,7 @@ impl<T: Tables> Keeper for TableKeeper<T> {
         ensures range { IfOk result (λ numbers. IfSome numbers AreNumbersInRange) }
         ensures state { self.new ≡ self.old }
         ensures unfailing { IsErrOf result Failed → ⊥ }
-        ensures cause { KeepCause self.old.health self.new.health result }
+        ensures cause { KeepCause (T.health self.old.tables) (T.health self.new.tables) result }
     {
         self.memory.numbers()
     }
@@ -200,7 +226,7 @@ impl<T: Tables> Keeper for TableKeeper<T> {
         ensures ok { OnOk result (self.new ≡ with_kept (marks.changed (with_row row)) self.old) }
         ensures err { OnErr result (self.new ≡ self.old) }
         ensures unfailing { IsErrOf result Failed → ⊥ }
-        ensures cause { KeepCause self.old.health self.new.health result }
+        ensures cause { KeepCause (T.health self.old.tables) (T.health self.new.tables) result }
     {
         self.touched.add(row.name())?;
         self.memory.put(row)
@@ -211,7 +237,7 @@ impl<T: Tables> Keeper for TableKeeper<T> {
         ensures ok { OnOk result (self.new ≡ with_kept (marks.changed (without name)) self.old) }
         ensures err { OnErr result (self.new ≡ self.old) }
         ensures unfailing { IsErrOf result Failed → ⊥ }
-        ensures cause { KeepCause self.old.health self.new.health result }
+        ensures cause { KeepCause (T.health self.old.tables) (T.health self.new.tables) result }
     {
         self.touched.add(name)?;
         self.memory.remove(name)
@@ -233,7 +259,7 @@ impl<T: Tables> Keeper for TableKeeper<T> {
         ensures checked { IfOk result (λ page. All IsChecked page) }
         ensures state { self.new ≡ self.old }
         ensures unfailing { IsErrOf result Failed → ⊥ }
-        ensures cause { KeepCause self.old.health self.new.health result }
+        ensures cause { KeepCause (T.health self.old.tables) (T.health self.new.tables) result }
     {
         self.memory.pending(table, want, past, limit)
     }
@@ -244,7 +270,7 @@ impl<T: Tables> Keeper for TableKeeper<T> {
         ensures ok { OnOk result (self.new ≡ with_kept (marks.changed (with_head head)) self.old) }
         ensures err { OnErr result (self.new ≡ self.old) }
         ensures unfailing { IsErrOf result Failed → ⊥ }
-        ensures cause { KeepCause self.old.health self.new.health result }
+        ensures cause { KeepCause (T.health self.old.tables) (T.health self.new.tables) result }
     {
         self.touched.head = true;
         self.memory.set_head(head)
@@ -263,7 +289,7 @@ impl<T: Tables> Keeper for TableKeeper<T> {
         ensures ok { OnOk result (self.new ≡ with_kept (marks.changed (with_moments moment schema usn last_sync)) self.old) }
         ensures err { OnErr result (self.new ≡ self.old) }
         ensures unfailing { IsErrOf result Failed → ⊥ }
-        ensures cause { KeepCause self.old.health self.new.health result }
+        ensures cause { KeepCause (T.health self.old.tables) (T.health self.new.tables) result }
     {
         self.touched.head = true;
         self.memory.set_moments(moment, schema, usn, last_sync)
@@ -277,7 +303,7 @@ impl<T: Tables> Keeper for TableKeeper<T> {
         ensures ok { OnOk result (self.new ≡ with_kept (marks.changed (λ _. made_of rows head)) self.old) }
         ensures err { OnErr result (self.new ≡ self.old) }
         ensures unfailing { IsErrOf result Failed → ⊥ }
-        ensures cause { KeepCause self.old.health self.new.health result }
+        ensures cause { KeepCause (T.health self.old.tables) (T.health self.new.tables) result }
     {
         let names = names_of(rows.allocator(), rows.as_slice())?;
         self.memory.replace_all(rows, head)?;
@@ -291,11 +317,21 @@ impl<T: Tables> Keeper for TableKeeper<T> {
 
     fn mark(&mut self) -> Result<(), KeepFault>
         requires unmarked { is_marked (all_known self.old.kept) ≡ false }
-        ensures ok { OnOk result (self.new ≡ with_kept marks.marked_here self.old) }
-        ensures err { OnErr result (self.new ≡ self.old) }
-        ensures unfailing { IsErrOf result Failed → ⊥ }
-        ensures cause { KeepCause self.old.health self.new.health result }
+        ensures ok { OnOk result (self.new.kept ≡ marks.marked_here self.old.kept) }
+        ensures err { OnErr result (self.new.kept ≡ self.old.kept) }
+
+        // Only the tables may fail, at what a refused commit left.
+        ensures memory { result ≡ Err WantOfMemory → T.health self.new.tables ≡ T.health self.old.tables }
+
+        // A crash at any moment of the call leaves what one before it might have left, or what is held.
+        ensures any_moment { CrashLeaves T.moment T.may_have_left self.old.tables self.new.tables
+            (λ image. T.may_have_left self.old.tables (T.moment self.old.tables) image ⊎ T.stands_for self.old.tables self.old.kept.current image) }
+
+        // A crash after it leaves what is held.
+        ensures lasts { OnOk result (LeavesNow T.moment T.may_have_left T.stands_for self.new.tables self.old.kept.current) }
+        ensures cause { KeepCause (T.health self.old.tables) (T.health self.new.tables) result }
     {
+        self.tables.ready()?;
         self.memory.mark()?;
         self.touched = Touched::nothing(self.touched.names.allocator());
         Ok(())
@@ -311,10 +347,19 @@ impl<T: Tables> Keeper for TableKeeper<T> {
     // It stores what is held, where it is told what is stored.
     fn commit(&mut self) -> Result<(), KeepFault>
         requires marked { is_marked (all_known self.old.kept) ≡ true }
-        ensures ok { OnOk result (self.new ≡ committed self.old) }
-        ensures memory { result ≡ Err WantOfMemory → self.new ≡ with_kept marks.back self.old }
-        ensures err { OnErr result (self.new ≡ refused self.new.health self.old) }
-        ensures cause { KeepCause self.old.health self.new.health result }
+        ensures ok { OnOk result (self.new.kept ≡ marks.committed self.old.kept) }
+        ensures err { OnErr result (self.new.kept ≡ marks.back self.old.kept) }
+        ensures stored { OnOk result (T.stores self.new.tables self.old.kept.current) }
+        ensures refused { OnErr result (T.stores self.new.tables (last_kept self.old.kept)) }
+        ensures memory { result ≡ Err WantOfMemory → T.health self.new.tables ≡ T.health self.old.tables }
+
+        // A crash at any moment of the call leaves what was held at the mark, or what is committed.
+        ensures any_moment { CrashLeaves T.moment T.may_have_left self.old.tables self.new.tables
+            (λ image. T.stands_for self.old.tables (last_kept self.old.kept) image ⊎ T.stands_for self.old.tables self.old.kept.current image) }
+
+        // A crash after it leaves what was committed.
+        ensures lasts { OnOk result (LeavesNow T.moment T.may_have_left T.stands_for self.new.tables self.old.kept.current) }
+        ensures cause { KeepCause (T.health self.old.tables) (T.health self.new.tables) result }
     {
         match store(&mut self.tables, &mut self.memory, &self.touched) {
             // The keeper in memory is told no call to fail, so this is not refused.
@@ -333,16 +378,26 @@ fn store<T: Tables>(
     memory: &mut MemoryKeeper,
     touched: &Touched,
 ) -> Result<(), KeepFault>
-    requires covers { IfSome (T.stored tables.old) (λ was. Covers touched.now was memory.old.kept.current) }
+    requires ready { T.is_ready tables.old ≡ true }
+    requires set { touched.now.head ≡ true → is_some memory.old.kept.current.head ≡ true }
+    requires whole { touched.now.whole ≡ true → touched.now.head ≡ true }
     requires obeys { memory.old.fails ≡ [] }
-    ensures ok { OnOk result (T.stored tables.new ≡ option_map (λ _. memory.old.kept.current) (T.stored tables.old)) }
-    ensures err { OnErr result (T.stored tables.new ≡ T.stored tables.old) }
+    ensures ok { OnOk result ((was : Holding) → T.stores tables.old was → Covers touched.now was memory.old.kept.current
+        → T.stores tables.new memory.old.kept.current) }
+    ensures err { OnErr result ((was : Holding) → T.stores tables.old was → T.stores tables.new was) }
+    ensures any_moment { (was : Holding) → T.stores tables.old was → LeavesNow T.moment T.may_have_left T.stands_for tables.old was
+        → Covers touched.now was memory.old.kept.current → CrashLeaves T.moment T.may_have_left tables.old tables.new
+        (λ image. T.stands_for tables.old was image ⊎ T.stands_for tables.old memory.old.kept.current image) }
+    ensures lasts { OnOk result ((was : Holding) → T.stores tables.old was → Covers touched.now was memory.old.kept.current
+        → LeavesNow T.moment T.may_have_left T.stands_for tables.new memory.old.kept.current) }
     ensures cause { KeepCause (T.health tables.old) (T.health tables.new) result }
     ensures calm { OnOk result (T.health tables.new ≡ T.health tables.old) }
     ensures memory { result ≡ Err WantOfMemory → T.health tables.new ≡ T.health tables.old }
     ensures kept { memory.new.kept ≡ memory.old.kept }
     ensures obeys { memory.new.fails ≡ [] }
 {
+    // It says that what is held is in its ranges.
+    let _held = memory.held();
     let head = memory.head()?;
     tables.write(memory.rows(), &head, touched)
 }

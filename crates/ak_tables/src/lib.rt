@@ -9,5 +9,5 @@ mod touched;
 
 pub use keepers::TableKeeper;
 pub use laws::touched_names_suffice;
-pub use tables::{StoredCollection, Tables};
+pub use tables::{OpenTables, StoredCollection, Tables};
 pub use touched::Touched;

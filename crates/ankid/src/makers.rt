@@ -4,7 +4,7 @@ ghost use Rattle.ak_io.specs.Ends.{uncertain};
 use ak_account_keepers::MakeKeeper;
 use ak_io::End;
 use ak_keep::{KeepFault, Lookup};
-use ak_tables::{TableKeeper, Tables};
+use ak_tables::{OpenTables, TableKeeper};
 use std::marker::PhantomData;
 
 /// A maker of keepers over files of tables. A file that is not there is made.
@@ -15,7 +15,7 @@ pub(crate) struct TableMaker<'r, T> {
     tables: PhantomData<T>,
 }
 
-impl<'r, T: Tables> TableMaker<'r, T> {
+impl<'r, T: OpenTables> TableMaker<'r, T> {
     /// No keeper was made yet.
     pub(crate) fn new(rt: &'r HostRuntime) -> TableMaker<'r, T> {
         TableMaker {
@@ -26,7 +26,7 @@ impl<'r, T: Tables> TableMaker<'r, T> {
     }
 }
 
-impl<'r, T: Tables> End for TableMaker<'r, T> {
+impl<'r, T: OpenTables> End for TableMaker<'r, T> {
     ghost health = { λ maker. uncertain maker.faults };
 
     fn faults(&self) -> u64 {
@@ -34,7 +34,7 @@ impl<'r, T: Tables> End for TableMaker<'r, T> {
     }
 }
 
-impl<'r, T: Tables> MakeKeeper for TableMaker<'r, T> {
+impl<'r, T: OpenTables> MakeKeeper for TableMaker<'r, T> {
     type Keeper = TableKeeper<T>;
 
     ghost to_come = { λ maker. None };

@@ -3,12 +3,12 @@ use crate::in_memory::{run_alone, run_in_turn};
 use crate::kept_files::Files;
 use crate::reopened::{run_beside, run_served};
 use crate::synced::run_synced;
-use ak_tables::Tables;
+use ak_tables::OpenTables;
 use cases_lines::{Answers, Unread};
 use serde_json::Value;
 use std::alloc::Global;
 
-impl<T: Tables> Answers for Files<'_, T> {
+impl<T: OpenTables> Answers for Files<'_, T> {
     fn answer(&mut self, alloc: Global, word: &str, rest: &str) -> Result<String, Unread> {
         match word {
             "run" | "runs" | "over" | "reopened" | "served" | "synced" => {
@@ -19,7 +19,7 @@ impl<T: Tables> Answers for Files<'_, T> {
     }
 }
 
-fn answer_of_runs<T: Tables>(
+fn answer_of_runs<T: OpenTables>(
     alloc: Global,
     files: &mut Files<'_, T>,
     word: &str,
@@ -31,7 +31,7 @@ fn answer_of_runs<T: Tables>(
     }
 }
 
-fn answer_by<T: Tables>(
+fn answer_by<T: OpenTables>(
     alloc: Global,
     files: &mut Files<'_, T>,
     word: &str,

@@ -2,13 +2,13 @@ use crate::kept_files::{FILE, Files};
 use crate::statements::{asked, ran};
 use ak_base::Table;
 use ak_keep::{KeepFault, Keeper, Readable};
-use ak_tables::Tables;
+use ak_tables::OpenTables;
 use cases_keepers::{answer_of_keeper, failed};
 use cases_lines::{Unread, row_text, table_of};
 use std::alloc::Global;
 
 /// The answer to a command over the file: of one that is not told below, that of the keeper that is open.
-pub fn answer_of_file<T: Tables>(
+pub fn answer_of_file<T: OpenTables>(
     alloc: Global,
     files: &mut Files<'_, T>,
     word: &str,

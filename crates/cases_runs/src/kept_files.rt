@@ -1,7 +1,7 @@
 use ak_keep::KeepFault;
 use ak_loops::LoggedServer;
 use ak_memory::MemoryKeeper;
-use ak_tables::{TableKeeper, Tables};
+use ak_tables::{OpenTables, TableKeeper};
 use std::fs;
 use std::rt::HostRuntime;
 
@@ -11,7 +11,7 @@ pub const FILE: &str = "case.db";
 /// The file, the keeper over it while it is open, and its twin, a keeper in memory over which the runs of a line `reopened`
 /// go too. In a line `served` each has a server of its own.
 #[derive(Drop)]
-pub struct Files<'a, T: Tables> {
+pub struct Files<'a, T: OpenTables> {
     pub rt: &'a HostRuntime,
     pub keeper: Option<TableKeeper<T>>,
     pub twin: MemoryKeeper,
@@ -19,7 +19,7 @@ pub struct Files<'a, T: Tables> {
     pub twin_server: Option<LoggedServer>,
 }
 
-impl<'a, T: Tables> Files<'a, T> {
+impl<'a, T: OpenTables> Files<'a, T> {
     /// No keeper over the file yet, and an empty twin.
     pub fn new(rt: &'a HostRuntime) -> Files<'a, T> {
         Files {

@@ -18,7 +18,7 @@ mod twins;
 use crate::kept_files::Files;
 use ak_io::{Sink, Source, StdSink, StdSource};
 use ak_sqlite::SqliteTables;
-use ak_tables::Tables;
+use ak_tables::OpenTables;
 use cases_lines::{Unread, print_answers};
 use std::io;
 use std::process::ExitCode;
@@ -34,7 +34,7 @@ fn main(rt: HostRuntime) -> io::Result<ExitCode> {
 }
 
 // Over any tables: what is proved of them once, for all that store a collection, is not proved again for those of a file.
-fn print_all<T: Tables, I: Source, O: Sink>(
+fn print_all<T: OpenTables, I: Source, O: Sink>(
     rt: &HostRuntime,
     input: &mut I,
     out: &mut O,

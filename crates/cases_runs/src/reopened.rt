@@ -4,14 +4,14 @@ use crate::servers::row_counts;
 use crate::synced::text_over;
 use crate::twins::hold_the_same;
 use ak_loops::LoggedServer;
-use ak_tables::Tables;
+use ak_tables::OpenTables;
 use cases_accounts::{empty_account, moment_at};
 use cases_lines::Unread;
 use serde_json::Value;
 use std::alloc::Global;
 
 /// `reopened [[RUN, ..]]`: what each run over a new file is told as. The file is closed then.
-pub fn run_beside<T: Tables>(
+pub fn run_beside<T: OpenTables>(
     alloc: Global,
     files: &mut Files<'_, T>,
     arguments: &Value,
@@ -24,7 +24,7 @@ pub fn run_beside<T: Tables>(
 
 /// `served [OPENING-MOMENT, [RUN, ..]]`: the same, with a server each for the file and the twin, and how many rows of each table
 /// the file's server holds then.
-pub fn run_served<T: Tables>(
+pub fn run_served<T: OpenTables>(
     alloc: Global,
     files: &mut Files<'_, T>,
     arguments: &Value,
@@ -50,7 +50,7 @@ fn counts_of(alloc: Global, server: &mut Option<LoggedServer>) -> Result<String,
     }
 }
 
-impl<T: Tables> Files<'_, T> {
+impl<T: OpenTables> Files<'_, T> {
     /// `over RUN`: what a run over the file, which is opened for it and closed again, is told as.
     pub fn text_in_file(&mut self, alloc: Global, run: &Value) -> Result<String, Unread> {
         let text = match self.open() {
@@ -82,7 +82,7 @@ fn not_opened(alloc: Global) -> Result<String, Unread> {
     Ok(String::from_str(alloc, "not opened")?)
 }
 
-impl<T: Tables> RunsCases for Files<'_, T> {
+impl<T: OpenTables> RunsCases for Files<'_, T> {
     /// What a run over the file is told as. It is followed by what the twin is told as if that is another text, and by a remark
     /// if the file, opened again, holds another collection than the twin.
     fn next_text(&mut self, alloc: Global, run: &Value) -> Result<String, Unread> {
