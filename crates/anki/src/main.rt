@@ -4,13 +4,18 @@
 ghost use Rattle.std.specs.Prelude.{◌≡◌, false};
 ghost use Rattle.ak_keep.specs.Keepers.{is_marked};
 
+mod journals;
 mod servers;
 
+use crate::journals::{journal_of, print_damaged};
 use crate::servers::{is_server, wire_to};
 use ak_base::Memory;
 use ak_cli::{KEEPER_FAILED, NO_MEMORY, print_usage, run};
+use ak_file_disks::FileDisk;
 use ak_filters::{FieldFilter, FuriganaFilter, HintFilter, KanaFilter, KanjiFilter, TextFilter};
 use ak_io::{Clock, Sink, Source, StdChance, StdClock, StdSink, StdSource};
+use ak_journal_tables::open;
+use ak_journals::JournalFault;
 use ak_keep::{KeepFault, Keeper};
 use ak_loops::Log;
 use ak_memory::MemoryKeeper;
@@ -20,7 +25,7 @@ use std::io::ErrorKind;
 use std::process::ExitCode;
 use std::{env, io};
 
-// The file `-` is an empty collection in memory, which ends with the program; the server `-` is none.
+// The file `-` is an empty collection in memory, which ends with the program, and `journal:PATH` a journal; the server `-` is none.
 fn main(rt: HostRuntime) -> ExitCode {
     let mut input = StdSource::new(rt.stdin());
     let mut out = StdSink::new(rt.stdout());
@@ -80,8 +85,27 @@ fn run_over<I: Source, O: Sink>(
         let mut keeper = MemoryKeeper::new(rt.alloc());
         return Ok(run_with(rt, &mut keeper, server, words, input, out)?);
     }
+    if let Some(path) = journal_of(file) {
+        return run_over_journal(rt, (path, server), words, input, out);
+    }
     let mut keeper = SqliteKeeper::over_file(rt, file)?;
     Ok(run_with(rt, &mut keeper, server, words, input, out)?)
+}
+
+/// The same over the journal in the file at a path.
+fn run_over_journal<I: Source, O: Sink>(
+    rt: &HostRuntime,
+    (path, server): (&str, &str),
+    words: &[String],
+    input: &mut I,
+    out: &mut O,
+) -> Result<u8, KeepFault> {
+    match open(rt.alloc(), FileDisk::open(rt, path)) {
+        Ok(mut keeper) => Ok(run_with(rt, &mut keeper, server, words, input, out)?),
+        Err((JournalFault::Damaged(place), _disk)) => Ok(print_damaged(rt.alloc(), place, out)?),
+        Err((JournalFault::Failed, _disk)) => Err(KeepFault::Failed),
+        Err((JournalFault::Memory, _disk)) => Err(KeepFault::Memory),
+    }
 }
 
 /// Runs the command over a keeper, and answers its status. Pages have the filters `text`, `hint`, `kanji`, `kana` and

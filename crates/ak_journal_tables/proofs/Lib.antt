@@ -1,0 +1,5 @@
+pub mod Files
+pub mod Images
+pub mod Gates
+pub mod Runs
+pub mod Results
