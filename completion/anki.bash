@@ -1,26 +1,36 @@
 # Completion of anki for bash: `. completion/anki.bash`. Made by tools/make_pages.py.
 _anki() {
-    local word=${COMP_WORDS[COMP_CWORD]} first=${COMP_WORDS[1]} second=${COMP_WORDS[2]}
+    local -a given=("${COMP_WORDS[@]:0:COMP_CWORD + 1}")
     COMPREPLY=()
-    if [ "$COMP_CWORD" -eq 1 ]; then
+    # Bash parts words at a colon; the name of a journal is one.
+    if [ "${given[1]}" = journal ] && [ "${given[2]}" = : ]; then
+        if [ "${#given[@]}" -le 4 ]; then
+            COMPREPLY=($(compgen -f -- "${given[3]}"))
+            return
+        fi
+        given=("${given[0]}" "journal:${given[3]}" "${given[@]:4}")
+    fi
+    local place=$((${#given[@]} - 1)) first=${given[1]} second=${given[2]}
+    local word=${given[place]}
+    if [ "$place" -eq 1 ]; then
         COMPREPLY=($(compgen -W "backup restore doctor show help --help --version --program" -- "$word") $(compgen -f -- "$word"))
         return
     fi
     # If the second word is - or host:port, all words go to the program.
-    if [ "$COMP_CWORD" -ge 3 ] && { [ "$second" = - ] || [[ $second == *:* ]] || [[ ${COMP_WORDS[3]} == : ]]; }; then
-        [ "$COMP_CWORD" -eq 3 ] && COMPREPLY=($(compgen -W "init desk sync upload download import export make lab" -- "$word"))
+    if [ "$place" -ge 3 ] && { [ "$second" = - ] || [[ $second == *:* ]] || [[ ${given[3]} == : ]]; }; then
+        [ "$place" -eq 3 ] && COMPREPLY=($(compgen -W "init desk sync upload download import export make lab" -- "$word"))
         return
     fi
     case $first in
-    backup | restore) [ "$COMP_CWORD" -le 3 ] && COMPREPLY=($(compgen -f -- "$word")) ;;
-    doctor) [ "$COMP_CWORD" -eq 2 ] && COMPREPLY=($(compgen -f -- "$word")) ;;
+    backup | restore) [ "$place" -le 3 ] && COMPREPLY=($(compgen -f -- "$word")) ;;
+    doctor) [ "$place" -eq 2 ] && COMPREPLY=($(compgen -f -- "$word")) ;;
     show)
-        [ "$COMP_CWORD" -eq 2 ] && COMPREPLY=($(compgen -f -- "$word"))
-        [ "$COMP_CWORD" -eq 3 ] && COMPREPLY=($(compgen -W "decks types options notes" -- "$word"))
+        [ "$place" -eq 2 ] && COMPREPLY=($(compgen -f -- "$word"))
+        [ "$place" -eq 3 ] && COMPREPLY=($(compgen -W "decks types options notes" -- "$word"))
         ;;
-    help) [ "$COMP_CWORD" -eq 2 ] && COMPREPLY=($(compgen -W "desk lab import sync answers" -- "$word")) ;;
+    help) [ "$place" -eq 2 ] && COMPREPLY=($(compgen -W "desk lab import sync answers" -- "$word")) ;;
     --*) ;;
-    *) [ "$COMP_CWORD" -eq 2 ] && COMPREPLY=($(compgen -W "-" -- "$word")) ;;
+    *) [ "$place" -eq 2 ] && COMPREPLY=($(compgen -W "-" -- "$word")) ;;
     esac
 }
 complete -o filenames -F _anki anki bin/anki ./anki

@@ -20,8 +20,8 @@ All of it is one state of the file: one read transaction. Ranges and forms are n
 JSON of its form. Texts that are not UTF-8 come with surrogates (`surrogateescape`); values come in the type in which the
 file has them, so a column may hold a number, a text, bytes or None.
 
-`program` is the path of the built program. It is run only if the file's journal holds something, after a kill: then the
-program opens and closes the file first. With None that step is left out, and sqlite reads the journal itself.
+`program` is the path of the built program. It is run only if the file's log, FILE-wal, holds something, after a kill: then the
+program opens and closes the file first. With None that step is left out, and sqlite reads the log itself.
 
 Faults are ReadFaults, whose texts are for the learner:
 
@@ -33,7 +33,7 @@ Faults are ReadFaults, whose texts are for the learner:
 While a file is read here, the program can't open it (it ends with status 6): read, close, and then start the program.
 `open_collection` waits half a second for a lock, since another reader holds the file for a moment only.
 
-The file is opened by `mode=ro`, never `immutable`, which would pass over locks and the journal. SQLite makes FILE-shm for the
+The file is opened by `mode=ro`, never `immutable`, which would pass over locks and the log. SQLite makes FILE-shm for the
 time of the read, and FILE-wal if there is none. Both go again here, under a lock that nobody else has the file with;
 if somebody has, they stay to him.
 """
@@ -49,6 +49,7 @@ import threading
 import urllib.parse
 
 from front import program as programs
+from front.names import journal_path
 
 NOTE_COLUMNS = "id guid mid mod usn tags flds sfld csum flags data"
 CARD_COLUMNS = "id nid did ord mod usn type queue due ivl factor reps lapses left odue odid flags data"
@@ -73,8 +74,8 @@ Options = collections.namedtuple("Options", "id name object")
 # What parts the fields of a note in the column `flds`.
 FIELD_SEPARATOR = "\x1f"
 
-# How long the journal FILE-wal is when no program has the file open and all that was committed is in the file.
-JOURNAL_AT_REST = 41
+# How long the log FILE-wal is when no program has the file open and all that was committed is in the file.
+LOG_AT_REST = 41
 
 # Where SQLite's locks are in the file, and the program's: bytes that are never written.
 LOCK_START = 0x40000000
@@ -112,13 +113,13 @@ def open_collection(path, program=None):
     """A Collection for as long as the `with` lasts. See the head of this file."""
     with _one_at_a_time:
         _find_file(path)
-        if program is not None and _journal_holds_something(path):
+        if program is not None and _log_holds_something(path):
             programs.open_and_close(program, path)
         # SQLite follows links before it names the files beside one.
         path = os.path.realpath(path)
-        if program is not None and _journal_holds_something(path):
+        if program is not None and _log_holds_something(path):
             programs.open_and_close(program, path)
-        had_journal = os.path.exists(path + "-wal")
+        had_log = os.path.exists(path + "-wal")
         connection = None
         try:
             connection = _connect(path)
@@ -128,7 +129,7 @@ def open_collection(path, program=None):
         finally:
             if connection is not None:
                 connection.close()
-            _remove_helpers(path, had_journal)
+            _remove_helpers(path, had_log)
 
 
 class Collection:
@@ -263,6 +264,13 @@ def tags_of(note):
     return [tag for tag in note.tags.split(" ") if tag]
 
 
+def file_named(word):
+    """The whole path of the file that a learner names to a front, which reads files of SQLite alone."""
+    if journal_path(word) is not None:
+        raise NotCollection("%s is a journal, and a front reads collections in SQLite: docs/FILES.md says how to bring a journal into one" % word)
+    return os.path.realpath(word)
+
+
 def _find_file(path):
     if os.path.isdir(path):
         raise NoFile("%s is a folder" % path)
@@ -272,9 +280,9 @@ def _find_file(path):
         raise Unreadable("%s can't be read: permission denied" % path)
 
 
-def _journal_holds_something(path):
+def _log_holds_something(path):
     try:
-        return os.path.getsize(path + "-wal") > JOURNAL_AT_REST
+        return os.path.getsize(path + "-wal") > LOG_AT_REST
     except OSError:
         return False
 
@@ -343,10 +351,10 @@ def _read_fault(path, fault):
     return Unreadable("%s can't be read: %s" % (path, text))
 
 
-def _remove_helpers(path, had_journal):
+def _remove_helpers(path, had_log):
     """Takes away FILE-shm, and an empty FILE-wal that was not there, unless somebody has the file open."""
     made = [path + "-shm"]
-    if not had_journal:
+    if not had_log:
         made.append(path + "-wal")
     if not any(os.path.exists(name) for name in made):
         return

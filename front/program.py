@@ -62,7 +62,7 @@ def run_over(program, path, *command, server="-", given=b""):
 def open_and_close(program, path):
     """Has the program open the file and close it again, and gives its status.
 
-    After a kill this brings the file to rest: what was committed comes out of the journal into the file.
+    After a kill this brings the file to rest: what was committed comes out of the log into the file.
     """
     run = subprocess.run(
         words_for(program, path, "desk"),

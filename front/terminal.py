@@ -11,7 +11,7 @@ import tty
 
 from front import charts
 from front import program as programs
-from front.collection import ReadFault
+from front.collection import ReadFault, file_named
 from front.importing import columns_of, told_of_import
 from front.paths import read_file, target_of, write_file
 from front.session import Lost, Session, Slip, number_of
@@ -629,9 +629,9 @@ def main(words):
         return 0 if words in (["-h"], ["--help"]) else 2
     signal.signal(signal.SIGTERM, lambda *_: sys.exit(143))
     signal.signal(signal.SIGHUP, lambda *_: sys.exit(129))
-    path = os.path.realpath(words[0])
     session = front = None
     try:
+        path = file_named(words[0])
         program = programs.find_program()
         session = Session(program, path)
         front = Study(session)

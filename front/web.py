@@ -24,7 +24,7 @@ import webbrowser
 
 from front import program as programs
 from front import static, views
-from front.collection import ReadFault
+from front.collection import ReadFault, file_named
 from front.forms import fields_of_form, fields_of_parts
 from front.importing import LONGEST_FILE, too_long, told_of_import
 from front.session import Lost, Session, Slip, number_of
@@ -666,11 +666,12 @@ def main(words):
     if read is None:
         sys.stderr.write(USAGE)
         return 0 if words in (["-h"], ["--help"]) else 2
-    path, opens, port = os.path.realpath(read[0]), read[1], read[2]
+    opens, port = read[1], read[2]
     signal.signal(signal.SIGTERM, lambda *_: sys.exit(143))
     signal.signal(signal.SIGHUP, lambda *_: sys.exit(129))
     session, entrance, ended = None, None, threading.Event()
     try:
+        path = file_named(read[0])
         program = programs.find_program()
         if not ensure_collection(program, path, ask):
             return 1

@@ -7,7 +7,8 @@ import shutil
 import sqlite3
 import tempfile
 
-from tools import answers, doctor, files
+from front.names import JOURNAL
+from tools import answers, doctor, files, journal_doctor
 
 # How much of the output's end is read for the refused line, and how large an input may be to be looked through for it, in bytes.
 LONGEST_REFUSAL, LARGEST_INPUT = 4096, 64 << 20
@@ -20,14 +21,29 @@ LARGEST_EMPTY = 1 << 16
 
 
 def take_back(run, words, status):
-    """Takes away the files that this run made and that hold nothing: a file where none was, an empty journal beside a file that was refused."""
+    """Takes away the files that this run made and that hold nothing: a file where none was, an empty log beside a file that was refused."""
     if words[:1] == ["-"] or not run.file:
+        return
+    if run.is_journal:
+        take_back_journal(run)
         return
     path = files.real(run.file)
     if not run.had_file and holds_nothing(path):
         remove_held(path, lambda: holds_nothing(path), [path + "-wal", path])
-    elif not run.had_journal and os.path.lexists(path + "-wal") and files.journal_size(path) == 0:
-        remove_held(path, lambda: files.journal_size(path) == 0, [path + "-wal"])
+    elif not run.had_log and os.path.lexists(path + "-wal") and files.log_size(path) == 0:
+        remove_held(path, lambda: files.log_size(path) == 0, [path + "-wal"])
+
+
+def take_back_journal(run):
+    """Takes away a journal that this run made and that holds no commit."""
+    path = files.real(run.path)
+    try:
+        if not run.had_file and files.is_regular(path):
+            with journal_doctor.held(path):
+                if not journal_doctor.has_frame(path):
+                    os.remove(path)
+    except OSError:
+        pass
 
 
 def holds_nothing(path):
@@ -68,8 +84,8 @@ def sentence_of(run, status):
         name = signal.Signals(os.WTERMSIG(status)).name if os.WTERMSIG(status) in set(signal.Signals) else "signal %d" % os.WTERMSIG(status)
         end = told["signals"]
         if run.command == "desk" and run.file != "-":
-            return joined(end["what"].replace("<signal>", name), end["safe"], end["do"])
-        return joined(end["what"].replace("<signal>", name), "run it again")
+            return joined(end["what"].replace("<signal>", name), end["safe"], end["again" if run.is_journal else "do"])
+        return joined(end["what"].replace("<signal>", name), end["again"])
     number = os.WEXITSTATUS(status)
     if number == 0:
         return None
@@ -139,6 +155,8 @@ def holds_collection(run):
     """Whether the run's file holds a collection, so that a refusal was one of a line."""
     if run.file == "-" or not run.had_file:
         return False
+    if run.is_journal:
+        return journal_doctor.has_frame(run.path)
     from front.collection import NotCollection, ReadFault, open_collection
 
     try:
@@ -155,21 +173,23 @@ def no_collection_sentence(run, told):
     end = answers.status_told(told, 3, "none")
     if run.file == "-":
         return joined("the file '-' is an empty collection in memory", "", "name a file, and make a collection in it by 'bin/anki FILE - init'")
-    what = "%s holds no collection" % run.file if run.had_file else "there is no file %s" % run.file
-    near = near_name(run.file) if not run.had_file else None
+    what = "%s holds no collection" % run.file if run.had_file else "there is no file %s" % run.path
+    near = near_name(run) if not run.had_file else None
     do = "make one by 'bin/anki %s - init'" % run.file
     return joined(what, end["safe"], "did you mean %s?" % near if near else do)
 
 
-def near_name(path):
-    """A collection's file in the folder whose name is like this one."""
-    folder, name = os.path.split(path)
+def near_name(run):
+    """A collection in the folder whose name is like that of a run's file."""
+    folder, name = os.path.split(run.path)
     try:
         names = [it for it in os.listdir(folder or ".") if not it.endswith(files.BESIDE) and files.is_regular(os.path.join(folder, it))]
     except OSError:
         return None
     near = difflib.get_close_matches(name, names, 1)
     path = os.path.join(folder, near[0]) if near else None
+    if path and run.is_journal:
+        return JOURNAL + path if journal_doctor.has_frame(path) else None
     return path if path and doctor.begins_as_database(path) else None
 
 
@@ -227,7 +247,7 @@ def file_sentence(run, told):
     """After status 6: what the doctor says."""
     end = answers.status_told(told, 6)
     try:
-        full = doctor.of_disk(run.file)
+        full = doctor.of_disk(run.path)
         found = [full] if full else doctor.findings_of(run.file)
     except (files.Refused, OSError) as fault:
         return joined("%s was refused, or could not be written" % run.file, end["safe"], "%s; %s" % (fault, end["do"]))

@@ -16,6 +16,11 @@ import signal
 import sys
 import time
 
+sys.dont_write_bytecode = True
+sys.path.insert(0, os.path.dirname(os.path.dirname(os.path.realpath(__file__))))
+
+from front.names import journal_path  # noqa: E402
+
 # The commands that never put a collection where there is none.
 MAKE_NOTHING = ("desk", "lab", "sync", "upload", "download", "import", "export", "make")
 
@@ -36,22 +41,25 @@ class Run:
         self.program, self.words, self.input_stream = program, words, input_stream
         self.file = words[0] if words else ""
         self.command = words[2] if len(words) > 2 else ""
-        self.had_file = self.file == "-" or os.path.lexists(self.file)
-        self.had_journal = os.path.lexists(journal_of(self.file))
+        self.is_journal = journal_path(self.file) is not None
+        self.path = journal_path(self.file) if self.is_journal else self.file
+        self.had_file = self.file == "-" or os.path.lexists(self.path)
+        # A journal is one file, and has no log beside it.
+        self.had_log = self.is_journal or os.path.lexists(log_of(self.file))
         self.input, self.output = regular_place(input_stream), regular_place(1)
 
     def words_to_run(self):
         """The words for the program, `-` in place of a file that is not there and would be left behind."""
-        if self.had_file or self.command not in MAKE_NOTHING or not could_be_made(self.file):
+        if self.had_file or self.command not in MAKE_NOTHING or not could_be_made(self.path, self.is_journal):
             return self.words
         return ["-"] + self.words[1:]
 
     def needs_cleaning(self, words):
         """Whether the program may leave a file that it should not."""
-        return not self.had_file and words[:1] != ["-"] or not self.had_journal and self.file != "-"
+        return not self.had_file and words[:1] != ["-"] or not self.had_log and self.file != "-"
 
 
-def journal_of(path):
+def log_of(path):
     """The second file of a collection, beside the one to which links lead."""
     return os.path.realpath(path) + "-wal" if path else ""
 
@@ -75,10 +83,10 @@ def is_terminal(stream):
         return False
 
 
-def could_be_made(path):
+def could_be_made(path, is_journal):
     """Whether the program would make a file of this name, so that it would end with another status than 6."""
     folder, name = os.path.split(path)
-    if not name or name == ":memory:" or path.startswith("file:"):
+    if not name or not is_journal and (name == ":memory:" or path.startswith("file:")):
         return False
     try:
         if len(path.encode("utf-8")) > 4000 or len(name.encode("utf-8")) > LONGEST_NAME:
@@ -252,8 +260,6 @@ def end_as(status):
 
 def after(run, words, status, is_quiet):
     """Takes back the files that should not be left, and says how the run ended."""
-    sys.dont_write_bytecode = True
-    sys.path.insert(0, os.path.dirname(os.path.dirname(os.path.realpath(__file__))))
     from tools import after_run
 
     after_run.take_back(run, words, status)

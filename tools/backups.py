@@ -14,12 +14,13 @@ TRIES = 5
 
 def backup(path, copy):
     """Makes COPY, one whole file with all that was printed so far. Returns what to say."""
+    files.refuse_journals("it is one file: while no program has it open, copy it by `cp`", path, copy)
     ask_for_collection(path)
     ask_for_free_name(copy)
     folder = os.path.dirname(copy) or "."
     if not os.path.isdir(folder):
         raise Refused("there is no folder %s" % folder)
-    if not files.is_room_for(folder, os.stat(path).st_size + files.journal_size(path)):
+    if not files.is_room_for(folder, os.stat(path).st_size + files.log_size(path)):
         raise Refused("the disk of %s has no room for the copy" % folder)
     settle(path)
     new = "%s.new-%d" % (copy, os.getpid())
@@ -38,6 +39,7 @@ def backup(path, copy):
 
 def restore(copy, path):
     """Puts COPY in FILE's place, and moves what is there aside. Returns what to say."""
+    files.refuse_journals("while no program has it open, move it away by `mv`, and copy its copy to its name by `cp`", copy, path)
     ask_for_copy(copy)
     ask_for_two(copy, path)
     if os.path.islink(path) and not os.path.exists(path):
@@ -46,7 +48,7 @@ def restore(copy, path):
     folder = os.path.dirname(target)
     if not os.path.isdir(folder):
         raise Refused("there is no folder %s" % folder)
-    if not files.is_room_for(folder, os.stat(copy).st_size + files.journal_size(copy)):
+    if not files.is_room_for(folder, os.stat(copy).st_size + files.log_size(copy)):
         raise Refused("the disk of %s has no room for the copy" % folder)
     if os.path.lexists(target):
         ask_for_quiet(path)
@@ -136,13 +138,13 @@ def settled(path):
 
 
 def make_whole(copy, new):
-    """Makes one whole file of a copy, with its journal if it has one. The copy itself stays untouched."""
+    """Makes one whole file of a copy, with its log if it has one. The copy itself stays untouched."""
     with files.held(copy, is_read_only=not os.access(copy, os.W_OK)) as file:
         files.copy_held(file, new)
         os.chmod(new, 0o600)
-        journal = files.real(copy) + "-wal"
-        if os.path.lexists(journal):
-            shutil.copyfile(journal, new + "-wal")
+        log = files.real(copy) + "-wal"
+        if os.path.lexists(log):
+            shutil.copyfile(log, new + "-wal")
     status = files.open_and_close(new)
     if status == 3:
         raise Refused("%s holds no collection" % copy)
@@ -170,7 +172,7 @@ def exchange(target, new):
     aside = free_name(target)
     with contextlib.ExitStack() as stack:
         if os.path.lexists(target):
-            # If the program refuses the file, it is moved with its journal as the two are.
+            # If the program refuses the file, it is moved with its log as the two are.
             files.open_and_close(target)
             stack.enter_context(files.held(target))
         moved = []

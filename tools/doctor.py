@@ -1,4 +1,4 @@
-"""Why the program refuses a collection's file. Nothing is changed: what a file holds is looked at in a copy of it and of its journal.
+"""Why the program refuses a collection's file. Nothing is changed: what a file holds is looked at in a copy of it and of its log.
 
 The ranges are those of docs/profile/collection.md, and the texts of the tables are asked of the program itself.
 """
@@ -11,6 +11,7 @@ import tempfile
 
 from front import program as programs
 from front.collection import NotCollection, ReadFault, open_collection
+from front.names import JOURNAL, journal_path
 from tools import files, forms
 from tools.ranges import Bytes, Ranges, short
 
@@ -19,6 +20,12 @@ MOST_TOLD = 20
 
 # What can be done about a file that is not whole.
 PUT_BACK = "put a copy back by `bin/anki restore`; `sqlite3 FILE .recover` may save rows of it"
+
+# And about a journal.
+PUT_BACK_JOURNAL = "put a copy of the file back, or take the collection from your server: see docs/FILES.md"
+
+# The status of the program after a damaged journal.
+DAMAGED = 16
 
 # Names of columns in the file that are others in docs/profile/collection.md.
 OTHER_NAMES = {"mod": "stamp", "data": "extra", "type": "kind", "lastIvl": "last_ivl"}
@@ -38,6 +45,10 @@ class Finding:
 
 def findings_of(path):
     """All that makes the program refuse the file, in the order in which it would meet it; none if it opens."""
+    if journal_path(path) is not None:
+        from tools import journal_doctor
+
+        return journal_doctor.findings_of(journal_path(path))
     found = list(outside(path))
     return found if found else list(inside(path))
 
@@ -54,7 +65,7 @@ def outside(path):
     try:
         found = os.stat(path)
     except OSError:
-        yield from unseen(path, folder)
+        yield from unseen(path, folder, path)
         return
     if stat.S_ISDIR(found.st_mode):
         yield Finding("%s is a folder" % path, "name a file in it, such as %s" % os.path.join(path, "my.anki"))
@@ -64,8 +75,8 @@ def outside(path):
         yield from of_file(path, folder)
 
 
-def unseen(path, folder):
-    """Why a file can't be seen: there is none, or the way to it is barred."""
+def unseen(path, folder, name):
+    """Why a file can't be seen: there is none, or the way to it is barred. The name is what the program would be given."""
     if os.path.islink(path):
         yield Finding("%s is a link to nothing" % path, "mend the link, or take it away")
     elif not os.path.isdir(folder):
@@ -77,22 +88,21 @@ def unseen(path, folder):
     elif not files.is_room_for(folder, 1 << 16):
         yield Finding("there is no file %s, and its disk is full" % path, "make room on the disk")
     else:
-        yield Finding("there is no file %s" % path, "mend the name, or make a collection by `bin/anki %s - init`" % path)
+        yield Finding("there is no file %s" % path, "mend the name, or make a collection by `bin/anki %s - init`" % name)
 
 
 def of_file(path, folder):
     """What bars a regular file from being opened."""
-    lacks = [word for word, mode in (("read", os.R_OK), ("written", os.W_OK)) if not os.access(path, mode)]
-    if lacks:
-        yield Finding("%s may not be %s by %s" % (path, " or ".join(lacks), user()), "chmod u+rw the file, or work as its owner (`ls -l` names him)", True)
-    if not lacks and files.is_held(path):
+    barred = list(lacking_rights(path))
+    yield from barred
+    if not barred and files.is_held(path):
         yield Finding("%s is open in another program%s" % (path, files.holder_words(path)), "end that program, and try again", True)
         return
-    journal = files.real(path) + "-wal"
-    if not os.path.lexists(journal) and not os.access(folder, os.W_OK | os.X_OK):
-        yield Finding("%s may not make the file %s" % (user(), journal), "chmod u+wx the folder, or work as its owner", True)
-    elif os.path.lexists(journal):
-        yield from of_journal(journal)
+    log = files.real(path) + "-wal"
+    if not os.path.lexists(log) and not os.access(folder, os.W_OK | os.X_OK):
+        yield Finding("%s may not make the file %s" % (user(), log), "chmod u+wx the folder, or work as its owner", True)
+    elif os.path.lexists(log):
+        yield from of_log(log)
     others = os.stat(path).st_nlink
     if others != 1:
         yield Finding("%s has %d names (hard links)" % (path, others), "copy it to a file of its own by `cp`, with its -wal, or take the other name away")
@@ -100,21 +110,29 @@ def of_file(path, folder):
         yield Finding("%s-journal is left of an edit by another program that did not end" % files.real(path), "open the file by that program, or by `sqlite3`, which puts it right")
 
 
+def lacking_rights(path):
+    """That this user may not read or write a file, if so."""
+    lacks = [word for word, mode in (("read", os.R_OK), ("written", os.W_OK)) if not os.access(path, mode)]
+    if lacks:
+        yield Finding("%s may not be %s by %s" % (path, " or ".join(lacks), user()), "chmod u+rw the file, or work as its owner (`ls -l` names him)", True)
+
+
 def of_disk(path):
     """That the disk is full, if it is. The file may open all the same, and can't be changed."""
-    if files.is_room_for(os.path.dirname(files.real(path)), 0):
+    folder = os.path.dirname(files.real(path))
+    if not os.path.isdir(folder) or files.is_room_for(folder, 0):
         return None
     return Finding("the disk of %s is full" % path, "make room on it")
 
 
-def of_journal(journal):
-    found = os.lstat(journal)
+def of_log(log):
+    found = os.lstat(log)
     if not stat.S_ISREG(found.st_mode) or found.st_nlink != 1:
-        yield Finding("%s is no file with one name" % journal, "move it away; what the program wrote there is a regular file")
-    elif not os.access(journal, os.R_OK | os.W_OK):
-        yield Finding("%s may not be read or written by %s" % (journal, user()), "chmod u+rw the file, or work as its owner", True)
-    elif files.is_held(journal):
-        yield Finding("%s is open in another program%s" % (journal, files.holder_words(journal)), "end that program, and try again", True)
+        yield Finding("%s is no file with one name" % log, "move it away; what the program wrote there is a regular file")
+    elif not os.access(log, os.R_OK | os.W_OK):
+        yield Finding("%s may not be read or written by %s" % (log, user()), "chmod u+rw the file, or work as its owner", True)
+    elif files.is_held(log):
+        yield Finding("%s is open in another program%s" % (log, files.holder_words(log)), "end that program, and try again", True)
 
 
 def has_open_journal(path):
@@ -153,7 +171,7 @@ def inside(path):
 def of_contents(copy):
     """What is wrong inside a file, looked at by sqlite3."""
     if os.path.getsize(copy) and not begins_as_database(copy):
-        yield Finding("it is no SQLite file%s" % (", or only the first bytes of one" if os.path.getsize(copy) < 100 else ""), "name the collection's file; a copy is put back by `bin/anki restore`")
+        yield Finding("it is no SQLite file%s" % (", or only the first bytes of one" if os.path.getsize(copy) < 100 else ""), remedy_for_other(copy))
         return
     if sizes_of_cut(copy):
         yield Finding("it was cut: it has %d bytes, and should have %d" % sizes_of_cut(copy), PUT_BACK)
@@ -176,13 +194,20 @@ def of_contents(copy):
         yield Finding("it can't be read as a SQLite file: %s" % fault, PUT_BACK)
 
 
+def remedy_for_other(path):
+    """What to do about a file that is no database; a journal begins with the byte 0 or 1."""
+    with open(path, "rb") as file:
+        is_journal = file.read(1) <= b"\1"
+    return "if it is a journal, write `%s` before its name" % JOURNAL if is_journal else "name the collection's file; a copy is put back by `bin/anki restore`"
+
+
 def begins_as_database(path):
     with open(path, "rb") as file:
         return file.read(16) == b"SQLite format 3\0"
 
 
 def sizes_of_cut(path):
-    """How many bytes a file has, and how many it should have by its own first page, if it has fewer; else None. A journal with commits knows better."""
+    """How many bytes a file has, and how many it should have by its own first page, if it has fewer; else None. A log with commits knows better."""
     if files.commits_in(path + "-wal"):
         return None
     with open(path, "rb") as file:

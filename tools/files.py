@@ -8,7 +8,8 @@ import struct
 import tempfile
 
 from front import program as programs
-from front.collection import JOURNAL_AT_REST, LOCK_LENGTH, LOCK_START, holders
+from front.collection import LOCK_LENGTH, LOCK_START, LOG_AT_REST, holders
+from front.names import journal_path
 
 # What stands beside a file under its name and one of these belongs to it.
 BESIDE = ("-wal", "-shm", "-journal")
@@ -26,13 +27,20 @@ def program_path():
         raise Refused(str(fault)) from None
 
 
+def refuse_journals(remedy, *names):
+    """Refuses names of journals, for a word that works on files of SQLite."""
+    for name in names:
+        if journal_path(name) is not None:
+            raise Refused("%s is a journal; %s" % (name, remedy))
+
+
 def real(path):
     """The path to which links lead: beside it stand the files that belong to it."""
     return os.path.realpath(path)
 
 
-def journal_size(path):
-    """How long the file's journal is in bytes, 0 if there is none."""
+def log_size(path):
+    """How long the file's log, FILE-wal, is in bytes, 0 if there is none."""
     try:
         return os.lstat(real(path) + "-wal").st_size
     except OSError:
@@ -92,14 +100,14 @@ def open_and_close(path):
 
 
 def is_at_rest(path):
-    """Whether the file's journal holds no commit that is not in the file."""
-    return journal_size(path) <= JOURNAL_AT_REST
+    """Whether the file's log holds no commit that is not in the file."""
+    return log_size(path) <= LOG_AT_REST
 
 
-def commits_in(journal):
-    """Where in a journal each of its commits ends, as far as the marks of its pages tell."""
+def commits_in(log):
+    """Where in a log each of its commits ends, as far as the marks of its pages tell."""
     try:
-        with open(journal, "rb") as file:
+        with open(log, "rb") as file:
             head = file.read(32)
             if len(head) < 32:
                 return []
@@ -125,8 +133,8 @@ def is_room_for(folder, size):
 
 @contextlib.contextmanager
 def scratch_copy(path):
-    """A copy of a file and of its journal in a folder of its own, which goes again."""
-    size = os.stat(path).st_size + journal_size(path)
+    """A copy of a file and of its log in a folder of its own, which goes again."""
+    size = os.stat(path).st_size + log_size(path)
     if not is_room_for(tempfile.gettempdir(), size):
         raise Refused("%s has no room for a copy of %d bytes to look into; TMPDIR names another folder" % (tempfile.gettempdir(), size))
     folder = tempfile.mkdtemp(prefix="anki-")

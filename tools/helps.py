@@ -116,7 +116,7 @@ def help_of(topic):
 def of_commands():
     yield "anki %s: a learner's collection, kept by proved code." % version_number()
     yield ""
-    yield "The program (<file> is a collection's file, or - for an empty one in memory):"
+    yield "The program (<file> is a collection's file, journal:PATH for one in a journal, or - for an empty one in memory):"
     yield ""
     yield from listed([it for it in commands() if it.example])
     yield ""

@@ -82,7 +82,7 @@ def of_anki():
     yield ".B anki"
     yield escaped("backup | restore | doctor | show | help | --help | --version ...")
     yield ".SH DESCRIPTION"
-    yield from paragraph("The program anki keeps a collection of notes, cards and reviews in a file, and schedules, finds, edits and undoes. It is proved to do so as its documents say. The file is named first; - is an empty collection in memory that ends with the program. The second word is the server, as HOST:PORT; - is none.")
+    yield from paragraph("The program anki keeps a collection of notes, cards and reviews in a file, and schedules, finds, edits and undoes. It is proved to do so as its documents say. The file is named first; - is an empty collection in memory that ends with the program, and journal:PATH is a journal, of which docs/FILES.md tells. The second word is the server, as HOST:PORT; - is none.")
     yield ".SS Commands"
     yield from listed([it for it in helps.commands() if it.example])
     yield ".SS Words beside the program"
@@ -111,6 +111,10 @@ def of_anki():
     yield ".IR FILE ,"
     yield ".I FILE\\-wal"
     yield from paragraph("The two files of a collection. They belong together: after a kill the second may hold what was printed last. A run that ends in order leaves all of it in the first.")
+    yield ".TP"
+    yield ".IR PATH ,"
+    yield escaped("named as journal:PATH")
+    yield from paragraph("The one file of a collection that is kept in a journal. It grows with each commit. What is no journal is refused: a file whose first byte is above 1.")
     yield ".SH EXAMPLES"
     yield from code(["anki my.anki - init", "anki my.anki - desk < first-session.desk", "anki backup my.anki my-monday.anki"])
     yield ".SH SEE ALSO"

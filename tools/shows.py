@@ -13,6 +13,7 @@ TABLES = ("decks", "types", "options", "notes")
 
 def show(path, table, search):
     """The lines to print."""
+    files.refuse_journals("what is shown is read from SQLite: docs/FILES.md says how to bring a journal into such a file", path)
     if table not in TABLES:
         raise Refused("there is no table %s to show; there are %s" % (table, ", ".join(TABLES)))
     if search and table != "notes":

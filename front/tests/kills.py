@@ -3,7 +3,7 @@ at the page and 40 times in a terminal if nothing is said.
 
 A learner adds notes and answers cards as fast as it goes, by the page or by keys. After a random time the front, or the program,
 is killed. Then the file must hold every note and every answer that a screen has shown as done, be sound, and have nothing beside
-it but its journal at rest.
+it but its log at rest.
 """
 
 import http.client

@@ -96,7 +96,7 @@ class Reading(FileCase):
             collection.count("notes")
         self.assertEqual(self.names(), AT_REST)
 
-    def test_a_file_without_journal_stays_alone(self):
+    def test_a_file_without_a_log_stays_alone(self):
         self.make()
         os.remove(self.path + "-wal")
         with open_collection(self.path, self.program) as collection:

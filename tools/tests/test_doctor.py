@@ -428,7 +428,7 @@ class Outside(Case):
             os.chmod(self.path(name), access)
             self.assertRegex(as_another_user(found), "^6 .*" + words)
             os.chmod(self.path(name), 0o600)
-        # No journal may be made in a folder of root.
+        # No log may be made in a folder of root.
         os.remove(self.file + "-wal")
         if os.geteuid() == 0:
             self.assertRegex(as_another_user(found), "^6 the user .* may not make the file .*my.anki-wal")

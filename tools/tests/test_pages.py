@@ -16,10 +16,11 @@ from tools.tests.support import TOP, Case, run
 PRINTS = (
     "ak_texts/src/*.rt", "ak_outcomes/src/*.rt", "ak_desk_runs/src/*.rt", "ak_lab/src/*.rt", "ak_lab_lines/src/lab_texts.rt", "ak_lab_sides/src/*.rt",
     "ak_cli/src/program_runs.rt", "ak_csv_runs/src/*.rt", "ak_sync_runs/src/*.rt", "ak_transfer_runs/src/*.rt", "ak_makes/src/makes.rt", "ak_io/src/endings.rt", "ak_wire/src/words.rt", "ankid/src/*.rt",
+    "anki/src/*.rt",
 )
 
-# Literals in these files that are not printed: the first words by which lines take a turn, the lab's own account.
-NOT_PRINTED = {"lab", "a" * 32}
+# Literals in these files that are not printed: the first words by which lines take a turn, the lab's own account, the word before a journal's path.
+NOT_PRINTED = {"lab", "a" * 32, "journal:"}
 
 
 def literals_of(path):
@@ -87,7 +88,7 @@ class Answers(unittest.TestCase):
 
     def test_each_status_of_readme_and_pages_stands_there(self):
         known = {it["status"] for it in self.told["statuses"]}
-        self.assertTrue({0, 2, 3, 4, 5, 6, 7, 8, 10, 11, 12, 13, 14, 15, 100, 101} <= known)
+        self.assertTrue({0, 2, 3, 4, 5, 6, 7, 8, 10, 11, 12, 13, 14, 15, 16, 100, 101} <= known)
         for row in next(it for it in tables_of("profile/outcomes.md") if it.head[0] == "printed").rows:
             self.assertIn(int(row[1]), known)
 
@@ -190,6 +191,14 @@ class Completion(Case):
         ran = run(["bash", "-c", text.replace("_anki;", "_%s;" % words[0]), "bash", script] + list(words), cwd=self.folder)
         self.assertEqual(b"", ran.stderr)
         return set(ran.stdout.decode().split("\n")) - {""}
+
+    @unittest.skipUnless(shutil.which("bash"), "bash is not here")
+    def test_the_name_of_a_journal_is_one_word(self):
+        self.write("my.log", "")
+        commands = set(completions.commands())
+        for words, wanted in ((["journal", ":"], {"my.log"}), (["journal", ":", "my"], {"my.log"}), (["journal", ":", "my.log", ""], {"-"}), (["journal", ":", "my.log", "-", ""], commands),
+                              (["journal", ":", "my.log", "host", ":", "80", ""], set())):
+            self.assertEqual(wanted, self.completed("anki", *words), words)
 
     def server_completed(self):
         """Words of ankid, and what is to be offered for the last of them."""
