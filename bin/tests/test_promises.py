@@ -79,14 +79,14 @@ class Promises(unittest.TestCase):
         self.assertEqual(bare, [])
 
     def test_the_first_pages_sentences_are_promises(self):
-        page = text_of("README.md").partition("Five things are proved.")[2].partition("\n\nWhat a file holds")[0]
+        page = text_of("README.md").partition("Six things are proved.")[2].partition("\n\nWhat a file of SQLite holds")[0]
         told = [re.match(r"- (.*): \[", line)[1] for line in page.split("\n") if line.startswith("- ")]
-        self.assertEqual(len(told), 5)
+        self.assertEqual(len(told), 6)
         listed = [sentence for sentence, _ in promises()]
         self.assertEqual([it for it in told if it not in listed], [])
 
     def test_the_first_page_names_clauses_that_stand(self):
-        page = text_of("README.md").partition("Five things are proved.")[2].partition("\n\nWhat a file holds")[0]
+        page = text_of("README.md").partition("Six things are proved.")[2].partition("\n\nWhat a file of SQLite holds")[0]
         functions = {}
         for (_, name), clauses in contracts().items():
             functions.setdefault(name, set()).update(clauses, {None})
