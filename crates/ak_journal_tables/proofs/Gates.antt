@@ -65,5 +65,7 @@ other_of payloads place gate first at = record {
       (sym (take-map (λ (p : Payload). p.items) place payloads) ∙ ap (take place) first.whole ∙ ap (λ (n : ℕ). take n (first.before ++ first.payload ∷ first.behind)) (sym first.at)
       ∙ take-append_seam first.before (first.payload ∷ first.behind));
   whole = first.whole;
+  held = first.held;
+  led = first.led;
   other = first.other;
 }

@@ -13,16 +13,18 @@ use Rattle.ak_keep.specs.Collections.{Holding}
 abbrev pub HoldsOf : Holding → List ℕ → Type 0
 HoldsOf held file = (payloads : List (List ℕ)) × StandsFor payloads file × LeadTo nothing_held payloads held
 
--- the payloads before this gate, the one behind it, which is that of no change, and those that follow
+-- the payloads before this gate, which lead to a collection, the one behind it, which is that of no change, and those that follow
 pub record IsOtherOf (gate : ℕ) (payloads : List (List ℕ)) : Type 0 where
   pub before : List (List ℕ)
   pub payload : List ℕ
   pub behind : List (List ℕ)
   pub place : gate ≡ frames_length before
   pub whole : payloads ≡ before ++ payload ∷ behind
+  pub held : Holding
+  pub led : LeadTo nothing_held before held
   pub other : (change : Change) → IsPayloadOf payload change → ⊥
 
--- the file stands for payloads, and the one behind the gate at this place is that of no change
+-- the file stands for payloads, and the first of them that is that of no change stands behind the gate at this place
 abbrev pub IsOtherAt : ℕ → List ℕ → Type 0
 IsOtherAt gate file = (payloads : List (List ℕ)) × StandsFor payloads file × IsOtherOf gate payloads
 

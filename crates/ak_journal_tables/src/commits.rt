@@ -1,5 +1,8 @@
-ghost use Rattle.std.specs.Prelude.{◌≡◌, ◌⊎◌, ℕ, List as Sequence, true, is_some, Err, OnErr, OnOk};
-ghost use Rattle.ak_journals.specs.Journals.{IsInOrder};
+ghost use Rattle.std.specs.Prelude.{◌≡◌, ◌⊎◌, ◌++◌, ◌∷◌, [], ℕ, List as Sequence, true, is_some, Err, OnErr, OnOk, Some};
+ghost use Rattle.ak_journal_changes.specs.HeldNames.{IsChangeOf};
+ghost use Rattle.ak_journal_rows.specs.Texts.{IsPayloadOf};
+ghost use Rattle.ak_journal_rows.specs.declared.changes.Change.{Change};
+ghost use Rattle.ak_journals.specs.Journals.{IsInOrder, kept};
 ghost use Rattle.ak_journals.specs.declared.journals.Journal.{Journal as Kind};
 ghost use Rattle.ak_keep.specs.Collections.{Holding, IsWellFormed};
 ghost use Rattle.ak_keep.specs.Keepers.{KeepCause};
@@ -23,6 +26,7 @@ pub(crate) fn make_ready<D: Disk>(journal: &mut Journal<D>) -> Result<(), KeepFa
     ensures in_order { IsInOrder D.content D.may_leave journal.new }
     ensures stored { (held : Holding) → Stores D.content journal.old held → Stores D.content journal.new held }
     ensures ready { OnOk result (journal.new.ready ≡ true) }
+    ensures idle { journal.old.ready ≡ true → journal.new ≡ journal.old }
     ensures any_moment { (held : Holding) → Stores D.content journal.old held
         → CrashLeaves (λ (j : Kind D). D.moment j.disk) (λ (j : Kind D). D.may_have_left j.disk) journal.old journal.new
         (λ image. D.may_have_left journal.old.disk (D.moment journal.old.disk) image ⊎ HoldsIfTold D.content journal.old.disk held image) }
@@ -63,6 +67,10 @@ pub(crate) fn commit<D: Disk>(
     ensures lasts { OnOk result ((was : Holding) → Stores D.content journal.old was → Covers touched.now was (holding rows.now.current head.now)
         → (image : Sequence ℕ) → D.may_have_left journal.new.disk (D.moment journal.new.disk) image
         → HoldsIfTold D.content journal.new.disk (holding rows.now.current head.now) image) }
+
+    // Its frame, and no other, is added, and tells what was touched.
+    ensures frame { OnOk result ((payloads : Sequence (Sequence ℕ)) → kept D.content journal.old ≡ Some payloads → (payload : Sequence ℕ) × (change : Change)
+        × (kept D.content journal.new ≡ Some (payloads ++ payload ∷ [])) × IsPayloadOf payload change × IsChangeOf touched.now (holding rows.now.current head.now) change) }
     ensures cause { KeepCause (D.health journal.old.disk) (D.health journal.new.disk) result }
     ensures calm { OnOk result (D.health journal.new.disk ≡ D.health journal.old.disk) }
     ensures memory { result ≡ Err WantOfMemory → journal.new ≡ journal.old }

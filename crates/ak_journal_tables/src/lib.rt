@@ -10,7 +10,7 @@ mod tables;
 
 pub use laws::{
     a_file_holds_one_collection, no_image_of_a_collection_is_damaged,
-    what_is_opened_was_committed_or_under_way,
+    what_is_left_now_might_have_been_left_since, what_is_opened_was_committed_or_under_way,
 };
 pub use openings::{JournalKeeper, open};
 pub use tables::JournalTables;

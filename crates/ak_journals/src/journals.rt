@@ -93,6 +93,9 @@ impl<D: Disk> Journal<D> {
         ensures done { OnOk result (self.new.under_way ≡ None) }
         ensures left { OnErr result (self.new.under_way ≡ self.old.under_way) }
 
+        // If it is ready, nothing is done.
+        ensures idle { self.old.ready ≡ true → self.new ≡ self.old }
+
         // A crash at any moment of the call leaves what one before it might have left, or what is kept.
         ensures any_moment { LeavesOnly D.moment D.may_have_left self.old.disk self.new.disk
             (λ image. D.may_leave self.old.disk image ⊎ StandsAfter D.content self.old None image) }

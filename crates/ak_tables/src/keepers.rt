@@ -320,6 +320,9 @@ impl<T: Tables> Keeper for TableKeeper<T> {
         ensures ok { OnOk result (self.new.kept ≡ marks.marked_here self.old.kept) }
         ensures err { OnErr result (self.new.kept ≡ self.old.kept) }
 
+        // If the tables are ready, they stay as they are.
+        ensures idle { T.is_ready self.old.tables ≡ true → self.new.tables ≡ self.old.tables }
+
         // Only the tables may fail, at what a refused commit left.
         ensures memory { result ≡ Err WantOfMemory → T.health self.new.tables ≡ T.health self.old.tables }
 
@@ -330,6 +333,7 @@ impl<T: Tables> Keeper for TableKeeper<T> {
         // A crash after it leaves what is held.
         ensures lasts { OnOk result (LeavesNow T.moment T.may_have_left T.stands_for self.new.tables self.old.kept.current) }
         ensures cause { KeepCause (T.health self.old.tables) (T.health self.new.tables) result }
+        ensures calm { OnOk result (T.health self.new.tables ≡ T.health self.old.tables) }
     {
         self.tables.ready()?;
         self.memory.mark()?;
@@ -360,6 +364,7 @@ impl<T: Tables> Keeper for TableKeeper<T> {
         // A crash after it leaves what was committed.
         ensures lasts { OnOk result (LeavesNow T.moment T.may_have_left T.stands_for self.new.tables self.old.kept.current) }
         ensures cause { KeepCause (T.health self.old.tables) (T.health self.new.tables) result }
+        ensures calm { OnOk result (T.health self.new.tables ≡ T.health self.old.tables) }
     {
         match store(&mut self.tables, &mut self.memory, &self.touched) {
             // The keeper in memory is told no call to fail, so this is not refused.

@@ -43,6 +43,9 @@ pub trait Tables: Drop {
         ensures stored { (held : Holding) → stores self.old held → stores self.new held }
         ensures ready { OnOk result (is_ready self.new ≡ true) }
 
+        // If they are ready, nothing is done.
+        ensures idle { is_ready self.old ≡ true → self.new ≡ self.old }
+
         // A crash at any moment of the call leaves what one before it might have left, or what is stored.
         ensures any_moment { (held : Holding) → stores self.old held → CrashLeaves moment may_have_left self.old self.new
             (λ image. may_have_left self.old (moment self.old) image ⊎ stands_for self.old held image) }

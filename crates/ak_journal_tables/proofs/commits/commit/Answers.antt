@@ -1,4 +1,4 @@
-use Rattle.std.proofs.Common.{◌⊎◌, inl, ℕ, List, Option, Some, Vec, ap}
+use Rattle.std.proofs.Common.{◌⊎◌, inl, ℕ, List, [], ◌∷◌, ◌++◌, Option, Some, Vec, ap, ◌∙◌}
 use Rattle.std.specs.Option.{option_map}
 use Rattle.std.specs.declared.alloc.Global.{Global}
 use Rattle.ak_journals.specs.Journals.{StandsAfter, kept, under_way}
@@ -33,6 +33,15 @@ pub returns-in-Ok-clause-lasts : goal.returns-in-Ok-clause-lasts
 returns-in-Ok-clause-lasts g c = λ was stored covers image left. image_lasts c.commit.new.self.gate c.commit.new.self.ready (under_way c.commit.new.self) (g.D.Disk.content c.commit.new.self.disk) (g.D.Disk.may_leave c.commit.new.self.disk) (holding c.args.rows.now.current c.args.head.now) image
     (ap (λ (o : Option (Vec ℕ Global)). option_map (λ (p : Vec ℕ Global). p.items) o) c.in-Ok.ensures.done) c.commit.ensures.in_order.told
     (stores_more c.in_ok-payload.payload.items c.in_ok-change.change was (holding c.args.rows.now.current c.args.head.now) c.in_ok-payload.ensures (makes c.args.touched.now was (holding c.args.rows.now.current c.args.head.now) c.in_ok-change.change c.in_ok-change.ensures.formed c.in_ok-change.ensures.change covers) (kept g.D.Disk.content c.args.journal.now) (kept g.D.Disk.content c.commit.new.self) c.in-Ok.ensures.kept stored) (g.met.D.Disk.only_now c.commit.new.self.disk image left)
+
+pub returns-in-Ok-clause-frame : goal.returns-in-Ok-clause-frame
+returns-in-Ok-clause-frame g c = λ payloads told. (
+  c.in_ok-payload.payload.items,
+  c.in_ok-change.change,
+  c.in-Ok.ensures.kept ∙ ap (λ (o : Option (List (List ℕ))). option_map (λ (these : List (List ℕ)). these ++ c.in_ok-payload.payload.items ∷ []) o) told,
+  c.in_ok-payload.ensures,
+  c.in_ok-change.ensures.change,
+)
 
 -- it was refused
 pub returns-in-Err-Failed-clause-any_moment : goal.returns-in-Err-Failed-clause-any_moment
