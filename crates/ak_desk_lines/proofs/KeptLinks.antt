@@ -70,7 +70,7 @@ undone_links c after s step steps left list keeps links =
     }
 
 -- ---- one step
-step_keeps : (at : ℤ) (was now : DeskState) (w : WithMark Holding) (head : Head) → was.keeping.told ≡ Some w → w.current.head ≡ Some head
+pub step_keeps : (at : ℤ) (was now : DeskState) (w : WithMark Holding) (head : Head) → was.keeping.told ≡ Some w → w.current.head ≡ Some head
     → IsOneStep at (record { rows = w.current.rows; head = head }) was now → SuitsNow was.steps (record { rows = w.current.rows; head = head })
     → KeepsLinks (record { rows = w.current.rows; head = head }) was now
 step_keeps at was now w head told is_head (inl same) suits s links =

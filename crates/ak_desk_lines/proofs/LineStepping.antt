@@ -206,7 +206,7 @@ held_here k P w head told is_head is =
     (subst (λ (o : Option Head). IfSome (option_map (λ (head : Head). record { rows = w.current.rows; head = head }) o) P) (sym is_head) is)
 
 -- the list suits after one step
-suits_after : (at : ℤ) (was now : DeskState) (w : WithMark Holding) (head : Head) → was.keeping.told ≡ Some w → w.current.head ≡ Some head
+pub suits_after : (at : ℤ) (was now : DeskState) (w : WithMark Holding) (head : Head) → was.keeping.told ≡ Some w → w.current.head ≡ Some head
     → IsOneStep at (record { rows = w.current.rows; head = head }) was now → SuitsNow was.steps (record { rows = w.current.rows; head = head })
     → WhereHeld now.keeping (SuitsNow now.steps)
 suits_after at was now w head told is_head (inl same) suits =

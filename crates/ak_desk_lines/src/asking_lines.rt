@@ -46,7 +46,7 @@ pub(crate) fn answer_card<K: Keeper>(
 }
 
 /// The answer for a card that was answered: where it is now.
-fn answered(made: Result<Card, DeskFault>) -> Result<DeskAnswer, DeskFault>
+pub fn answered(made: Result<Card, DeskFault>) -> Result<DeskAnswer, DeskFault>
     ensures { result ≡ answer_with card_answer made }
 {
     match made {

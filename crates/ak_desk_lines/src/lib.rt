@@ -14,6 +14,7 @@ mod turns;
 mod type_lines;
 mod view_lines;
 
+pub use asking_lines::answered;
 pub use line_laws::{lines_are_single_steps, lines_keep_links, undo_lists_suit_after_lines};
 pub use obeying::{counted, obey};
 pub use turns::Turn;

@@ -7,7 +7,7 @@ use Rattle.ak_desk_runs.specs.RunStates.{RunState}
 use Rattle.ak_desk_runs.specs.declared.line_stops.LineStop.{LineStop}
 use Rattle.ak_desk_runs.specs.declared.line_stops.LineStop.TheVariants as stops
 use Rattle.ak_io.specs.declared.lines.Line.{Line}
-use Rattle.ak_lines.specs.DeskLines.{RefusesLine}
+use Rattle.ak_lines.specs.AnyLines.{RefusesAnyLine}
 use Rattle.ak_lines.specs.declared.line_faults.LineFault.{LineFault}
 use Rattle.ak_texts.specs.declared.answers.DeskAnswer.{DeskAnswer}
 
@@ -32,19 +32,19 @@ text_accepted line turn s t text answer unpassed takes is (inr (same, unsaid)) =
 pub text_stops : (line : Line) (turn : Turn) (s t : RunState) (text : List ℕ) (stop : LineStop)
     → is_skipped_line line ≡ false → TakesTurn line s t turn → text_in line ≡ Some text → TextComesOut text turn s.work t.work (Err stop)
     → ComesOut line s t (Err stop)
-text_stops line turn s t text (stops.Refused why) unpassed takes is (inl (said, says, (fault, ended, told))) =
-    (unpassed, turn, takes, inr (fault, (text, said, is, says, ended), told))
+text_stops line turn s t text (stops.Refused why) unpassed takes is (inl (said, says, (refusal, ended, told))) =
+    (unpassed, turn, takes, inr (refusal, (text, said, is, says, ended), told))
 text_stops line turn s t text (stops.Refused why) unpassed takes is (inr (same, unsaid)) =
     (unpassed, turn, takes, inl (same, inr (text, is, unsaid)))
 text_stops line turn s t text stops.Failed unpassed takes is (inl (said, says, ended)) =
     (unpassed, turn, takes, (text, said, is, says, ended))
 text_stops line turn s t text stops.Failed unpassed takes is (inr (same, unsaid)) = absurd unsaid
-text_stops line turn s t text stops.Memory unpassed takes is (inl (said, says, (fault, apart, ended))) =
-    (unpassed, turn, takes, inr (fault, apart, (text, said, is, says, ended)))
+text_stops line turn s t text stops.Memory unpassed takes is (inl (said, says, (refusal, apart, ended))) =
+    (unpassed, turn, takes, inr (refusal, apart, (text, said, is, says, ended)))
 text_stops line turn s t text stops.Memory unpassed takes is (inr (same, unsaid)) = (unpassed, turn, takes, inl same)
 
 -- a text that says no line stops
-pub unsaid_stops : (text : List ℕ) (fault : LineFault) (stop : LineStop) → RefusesLine text fault → IsLineStop fault stop → IsUnsaid text (Err stop)
+pub unsaid_stops : (text : List ℕ) (fault : LineFault) (stop : LineStop) → RefusesAnyLine text fault → IsLineStop fault stop → IsUnsaid text (Err stop)
 unsaid_stops text fault (stops.Refused why) refuses stopped = (fault, refuses, stopped)
 unsaid_stops text fault stops.Failed refuses stopped = absurd stopped
 unsaid_stops text fault stops.Memory refuses stopped = tt

@@ -2,8 +2,6 @@
 use Rattle.std.proofs.Common.{◌≡◌, ◌≢◌, ℕ, Bool, List, [], Option, Some, None, Result, Err, refl, sym, ap, ◌∙◌, subst, inl, inr}
 use Rattle.std.proofs.KnownBytes.{Appends-nil, Appends-kept}
 use Rattle.std.specs.Io.KnownBytes.{Appends, Keeps}
-use Rattle.std.specs.Prelude.{is_some}
-use Rattle.ak_desk.specs.Desks.{IsIdle}
 use Rattle.ak_io.specs.Scripts.{refusal_bytes}
 use Rattle.ak_desk_runs.specs.DeskRuns.{IsNext}
 use Rattle.ak_desk_runs.specs.LineOutcomes.{Accepted, EndsAs, Failed, OutOfMemory, Refused}
@@ -11,13 +9,13 @@ use Rattle.ak_desk_runs.specs.RunLines.{IsPrinted, IsRefusalPrinted, StopsThere}
 use Rattle.ak_desk_runs.specs.RunStates.{RunState}
 use Rattle.ak_desk_runs.specs.declared.command_ends.CommandEnd.{CommandEnd}
 use Rattle.ak_desk_runs.specs.declared.command_ends.CommandEnd.TheVariants as ends
-use Rattle.ak_edit.specs.declared.desk_faults.DeskFault.{DeskFault}
 use Rattle.ak_edit.specs.declared.desk_faults.DeskFault.TheVariants as desks
 use Rattle.ak_io.proofs.Readings.{takes_first}
 use Rattle.ak_io.specs.Lines.{Takes}
 use Rattle.ak_io.specs.declared.lines.Line.{Line}
-use Rattle.ak_keep.specs.Keepers.{Keeping}
-use Rattle.ak_texts.specs.FaultTexts.{desk_fault_text}
+use Rattle.ak_texts.specs.FaultTexts.{refusal_text}
+use Rattle.ak_texts.specs.declared.line_refusals.LineRefusal.{LineRefusal}
+use Rattle.ak_texts.specs.declared.line_refusals.LineRefusal.TheVariants as refusals
 
 -- nothing is written
 kept_nothing : (w w' : Option (List ℕ)) → Keeps w w' → Appends w w' []
@@ -34,15 +32,15 @@ pub stops_at_end : (left left' : Option (List Line)) (number : ℕ) (s : RunStat
 stops_at_end None left' number s w takes = ([], (tt, refl, refl), Appends-nil w)
 stops_at_end (Some lines) left' number s w takes = ([], (takes, refl, refl), Appends-nil w)
 
--- a fault with a text is not the keeper's
-told_is_not_failed : (fault : DeskFault) (why : List ℕ) → desk_fault_text fault ≡ Some why → fault ≢ desks.Failed
-told_is_not_failed fault why told failed = let e : desk_fault_text desks.Failed ≡ Some why = ap desk_fault_text (sym failed) ∙ told in cc
+-- a refusal with a text is not the keeper's
+told_is_not_failed : (refusal : LineRefusal) (why : List ℕ) → refusal_text refusal ≡ Some why → refusal ≢ refusals.Desk desks.Failed
+told_is_not_failed refusal why told failed = let e : refusal_text (refusals.Desk desks.Failed) ≡ Some why = ap refusal_text (sym failed) ∙ told in cc
 
 -- for the text of a refusal memory may run out
 out_for_text : (line : Line) (s t : RunState) (why : List ℕ) → EndsAs line s t (Refused why) → EndsAs line s t OutOfMemory
 out_for_text line s t why (unpassed, turn, takes, inl (same, says)) = (unpassed, turn, takes, inl same)
-out_for_text line s t why (unpassed, turn, takes, inr (fault, desk, told)) =
-    (unpassed, turn, takes, inr (fault, told_is_not_failed fault why told, desk))
+out_for_text line s t why (unpassed, turn, takes, inr (refusal, desk, told)) =
+    (unpassed, turn, takes, inr (refusal, told_is_not_failed refusal why told, desk))
 
 -- the text of an answer was not written whole
 pub stops_in_answer : (end : CommandEnd) (left left' : Option (List Line)) (number : ℕ) (line : Line) (s t : RunState) (text : List ℕ) (w w' : Option (List ℕ))
@@ -96,10 +94,3 @@ refusal_not_done ends.ReadFailed number why w w' printed is = printed
 refusal_not_done ends.WriteFailed number why w w' printed is = cc
 refusal_not_done ends.KeeperFailed number why w w' printed is = printed
 refusal_not_done ends.Memory number why w w' printed is = cc
-
--- a keeper whose marks and heads are as they were is idle still
-pub idle_still : (k now : Keeping) → now.headed ≡ k.headed → IsIdle k → IsIdle now
-idle_still k now same idle = record {
-  unmarked = ap (λ h. is_some h.mark) same ∙ idle.unmarked;
-  held = ap (λ h. h.current) same ∙ idle.held;
-}

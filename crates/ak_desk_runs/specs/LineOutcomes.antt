@@ -2,20 +2,23 @@
 use Rattle.std.specs.Prelude.{◌≡◌, ◌≢◌, ◌⊎◌, ℕ, Bool, true, false, ◌==◌, ◌||◌, if◌then◌else◌, List, Option, Some, None, Result, Ok, Err, codes}
 use Rattle.std.specs.List.{starts_with}
 use Rattle.std.specs.Str.{is_utf8}
-use Rattle.ak_desk_lines.specs.LineEnds.{AppliesFilters, EndsLine, counted}
+use Rattle.ak_any_lines.specs.AnyEnds.{AppliesToAny, EndsAnyLine}
+use Rattle.ak_desk_lines.specs.LineEnds.{counted}
 use Rattle.ak_desk_lines.specs.declared.turns.Turn.{Turn}
 use Rattle.ak_desk_runs.specs.RunStates.{LineState, RunState, state_in}
-use Rattle.ak_edit.specs.declared.desk_faults.DeskFault.{DeskFault}
 use Rattle.ak_edit.specs.declared.desk_faults.DeskFault.TheVariants as desks
 use Rattle.ak_io.specs.Arrivals.{GivesNext, IsClockMoment}
 use Rattle.ak_io.specs.declared.lines.Line.{Line}
 use Rattle.ak_io.specs.declared.lines.Line.TheVariants.{Whole, TooLong, PastInput}
-use Rattle.ak_lines.specs.DeskLines.{RefusesLine, SaysLine, is_skipped}
-use Rattle.ak_lines.specs.declared.desk_lines.DeskLine.{DeskLine}
+use Rattle.ak_lines.specs.AnyLines.{RefusesAnyLine, SaysAnyLine}
+use Rattle.ak_lines.specs.DeskLines.{is_skipped}
+use Rattle.ak_lines.specs.declared.any_lines.AnyLine.{AnyLine}
 use Rattle.ak_lines.specs.declared.line_faults.LineFault.{LineFault}
 use Rattle.ak_texts.specs.AnswerTexts.{answer_text}
-use Rattle.ak_texts.specs.FaultTexts.{desk_fault_text, line_fault_text}
+use Rattle.ak_texts.specs.FaultTexts.{line_fault_text, refusal_text}
 use Rattle.ak_texts.specs.declared.answers.DeskAnswer.{DeskAnswer}
+use Rattle.ak_texts.specs.declared.line_refusals.LineRefusal.{LineRefusal}
+use Rattle.ak_texts.specs.declared.line_refusals.LineRefusal.TheVariants as refusals
 
 -- how a line ends: it is skipped, accepted and answered by this text, or refused by this one; or the keeper failed, or
 -- memory ran out
@@ -69,25 +72,25 @@ pub record TakesTurn (line : Line) (s t : RunState) (turn : Turn) : Type 0 where
 
 -- ---- what a line does
 -- how many answers were accepted once a line of the desk ended so, if it was that many before
-abbrev pub done_after : Result DeskAnswer DeskFault → ℕ → ℕ
+abbrev pub done_after : Result DeskAnswer LineRefusal → ℕ → ℕ
 done_after (Ok answer) done = counted answer done
-done_after (Err fault) done = done
+done_after (Err refusal) done = done
 
 -- this line of the desk ended so there
-pub record EndsAtDesk (said : DeskLine) (turn : Turn) (s t : LineState) (result : Result DeskAnswer DeskFault) : Type 0 where
-  pub ends : EndsLine said turn (state_in s) (state_in t) result
-  pub filters : AppliesFilters said s.keeping s.filters t.filters result
+pub record EndsAtDesk (said : AnyLine) (turn : Turn) (s t : LineState) (result : Result DeskAnswer LineRefusal) : Type 0 where
+  pub ends : EndsAnyLine said turn (state_in s) (state_in t) result
+  pub filters : AppliesToAny said s.keeping s.filters t.filters result
   pub done : t.done ≡ done_after result s.done
 
 -- the line has a text that says a line of the desk, which ended so there
-abbrev pub AtDesk : Line → Turn → LineState → LineState → Result DeskAnswer DeskFault → Type 0
+abbrev pub AtDesk : Line → Turn → LineState → LineState → Result DeskAnswer LineRefusal → Type 0
 AtDesk line turn s t result =
-    (text : List ℕ) × (said : DeskLine) × (text_in line ≡ Some text) × SaysLine text said
+    (text : List ℕ) × (said : AnyLine) × (text_in line ≡ Some text) × SaysAnyLine text said
     × EndsAtDesk said turn s t result
 
 -- the text says no line of the desk, and this is why
 abbrev pub SaysNoLine : List ℕ → List ℕ → Type 0
-SaysNoLine text why = (fault : LineFault) × RefusesLine text fault × (line_fault_text fault ≡ Some why)
+SaysNoLine text why = (fault : LineFault) × RefusesAnyLine text fault × (line_fault_text fault ≡ Some why)
 
 -- the line has no text, or it says no line of the desk, and this is why
 abbrev pub SaysNothing : Line → List ℕ → Type 0
@@ -101,11 +104,11 @@ ComesTo line turn s t (Accepted text) =
     (answer : DeskAnswer) × AtDesk line turn s t (Ok answer) × (text ≡ answer_text answer)
 ComesTo line turn s t (Refused why) =
     (t ≡ s) × SaysNothing line why
-    ⊎ (fault : DeskFault) × AtDesk line turn s t (Err fault) × (desk_fault_text fault ≡ Some why)
-ComesTo line turn s t Failed = AtDesk line turn s t (Err desks.Failed)
+    ⊎ (refusal : LineRefusal) × AtDesk line turn s t (Err refusal) × (refusal_text refusal ≡ Some why)
+ComesTo line turn s t Failed = AtDesk line turn s t (Err (refusals.Desk desks.Failed))
 -- memory runs out before the desk is reached, at it, or for the text of its refusal
 ComesTo line turn s t OutOfMemory =
-    (t ≡ s) ⊎ (fault : DeskFault) × (fault ≢ desks.Failed) × AtDesk line turn s t (Err fault)
+    (t ≡ s) ⊎ (refusal : LineRefusal) × (refusal ≢ refusals.Desk desks.Failed) × AtDesk line turn s t (Err refusal)
 
 -- how a line ends: one that is skipped changes nothing, and any other has its turn
 abbrev pub EndsAs : Line → RunState → RunState → Outcome → Type 0

@@ -5,16 +5,17 @@ use Rattle.ak_desk_runs.specs.LineOutcomes.{Accepted, EndsAs, EndsAtDesk, Failed
 use Rattle.ak_desk_runs.specs.RunStates.{LineState, RunState}
 use Rattle.ak_desk_runs.specs.declared.line_stops.LineStop.{LineStop}
 use Rattle.ak_desk_runs.specs.declared.line_stops.LineStop.TheVariants as stops
-use Rattle.ak_edit.specs.declared.desk_faults.DeskFault.{DeskFault}
 use Rattle.ak_edit.specs.declared.desk_faults.DeskFault.TheVariants as desks
 use Rattle.ak_faults.specs.Causes.{Health, HasCauseOf}
 use Rattle.ak_io.specs.declared.lines.Line.{Line}
-use Rattle.ak_lines.specs.DeskLines.{SaysLine}
-use Rattle.ak_lines.specs.declared.desk_lines.DeskLine.{DeskLine}
+use Rattle.ak_lines.specs.AnyLines.{SaysAnyLine}
+use Rattle.ak_lines.specs.declared.any_lines.AnyLine.{AnyLine}
 use Rattle.ak_lines.specs.declared.line_faults.LineFault.{LineFault}
 use Rattle.ak_texts.specs.AnswerTexts.{answer_text}
-use Rattle.ak_texts.specs.FaultTexts.{desk_fault_text, line_fault_text}
+use Rattle.ak_texts.specs.FaultTexts.{line_fault_text, refusal_text}
 use Rattle.ak_texts.specs.declared.answers.DeskAnswer.{DeskAnswer}
+use Rattle.ak_texts.specs.declared.line_refusals.LineRefusal.{LineRefusal}
+use Rattle.ak_texts.specs.declared.line_refusals.LineRefusal.TheVariants as refusals
 
 -- it is refused by this text, or memory was out for it
 abbrev pub IsStopBy : List ℕ → LineStop → Type 0
@@ -28,20 +29,20 @@ IsLineStop fault (stops.Refused why) = line_fault_text fault ≡ Some why
 IsLineStop fault stops.Failed = ⊥
 IsLineStop fault stops.Memory = ⊤
 
--- the stop for a line that the desk refuses: it is that of the keeper exactly if the fault is
-abbrev pub IsDeskStop : DeskFault → LineStop → Type 0
-IsDeskStop fault (stops.Refused why) = desk_fault_text fault ≡ Some why
-IsDeskStop fault stops.Failed = fault ≡ desks.Failed
-IsDeskStop fault stops.Memory = fault ≢ desks.Failed
+-- the stop for a line that the desk refuses: it is that of the keeper exactly if the refusal is
+abbrev pub IsRefusalStop : LineRefusal → LineStop → Type 0
+IsRefusalStop refusal (stops.Refused why) = refusal_text refusal ≡ Some why
+IsRefusalStop refusal stops.Failed = refusal ≡ refusals.Desk desks.Failed
+IsRefusalStop refusal stops.Memory = refusal ≢ refusals.Desk desks.Failed
 
 -- a line of the desk is answered there, or stops so
-abbrev pub SaidComesOut : DeskLine → Turn → LineState → LineState → Result DeskAnswer LineStop → Type 0
+abbrev pub SaidComesOut : AnyLine → Turn → LineState → LineState → Result DeskAnswer LineStop → Type 0
 SaidComesOut said turn s t (Ok answer) = EndsAtDesk said turn s t (Ok answer)
 SaidComesOut said turn s t (Err (stops.Refused why)) =
-    (fault : DeskFault) × EndsAtDesk said turn s t (Err fault) × (desk_fault_text fault ≡ Some why)
-SaidComesOut said turn s t (Err stops.Failed) = EndsAtDesk said turn s t (Err desks.Failed)
+    (refusal : LineRefusal) × EndsAtDesk said turn s t (Err refusal) × (refusal_text refusal ≡ Some why)
+SaidComesOut said turn s t (Err stops.Failed) = EndsAtDesk said turn s t (Err (refusals.Desk desks.Failed))
 SaidComesOut said turn s t (Err stops.Memory) =
-    (fault : DeskFault) × (fault ≢ desks.Failed) × EndsAtDesk said turn s t (Err fault)
+    (refusal : LineRefusal) × (refusal ≢ refusals.Desk desks.Failed) × EndsAtDesk said turn s t (Err refusal)
 
 -- the stop of a text that says no line of the desk
 abbrev pub IsUnsaid : List ℕ → Result DeskAnswer LineStop → Type 0
@@ -53,7 +54,7 @@ IsUnsaid text (Err stops.Memory) = ⊤
 -- a text says a line of the desk that comes out so, or it says none, or memory was out before that was known
 abbrev pub TextComesOut : List ℕ → Turn → LineState → LineState → Result DeskAnswer LineStop → Type 0
 TextComesOut text turn s t result =
-    ((said : DeskLine) × SaysLine text said × SaidComesOut said turn s t result)
+    ((said : AnyLine) × SaysAnyLine text said × SaidComesOut said turn s t result)
     ⊎ (t ≡ s) × IsUnsaid text result
 
 -- a line of the input is skipped, is accepted with this answer, or stops so

@@ -1,10 +1,10 @@
 ghost use Rattle.std.specs.Prelude.{◌≡◌};
-ghost use Rattle.ak_desk_runs.specs.LineStops.{IsDeskStop, IsLineStop, IsStopBy};
+ghost use Rattle.ak_desk_runs.specs.LineStops.{IsLineStop, IsRefusalStop, IsStopBy};
 
 use ak_base::{Memory, Text};
 use ak_edit::DeskFault;
 use ak_lines::LineFault;
-use ak_texts::{write_desk_fault, write_line_fault};
+use ak_texts::{LineRefusal, write_line_fault, write_refusal};
 use std::alloc::Global;
 
 /// Why a line does not go.
@@ -39,14 +39,14 @@ pub(crate) fn line_stop(alloc: Global, fault: &LineFault) -> LineStop
     }
 }
 
-/// The stop for a line that the desk refuses. A fault without a text, but that of the keeper, is that memory was out.
-pub(crate) fn desk_stop(alloc: Global, fault: &DeskFault) -> LineStop
-    ensures { IsDeskStop fault.now result }
+/// The stop for a line that the desk refuses. A refusal without a text, but that of the keeper, is that memory was out.
+pub(crate) fn refusal_stop(alloc: Global, refusal: &LineRefusal) -> LineStop
+    ensures { IsRefusalStop refusal.now result }
 {
-    if let DeskFault::Failed = fault {
+    if let LineRefusal::Desk(DeskFault::Failed) = refusal {
         return LineStop::Failed;
     }
-    match write_desk_fault(alloc, fault) {
+    match write_refusal(alloc, refusal) {
         Ok(Some(text)) => LineStop::Refused(text),
         Ok(None) => LineStop::Memory,
         Err(Memory) => LineStop::Memory,

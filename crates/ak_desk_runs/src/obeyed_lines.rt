@@ -1,24 +1,24 @@
 ghost use Rattle.std.specs.Prelude.{◌≡◌, map};
+ghost use Rattle.ak_any_lines.specs.AnyEnds.{AppliesToAny, EndsAnyLine};
+ghost use Rattle.ak_any_lines.specs.LineResults.{RefusalCause};
 ghost use Rattle.ak_desk.specs.Desks.{IsIdle};
-ghost use Rattle.ak_desk_lines.specs.LineEnds.{AppliesFilters, EndsLine};
 ghost use Rattle.ak_desk_runs.specs.LineStops.{ComesOut, SaidComesOut, StopCause, TextComesOut};
 ghost use Rattle.ak_desk_runs.specs.RunStates.{line_state_of, outside_of, state_with};
-ghost use Rattle.ak_edit.specs.Refusals.{DeskCause};
-ghost use Rattle.ak_lines.specs.DeskLines.{IsInRange};
+ghost use Rattle.ak_lines.specs.AnyLines.{IsAnyInRange};
 ghost use Rattle.ak_study.specs.DayStarts.{IsInDay};
 
-use crate::line_stops::{LineStop, desk_stop, line_stop, stop_by};
+use crate::line_stops::{LineStop, line_stop, refusal_stop, stop_by};
 use crate::line_texts::{is_skipped_line, text_of};
 use crate::progress::Progress;
 use crate::turn_takings::take_turn;
+use ak_any_lines::obey_any;
 use ak_desk::Desk;
-use ak_desk_lines::{Turn, counted, obey};
-use ak_edit::DeskFault;
+use ak_desk_lines::{Turn, counted};
 use ak_filters::FieldFilter;
 use ak_io::{Chance, Clock, Line};
 use ak_keep::Keeper;
-use ak_lines::{DeskLine, read_line};
-use ak_texts::DeskAnswer;
+use ak_lines::{AnyLine, read_line};
+use ak_texts::{DeskAnswer, LineRefusal};
 use ak_undo::UndoList;
 
 /// Does what a line of the input says, and gives its answer; none if the line is skipped.
@@ -78,14 +78,14 @@ fn obey_text<K: Keeper>(
 /// Does a line of the desk in its turn, and counts it if it is an answer that is accepted.
 fn obey_said<K: Keeper>(
     progress: &mut Progress,
-    said: DeskLine,
+    said: AnyLine,
     turn: Turn,
     keeper: &mut K,
     filters: &mut Vec<Box<dyn FieldFilter>>,
 ) -> Result<DeskAnswer, LineStop>
     requires idle { IsIdle (K.keeping keeper.old) }
     requires moment { IsInDay turn.at }
-    requires range { IsInRange said }
+    requires range { IsAnyInRange said }
     ensures ends { SaidComesOut said turn
         (line_state_of (K.keeping keeper.old) (map (λ b. meaning b) filters.old.items) progress.old)
         (line_state_of (K.keeping keeper.new) (map (λ b. meaning b) filters.new.items) progress.new) result }
@@ -97,7 +97,7 @@ fn obey_said<K: Keeper>(
             progress.done = counted(&answer, progress.done);
             Ok(answer)
         }
-        Err(fault) => Err(desk_stop(progress.alloc, &fault)),
+        Err(refusal) => Err(refusal_stop(progress.alloc, &refusal)),
     }
 }
 
@@ -105,21 +105,21 @@ fn obey_said<K: Keeper>(
 fn obey_at<K: Keeper>(
     keeper: &mut K,
     undo: &mut UndoList,
-    said: DeskLine,
+    said: AnyLine,
     turn: Turn,
     filters: &mut Vec<Box<dyn FieldFilter>>,
-) -> Result<DeskAnswer, DeskFault>
+) -> Result<DeskAnswer, LineRefusal>
     requires idle { IsIdle (K.keeping keeper.old) }
     requires moment { IsInDay turn.at }
-    requires range { IsInRange said }
-    ensures ends { EndsLine said turn
+    requires range { IsAnyInRange said }
+    ensures ends { EndsAnyLine said turn
         (record { keeping = K.keeping keeper.old; steps = undo.old })
         (record { keeping = K.keeping keeper.new; steps = undo.new }) result }
-    ensures filters { AppliesFilters said (K.keeping keeper.old)
+    ensures filters { AppliesToAny said (K.keeping keeper.old)
         (map (λ b. meaning b) filters.old.items) (map (λ b. meaning b) filters.new.items) result }
     ensures stays { (K.keeping keeper.new).headed ≡ (K.keeping keeper.old).headed }
-    ensures cause { DeskCause (K.health keeper.old) (K.health keeper.new) result }
+    ensures cause { RefusalCause (K.health keeper.old) (K.health keeper.new) result }
 {
     let mut desk = Desk::over(keeper, undo);
-    obey(&mut desk, said, turn, filters)
+    obey_any(&mut desk, said, turn, filters)
 }

@@ -4,7 +4,7 @@ use Rattle.ak_edit.specs.declared.desk_faults.DeskFault.{DeskFault}
 use Rattle.ak_lab.specs.LabDesks.{EndsDo, EndsReview}
 use Rattle.ak_lab.specs.LabStates.{LabState}
 use Rattle.ak_lab.specs.LabSteps.{Accepts, OnlyViews, RefusesWith, RunsShort, plan_of}
-use Rattle.ak_lab.specs.LabStops.{IsDeskStop, IsStopBy}
+use Rattle.ak_lab.specs.LabStops.{IsDeskStop, IsRefusalStop, IsStopBy}
 use Rattle.ak_lab.specs.LineStops.{CameOut}
 use Rattle.ak_lab.specs.declared.lab_stops.LabStop.{LabStop}
 use Rattle.ak_lab.specs.declared.lab_stops.LabStop.TheVariants as stops
@@ -16,6 +16,7 @@ use Rattle.ak_lab_lines.specs.declared.lab_lines.Side.TheVariants as sides
 use Rattle.ak_loops.specs.Entries.{LoggedState}
 use Rattle.ak_loops.specs.declared.logs.Entry.{Entry}
 use Rattle.ak_server_copies.specs.Copies.{IsViewed}
+use Rattle.ak_texts.specs.declared.line_refusals.LineRefusal.{LineRefusal}
 
 -- a server that was not viewed
 pub not_viewed : (s : LoggedState) → IsViewed s s
@@ -62,10 +63,10 @@ review_stopped name card ease count s t fault (stops.Refused why) told ended = i
 review_stopped name card ease count s t fault stops.Memory told ended = inr (Err fault, ended)
 
 -- a line of the desk that is refused
-pub do_stopped : (name text : List ℕ) (s t : LabState) (fault : DeskFault) (stop : LabStop) → IsDeskStop fault stop
-    → EndsDo name text s t (Err fault) → CameOut (lines.Do name text) s t (Err stop)
-do_stopped name text s t fault (stops.Refused why) told ended = inr (inr (fault, ended, told))
-do_stopped name text s t fault stops.Memory told ended = inr (Err fault, ended)
+pub do_stopped : (name text : List ℕ) (s t : LabState) (refusal : LineRefusal) (stop : LabStop) → IsRefusalStop refusal stop
+    → EndsDo name text s t (Err refusal) → CameOut (lines.Do name text) s t (Err stop)
+do_stopped name text s t refusal (stops.Refused why) told ended = inr (inr (refusal, ended, told))
+do_stopped name text s t refusal stops.Memory told ended = inr (Err refusal, ended)
 
 -- a line that prints this text alone, if memory suffices for it
 pub one_printed : (said : LabLine) (s t : LabState) (text : List ℕ) (result : Result (List (List ℕ)) LabStop)

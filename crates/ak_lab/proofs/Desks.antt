@@ -1,7 +1,7 @@
 -- What was done on the device at a place was done on the device of its name.
 use Rattle.std.proofs.Common.{◌≡◌, ℕ, ℤ, ◌+ℤ◌, true, [], ◌∷◌, List, Some, Result, Ok, Err, IfOk, IfErr, get_or, refl, sym, ap, subst, ◌∙◌, inl, inr, slice_set}
 use Rattle.std.proofs.lemmas.Option.{same_Some}
-use Rattle.ak_desk_lines.specs.LineEnds.{AppliesFilters, EndsLine}
+use Rattle.ak_any_lines.specs.AnyEnds.{AppliesToAny, EndsAnyLine}
 use Rattle.ak_edit.specs.declared.desk_faults.DeskFault.{DeskFault}
 use Rattle.ak_filters.specs.Meanings.{Meaning}
 use Rattle.ak_io.specs.Arrivals.{IsClockMoment}
@@ -19,11 +19,12 @@ use Rattle.ak_lab_devices.specs.declared.devices.Device.{Device}
 use Rattle.ak_lab_lines.specs.declared.lab_lines.LabLine.TheVariants as lines
 use Rattle.ak_lab_sides.specs.NewReviews.{EndsReviews}
 use Rattle.ak_lab_sides.specs.declared.new_reviews.ReviewPlan.{ReviewPlan}
-use Rattle.ak_lines.specs.DeskLines.{RefusesLine, SaysLine}
-use Rattle.ak_lines.specs.declared.desk_lines.DeskLine.{DeskLine}
+use Rattle.ak_lines.specs.AnyLines.{RefusesAnyLine, SaysAnyLine}
+use Rattle.ak_lines.specs.declared.any_lines.AnyLine.{AnyLine}
 use Rattle.ak_lines.specs.declared.line_faults.LineFault.{LineFault}
 use Rattle.ak_texts.specs.AnswerTexts.{answer_text}
 use Rattle.ak_texts.specs.declared.answers.DeskAnswer.{DeskAnswer}
+use Rattle.ak_texts.specs.declared.line_refusals.LineRefusal.{LineRefusal}
 
 -- the lab with another device at a place
 abbrev pub put_at : ℕ → Device → LabState → LabState
@@ -79,10 +80,10 @@ review_there name plan s place read d made at result is first second moment ends
     }
 
 -- a line of the desk
-pub do_there : (name text : List ℕ) (s : LabState) (place : ℕ) (read d made : Device) (at : ℤ) (said : DeskLine) (result : Result DeskAnswer DeskFault)
+pub do_there : (name text : List ℕ) (s : LabState) (place : ℕ) (read d made : Device) (at : ℤ) (said : AnyLine) (result : Result DeskAnswer LineRefusal)
     → IsPlaceOf name s.devices place → read ≡ get_or s.devices place read → d ≡ get_or s.devices place d → at ≡ s.clock +ℤ read.shift
-    → SaysLine text said → EndsLine said (turn_of at d) (desk_of d) (desk_of made) result
-    → (turned : List Meaning) × AppliesFilters said (keeping_of d) [] turned result
+    → SaysAnyLine text said → EndsAnyLine said (turn_of at d) (desk_of d) (desk_of made) result
+    → (turned : List Meaning) × AppliesToAny said (keeping_of d) [] turned result
     → IsObeyed d made result → EndsDo name text s (put_at place made s) result
 do_there name text s place read d made at said result is first second moment says ends filters rest =
     let there = read_there name s.devices place d is second in
@@ -93,7 +94,7 @@ do_there name text s place read d made at said result is first second moment say
       said = said;
       found = there.1;
       says = says;
-      ends = subst (λ (at : ℤ). EndsLine said (turn_of at d) (desk_of d) (desk_of made) result)
+      ends = subst (λ (at : ℤ). EndsAnyLine said (turn_of at d) (desk_of d) (desk_of made) result)
           (moment ∙ ap (λ (x : Device). s.clock +ℤ x.shift) same) ends;
       turned = filters.0;
       filters = filters.1;
@@ -103,7 +104,7 @@ do_there name text s place read d made at said result is first second moment say
 
 -- a text that says no line of the desk
 pub unsaid : (name text : List ℕ) (s : LabState) (d : Device) (fault : LineFault) (stop : LabStop) → IsLineStop fault stop → device_of name s.devices ≡ Some d
-    → RefusesLine text fault → CameOut (lines.Do name text) s s (Err stop)
+    → RefusesAnyLine text fault → CameOut (lines.Do name text) s s (Err stop)
 unsaid name text s d fault (stops.Refused why) told found refuses =
     inr (inl (record { d = d; found = found; none = (fault, refuses, told); left = refl }))
 unsaid name text s d fault stops.Memory told found refuses = short (lines.Do name text) s

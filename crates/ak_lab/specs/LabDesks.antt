@@ -1,7 +1,7 @@
 -- A line of the desk on a device of a lab.
 use Rattle.std.specs.Prelude.{◌≡◌, ℕ, ℤ, ◌+ℤ◌, List, [], Some, Result}
+use Rattle.ak_any_lines.specs.AnyEnds.{AppliesToAny, EndsAnyLine}
 use Rattle.ak_desk_lines.specs.DeskStates.{DeskState}
-use Rattle.ak_desk_lines.specs.LineEnds.{AppliesFilters, EndsLine}
 use Rattle.ak_desk_lines.specs.declared.turns.Turn.{Turn}
 use Rattle.ak_desk_runs.specs.LineOutcomes.{done_after}
 use Rattle.ak_edit.specs.declared.desk_faults.DeskFault.{DeskFault}
@@ -9,9 +9,10 @@ use Rattle.ak_filters.specs.Meanings.{Meaning}
 use Rattle.ak_lab_devices.specs.Devices.{device_of, keeping_of}
 use Rattle.ak_lab.specs.LabStates.{LabState, with_changed}
 use Rattle.ak_lab_devices.specs.declared.devices.Device.{Device}
-use Rattle.ak_lines.specs.DeskLines.{SaysLine}
-use Rattle.ak_lines.specs.declared.desk_lines.DeskLine.{DeskLine}
+use Rattle.ak_lines.specs.AnyLines.{SaysAnyLine}
+use Rattle.ak_lines.specs.declared.any_lines.AnyLine.{AnyLine}
 use Rattle.ak_texts.specs.declared.answers.DeskAnswer.{DeskAnswer}
+use Rattle.ak_texts.specs.declared.line_refusals.LineRefusal.{LineRefusal}
 use Rattle.ak_lab_sides.specs.NewReviews.{EndsReviews}
 use Rattle.ak_lab_sides.specs.declared.new_reviews.ReviewPlan.{ReviewPlan}
 
@@ -24,20 +25,20 @@ abbrev pub turn_of : ℤ → Device → Turn
 turn_of at d = record { at = at; chance = 0; done = d.done }
 
 -- a device after a line of the desk, by what that made of its desk and of its count of accepted answers
-abbrev pub IsObeyed : Device → Device → Result DeskAnswer DeskFault → Type 0
+abbrev pub IsObeyed : Device → Device → Result DeskAnswer LineRefusal → Type 0
 IsObeyed d made result =
     made ≡ record d { collection = made.collection; undo = made.undo; done = done_after result d.done }
 
 -- `do <device> <line>`: the line is said by the text, and ended so on the device. There are no filters in a lab
-pub record EndsDo (name text : List ℕ) (s t : LabState) (result : Result DeskAnswer DeskFault) : Type 0 where
+pub record EndsDo (name text : List ℕ) (s t : LabState) (result : Result DeskAnswer LineRefusal) : Type 0 where
   pub d : Device
   pub made : Device
-  pub said : DeskLine
+  pub said : AnyLine
   pub found : device_of name s.devices ≡ Some d
-  pub says : SaysLine text said
-  pub ends : EndsLine said (turn_of (s.clock +ℤ d.shift) d) (desk_of d) (desk_of made) result
+  pub says : SaysAnyLine text said
+  pub ends : EndsAnyLine said (turn_of (s.clock +ℤ d.shift) d) (desk_of d) (desk_of made) result
   pub turned : List Meaning
-  pub filters : AppliesFilters said (keeping_of d) [] turned result
+  pub filters : AppliesToAny said (keeping_of d) [] turned result
   pub rest : IsObeyed d made result
   pub left : t ≡ with_changed made s
 

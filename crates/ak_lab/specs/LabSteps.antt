@@ -21,8 +21,9 @@ use Rattle.ak_outcomes.specs.OutcomeTexts.{outcome_text}
 use Rattle.ak_server_copies.specs.Copies.{IsViewed, committed_in}
 use Rattle.ak_session.specs.Answers.{counts_of}
 use Rattle.ak_texts.specs.AnswerTexts.{answer_text}
-use Rattle.ak_texts.specs.FaultTexts.{desk_fault_text}
+use Rattle.ak_texts.specs.FaultTexts.{desk_fault_text, refusal_text}
 use Rattle.ak_texts.specs.declared.answers.DeskAnswer.{DeskAnswer}
+use Rattle.ak_texts.specs.declared.line_refusals.LineRefusal.{LineRefusal}
 
 -- ---- what is looked at
 -- a side holds this collection. The server is read by views
@@ -113,7 +114,7 @@ RefusesWith (lines.Shift name by) s t why = NoDevice name s t why ⊎ (t ≡ s) 
 RefusesWith (lines.Review name card ease count) s t why = NoDevice name s t why
     ⊎ (fault : DeskFault) × EndsReview name (plan_of card ease count) s t (Err fault) × (desk_fault_text fault ≡ Some why)
 RefusesWith (lines.Do name text) s t why = NoDevice name s t why ⊎ SaysNoDeskLine name text s t why
-    ⊎ (fault : DeskFault) × EndsDo name text s t (Err fault) × (desk_fault_text fault ≡ Some why)
+    ⊎ (refusal : LineRefusal) × EndsDo name text s t (Err refusal) × (refusal_text refusal ≡ Some why)
 RefusesWith (lines.Sync name) s t why = NoDevice name s t why
 RefusesWith (lines.Transfer direction name) s t why = NoDevice name s t why
 RefusesWith (lines.Show side what) s t why = NoSide side s t why
@@ -141,7 +142,7 @@ RunsShort (lines.Device name) s t = (t ≡ s) ⊎ HasRoomFor name s × OnlyViews
 RunsShort (lines.Shift name by) s t = t ≡ s
 RunsShort (lines.Review name card ease count) s t = (t ≡ s)
     ⊎ (result : Result (Unit {0}) DeskFault) × EndsReview name (plan_of card ease count) s t result
-RunsShort (lines.Do name text) s t = (t ≡ s) ⊎ (result : Result DeskAnswer DeskFault) × EndsDo name text s t result
+RunsShort (lines.Do name text) s t = (t ≡ s) ⊎ (result : Result DeskAnswer LineRefusal) × EndsDo name text s t result
 RunsShort (lines.Sync name) s t = (t ≡ s) ⊎ (outcome : Outcome) × EndsSync name s t outcome
 RunsShort (lines.Transfer direction name) s t = (t ≡ s) ⊎ (outcome : Outcome) × EndsTransfer direction name s t outcome
 RunsShort (lines.Show side what) s t = OnlyLooks side s t

@@ -9,7 +9,8 @@ use Rattle.ak_lab.specs.declared.lab_syncs.SessionKind.{SessionKind}
 use Rattle.ak_lab_lines.specs.LabTexts.{ending_text}
 use Rattle.ak_lines.specs.declared.line_faults.LineFault.{LineFault}
 use Rattle.ak_outcomes.specs.OutcomeTexts.{outcome_text}
-use Rattle.ak_texts.specs.FaultTexts.{desk_fault_text, line_fault_text}
+use Rattle.ak_texts.specs.FaultTexts.{desk_fault_text, line_fault_text, refusal_text}
+use Rattle.ak_texts.specs.declared.line_refusals.LineRefusal.{LineRefusal}
 
 -- it is refused by this text, or memory was out for it
 abbrev pub IsStopBy : List ℕ → LabStop → Type 0
@@ -22,6 +23,11 @@ IsLineStop fault (stops.Refused why) = line_fault_text fault ≡ Some why
 IsLineStop fault stops.Memory = ⊤
 
 -- the stop for a line that the desk refuses
+abbrev pub IsRefusalStop : LineRefusal → LabStop → Type 0
+IsRefusalStop refusal (stops.Refused why) = refusal_text refusal ≡ Some why
+IsRefusalStop refusal stops.Memory = ⊤
+
+-- the stop for new reviews that are refused
 abbrev pub IsDeskStop : DeskFault → LabStop → Type 0
 IsDeskStop fault (stops.Refused why) = desk_fault_text fault ≡ Some why
 IsDeskStop fault stops.Memory = ⊤

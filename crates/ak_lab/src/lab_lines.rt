@@ -1,8 +1,8 @@
 // What the lines of a script do.
 ghost use Rattle.std.specs.Prelude.{◌≡◌, pos, true, [], ◌∷◌, List as Sequence, Some, IfErr, IfOk};
 ghost use Rattle.std.specs.Result.{IsErrOf};
+ghost use Rattle.ak_any_lines.specs.AnyEnds.{AppliesToAny, EndsAnyLine};
 ghost use Rattle.ak_base.specs.Heads.{IsWithin};
-ghost use Rattle.ak_desk_lines.specs.LineEnds.{AppliesFilters, EndsLine};
 ghost use Rattle.ak_edit.specs.declared.desk_faults.DeskFault.TheVariants as desks;
 ghost use Rattle.ak_filters.specs.Meanings.{Meaning};
 ghost use Rattle.ak_io.specs.Arrivals.{IsClockMoment};
@@ -19,13 +19,14 @@ ghost use Rattle.ak_lab_lines.specs.Written.{AreReviews, IsLabLine};
 ghost use Rattle.ak_lab_lines.specs.declared.lab_lines.LabLine.TheVariants as lines;
 ghost use Rattle.ak_lab_lines.specs.declared.lab_lines.Side.TheVariants as sides;
 ghost use Rattle.ak_lab_sides.specs.NewReviews.{EndsReviews};
-ghost use Rattle.ak_lines.specs.DeskLines.{IsInRange};
+ghost use Rattle.ak_lines.specs.AnyLines.{IsAnyInRange};
 ghost use Rattle.ak_loops.specs.Entries.{health_in};
 ghost use Rattle.ak_server_copies.specs.Copies.{IsViewed, committed_in};
 ghost use Rattle.ak_session.specs.Answers.{counts_of};
 ghost use Rattle.ak_texts.specs.AnswerTexts.{answer_text};
+ghost use Rattle.ak_texts.specs.declared.line_refusals.LineRefusal.TheVariants as refusals;
 
-use crate::lab_stops::{LabStop, desk_stop, line_stop, no_device, stop_by};
+use crate::lab_stops::{LabStop, desk_stop, line_stop, no_device, refusal_stop, stop_by};
 use crate::lab_syncs::{SessionKind, run_session};
 use crate::labs::Lab;
 use crate::server_copies::{copy_for_device, counted_of_server, shown_of_server};
@@ -35,9 +36,9 @@ use ak_edit::DeskFault;
 use ak_lab_devices::{Device, are_in_time, is_shifted_in_time, place_of};
 use ak_lab_lines::{LabLine, Shown, Side, write_counts, write_requests};
 use ak_lab_sides::ReviewPlan;
-use ak_lines::{DeskLine, read_line};
+use ak_lines::{AnyLine, read_line};
 use ak_loops::LoggedServer;
-use ak_texts::{DeskAnswer, write_answer};
+use ak_texts::{DeskAnswer, LineRefusal, write_answer};
 use ak_undo::UndoList;
 use std::alloc::Global;
 
@@ -179,7 +180,7 @@ impl Lab {
         };
         match obey_on(&mut self.devices[place], said, at) {
             Ok(answer) => print_answer(self.alloc, &answer),
-            Err(fault) => Err(desk_stop(self.alloc, &fault)),
+            Err(refusal) => Err(refusal_stop(self.alloc, &refusal)),
         }
     }
 
@@ -318,13 +319,13 @@ fn new_device(alloc: Global, name: Text, server: &mut LoggedServer) -> Result<De
 }
 
 /// Does a line of the desk on a device at a moment in milliseconds, and counts it if it is an answer that is accepted.
-fn obey_on(device: &mut Device, said: DeskLine, at: i64) -> Result<DeskAnswer, DeskFault>
+fn obey_on(device: &mut Device, said: AnyLine, at: i64) -> Result<DeskAnswer, LineRefusal>
     requires moment { IsClockMoment at }
-    requires range { IsInRange said }
-    ensures ends { EndsLine said (turn_of at device.old) (desk_of device.old) (desk_of device.new) result }
-    ensures filters { (turned : Sequence Meaning) × AppliesFilters said (keeping_of device.old) [] turned result }
+    requires range { IsAnyInRange said }
+    ensures ends { EndsAnyLine said (turn_of at device.old) (desk_of device.old) (desk_of device.new) result }
+    ensures filters { (turned : Sequence Meaning) × AppliesToAny said (keeping_of device.old) [] turned result }
     ensures rest { IsObeyed device.old device.new result }
-    ensures unfailed { IsErrOf result desks.Failed → ⊥ }
+    ensures unfailed { IsErrOf result (refusals.Desk desks.Failed) → ⊥ }
 {
     let turn = Turn {
         at,

@@ -1,11 +1,11 @@
 ghost use Rattle.ak_lab_lines.specs.LabTexts.{no_device_text};
-ghost use Rattle.ak_lab.specs.LabStops.{IsDeskStop, IsLineStop, IsStopBy};
+ghost use Rattle.ak_lab.specs.LabStops.{IsDeskStop, IsLineStop, IsRefusalStop, IsStopBy};
 
 use ak_base::{Memory, Text};
 use ak_edit::DeskFault;
 use ak_lab_lines::write_no_device;
 use ak_lines::LineFault;
-use ak_texts::{write_desk_fault, write_line_fault};
+use ak_texts::{LineRefusal, write_desk_fault, write_line_fault, write_refusal};
 use std::alloc::{AllocFailed, Global};
 
 /// Why a line does not go.
@@ -70,11 +70,22 @@ pub(crate) fn line_stop(alloc: Global, fault: &LineFault) -> LabStop
     }
 }
 
-/// The stop for a line that the desk refuses. A fault without a text, but that of the keeper, is that memory was out.
+/// The stop for new reviews that are refused. A fault without a text, but that of the keeper, is that memory was out.
 pub(crate) fn desk_stop(alloc: Global, fault: &DeskFault) -> LabStop
     ensures { IsDeskStop fault.now result }
 {
     match write_desk_fault(alloc, fault) {
+        Ok(Some(text)) => LabStop::Refused(text),
+        Ok(None) => LabStop::Memory,
+        Err(Memory) => LabStop::Memory,
+    }
+}
+
+/// The stop for a line that the desk refuses. A refusal without a text, but that of the keeper, is that memory was out.
+pub(crate) fn refusal_stop(alloc: Global, refusal: &LineRefusal) -> LabStop
+    ensures { IsRefusalStop refusal.now result }
+{
+    match write_refusal(alloc, refusal) {
         Ok(Some(text)) => LabStop::Refused(text),
         Ok(None) => LabStop::Memory,
         Err(Memory) => LabStop::Memory,

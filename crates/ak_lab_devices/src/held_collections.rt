@@ -11,12 +11,12 @@ use ak_edit::DeskFault;
 use ak_lab_keepers::{add_reviews_at_rest, counts_at_rest, obey_at_rest, shown_texts};
 use ak_lab_lines::Shown;
 use ak_lab_sides::ReviewPlan;
-use ak_lines::DeskLine;
+use ak_lines::AnyLine;
 use ak_loops::keeper_with;
 use ak_memory::MemoryKeeper;
 use ak_messages::SanityCounts;
 use ak_openings::Opening;
-use ak_texts::DeskAnswer;
+use ak_texts::{DeskAnswer, LineRefusal};
 use ak_undo::UndoList;
 use std::alloc::Global;
 use std::marker::Model;
@@ -47,8 +47,8 @@ impl Model for HeldCollection {
 impl HeldCollection {
     ghost use Rattle.std.specs.Prelude.{◌∷◌, [], List as Sequence, Some, pos, true};
     ghost use Rattle.std.specs.Result.{IsErrOf};
+    ghost use Rattle.ak_any_lines.specs.AnyEnds.{AppliesToAny, EndsAnyLine};
     ghost use Rattle.ak_base.specs.Heads.{IsWithin};
-    ghost use Rattle.ak_desk_lines.specs.LineEnds.{AppliesFilters, EndsLine};
     ghost use Rattle.ak_edit.specs.declared.desk_faults.DeskFault.TheVariants as desks;
     ghost use Rattle.ak_filters.specs.Meanings.{Meaning};
     ghost use Rattle.ak_keep.specs.Collections.{Collection, IsId};
@@ -56,10 +56,11 @@ impl HeldCollection {
     ghost use Rattle.ak_lab_keepers.specs.RestingKeepers.{Holds, kept_of};
     ghost use Rattle.ak_lab_keepers.specs.Shown.{shown_lines};
     ghost use Rattle.ak_lab_sides.specs.NewReviews.{EndsReviews};
-    ghost use Rattle.ak_lines.specs.DeskLines.{IsInRange};
+    ghost use Rattle.ak_lines.specs.AnyLines.{IsAnyInRange};
     ghost use Rattle.ak_loops.specs.Entries.{collection_in};
     ghost use Rattle.ak_session.specs.Answers.{counts_of};
     ghost use Rattle.ak_study.specs.DayStarts.{IsInDay};
+    ghost use Rattle.ak_texts.specs.declared.line_refusals.LineRefusal.TheVariants as refusals;
 
     /// This whole collection.
     pub fn of(alloc: Global, opening: Opening) -> Result<HeldCollection, Memory>
@@ -92,15 +93,15 @@ impl HeldCollection {
     pub fn obey(
         &mut self,
         undo: &mut UndoList,
-        said: DeskLine,
+        said: AnyLine,
         turn: Turn,
-    ) -> Result<DeskAnswer, DeskFault>
+    ) -> Result<DeskAnswer, LineRefusal>
         requires moment { IsInDay turn.at }
-        requires range { IsInRange said }
-        ensures ends { EndsLine said turn (record { keeping = all_known self.old; steps = undo.old })
+        requires range { IsAnyInRange said }
+        ensures ends { EndsAnyLine said turn (record { keeping = all_known self.old; steps = undo.old })
             (record { keeping = all_known self.new; steps = undo.new }) result }
-        ensures filters { (turned : Sequence Meaning) × AppliesFilters said (all_known self.old) [] turned result }
-        ensures unfailed { IsErrOf result desks.Failed → ⊥ }
+        ensures filters { (turned : Sequence Meaning) × AppliesToAny said (all_known self.old) [] turned result }
+        ensures unfailed { IsErrOf result (refusals.Desk desks.Failed) → ⊥ }
     {
         obey_at_rest(&mut self.keeper, undo, said, turn)
     }

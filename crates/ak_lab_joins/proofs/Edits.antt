@@ -11,10 +11,12 @@ use Rattle.ak_base.specs.declared.reviews.Review.{Review}
 use Rattle.ak_base.specs.declared.rows.Row.{Row}
 use Rattle.ak_base.specs.declared.rows.Row.TheVariants as rows
 use Rattle.ak_keep.specs.FreeNames.{IsFree, is_used}
+use Rattle.ak_any_lines.proofs.LineSeries.{cleared_links, cleared_schema, cleared_suits, clears_keep}
+use Rattle.ak_any_lines.specs.LineSeries.{Clears, ClearsThrough, IsInSteps}
 use Rattle.ak_desk_lines.specs.DeskStates.{DeskState}
 use Rattle.ak_desk_lines.specs.LineSteps.{IsOneStep, LinksWith}
 use Rattle.ak_edit.proofs.UndoneLists.{undo_keeps_all}
-use Rattle.ak_edit.specs.Ends.{IsFinished}
+use Rattle.ak_edit.specs.Ends.{IsFinished, holding_now}
 use Rattle.ak_edit.specs.Steps.{reversal_in, reversals_in}
 use Rattle.ak_edit.specs.Undos.{IsLatestUndone, SuitsNow}
 use Rattle.ak_exchange.specs.Phases.{holding}
@@ -127,7 +129,7 @@ undone_so at c s now steps left undone linked =
     }
 
 -- ---- a step of a line
-pub stepped_so : (at : ℤ) (c s : Collection) (was now : DeskState) → was.keeping ≡ holding c → IsOneStep at c was now
+stepped_so : (at : ℤ) (c s : Collection) (was now : DeskState) → was.keeping ≡ holding c → IsOneStep at c was now
     → AreLinkedSo s c was.steps → ((after : Collection) → now.keeping ≡ holding after → IsFreshSchema s c after) → HoldsLinked s now.keeping now.steps
 stepped_so at c s was now holds (inl same) linked new =
     subst (λ (n : DeskState). HoldsLinked s n.keeping n.steps) (sym same) (record { c = c; holds = holds; linked = linked })
@@ -137,6 +139,50 @@ stepped_so at c s was now holds (inr (inl (edit, admits, done))) linked new =
 stepped_so at c s was now holds (inr (inr undone)) linked new =
     undone_so at c s now.keeping was.steps now.steps
     (subst (λ (k : Keeping). IsLatestUndone at c k now.keeping was.steps now.steps) holds undone) linked
+
+-- ---- a series of steps
+-- what an edit holds that clears the undo list
+cleared_holds : (at : ℤ) (c : Collection) (was now : DeskState) (is : Clears at c was now) → was.keeping ≡ holding c → now.keeping ≡ holding is.cleared.after
+cleared_holds at c was now is holds = is.cleared.held ∙ ap (holding_now is.cleared.after) holds
+
+-- what is linked stays so
+cleared_so : (at : ℤ) (c s : Collection) (was now : DeskState) (is : Clears at c was now) → AreLinkedSo s c was.steps → AreLinkedSo s is.cleared.after now.steps
+cleared_so at c s was now is linked =
+    let keeps = clears_keep at c was now is in
+    record {
+      named = keeps.named;
+      links = cleared_links at c s was now is linked.links;
+      suits = cleared_suits at c was now is linked.suits;
+    }
+
+-- such edits one after another: what is held, at the same schema moment
+pub through_holds : (at : ℤ) (through : List DeskState) (c d : Collection) (was last : DeskState) → was.keeping ≡ holding c → ClearsThrough at through c was d last
+    → (last.keeping ≡ holding d) × (d.head.schema ≡ c.head.schema)
+through_holds at [] c d was last holds (same, stays) =
+    (ap (λ (s : DeskState). s.keeping) stays ∙ holds ∙ ap holding (sym same), ap (λ (e : Collection). e.head.schema) same)
+through_holds at (mid ∷ through) c d was last holds (first, rest) =
+    let more = through_holds at through first.cleared.after d mid last (cleared_holds at c was mid first holds) rest in
+    (more.0, more.1 ∙ cleared_schema at c was mid first)
+
+-- and what is linked
+through_so : (at : ℤ) (through : List DeskState) (c d s : Collection) (was last : DeskState) → ClearsThrough at through c was d last → AreLinkedSo s c was.steps
+    → AreLinkedSo s d last.steps
+through_so at [] c d s was last (same, stays) linked =
+    subst (λ (n : DeskState). AreLinkedSo s d n.steps) (sym stays) (subst (λ (e : Collection). AreLinkedSo s e was.steps) (sym same) linked)
+through_so at (mid ∷ through) c d s was last (first, rest) linked =
+    through_so at through first.cleared.after d s mid last rest (cleared_so at c s was mid first linked)
+
+-- a moment that is fresh after c is fresh after what has the same schema moment
+fresh_after : (s c d after : Collection) → d.head.schema ≡ c.head.schema → IsFreshSchema s c after → IsFreshSchema s d after
+fresh_after s c d after same (inl is) = inl (is ∙ sym same)
+fresh_after s c d after same (inr differs) = inr differs
+
+pub series_so : (at : ℤ) (c s : Collection) (was now : DeskState) → was.keeping ≡ holding c → IsInSteps at c was now
+    → AreLinkedSo s c was.steps → ((after : Collection) → now.keeping ≡ holding after → IsFreshSchema s c after) → HoldsLinked s now.keeping now.steps
+series_so at c s was now holds series linked new =
+    let came = through_holds at series.through c series.between was series.last holds series.clears in
+    stepped_so at series.between s series.last now came.0 series.step (through_so at series.through c series.between s was series.last series.clears linked)
+    (λ after held. fresh_after s c series.between after came.1 (new after held))
 
 -- ---- new reviews
 -- they leave the schema

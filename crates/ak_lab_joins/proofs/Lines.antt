@@ -3,21 +3,20 @@ use Rattle.std.specs.Prelude.{◌≡◌, ◌≢◌, ◌⊎◌, ℕ, suc, ℤ, �
 use Rattle.std.proofs.Common.{refl, sym, ap, subst, ◌∙◌, inl, inr, arith}
 use Rattle.std.proofs.lemmas.List.Elements.{All-nil}
 use Rattle.std.proofs.lemmas.Option.{none-some, same_Some}
+use Rattle.ak_any_lines.specs.AnyEnds.{EndsAnyLine}
+use Rattle.ak_any_lines.specs.LineSeries.{IsInSteps}
 use Rattle.ak_client.specs.declared.outcomes.Outcome.{Outcome}
 use Rattle.ak_client.specs.declared.outcomes.Outcome.TheVariants as client_outcomes
 use Rattle.ak_desk_lines.specs.DeskStates.{DeskState}
 use Rattle.ak_desk_runs.specs.LineOutcomes.{is_skipped_line}
-use Rattle.ak_desk_lines.specs.LineEnds.{EndsLine}
-use Rattle.ak_desk_lines.specs.LineSteps.{IsOneStep}
 use Rattle.ak_desk_lines.specs.declared.turns.Turn.{Turn}
-use Rattle.ak_edit.specs.declared.desk_faults.DeskFault.{DeskFault}
 use Rattle.ak_exchange.specs.Phases.{holding}
 use Rattle.ak_faults.specs.Causes.{one_more}
 use Rattle.ak_io.specs.declared.lines.Line.{Line}
 use Rattle.ak_keep.specs.Collections.{Collection}
 use Rattle.ak_keep.specs.Keepers.{Keeping, WhereHeld}
 use Rattle.ak_lab_joins.proofs.Devices.{changed_or_old, new_or_old}
-use Rattle.ak_lab_joins.proofs.Edits.{finished_so, reviews_are_admitted, reviews_keep_schema, stepped_so}
+use Rattle.ak_lab_joins.proofs.Edits.{finished_so, reviews_are_admitted, reviews_keep_schema, series_so}
 use Rattle.ak_lab_joins.proofs.Here as here
 use Rattle.ak_lab_joins.proofs.Here.{changed_holds, here_holds}
 use Rattle.ak_lab_joins.proofs.Servers.{committed_is, opened_server, viewed_grows, viewed_server, views_stay_quiet}
@@ -41,7 +40,7 @@ use Rattle.ak_lab_lines.specs.declared.lab_lines.LabLine.TheVariants as lines
 use Rattle.ak_lab_lines.specs.declared.lab_lines.Side.{Side}
 use Rattle.ak_lab_lines.specs.declared.lab_lines.Side.TheVariants as sides
 use Rattle.ak_lab_sides.specs.NewReviews.{EndsReviews, with_reviews}
-use Rattle.ak_lines.specs.declared.desk_lines.DeskLine.{DeskLine}
+use Rattle.ak_lines.specs.declared.any_lines.AnyLine.{AnyLine}
 use Rattle.ak_loops.specs.Entries.{LoggedState, account_opened}
 use Rattle.ak_merge.proofs.EditBuildingLaws.{unedited_is_admitted}
 use Rattle.ak_merge.proofs.FirstLinks.{copies_are_linked}
@@ -53,11 +52,12 @@ use Rattle.ak_outcomes.specs.OutcomeTexts.{outcome_text}
 use Rattle.ak_protocol.specs.Accounts.{AccountState}
 use Rattle.ak_server_copies.specs.Copies.{IsViewed}
 use Rattle.ak_texts.specs.declared.answers.DeskAnswer.{DeskAnswer}
+use Rattle.ak_texts.specs.declared.line_refusals.LineRefusal.{LineRefusal}
 
--- a line of the desk is one step
+-- a line of the desk is a series of steps
 abbrev pub LinesStep : Type 0
-LinesStep = (line : DeskLine) (t : Turn) (was now : DeskState) (result : Result DeskAnswer DeskFault)
-    → EndsLine line t was now result → WhereHeld was.keeping (λ c. IsOneStep t.at c was now)
+LinesStep = (line : AnyLine) (t : Turn) (was now : DeskState) (result : Result DeskAnswer LineRefusal)
+    → EndsAnyLine line t was now result → WhereHeld was.keeping (λ c. IsInSteps t.at c was now)
 
 -- what the server of a lab committed
 abbrev pub base_of : AccountState → LabState → Collection
@@ -151,17 +151,17 @@ reviewed account name card ease count s t linked ends =
     (reviews_are_admitted it.c (plan_of card ease count) _ count adds.reviews (unedited it.c) refl adds.planned (unedited_is_admitted it.c it.linked.named))
     adds.done it.linked (inl (reviews_keep_schema (s.clock +ℤ ends.d.shift) it.c adds.reviews (keeping_of ends.made) ends.d.undo ends.made.undo adds.done)))))
 
-obeyed : LinesStep → (account : AccountState) (name text : List ℕ) (s t : LabState) (result : Result DeskAnswer DeskFault) → IsLinkedLab account s
+obeyed : LinesStep → (account : AccountState) (name text : List ℕ) (s t : LabState) (result : Result DeskAnswer LineRefusal) → IsLinkedLab account s
     → EndsDo name text s t result → HasFreshDevice account name s t → IsLinkedLab account t
 obeyed steps account name text s t result linked ends fresh =
     let it = device_linked (base_of account s) ends.d (linked.devices name ends.d ends.found) in
     let at : ℤ = s.clock +ℤ ends.d.shift in
-    let step : IsOneStep at it.c (desk_of ends.d) (desk_of ends.made) =
-    subst (λ (k : Keeping). WhereHeld k (λ c. IsOneStep at c (desk_of ends.d) (desk_of ends.made))) it.holds
+    let step : IsInSteps at it.c (desk_of ends.d) (desk_of ends.made) =
+    subst (λ (k : Keeping). WhereHeld k (λ c. IsInSteps at c (desk_of ends.d) (desk_of ends.made))) it.holds
     (steps ends.said (turn_of at ends.d) (desk_of ends.d) (desk_of ends.made) result ends.ends) in
     subst (IsLinkedLab account) (sym ends.left)
     (changed_linked account s ends.made linked
-    (linked_device (base_of account s) ends.made (stepped_so at it.c (base_of account s) (desk_of ends.d) (desk_of ends.made) it.holds step it.linked
+    (linked_device (base_of account s) ends.made (series_so at it.c (base_of account s) (desk_of ends.d) (desk_of ends.made) it.holds step it.linked
     (λ after held. fresh it.c after (here_holds name s ends.d it.c ends.found it.holds)
     (changed_holds name s t ends.d ends.made after (ap (λ (x : LabState). x.devices) ends.left) ends.found (ap (λ (x : Device). x.name) ends.rest) held)))))
 

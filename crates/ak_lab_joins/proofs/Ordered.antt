@@ -8,12 +8,12 @@ use Rattle.ak_client.specs.Syncs.{HasRaised, KeepsDevice}
 use Rattle.ak_client.specs.declared.outcomes.Outcome.{Outcome}
 use Rattle.ak_client.specs.declared.outcomes.Outcome.TheVariants as outcomes
 use Rattle.ak_desk_lines.specs.DeskStates.{DeskState}
+use Rattle.ak_any_lines.specs.LineSeries.{IsInSteps}
 use Rattle.ak_desk_lines.specs.LineSteps.{IsOneStep}
 use Rattle.ak_device.specs.Devices.{advanced_moment, moments_raised}
 use Rattle.ak_base.specs.Limits.{last_moment}
 use Rattle.ak_base.specs.declared.heads.Head.{Head}
 use Rattle.ak_edit.specs.Ends.{IsFinished}
-use Rattle.ak_edit.specs.declared.desk_faults.DeskFault.{DeskFault}
 use Rattle.ak_edit.specs.Undos.{IsLatestUndone}
 use Rattle.ak_exchange.specs.Phases.{holding}
 use Rattle.ak_io.specs.declared.lines.Line.{Line}
@@ -30,7 +30,7 @@ use Rattle.ak_lab_devices.proofs.Places.{found_has_name}
 use Rattle.ak_lab_devices.specs.Devices.{as_downloaded, device_of, keeping_of, new_device, with_device}
 use Rattle.ak_lab_devices.specs.declared.devices.Device.{Device}
 use Rattle.ak_lab_joins.proofs.Devices.{changed_found, changed_or_old, new_or_old}
-use Rattle.ak_lab_joins.proofs.Edits.{reviews_keep_schema}
+use Rattle.ak_lab_joins.proofs.Edits.{reviews_keep_schema, through_holds}
 use Rattle.ak_lab_joins.proofs.Lines as law_lines
 use Rattle.ak_lab_joins.proofs.Lines.{LinesStep, at_line_linked, base_viewed, line_count, line_linked, opened_linked, says_one, skips_nothing, told_enough}
 use Rattle.ak_lab_joins.proofs.Servers.{committed_is, opened_schema}
@@ -52,6 +52,7 @@ use Rattle.ak_merge.specs.Edits.{advanced}
 use Rattle.ak_openings.specs.declared.whole_collections.Opening.{Opening}
 use Rattle.ak_protocol.specs.Accounts.{AccountState}
 use Rattle.ak_texts.specs.declared.answers.DeskAnswer.{DeskAnswer}
+use Rattle.ak_texts.specs.declared.line_refusals.LineRefusal.{LineRefusal}
 
 -- ---- what is held
 -- a keeper holds one collection
@@ -142,7 +143,19 @@ step_over at s c was now holds (inr (inr undone)) low =
     let it = subst (λ (k : Keeping). IsLatestUndone at c k now.keeping was.steps now.steps) holds undone in
     record { after = it.after; held = it.held; over = kept_over s c it.after low it.undone.schema }
 
-module _ (steps : LinesStep) (account : AccountState) (name text : List ℕ) (s t : LabState) (result : Result DeskAnswer DeskFault) (linked : IsLinkedLab account s)
+-- the schema moment was the same before
+fresh_before : (s c d after : Collection) → d.head.schema ≡ c.head.schema → IsFreshSchema s d after → IsFreshSchema s c after
+fresh_before s c d after same (inl is) = inl (is ∙ same)
+fresh_before s c d after same (inr differs) = inr differs
+
+series_over : (at : ℤ) (s c : Collection) (was now : DeskState) → was.keeping ≡ holding c → IsInSteps at c was now → s.head.schema ≤ℤ c.head.schema
+    → LeavesOver s c now.keeping
+series_over at s c was now holds series low =
+    let came = through_holds at series.through c series.between was series.last holds series.clears in
+    let over = step_over at s series.between series.last now came.0 series.step (subst (λ (m : ℤ). s.head.schema ≤ℤ m) (sym came.1) low) in
+    record { after = over.after; held = over.held; over = (fresh_before s c series.between over.after came.1 over.over.0, over.over.1) }
+
+module _ (steps : LinesStep) (account : AccountState) (name text : List ℕ) (s t : LabState) (result : Result DeskAnswer LineRefusal) (linked : IsLinkedLab account s)
     (ordered : HasOrderedSchemas account s) (ends : EndsDo name text s t result) where
   abbrev done_of : IsLinkedDevice (committed_of account s) ends.d
   done_of = linked.devices name ends.d ends.found
@@ -150,8 +163,8 @@ module _ (steps : LinesStep) (account : AccountState) (name text : List ℕ) (s 
   left_over : LeavesOver (committed_of account s) done_of.c (keeping_of ends.made)
   left_over =
       let known : keeping_of ends.d ≡ holding done_of.c = known_is ends.d done_of.c done_of.holds in
-      step_over (s.clock +ℤ ends.d.shift) (committed_of account s) done_of.c (desk_of ends.d) (desk_of ends.made) known
-      (subst (λ (k : Keeping). WhereHeld k (λ c. IsOneStep (s.clock +ℤ ends.d.shift) c (desk_of ends.d) (desk_of ends.made))) known
+      series_over (s.clock +ℤ ends.d.shift) (committed_of account s) done_of.c (desk_of ends.d) (desk_of ends.made) known
+      (subst (λ (k : Keeping). WhereHeld k (λ c. IsInSteps (s.clock +ℤ ends.d.shift) c (desk_of ends.d) (desk_of ends.made))) known
       (steps ends.said (turn_of (s.clock +ℤ ends.d.shift) ends.d) (desk_of ends.d) (desk_of ends.made) result ends.ends))
       (own_low account name s ends.d done_of.c ordered ends.found done_of.holds)
 

@@ -33,7 +33,7 @@ ghost use Rattle.ak_loops.specs.Entries.{account_opened};
 ghost use Rattle.ak_openings.specs.declared.whole_collections.Opening.{Opening};
 ghost use Rattle.ak_protocol.specs.Accounts.{AccountState};
 
-use ak_desk_lines::lines_are_single_steps;
+use ak_any_lines::any_lines_are_steps;
 
 /// The server of a lab that was opened is one with which devices can be linked. There is none yet.
 pub fn opened_labs_are_linked()
@@ -51,7 +51,7 @@ pub fn lines_keep_labs_linked()
         → TakesFreshSchemas account number line s t → IsLinkedLab account t }
 {
     // For the proof alone.
-    lines_are_single_steps();
+    any_lines_are_steps();
 }
 
 /// As long as nothing is uploaded, each schema moment that a line takes is fresh: a device's is at least the server's, which stays. So the
@@ -69,7 +69,7 @@ pub fn lines_without_uploads_take_fresh_schemas()
         → AllGoFresh (account_opened opening) 1 all (opened_lab opening) s printed × HasOrderedSchemas (account_opened opening) s }
 {
     // For the proof alone.
-    lines_are_single_steps();
+    any_lines_are_steps();
 }
 
 /// So all devices are linked with the server after any lines that were accepted one after another, if the schema moments that they took
@@ -80,7 +80,7 @@ pub fn runs_keep_labs_linked()
         → IsLinkedLab (account_opened opening) s × HasSession s }
 {
     // For the proof alone.
-    lines_are_single_steps();
+    any_lines_are_steps();
 }
 
 /// A sync of a device that finished leaves device and server with one content, the join of what they held, at a new moment and with a new
@@ -133,7 +133,7 @@ pub fn script_syncs_join()
         → KeepsSides (account_opened opening) name s t outcome }
 {
     // For the proof alone.
-    lines_are_single_steps();
+    any_lines_are_steps();
 }
 
 /// A script's line `sync <device>` that printed `sync <device>: finished` is such a sync.
@@ -145,7 +145,7 @@ pub fn printed_syncs_join()
         → Finishes (account_opened opening) name s t }
 {
     // For the proof alone.
-    lines_are_single_steps();
+    any_lines_are_steps();
 }
 
 /// So it is of each upload and download of a script, whatever lines came before it, if the schema moments that were taken from the first
@@ -166,7 +166,7 @@ pub fn script_transfers_replace()
         → KeepsTransferSides direction (account_opened opening) name s t outcome }
 {
     // For the proof alone.
-    lines_are_single_steps();
+    any_lines_are_steps();
 }
 
 /// A script's line that printed `upload <device>: finished` or `download <device>: finished` is such an upload or download.
@@ -183,5 +183,5 @@ pub fn printed_transfers_replace()
         → LeavesDownload (account_opened opening) name s t }
 {
     // For the proof alone.
-    lines_are_single_steps();
+    any_lines_are_steps();
 }

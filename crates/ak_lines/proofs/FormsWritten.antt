@@ -19,11 +19,11 @@ use Rattle.ak_lines.proofs.Numerals.{number_written}
 use Rattle.ak_lines.proofs.Spaces.{cut_back}
 use Rattle.ak_lines.proofs.VerbWords.{verb_named, lone_named, allowed_named, allowed_may}
 
-map_some : {A B P : Type 0} (f : A → B) (o : Option A) (y : B) → option_map f o ≡ Some y → ((x : A) → o ≡ Some x → f x ≡ y → P) → P
+pub map_some : {A B P : Type 0} (f : A → B) (o : Option A) (y : B) → option_map f o ≡ Some y → ((x : A) → o ≡ Some x → f x ≡ y → P) → P
 map_some f None y h goes = grind (arith, h)
 map_some f (Some x) y h goes = goes x refl (same_Some (f x) y h)
 
-none_is : {A P : Type 0} (y : A) → ◌≡◌ {A = Option A} None (Some y) → P
+pub none_is : {A P : Type 0} (y : A) → ◌≡◌ {A = Option A} None (Some y) → P
 none_is y h = absurd (grind (arith, h))
 
 -- the text is these arguments, and they are as they should be

@@ -1,3 +1,4 @@
+pub mod AnySaying
 pub mod FormsRead
 pub mod FormsWritten
 pub mod Numerals

@@ -122,7 +122,7 @@ same_code f a b m n = ap verb_code (sym (verb_meant f a m) ∙ verb_meant f b n)
 
 -- ---- the texts at the end of a line
 -- a text is the JSON of one value at most
-same_json : {A : Type 0} (text : List ℕ) (P Q : Data → Type 0) → InJson text P → InJson text Q → ((d : Data) → P d → Q d → A) → A
+pub same_json : {A : Type 0} (text : List ℕ) (P Q : Data → Type 0) → InJson text P → InJson text Q → ((d : Data) → P d → Q d → A) → A
 same_json {A} text P Q p q goes =
     elim (read text) as (λ o. MatchOption o ⊥ P → MatchOption o ⊥ Q → A) [
       | None ↦ λ p q. absurd p

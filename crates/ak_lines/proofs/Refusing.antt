@@ -9,6 +9,7 @@ use Rattle.ak_json.specs.Rows.{ReadsRow}
 use Rattle.ak_json.specs.declared.faults.JsonFault.{JsonFault}
 use Rattle.ak_lines.specs.Contents.{part_of, parts_fault, RefusesMaps, RefusesParts, RefusesTypeWithMaps}
 use Rattle.ak_lines.specs.Faults.{OrMemory}
+use Rattle.ak_lines.specs.FilterPlans.{RefusesEntries, RefusesFilterPlan, four_fault}
 use Rattle.ak_lines.specs.declared.line_faults.LineFault.{LineFault}
 use Rattle.ak_lines.specs.declared.line_faults.LineFault.TheVariants as faults
 
@@ -29,3 +30,8 @@ pub maps_told : (d : Data) (note_type : NoteType) (fault : LineFault) → parts_
     → OrMemory (RefusesMaps d) fault → OrMemory (RefusesTypeWithMaps d) fault
 maps_told d note_type fault three reads h =
     each_is (RefusesMaps d) (RefusesTypeWithMaps d) (λ f m. let P : Option JsonFault → Type 0 = λ o. MatchOption o (RefusesParts d f) (λ first. f ≡ faults.Json first) in subst P (sym three) (inr ((note_type, reads), m))) fault h
+
+-- a fault of the entries of a `filter` line, where there is no other
+pub entries_told : (d : Data) (fault : LineFault) → four_fault d ≡ None → OrMemory (RefusesEntries d) fault → OrMemory (RefusesFilterPlan d) fault
+entries_told d fault four h =
+    each_is (RefusesEntries d) (RefusesFilterPlan d) (λ f m. let P : Option JsonFault → Type 0 = λ o. MatchOption o (RefusesEntries d f) (λ first. f ≡ faults.Json first) in subst P (sym four) m) fault h

@@ -1,6 +1,9 @@
+pub mod AnyLines
+pub mod AnyReading
 pub mod Contents
 pub mod DeskLines
 pub mod Faults
+pub mod FilterPlans
 pub mod LineForms
 pub mod Reading
 pub mod Verbs

@@ -41,7 +41,7 @@ pub(crate) fn read_texts(alloc: Global, json: &str) -> Result<List<Text>, LineFa
 }
 
 /// The value of a JSON text.
-fn read_json(alloc: Global, json: &str) -> Result<Value, LineFault>
+pub(crate) fn read_json(alloc: Global, json: &str) -> Result<Value, LineFault>
     ensures ok { IfOk result (λ value. read json.now ≡ Some (view value)) }
     ensures err { IfErr result (OrMemory (λ fault. (read json.now ≡ None) × (fault ≡ faults.Json jsons.NotJson))) }
 {
@@ -57,7 +57,7 @@ fn read_json(alloc: Global, json: &str) -> Result<Value, LineFault>
 }
 
 /// A value of another form. The text tells where, and is empty if it is the whole value.
-fn wrong_kind(alloc: Global, place: &str) -> LineFault
+pub(crate) fn wrong_kind(alloc: Global, place: &str) -> LineFault
     ensures { OrMemory (λ fault. fault ≡ wrong_kind place.now) result }
 {
     match Text::of(alloc, place) {
@@ -217,7 +217,7 @@ fn check_parts(alloc: Global, value: &Value) -> Result<(), LineFault>
 }
 
 /// A value of this place that is not there.
-fn missing(alloc: Global, place: &str) -> LineFault
+pub(crate) fn missing(alloc: Global, place: &str) -> LineFault
     ensures { OrMemory (λ fault. fault ≡ faults.Json (jsons.Missing place.now)) result }
 {
     match Text::of(alloc, place) {
@@ -227,7 +227,7 @@ fn missing(alloc: Global, place: &str) -> LineFault
 }
 
 /// The value at a place of the array.
-fn part_of(place: usize, value: &Value) -> &Value
+pub(crate) fn part_of(place: usize, value: &Value) -> &Value
     ensures { view result.now ≡ part_of place (view value.now) }
 {
     match value.get(place) {

@@ -11,8 +11,8 @@ use ak_base::{List, NoteType, Options, Text, cut};
 use ak_search::Expr;
 use std::alloc::Global;
 
-/// A line of the desk, read. Ids are from 0 to the last number that fits 64 bits with its sign; whether they are in
-/// the range of ids, and what they name is there, is not asked.
+/// A line of the desk, read, that is one call there. Ids are from 0 to the last number that fits 64 bits with its
+/// sign; whether they are in the range of ids, and what they name is there, is not asked.
 #[derive(Debug, Drop)]
 pub enum DeskLine {
     /// `note <type> <deck> <fields>`: adds a note with these fields and no tags.
@@ -125,10 +125,10 @@ pub fn is_skipped(line: &[u8]) -> bool
     }
 }
 
-/// Reads a line without its line feed. Its words are tested first: one space stands between two of them, numbers
-/// have no sign and no leading zero, and a name, a search or a JSON text goes to the end. Then the JSON or the
-/// search is read, from left to right. That a line is to be skipped is not asked here.
-pub fn read_line(alloc: Global, line: &str) -> Result<DeskLine, LineFault>
+/// Reads a line that is one call. Its words are tested first: one space stands between two of them, numbers have no
+/// sign and no leading zero, and a name, a search or a JSON text goes to the end. Then the JSON or the search is
+/// read, from left to right.
+pub(crate) fn read_single_line(alloc: Global, line: &str) -> Result<DeskLine, LineFault>
     ensures ok { IfOk result (SaysLine line.now) }
     ensures range { IfOk result IsInRange }
     ensures err { IfErr result (RefusesLine line.now) }

@@ -1,4 +1,5 @@
 ghost use Rattle.std.specs.Prelude.{◌≡◌};
+ghost use Rattle.ak_lines.specs.AnyReading.{filtered_verb_of};
 ghost use Rattle.ak_lines.specs.Reading.{verb_of, deck_verb_of, study_verb_of, lone_verb_of, allowed_verb_of};
 
 /// The word with which a desk line begins, but for an `allow` before it.
@@ -104,6 +105,26 @@ pub(crate) fn allowed_verb_of(word: &str) -> Option<Verb>
         "retype" => Some(Verb::Retype),
         "untype" => Some(Verb::Untype),
         "unoptions" => Some(Verb::Unoptions),
+        _ => None,
+    }
+}
+
+/// The word with which a line about filtered decks begins. Arguments follow it.
+#[derive(Clone, Copy, Debug, PartialEq, Eq)]
+pub(crate) enum FilteredVerb {
+    Filter,
+    Build,
+    Empty,
+}
+
+/// The verb of this word, if it begins a line about filtered decks.
+pub(crate) fn filtered_verb_of(word: &str) -> Option<FilteredVerb>
+    ensures { result ≡ filtered_verb_of word.now }
+{
+    match word {
+        "filter" => Some(FilteredVerb::Filter),
+        "build" => Some(FilteredVerb::Build),
+        "empty" => Some(FilteredVerb::Empty),
         _ => None,
     }
 }

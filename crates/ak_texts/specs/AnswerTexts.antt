@@ -48,3 +48,5 @@ answer_text (answers.Found cards) = codes "found " ++ decimal (length cards) ++ 
 answer_text (answers.Page text) = text
 answer_text (answers.Checked None) = codes "sound"
 answer_text (answers.Checked (Some fault)) = check_fault_text fault
+answer_text (answers.Built count) = codes "built " ++ decimal count
+answer_text (answers.Emptied count) = codes "emptied " ++ decimal count

@@ -14,6 +14,8 @@ use Rattle.ak_lines.specs.declared.line_faults.LineFault.{LineFault}
 use Rattle.ak_lines.specs.declared.line_faults.LineFault.TheVariants as lines
 use Rattle.ak_search.specs.declared.faults.SearchFault.{SearchFault}
 use Rattle.ak_search.specs.declared.faults.SearchFault.TheVariants as searches
+use Rattle.ak_texts.specs.declared.line_refusals.LineRefusal.{LineRefusal}
+use Rattle.ak_texts.specs.declared.line_refusals.LineRefusal.TheVariants as refusals
 use Rattle.ak_template.specs.declared.faces.PageFault.{PageFault}
 use Rattle.ak_template.specs.declared.faces.PageFault.TheVariants as pages
 use Rattle.ak_template.specs.declared.faults.TemplateFault.{TemplateFault}
@@ -102,3 +104,10 @@ line_fault_text lines.BadLine = Some (codes "bad line")
 line_fault_text (lines.Json fault) = json_fault_text fault
 line_fault_text (lines.Search fault) = search_fault_text fault
 line_fault_text lines.Memory = None
+
+-- of a line at the desk. What ends the run has no text
+abbrev pub refusal_text : LineRefusal → Option (List ℕ)
+refusal_text (refusals.Desk fault) = desk_fault_text fault
+refusal_text (refusals.NotFiltered deck) = Some (codes "not filtered: " ++ signed_decimal deck)
+refusal_text (refusals.BadPlan deck) = Some (codes "bad plan: " ++ signed_decimal deck)
+refusal_text (refusals.Search fault) = search_fault_text fault

@@ -42,6 +42,10 @@ pub enum DeskAnswer {
     Page(Text),
     /// `sound`, or the first fault of the collection.
     Checked(Option<CheckFault>),
+    /// How many cards moved into a filtered deck: `built <n>`.
+    Built(u64),
+    /// How many cards went home from a filtered deck: `emptied <n>`.
+    Emptied(u64),
 }
 
 /// The text of an answer, without a line feed at its end.
@@ -70,6 +74,8 @@ pub fn write_answer(alloc: Global, answer: &DeskAnswer) -> Result<Text, Memory>
         DeskAnswer::Page(text) => text.copy(),
         DeskAnswer::Checked(Some(fault)) => write_check_fault(alloc, *fault),
         DeskAnswer::Checked(None) => Text::of(alloc, "sound"),
+        DeskAnswer::Built(count) => number_after(alloc, "built ", *count),
+        DeskAnswer::Emptied(count) => number_after(alloc, "emptied ", *count),
     }
 }
 

@@ -1,7 +1,9 @@
+ghost use Rattle.std.specs.Fmt.{signed_decimal};
 ghost use Rattle.std.specs.Prelude.{◌≡◌, ◌++◌, Some, IfOk, decimal};
-ghost use Rattle.ak_texts.specs.FaultTexts.{desk_fault_text, field_count_text, row_fault_text, template_fault_text, page_fault_text, line_fault_text, json_fault_text, search_fault_text, name_text, table_text};
+ghost use Rattle.ak_texts.specs.FaultTexts.{desk_fault_text, refusal_text, field_count_text, row_fault_text, template_fault_text, page_fault_text, line_fault_text, json_fault_text, search_fault_text, name_text, table_text};
 
-use crate::pieces::{joined, number_after};
+use crate::line_refusals::LineRefusal;
+use crate::pieces::{id_after, joined, number_after};
 use ak_base::{Memory, Name, RowFault, Table, Text};
 use ak_edit::DeskFault;
 use ak_json::JsonFault;
@@ -34,6 +36,26 @@ pub fn write_desk_fault(alloc: Global, fault: &DeskFault) -> Result<Option<Text>
         DeskFault::Page(fault) => write_page_fault(alloc, fault),
         DeskFault::Failed | DeskFault::Memory => Ok(None),
     }
+}
+
+/// The text of a refusal of a line at the desk, without the number of the line. None as for a fault of the desk.
+pub fn write_refusal(alloc: Global, refusal: &LineRefusal) -> Result<Option<Text>, Memory>
+    ensures { IfOk result (λ text. text ≡ refusal_text refusal.now) }
+{
+    match refusal {
+        LineRefusal::Desk(fault) => write_desk_fault(alloc, fault),
+        LineRefusal::NotFiltered(deck) => told_id(alloc, "not filtered: ", *deck),
+        LineRefusal::BadPlan(deck) => told_id(alloc, "bad plan: ", *deck),
+        LineRefusal::Search(fault) => write_search_fault(alloc, *fault),
+    }
+}
+
+/// The words, and the id behind them.
+fn told_id(alloc: Global, words: &str, id: i64) -> Result<Option<Text>, Memory>
+    ensures { IfOk result (λ made. made ≡ Some (words.now ++ signed_decimal id)) }
+{
+    let text = id_after(alloc, words, id)?;
+    Ok(Some(text))
 }
 
 /// The text of a wrong number of fields.

@@ -1,6 +1,6 @@
 use crate::words::push_quoted;
 use ak_base::{List, Text};
-use ak_lines::{DeskLine, LineFault, read_line};
+use ak_lines::{AnyLine, DeskLine, LineFault, read_line};
 use ak_texts::write_line_fault;
 use cases_lines::{Unread, listed, quoted};
 use std::alloc::Global;
@@ -8,8 +8,26 @@ use std::alloc::Global;
 /// `desk LINE`: what the desk line says, or why it is refused.
 pub fn desk_line(alloc: Global, line: &str) -> Result<String, Unread> {
     match read_line(alloc, line) {
-        Ok(line) => said(alloc, &line),
+        Ok(line) => any_said(alloc, &line),
         Err(fault) => refused(alloc, &fault),
+    }
+}
+
+fn any_said(alloc: Global, line: &AnyLine) -> Result<String, Unread> {
+    match line {
+        AnyLine::Single(line) => said(alloc, line),
+        AnyLine::Filter {
+            name,
+            search,
+            limit,
+            order,
+        } => {
+            let name = quoted(alloc, name.as_str())?;
+            let search = quoted(alloc, search.as_str())?;
+            Ok(format!(in alloc; "filter {name} {search} {limit} {order}")?)
+        },
+        AnyLine::Build(deck) => numbered(alloc, "build", *deck),
+        AnyLine::Empty(deck) => numbered(alloc, "empty", *deck),
     }
 }
 

@@ -1,6 +1,6 @@
 use Rattle.std.proofs.Common.{Ok, ap, refl, arith, ◌∙◌}
 use Rattle.ak_desk_runs.proofs.Going.{begins_run, ends_at_once, ends_run, goes_on}
-use Rattle.ak_desk_runs.proofs.Stopping.{idle_still}
+use Rattle.ak_any_lines.proofs.CalledEnds.{idle_still}
 use Rattle.ak_faults.proofs.Healths.{goes_further, goes_nowhere}
 use Rattle.ak_desk_runs.proofs.desk_runs.run_lines.Goals as goal
 

@@ -3,6 +3,6 @@ use Rattle.ak_lab_joins.proofs.lab_laws.printed_transfers_replace.Goals as goal
 
 pub returns : goal.returns
 returns c = record {
-  uploads = printed_uploads c.lines_are_single_steps.ensures;
-  downloads = printed_downloads c.lines_are_single_steps.ensures;
+  uploads = printed_uploads c.any_lines_are_steps.ensures;
+  downloads = printed_downloads c.any_lines_are_steps.ensures;
 }

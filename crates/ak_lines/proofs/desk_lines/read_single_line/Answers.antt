@@ -1,5 +1,5 @@
 use Rattle.ak_lines.proofs.Saying.{line_says, line_within, line_refused}
-use Rattle.ak_lines.proofs.desk_lines.read_line.Goals as goal
+use Rattle.ak_lines.proofs.desk_lines.read_single_line.Goals as goal
 
 pub returns-clause-ok : goal.returns-clause-ok
 returns-clause-ok c = line_says c.args.line.now c.read_form.result c.read_form.ensures.ok

@@ -1,0 +1,3 @@
+pub mod CalledEnds
+pub mod FirstLines
+pub mod LineSeries

@@ -1,0 +1,4 @@
+pub mod EarlyChecks
+pub mod EarlyEnds
+pub mod AnyEnds
+pub mod AdmittedAnswers

@@ -1,0 +1,4 @@
+pub mod EarlyAnswers
+pub mod EarlyEdits
+pub mod AwayAnswers
+pub mod Answering

@@ -1,0 +1,17 @@
+pub mod Plans
+pub mod FilteredFaults
+pub mod HomeDecks
+pub mod HeldDecks
+pub mod UnmovedCards
+pub mod ClearedEdits
+pub mod HomeGoings
+pub mod Emptyings
+pub mod FilteredDecks
+pub mod EmptyFaults
+pub mod Candidates
+pub mod Gathering
+pub mod Builds
+pub mod Refills
+pub mod Building
+pub mod MadeDecks
+pub mod MakingFaults
