@@ -38,7 +38,7 @@ complete -o filenames -F _anki anki bin/anki ./anki
 # The verbs of a desk's and of a lab's lines, for a shell that feeds them: `anki_verbs desk`, `anki_verbs lab`.
 anki_verbs() {
     case $1 in
-    desk) compgen -W "note fields tags delete deck rename drop move adopt options unoptions type retype untype spread answer next counts find page mute suspend unsuspend bury flag undo check" -- "$2" ;;
+    desk) compgen -W "note fields tags delete deck rename drop move filter build empty adopt options unoptions type retype untype spread answer next counts find page mute suspend unsuspend bury flag undo check" -- "$2" ;;
     lab) compgen -W "clock device shift review do sync upload download show count requests" -- "$2" ;;
     esac
 }

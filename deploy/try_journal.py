@@ -5,7 +5,8 @@
 
 Each trial has a folder of its own, which goes afterwards. Without a trial all are done. Each prints what it saw, and `<trial>: passed` or why not. Trials:
 
-    kills     `kill -9` at any moment of desk sessions, of syncs, and of the opening after either: the file holds what was told as done, or the commit under way too
+    kills     `kill -9` at moments spread over desk sessions, over syncs, and over the opening after either: the file holds what was told as done, or the commit under way too; a third of the kills
+              at least come while a run has work to do
     full      a file that may grow by so many bytes, each number in its turn, and a full disk (root: it mounts a small one), then room again
     second    a second program on one file: status 6, and nothing is changed
     cuts      a small journal, cut at each byte: it opens with the first of its commits, or its damage is told with status 16
@@ -45,6 +46,14 @@ from try_server import TOP, Device, Server, Tools, Wrong, copy_files, expect, fr
 DONE, REFUSED, FILE_FAILED, DAMAGED = 0, 3, 6, 16
 
 
+class Span(collections.namedtuple("Span", "opened ended")):
+    """From when on a run has its file open, and when it has printed all; in seconds from its start."""
+
+    def moment(self, chance, part=1):
+        """A moment in it, or in the first part of it."""
+        return chance.uniform(self.opened, self.opened + part * (self.ended - self.opened))
+
+
 class Kept(Device):
     """A device whose collection is kept in a journal."""
 
@@ -70,6 +79,44 @@ class Kept(Device):
         ran = subprocess.Popen([self.tools.anki, self.path, *words], stdin=subprocess.PIPE, stdout=subprocess.PIPE, stderr=subprocess.DEVNULL, **more)
         self.tools.started.append(ran)
         return ran
+
+    def give(self, ran, lines):
+        """Hands lines to a run, which may have ended."""
+        with contextlib.suppress(BrokenPipeError):
+            ran.stdin.write("".join(line + "\n" for line in lines).encode())
+            ran.stdin.flush()
+
+    def is_open_in(self, ran):
+        """Whether a run has the file open. One that has ended has not."""
+        folder, path = "/proc/%d/fd" % ran.pid, os.path.realpath(self.file)
+        try:
+            return any(os.path.realpath(os.path.join(folder, name)) == path for name in os.listdir(folder))
+        except OSError:
+            return False
+
+    def timed(self, lines, count, *words):
+        """A whole run: what it prints, which is so many lines; and after how many seconds it has the file open, and has printed them."""
+        began = time.monotonic()
+        ran = self.start(*words)
+        self.give(ran, lines)
+        while not self.is_open_in(ran) and ran.poll() is None:
+            time.sleep(0.0002)
+        opened = time.monotonic() - began
+        printed = [ran.stdout.readline().decode().rstrip("\n") for _ in range(count)]
+        ended = time.monotonic() - began
+        ran.communicate()
+        expect("a whole run of " + " ".join(words[1:]), ran.returncode, DONE)
+        return printed, Span(opened, ended)
+
+    def killed_at(self, moment, lines, *words):
+        """A run that is killed so many seconds after its start: what it had printed, and whether it had the file open then and had not ended."""
+        began = time.monotonic()
+        ran = self.start(*words)
+        self.give(ran, lines)
+        time.sleep(max(0, began + moment - time.monotonic()))
+        is_under_way = self.is_open_in(ran) and ran.poll() is None
+        ran.kill()
+        return ran.communicate()[0].decode(), is_under_way
 
     def opened(self):
         """Has the program open the file: the status, and what it prints."""
@@ -140,24 +187,32 @@ def try_kills(tools, room):
     kill_syncs(tools, room, chance)
 
 
+def expect_within(counts, what):
+    """The kills show something only if enough of them came while a run had work to do."""
+    if 3 * counts["within a run"] < counts["kills"]:
+        raise Wrong("only %d of %d kills of %s came within a run" % (counts["within a run"], counts["kills"], what))
+
+
+def time_desk(device, chance):
+    before, lines = device.payloads(), lines_of_day(chance, device, 8)
+    printed, span = device.timed(lines, len(lines), "-", "desk")
+    expect("a whole session's commits", compare_kept(device, before, lines, printed, "a whole session"), 0)
+    return span
+
+
 def kill_desks(tools, room, chance):
     device, counts = begun(tools, room), collections.Counter()
-    before, began = device.payloads(), time.monotonic()
-    lines = lines_of_day(chance, device, 8)
-    expect("a whole session's commits", compare_kept(device, before, lines, device.desk(*lines), "a whole session"), 0)
-    whole = time.monotonic() - began
     while counts["kills"] < tools.words.kills:
+        # The file grows, so that it takes longer to open it.
+        if counts["kills"] % 50 == 0:
+            span = time_desk(device, chance)
         before, lines = device.payloads(), lines_of_day(chance, device, 8)
-        ran = device.start("-", "desk")
-        with contextlib.suppress(BrokenPipeError):
-            ran.stdin.write("".join(line + "\n" for line in lines).encode())
-            ran.stdin.flush()
         # In every second session most likely while it opens the file.
-        time.sleep(chance.uniform(0, whole * (0.2 if counts["kills"] % 2 else 1.1)))
-        ran.kill()
-        printed = ran.communicate()[0].decode().split("\n")[:-1]
+        said, is_under_way = device.killed_at(span.moment(chance, 0.2 if counts["kills"] % 2 else 1), lines, "-", "desk")
+        printed = said.split("\n")[:-1]
         under_way = compare_kept(device, before, lines, printed, "kill %d" % counts["kills"])
         counts["kills"] += 1
+        counts["within a run"] += is_under_way and len(printed) < len(lines)
         counts["with the commit under way"] += under_way
         counts["answered lines"] += len(printed)
         counts["left more than frames and a gate"] += device.bytes() != rules.journal_of(device.payloads())
@@ -166,9 +221,11 @@ def kill_desks(tools, room, chance):
         if counts["kills"] % 3 == 0:
             device.agrees()
     device.agrees()
-    print("%d kills of desks (a whole session of 8 lines took %.2f s): %d lines were answered, and %d times none; each was kept, and %d times the commit under way too; %d times bytes stood behind the gate; "
-          "%d commits in the end" % (counts["kills"], whole, counts["answered lines"], counts["before any answer"], counts["with the commit under way"],
-                                     counts["left more than frames and a gate"], len(device.payloads())))
+    expect_within(counts, "desks")
+    print("%d kills of desks (the last whole session of 8 lines had its file open from %.3f to %.3f s), %d of them within a run: %d lines were answered, and %d times none; each was kept, and %d times the commit "
+          "under way too; %d times bytes stood behind the gate; %d commits in the end"
+          % (counts["kills"], *span, counts["within a run"], counts["answered lines"], counts["before any answer"], counts["with the commit under way"], counts["left more than frames and a gate"],
+             len(device.payloads())))
 
 
 def linked(tools, room):
@@ -186,24 +243,29 @@ def linked(tools, room):
     return server, device, other
 
 
+def time_sync(server, device):
+    device.finish(server.port)
+    device.desk(note("one more"))
+    printed, span = device.timed([], 1, "127.0.0.1:%d" % server.port, "sync", device.key)
+    expect("a whole sync", printed, ["finished"])
+    return span
+
+
 def kill_syncs(tools, room, chance):
     server, device, other = linked(tools, room)
-    device.desk(note("first"))
-    began = time.monotonic()
-    expect("a whole sync", device.finish(server.port), "finished")
-    whole, counts = time.monotonic() - began, collections.Counter()
+    counts = collections.Counter()
     while counts["kills"] < tools.words.kills // 2:
+        if counts["kills"] % 50 == 0:
+            span = time_sync(server, device)
         device.desk(*lines_of_day(chance, device, 2))
         other.desk(note("of the other %d" % counts["kills"]))
         other.finish(server.port)
         before, old = device.held(), device.payloads()
         word = "download" if counts["kills"] % 4 == 3 else "sync"
-        ran = device.start("127.0.0.1:%d" % server.port, word, device.key)
-        time.sleep(chance.uniform(0, whole * 1.2))
-        counts["after the end"] += ran.poll() is not None
-        ran.kill()
-        said = ran.communicate()[0].decode().strip()
+        said, is_under_way = device.killed_at(span.moment(chance), [], "127.0.0.1:%d" % server.port, word, device.key)
+        said = said.strip()
         counts["kills"] += 1
+        counts["within a run"] += is_under_way and not said
         counts[said or "nothing printed"] += 1
         expect("the frames of before", device.payloads()[:len(old)] == old, True)
         held = device.held()
@@ -218,8 +280,9 @@ def kill_syncs(tools, room, chance):
     device.finish(server.port)
     device.agrees()
     server.end()
-    print("%d kills of syncs and downloads (a whole sync took %.2f s), %d of them after its end: %d left the device as the server, the others as it was; of those %d printed nothing"
-          % (counts["kills"], whole, counts["after the end"], counts["joined"], counts["nothing printed"]))
+    expect_within(counts, "syncs and downloads")
+    print("%d kills of syncs and downloads (the last whole sync had its file open from %.3f to %.3f s), %d of them within a run: %d left the device as the server, the others as it was; of those %d printed nothing"
+          % (counts["kills"], *span, counts["within a run"], counts["joined"], counts["nothing printed"]))
 
 
 # ---- a full disk

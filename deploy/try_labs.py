@@ -42,7 +42,7 @@ STAMP, USN = {"notes": 3, "cards": 4}, {"notes": 4, "cards": 5, "reviews": 2}
 KINDS = {"cards": 0, "notes": 1, "decks": 2}
 COUNT_LINE = re.compile(r"notes (\d+) cards (\d+) reviews (\d+) graves (\d+) types (\d+) decks (\d+) options (\d+)$")
 DESK = ("note", "fields", "tags", "delete", "deck", "rename", "drop", "move", "adopt", "options", "unoptions", "type", "retype", "untype", "spread", "answer",
-        "next", "counts", "find", "page", "suspend", "unsuspend", "bury", "flag", "undo", "check")
+        "next", "counts", "find", "page", "suspend", "unsuspend", "bury", "flag", "undo", "check", "filter", "build", "empty")
 FORMS = ("clock", "device", "shift", "review", "sync", "upload", "download", "requests", "count", *("show " + it for it in (*TABLES, "head")), "skipped",
          *("do " + it for it in DESK))
 FAULTS = ("card <n> without note", "note <n> without card", "note <n> without type", "card <n> without template")
@@ -54,7 +54,7 @@ REFUSALS = ("long input", "long line", "not text", "bad line", "no device <name>
             *("search fault %d at <n>" % n for n in range(1, 7)), *("no such %s <n>" % it for it in ("note", "card", "type", "deck", "options")),
             "in use: deck <n>", "in use: type <n>", "fields <n>, wanted <n>", "default kept", "stamp end", "id end", *("row fault %d at <n>" % n for n in range(1, 5)),
             *("template fault %d at <n>" % n for n in range(1, 5)), "no field <name>", "no filter <name>", "not answerable: queue <n>", "schema change not allowed",
-            "bad map at <n>", "nothing to undo")
+            "bad map at <n>", "nothing to undo", "not filtered: <n>", "bad plan: <n>")
 NO_LOSS = "no message of a lab is lost, and nobody syncs in between"
 UNREACHED = {
     "sync full needed: sequence": "it takes 2,147,483,645 syncs", "sync sanity failed: note <n> without type": "a deleted note type changes the schema",
@@ -123,6 +123,46 @@ def parts(deck):
 
 def is_under(deck, top):
     return parts(deck)[:len(parts(top))] == parts(top)
+
+
+# Of a card in a collection: the searches of filtered decks, with what they mean, and where it stands in their orders.
+SEARCHES = {"": lambda content, row: True, "is:new": lambda content, row: row[6] == 0, "-is:new": lambda content, row: row[6] != 0, "flag:3": lambda content, row: row[16] % 8 == 3,
+            "prop:ivl>=1": lambda content, row: row[9] >= 1, "deck:french": lambda content, row: parts(deck_of(content, row))[0] == "French"}
+PLACES = {2: lambda row: (row[9],), 3: lambda row: (-row[9],), 4: lambda row: (-row[12],), 5: lambda row: (row[1], row[3]), 6: lambda row: (row[8],), 7: lambda row: (-row[1], row[3])}
+
+
+def deck_of(content, card):
+    """The deck of a card, deck 1 if that is not held."""
+    return content.row("decks", card[2]) or content.row("decks", 1)
+
+
+def home_of(content, card):
+    """A card at home, by docs/profile/filtered.md."""
+    return changed(card, at2=card[15] if content.row("decks", card[15]) else 1, at8=card[14], at14=0, at15=0) if card[15] > 0 else card
+
+
+def permille(text):
+    whole, _, part = text.partition(".")
+    return 1000 * int(whole) + int(part.ljust(3, "0"))
+
+
+def early_interval(group, button, card, day):
+    """The interval of an early answer, by the options of the card at home."""
+    passed, rev = max(0, card[9] - (card[14] - day)), group["rev"]
+    grown = max(passed * card[10], 1000, card[9] * 1000) * permille(rev["ivlFct"])
+    if button == 2:
+        factor = permille(rev["hardFactor"])
+        days = max(passed * factor, 1000, card[9] * factor // 2) * permille(rev["ivlFct"]) // 10**6
+    else:
+        days = grown // 10**6 if button == 3 else grown * ((permille(rev["ease4"]) + 1000) // 2) // 10**9
+    return min(rev["maxIvl"], max(1, days))
+
+
+@functools.lru_cache(maxsize=None)
+def has_filtered(anki):
+    """Whether the program has lines about filtered decks."""
+    ran = subprocess.run([anki, "-", "-", "lab"], input=b"device A\ndo A filter []\n", stdout=subprocess.PIPE, stderr=subprocess.DEVNULL)
+    return b"json fault 2" in ran.stdout
 
 
 class Content:
@@ -242,6 +282,11 @@ class Side:
         else:
             self.steps = [({it: before.rows.get(it) for it in names}, before.conf, before.tags)] + self.steps[:29]
         self.content = after
+
+    def clear(self, edit, now):
+        """The side has done an edit after which nothing can be undone."""
+        self.took(self.after(edit, now), now)
+        self.steps = []
 
     def undo(self, now):
         """The side has taken its latest step back."""
@@ -703,7 +748,7 @@ class Maker:
         lab = self.lab
         for _ in range(self.chance.randint(1, 3)):
             lab.device(self.new_name())
-        steps = [(getattr(self, name), weight) for name, weight in WEIGHTS]
+        steps = [(getattr(self, name), weight) for name, weight in WEIGHTS + (FILTERED if has_filtered(lab.anki) else ())]
         calls, weights = zip(*steps)
         while len(lab.script) < size - 1:
             self.chance.choices(calls, weights)[0]()
@@ -893,6 +938,10 @@ class Maker:
         below = {it for it, row in content.table("decks").items() if is_under(row, content.row("decks", number))}
         if 1 in below:
             return
+        for it in sorted(below):
+            if content.row("decks", it)["dyn"] == 1:
+                self.go_home(name, [card for card, row in self.lab.devices[name].content.table("cards").items() if row[2] == it], always=True)
+        content = self.lab.devices[name].content
         cards = {it: row for it, row in content.table("cards").items() if row[2] in below}
         notes = {row[1] for row in cards.values() if all(row_[2] in below for row_ in content.cards_of(row[1]).values()) and content.row("notes", row[1])}
         gone = [*(("decks", it) for it in below), *(("cards", it) for it in cards), *(("notes", it) for it in notes)]
@@ -909,6 +958,7 @@ class Maker:
         name, cards = self.of("cards")
         if cards:
             deck, chosen = self.some(sorted(self.lab.devices[name].content.table("decks"))), self.many(cards)
+            self.go_home(name, chosen)
             rows = {("cards", it): changed(self.lab.devices[name].content.row("cards", it), at2=deck) for it in chosen}
             self.lab.do(name, "move", "move %d %s" % (deck, " ".join(map(str, chosen))), Edit(rows), ["ok"])
 
@@ -1043,6 +1093,15 @@ class Maker:
         if not cards:
             return
         number, button, spent = self.some(cards), self.chance.randint(1, 4), self.chance.randint(0, 90_000)
+        card = side.content.row("cards", number)
+        if card[15] > 0:
+            if (card[7], card[6]) not in ((0, 0), (2, 2)):
+                return
+            if card[6] == 2 and card[14] > side.content.day(now) and button >= 2:
+                self.early(name, number, button, spent)
+                return
+            self.go_home(name, [number])
+            begun = side.after(self.morning(name), now)
         review = side.free("reviews", now)
         own, before, after = self.lab.do_by_law(name, "answer", "answer %d %d %d" % (number, button, spent))
         old, new = begun.row("cards", number), after.row("cards", number)
@@ -1059,6 +1118,64 @@ class Maker:
             if it != number:
                 was = begun.row("cards", it)
                 expect("another card", row[8:] == was[8:] and (row[7] == was[7] or row[7] == -2 and row[1] == old[1]), True)
+
+    def early(self, name, number, button, spent):
+        """An early answer, of which the rules say all."""
+        side, now = self.lab.devices[name], self.lab.now(name)
+        card, day, review = side.content.row("cards", number), side.content.day(now), side.free("reviews", now)
+        home = home_of(side.content, card)
+        deck = side.content.row("decks", home[2])
+        group = deck and side.content.row("options", deck["conf"]) or side.content.row("options", 1)
+        days, factor = early_interval(group, button, card, day), min(100_000, max(1300, card[10] + {2: -150, 3: 0, 4: 150}[button]))
+        rows = {("cards", number): changed(home, at8=day + days, at9=days, at10=factor, at11=card[11] + 1),
+                ("reviews", review): [review, number, 0, button, days, card[9], factor, min(spent, 1000 * group["maxTaken"]), 3]}
+        side.clear(Edit(rows), now)
+        self.lab.do(name, "answer", "answer %d %d %d" % (number, button, spent), None, ["answered queue 2 due %d ivl %d" % (day + days, days)])
+
+    # Filtered decks
+
+    def go_home(self, name, cards, always=False):
+        """Those of the cards that are away go home, in an edit that comes before that of a line. If none is, there is no such edit, or one that changes nothing."""
+        side = self.lab.devices[name]
+        rows = {("cards", it): home_of(side.content, side.content.row("cards", it)) for it in cards if side.content.row("cards", it)[15] > 0}
+        if rows or always:
+            side.clear(Edit(rows), self.lab.now(name))
+
+    def filtered(self):
+        """A device, and the ids of its filtered decks."""
+        return self.of("decks", lambda number, row: row["dyn"] == 1)
+
+    def a_filter(self):
+        name = self.device()
+        side, now, rows, path = self.lab.devices[name], self.lab.now(name), {}, self.new_path(self.lab.devices[name])
+        number, plan = self.missing(side, now, path, rows), [self.some(sorted(SEARCHES)), self.some((1, 2, 5, 99_999)), self.chance.randint(2, 7)]
+        rows["decks", number].update(dyn=1, terms=[plan])
+        side.clear(Edit(rows), now)
+        self.lab.do(name, "filter", "filter " + dumps(["::".join(path), *plan]), None, ["deck %d" % number])
+
+    def a_build(self):
+        name, decks = self.filtered()
+        if not decks:
+            return
+        deck, side = self.some(decks), self.lab.devices[name]
+        content = side.content
+        search, limit, order = content.row("decks", deck)["terms"][0]
+        cards = {it: home_of(content, row) if row[2] == deck else row for it, row in content.table("cards").items()}
+        can = [row for row in cards.values() if row[7] in (0, 2) and row[15] == 0 and deck_of(content, row)["dyn"] == 0 and SEARCHES[search](content, row)]
+        can.sort(key=lambda row: (*PLACES[order](row), row[0]))
+        for place, row in enumerate(can[:limit]):
+            cards[row[0]] = changed(row, at2=deck, at8=place - 100_000, at14=row[8], at15=row[2])
+        side.clear(Edit({("cards", it): row for it, row in cards.items()}), self.lab.now(name))
+        self.lab.do(name, "build", "build %d" % deck, None, ["built %d" % min(limit, len(can))])
+
+    def an_empty(self):
+        name, decks = self.filtered()
+        if not decks:
+            return
+        deck = self.some(decks)
+        away = [it for it, row in self.lab.devices[name].content.table("cards").items() if row[2] == deck and row[15] > 0]
+        self.go_home(name, away, always=True)
+        self.lab.do(name, "empty", "empty %d" % deck, None, ["emptied %d" % len(away)])
 
     def a_next(self):
         name, decks = self.of("decks")
@@ -1146,6 +1263,7 @@ class Maker:
         path = ["Alone%d" % self.chance.randint(0, 10**9)]
         number = self.missing(side, self.lab.now(name), path, rows)
         self.lab.do(name, "deck", "deck " + path[0], Edit(rows), ["deck %d" % number])
+        self.go_home(name, [card])
         row = side.content.row("cards", card)
         self.lab.do(name, "move", "move %d %d" % (number, card), Edit({("cards", card): changed(row, at2=number)}), ["ok"])
         gone = [("decks", number), ("cards", card)]
@@ -1303,6 +1421,16 @@ class Maker:
             self.lab.do(name, "suspend", "suspend %d" % card, Edit({("cards", card): changed(row, at7=-1)}), ["ok"])
         return "do %s answer %d 3 100" % (name, card), "not answerable: queue -1"
 
+    def refused_filtered(self):
+        name, decks = self.of("decks", lambda number, row: row["dyn"] == 0)
+        if not decks or not has_filtered(self.lab.anki):
+            return None
+        line, text = self.some((("build %d" % decks[0], "not filtered: %d" % decks[0]), ("empty %d" % decks[0], "not filtered: %d" % decks[0]), ("build 77", "no such deck 77"),
+                                ("empty 77", "no such deck 77"), ('filter ["Q","",0,2]', "bad plan: 0"), ('filter ["Q","",100000,2]', "bad plan: 0"),
+                                ('filter ["Q","()",1,1]', "bad plan: 0"), ('filter ["Q","()",1,2]', "search fault 3 at 0"), ('filter ["Q","",1]', "json fault 2"),
+                                ('filter ["Q","",1.5,2]', "json fault 3"), ('filter ["Q::","(",0,0]', "row fault 4 at 3")))
+        return "do %s %s" % (name, line), text
+
     def refused_schema(self):
         name, types = self.of("types")
         content = self.lab.devices[name].content
@@ -1344,6 +1472,9 @@ WEIGHTS = (("a_device", 2), ("a_clock", 6), ("a_shift", 2), ("a_review", 5), ("a
            ("a_change", 6), ("a_tag", 4), ("a_delete", 3), ("a_deck", 4), ("a_rename", 2), ("a_drop", 2), ("a_move", 3), ("a_flag", 3), ("a_suspend", 2),
            ("an_unsuspend", 2), ("a_bury", 3), ("an_adopt", 2), ("an_options", 2), ("an_unoptions", 1), ("a_type", 1), ("a_retype", 2), ("an_untype", 1),
            ("a_spread", 2), ("an_answer", 10), ("a_next", 4), ("a_find", 3), ("a_page", 3), ("an_undo", 4), ("a_check", 3), ("a_clash", 2))
+
+
+FILTERED = (("a_filter", 4), ("a_build", 9), ("an_empty", 3))
 
 
 def try_script(anki, seed, number, counts):

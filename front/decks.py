@@ -119,14 +119,19 @@ class Decks(Sitting):
         with self.turn:
             self.open()
             self._test_deck(deck_id)
-            gone = [deck.id for deck in self._subtree(self.copy.decks[deck_id].name)]
-            marks = ",".join("?" * len(gone))
-            cards = self.copy.base.execute("select count(*) from cards where did in (%s)" % marks, gone).fetchone()[0]
+            gone = self._subtree(self.copy.decks[deck_id].name)
+            lies, ids = self._deck_once_emptied(gone), listed(deck.id for deck in gone)
+            cards = self.copy.base.execute("select count(*) from cards where %s in (%s)" % (lies, ids)).fetchone()[0]
             notes = self.copy.base.execute(
-                "select count(distinct nid) from cards where did in (%s) and nid not in"
-                " (select nid from cards where did not in (%s))" % (marks, marks), gone + gone
+                "select count(distinct nid) from cards where %s in (%s) and nid not in"
+                " (select nid from cards where %s not in (%s))" % (lies, ids, lies, ids)
             ).fetchone()[0]
             return len(gone), cards, notes
+
+    def _deck_once_emptied(self, decks):
+        """The deck in which a card lies once the filtered ones of these decks were emptied, as a term of SQL."""
+        filtered = listed(deck.id for deck in decks if deck.filtered)
+        return "(case when odid > 0 and did in (%s) then (case when odid in (%s) then odid else 1 end) else did end)" % (filtered, listed(self.copy.decks))
 
     def drop_deck(self, deck_id):
         with self.turn:
@@ -136,6 +141,10 @@ class Decks(Sitting):
             if any(deck.id == 1 for deck in gone):
                 raise Slip("the deck %s is always kept" % self.copy.decks[1].name)
             self._change("the deletion of the deck %s" % self.copy.decks[deck_id].name, ["drop %d" % deck_id])
+            if any(deck.filtered for deck in gone):
+                # It was emptied first, so that nothing from before can be undone: what is held is read anew.
+                self._forget_steps("A filtered deck was emptied")
+                return
             for deck in gone:
                 for card in self.copy.select("cards", "where did = ?", (deck.id,)):
                     self.copy.put("cards", card.id, None)
@@ -246,6 +255,11 @@ def counts_of(answer):
     """The counts of an answer `new <n> learning <n> review <n>`."""
     words = answer.split(" ")
     return Counts(int(words[1]), int(words[3]), int(words[5]))
+
+
+def listed(ids):
+    """Ids as a list of SQL."""
+    return ",".join("%d" % it for it in ids)
 
 
 def new_deck(deck_id, path):

@@ -72,6 +72,10 @@ class Studying(Sitting):
                 said = self._change("the answer", ["answer %d %d %d" % (card_id, button, time_taken)])[0].split()
             except Lost as lost:
                 raise Lost("%s %s" % (lost, self._whether_answered(card_id, began))) from None
+            if card.odid > 0:
+                # It went home, so that nothing from before can be undone: what is held is read anew.
+                self._forget_steps("A card went home from a filtered deck")
+                return self.copy.row("cards", card_id)
             queue, due, days = int(said[2]), int(said[4]), int(said[6])
             answered = answered_card(card, queue, due, days)
             self.copy.put("cards", card_id, answered)

@@ -3,15 +3,17 @@ the sentences of the first page.
 
     python3 -m unittest discover -s bin/tests
 """
-import functools
 import glob
 import os
 import re
+import sys
 import unittest
 
 TOP = os.path.dirname(os.path.dirname(os.path.dirname(os.path.realpath(__file__))))
-FUNCTION = re.compile(r"\s*(?:pub(?:\([^)]*\))? )?(?:const |final )*fn (\w+)")
-CLAUSE = re.compile(r"\s*ensures\*?(?: (\w+))? *\{")
+sys.dont_write_bytecode = True
+sys.path.insert(0, os.path.dirname(os.path.dirname(os.path.realpath(__file__))))
+from contract_names import bare, contracts, missing  # noqa: E402
+
 # Words in the chapters of crates that are no names of the sources: of lines and commands, of names of decks, and of the libraries that are used.
 OTHER_WORDS = {"main", "serde_json", "sha1", "sqlite", "httparse", "http", "matchit", "toml", "clap", "csv", "rt", "docs", "bin", "Fre", "French"}
 
@@ -19,22 +21,6 @@ OTHER_WORDS = {"main", "serde_json", "sha1", "sqlite", "httparse", "http", "matc
 def text_of(path):
     with open(f"{TOP}/{path}", encoding="utf-8") as file:
         return file.read()
-
-
-@functools.lru_cache(maxsize=None)
-def contracts():
-    """The clauses of each function of each crate; of several of one name in a crate, those of all. A clause without a name is None."""
-    found = {}
-    for path in glob.glob(f"{TOP}/crates/*/src/**/*.rt", recursive=True):
-        crate, function = os.path.relpath(path, f"{TOP}/crates").split("/")[0], None
-        with open(path, encoding="utf-8") as file:
-            for line in file:
-                begins, clause = FUNCTION.match(line), CLAUSE.match(line)
-                if begins:
-                    function = found.setdefault((crate, begins[1]), set())
-                elif clause and function is not None:
-                    function.add(clause[1])
-    return found
 
 
 def promises():
@@ -56,27 +42,14 @@ def chapters():
 
 class Promises(unittest.TestCase):
     def test_each_clause_and_law_stands_in_the_sources(self):
-        found, missing = contracts(), []
+        gone = []
         for sentence, names in promises():
             self.assertTrue(names and "::" in names[0], f"no function beside: {sentence}")
-            function = ""
-            for name in names:
-                if "::" in name:
-                    function = name
-                    is_there = tuple(name.split("::")) in found
-                else:
-                    is_there = name in found.get(tuple(function.split("::")), ())
-                missing += [] if is_there else [f"{function}: {name} (beside: {sentence})"]
-        self.assertEqual(missing, [])
+            gone += [f"{name} (beside: {sentence})" for name in missing(names, contracts())]
+        self.assertEqual(gone, [])
 
     def test_a_function_whose_clauses_have_names_is_cited_with_one(self):
-        found, bare = contracts(), []
-        for sentence, names in promises():
-            for name, after in zip(names, [*names[1:], "::"]):
-                clauses = found.get(tuple(name.split("::")), set())
-                if "::" in name and "::" in after and clauses and None not in clauses:
-                    bare.append(f"{name} (beside: {sentence})")
-        self.assertEqual(bare, [])
+        self.assertEqual([f"{name} (beside: {sentence})" for sentence, names in promises() for name in bare(names, contracts())], [])
 
     def test_the_first_pages_sentences_are_promises(self):
         page = text_of("README.md").partition("Six things are proved.")[2].partition("\n\nWhat a file of SQLite holds")[0]
@@ -107,10 +80,10 @@ class Promises(unittest.TestCase):
                 crate = os.path.relpath(path, f"{TOP}/crates").split("/")[0]
                 with open(path, encoding="utf-8") as file:
                     words.setdefault(crate, set()).update(re.findall(r"\w+", file.read()))
-        every, missing = set().union(*words.values()), []
+        every, gone = set().union(*words.values()), []
         for crates, names in chapters():
-            missing += [f"{name} (of {crates[0]})" for name in names if name not in every | OTHER_WORDS and not os.path.isdir(f"{TOP}/crates/{name}")]
-        self.assertEqual(missing, [])
+            gone += [f"{name} (of {crates[0]})" for name in names if name not in every | OTHER_WORDS and not os.path.isdir(f"{TOP}/crates/{name}")]
+        self.assertEqual(gone, [])
 
 
 if __name__ == "__main__":

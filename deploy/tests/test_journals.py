@@ -206,6 +206,21 @@ class Trials(unittest.TestCase):
             passes, printed = self.tried(self.program(old, new), trial, {"full": 97, "faults": 11}.get(trial, 997))
             self.assertFalse(passes, "%s: %s" % (name, printed))
 
+    def test_kills_that_came_too_early_or_too_late_show_nothing(self):
+        try_journal.expect_within({"kills": 6, "within a run": 2}, "desks")
+        with self.assertRaises(try_journal.Wrong):
+            try_journal.expect_within({"kills": 7, "within a run": 2}, "desks")
+
+    def test_a_run_has_its_file_open_until_it_ends(self):
+        words = argparse.Namespace(anki="/bin/sh", ankid="/bin/sh")
+        device = try_journal.Kept(try_journal.Tools(words), os.path.join(self.room, "it.log"))
+        device.put(b"")
+        with open(device.file) as file, subprocess.Popen(["cat"], stdin=subprocess.PIPE, stdout=subprocess.DEVNULL, pass_fds=[file.fileno()]) as ran:
+            self.assertTrue(device.is_open_in(ran))
+            ran.kill()
+            ran.wait()
+            self.assertFalse(device.is_open_in(ran))
+
     def test_where_two_lists_of_payloads_first_differ(self):
         self.assertEqual("b was c", try_journal.another([b"a", b"c"], [b"a", b"b"]))
 

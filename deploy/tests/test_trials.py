@@ -181,10 +181,18 @@ class Labs(Rooms):
     def test_plain_texts_are_those_of_the_table(self):
         for text, wanted in (("no device Zz", "no device <name>"), ("search fault 4 at 7", "search fault 4 at <n>"), ("json fault 2", "json fault 2"),
                              ("fields 3, wanted 2", "fields <n>, wanted <n>"), ("not answerable: queue -1", "not answerable: queue <n>"),
-                             ("no such deck 7", "no such deck <n>")):
+                             ("no such deck 7", "no such deck <n>"), ("not filtered: 1", "not filtered: <n>"), ("bad plan: 0", "bad plan: <n>")):
             self.assertEqual(labs.plain(text), wanted)
             self.assertIn(wanted, labs.REFUSALS)
         self.assertEqual(labs.plain("full needed: schema 1 2"), "full needed: schema")
+
+    def test_early_intervals_are_those_of_the_rules(self):
+        group = {"rev": {"hardFactor": "1.2", "ease4": "1.3", "ivlFct": "1", "maxIvl": 36500}}
+        card = [10, 10, 5, 0, 0, 0, 2, 2, -100_000, 20, 2500, 4, 0, 0, 110, 1, 0, ""]
+        self.assertEqual([labs.early_interval(group, button, card, 100) for button in (2, 3, 4)], [12, 25, 28])
+        self.assertEqual([labs.early_interval(group, button, labs.changed(card, at14=200), 100) for button in (2, 3, 4)], [12, 20, 23])
+        group["rev"].update(hardFactor="0.851", ivlFct="0.5", maxIvl=4)
+        self.assertEqual([labs.early_interval(group, button, labs.changed(card, at9=n), 100) for button, n in ((2, 21), (2, 1), (3, 21))], [4, 1, 4])
 
     def test_schema_moments_are_new(self):
         counts, chance = collections.Counter(), random.Random(7)

@@ -194,6 +194,29 @@ class Undoing(SessionCase):
         session.rest("")
         self.assertEqual(self.held(), before)
 
+    def test_cards_of_a_filtered_deck_go_home(self):
+        self.make('note 1 1 ["a","A"]', 'note 1 1 ["b","B"]')
+        made = self.do('filter ["F","",10,5]')
+        if not made or not made[0].startswith("deck "):
+            self.skipTest("the program has no filtered decks")
+        deck = int(made[0].split()[1])
+        self.assertEqual(self.do("build %d" % deck), ["built 2"])
+        session = self.start()
+        self.assertTrue(session.copy.decks[deck].filtered)
+        card = session.next_card(deck)
+        self.assertEqual(session.copy.row("cards", card).odid, 1)
+        session.flag(card, 1)
+        # The deck goes alone: both cards would go home first.
+        self.assertEqual(session.what_drop_takes(deck), (1, 0, 0))
+        answered = session.answer(card, 4, 100)
+        self.assertEqual((answered.did, answered.odid, answered.odue, answered.type, answered.flags), (1, 0, 0, 2, 1))
+        self.assertIn("undo is empty from here", session.take_notice())
+        self.refuses("nothing to undo", session.undo)
+        session.drop_deck(deck)
+        self.assertNotIn(deck, session.copy.decks)
+        self.assertEqual([held.did for held in session.copy.select("cards", "order by id")], [1, 1])
+        self.assertEqual(session.desk.ask("check"), "sound")
+
     def test_the_copy_says_what_the_file_holds(self):
         self.make('note 1 1 ["a","A"]', 'note 1 1 ["b","B"]', "deck D")
         session = self.start()
