@@ -6,10 +6,10 @@ use Rattle.ak_faults.specs.Causes.{Health}
 use Rattle.ak_filters.specs.Meanings.{Meaning}
 use Rattle.ak_keep.specs.Keepers.{Keeping}
 use Rattle.ak_loops.specs.declared.logs.Entry.{Entry}
-use Rattle.ak_wires.specs.Wires.{WireState}
+use Rattle.ak_wires.specs.Wires.{WireKind, WireState}
 
 -- if the keeper is as it was, nothing else of it differs
-pub same_keeping : (left written : Option (List ℕ)) (now before : Keeping) (health : Health) (wire : WireState) (moments : Option (List ℤ)) (words : Option (List ℕ))
+pub same_keeping : {kind : WireKind} (left written : Option (List ℕ)) (now before : Keeping) (health : Health) (wire : WireState kind) (moments : Option (List ℤ)) (words : Option (List ℕ))
     (log : List Entry) (filters : List Meaning) → now ≡ before
     → program_outside left written now health wire moments words log filters ≡ program_outside left written before health wire moments words log filters
 same_keeping left written now before health wire moments words log filters same =

@@ -23,24 +23,24 @@ use Rattle.ak_loops.specs.declared.logs.Entry.{Entry}
 use Rattle.ak_makes.specs.MakeLines.{EndsMake}
 use Rattle.ak_sync_runs.specs.SyncRuns.{EndsSync, SyncOutside, sync_outside}
 use Rattle.ak_transfer_runs.specs.TransferRuns.{EndsDownload, EndsUpload}
-use Rattle.ak_wires.specs.Wires.{WireState}
+use Rattle.ak_wires.specs.Wires.{WireKind, WireState}
 
 -- what is known of what a command is given: the bytes to read, those that were written, the keeper, the wire, the moments and words of
 -- chance to come, what came to a lab's server, and the filters
-pub record ProgramOutside : Type 0 where
+pub record ProgramOutside (kind : WireKind) : Type 0 where
   pub left : Option (List ℕ)
   pub written : Option (List ℕ)
   pub keeping : Keeping
   pub health : Health
-  pub wire : WireState
+  pub wire : WireState kind
   pub moments : Option (List ℤ)
   pub words : Option (List ℕ)
   pub log : List Entry
   pub filters : List Meaning
 
 -- the same, by its parts
-abbrev pub program_outside : Option (List ℕ) → Option (List ℕ) → Keeping → Health → WireState → Option (List ℤ) → Option (List ℕ)
-    → List Entry → List Meaning → ProgramOutside
+abbrev pub program_outside : {kind : WireKind} → Option (List ℕ) → Option (List ℕ) → Keeping → Health → WireState kind → Option (List ℤ) → Option (List ℕ)
+    → List Entry → List Meaning → ProgramOutside kind
 program_outside left written keeping health wire moments words log filters = record {
   left = left;
   written = written;
@@ -54,19 +54,19 @@ program_outside left written keeping health wire moments words log filters = rec
 }
 
 -- what a desk is given of it
-abbrev pub desk_of : ProgramOutside → Outside
+abbrev pub desk_of : {kind : WireKind} → ProgramOutside kind → Outside
 desk_of a = outside_of a.keeping a.filters a.moments a.words
 
 -- what a sync is given of it
-abbrev pub sync_of : ProgramOutside → SyncOutside
+abbrev pub sync_of : {kind : WireKind} → ProgramOutside kind → SyncOutside kind
 sync_of a = sync_outside a.keeping a.health a.wire a.moments a.words
 
 -- what an import is given of it
-abbrev pub import_of : ProgramOutside → FileOutside
+abbrev pub import_of : {kind : WireKind} → ProgramOutside kind → FileOutside
 import_of a = file_outside a.left a.keeping a.moments a.written
 
 -- what an export is given of it: it reads nothing
-abbrev pub export_of : ProgramOutside → FileOutside
+abbrev pub export_of : {kind : WireKind} → ProgramOutside kind → FileOutside
 export_of a = file_outside None a.keeping a.moments a.written
 
 -- whether a command reads the input
@@ -97,7 +97,7 @@ uses_keeper None = false
 
 -- how `lab` ends over these lines: a lab ran them, and its server's log is handed out. Or memory was out before the first of them, and
 -- nothing is done
-abbrev pub EndsLab : ScriptEnd → Option (List Line) → ProgramOutside → ProgramOutside → Type 0
+abbrev pub EndsLab : {kind : WireKind} → ScriptEnd → Option (List Line) → ProgramOutside kind → ProgramOutside kind → Type 0
 EndsLab end all a b =
     RunsLab end all b.log a.written b.written ⊎ (end ≡ ends.Memory) × Keeps a.written b.written × (b.log ≡ a.log)
 
@@ -105,7 +105,7 @@ EndsLab end all a b =
 -- opening collection of the next moment; `desk` does the lines of the input; `sync` syncs with the account of its key, and `upload` and
 -- `download` send and fetch the whole collection, a sync and an upload over a keeper that spares memory or not; `import` takes notes from the
 -- input, and `export` writes them; `make` makes a collection of its own and prints one line on it; and if there is no command, `usage` is printed
-abbrev pub EndsBy : Bool → Option Named → ℕ → ProgramOutside → ProgramOutside → Type 0
+abbrev pub EndsBy : {kind : WireKind} → Bool → Option Named → ℕ → ProgramOutside kind → ProgramOutside kind → Type 0
 EndsBy spares (Some Lab) status a b = (end : ScriptEnd) × (status ≡ status_of end) × EndsLab end (input_lines a.left) a b
 EndsBy spares (Some Init) status a b = (at : ℤ) × (end : CommandEnd)
     × IsClockMoment at × GivesNext a.moments b.moments at × EndsInit at end a.keeping b.keeping a.written b.written
@@ -125,7 +125,7 @@ EndsBy spares None status a b =
     (status ≡ 2) × Appends a.written b.written usage_line ⊎ (status ≡ 5) × AppendsPart a.written b.written usage_line
 
 -- what a sync leaves alone, and what sends or fetches the whole collection: all but what is named here
-abbrev pub KeepsButSync : ProgramOutside → ProgramOutside → Type 0
+abbrev pub KeepsButSync : {kind : WireKind} → ProgramOutside kind → ProgramOutside kind → Type 0
 KeepsButSync a b = b ≡ record a {
   written = b.written;
   keeping = b.keeping;
@@ -136,7 +136,7 @@ KeepsButSync a b = b ≡ record a {
 }
 
 -- what a command leaves alone: all but what is named here. So a log that was empty stays so, but that of `lab`
-abbrev pub LeavesBy : Option Named → ProgramOutside → ProgramOutside → Type 0
+abbrev pub LeavesBy : {kind : WireKind} → Option Named → ProgramOutside kind → ProgramOutside kind → Type 0
 LeavesBy (Some Lab) a b = b ≡ record a { left = b.left; written = b.written; log = b.log }
 LeavesBy (Some Init) a b = b ≡ record a { written = b.written; keeping = b.keeping; moments = b.moments }
 LeavesBy (Some Desk) a b = b ≡ record a {

@@ -20,25 +20,17 @@ use Rattle.ak_protocol.specs.Logs.{Commit, Event, View, Asked, World, Log, Grows
 use Rattle.ak_protocol.specs.Servers.{same_host}
 use Rattle.ak_protocol.specs.Serving.{served}
 use Rattle.ak_session.specs.Plans.{Asker, requests_from}
-use Rattle.ak_wires.specs.Wires.{Carries, GrowsByServings, IsServing, WireState}
+use Rattle.ak_wires.specs.Wires.{WireKind, Carries, GrowsByServings, IsServing, WireState}
 use Rattle.ak_wires.specs.declared.wires.WireEnd.{WireEnd}
 
 -- ---- what stays
-pub alone_stays : (list : List Request) (answers : List (Result Reply WireEnd)) (h0 h1 : Health) (w0 w1 : WireState) → AreTried list answers h0 h1 w0 w1
+pub alone_stays : {kind : WireKind} (list : List Request) (answers : List (Result Reply WireEnd)) (h0 h1 : Health) (w0 w1 : WireState kind) → AreTried list answers h0 h1 w0 w1
     → w1.alone ≡ w0.alone
-alone_stays [] [] h0 h1 w0 w1 tried = ap (λ (w : WireState). w.alone) tried.1
+alone_stays {kind} [] [] h0 h1 w0 w1 tried = ap (λ (w : WireState kind). w.alone) tried.1
 alone_stays [] (answer ∷ answers) h0 h1 w0 w1 tried = absurd tried
 alone_stays (request ∷ more) [] h0 h1 w0 w1 tried = absurd tried
 alone_stays (request ∷ more) (answer ∷ answers) h0 h1 w0 w1 tried =
     alone_stays more answers tried.0 h1 tried.1 w1 tried.3 ∙ tried.2.alone.stays
-
-pub made_with_stays : (list : List Request) (answers : List (Result Reply WireEnd)) (h0 h1 : Health) (w0 w1 : WireState) → AreTried list answers h0 h1 w0 w1
-    → w1.made_with ≡ w0.made_with
-made_with_stays [] [] h0 h1 w0 w1 tried = ap (λ (w : WireState). w.made_with) tried.1
-made_with_stays [] (answer ∷ answers) h0 h1 w0 w1 tried = absurd tried
-made_with_stays (request ∷ more) [] h0 h1 w0 w1 tried = absurd tried
-made_with_stays (request ∷ more) (answer ∷ answers) h0 h1 w0 w1 tried =
-    made_with_stays more answers tried.0 h1 tried.1 w1 tried.3 ∙ tried.2.made_with
 
 -- ---- what comes
 -- an event is a request of this session
@@ -67,11 +59,11 @@ record GrowsOwn (key : ℕ) (old now : Log) : Type 0 where
   pub grown : now ≡ with_growth old growth
   pub own : AllOfSession key growth
 
-grows_own : (key : ℕ) (list : List Request) (answers : List (Result Reply WireEnd)) (h0 h1 : Health) (w0 w1 : WireState) (old now : Log)
+grows_own : {kind : WireKind} (key : ℕ) (list : List Request) (answers : List (Result Reply WireEnd)) (h0 h1 : Health) (w0 w1 : WireState kind) (old now : Log)
     → AreTried list answers h0 h1 w0 w1 → AllByRecursion (IsRequestOf key) list → w0.alone ≡ true → w0.log ≡ Some old → w1.log ≡ Some now → GrowsOwn key old now
-grows_own key [] [] h0 h1 w0 w1 old now tried all alone is told = record {
+grows_own {kind} key [] [] h0 h1 w0 w1 old now tried all alone is told = record {
   growth = [];
-  grown = same_Some now old (sym told ∙ ap (λ (w : WireState). w.log) tried.1 ∙ is)
+  grown = same_Some now old (sym told ∙ ap (λ (w : WireState kind). w.log) tried.1 ∙ is)
       ∙ ap (λ (events : List Event). record old { events = events }) (sym (append-nil old.events));
   own = tt;
 }
@@ -170,7 +162,7 @@ module _ (who : Asker) (account : AccountState) (old now : Log) (none : commits_
       }
 
 -- a sync alone with its server
-pub commits_alone : (who : Asker) (list : List Request) (answers : List (Result Reply WireEnd)) (h0 h1 : Health) (w0 w1 : WireState) → AreTried list answers h0 h1 w0 w1
+pub commits_alone : {kind : WireKind} (who : Asker) (list : List Request) (answers : List (Result Reply WireEnd)) (h0 h1 : Health) (w0 w1 : WireState kind) → AreTried list answers h0 h1 w0 w1
     → AllByRecursion (IsRequestOf who.session.0) list → w0.alone ≡ true → CommitsAloneTold who w0.log w1.log
 commits_alone who list answers h0 h1 w0 w1 tried own alone old now account is told unused =
     grows_alone who account old now (unused_keys_commit_nothing who.host.digits who.session.0 account old unused)

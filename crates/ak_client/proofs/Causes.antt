@@ -28,7 +28,7 @@ use Rattle.ak_messages.specs.declared.replies.Reply.{Reply}
 use Rattle.ak_protocol.proofs.Commits.{not_both}
 use Rattle.ak_wires.specs.Forms.{meta_in}
 use Rattle.ak_wires.specs.Tries.{granted_in, in_form}
-use Rattle.ak_wires.specs.Wires.{WireState}
+use Rattle.ak_wires.specs.Wires.{WireKind, WireState}
 use Rattle.ak_wires.specs.declared.asks.Unanswered.{Unanswered}
 use Rattle.ak_wires.specs.declared.asks.Unanswered.TheVariants as unanswered
 use Rattle.ak_wires.specs.declared.wires.MetaSaid.{MetaSaid}
@@ -141,7 +141,7 @@ module _ (keeping : Keeping) (stop : Stop) (meta : MetaSaid) (at : ℤ) (pass : 
       found (where_both keeping (Finds meta head unchanged) (λ h. first_fault h.rows ≡ Some unsound.0) (λ h. device_stop meta h ≡ Some stop)
       (λ h own bad. by_rows meta h head (Some unsound.0) own.holds (ap (head_stop meta head) (sym own.tells) ∙ passed) bad ∙ ap (λ (s : Stop). Some s) (sym unsound.1)) finds.told unsound.2)
 
-pub unmet_because : (ids : Ids) (h0 h1 : Health) (w0 w1 : WireState) (old new : Option (List ℤ)) (keeping : Keeping) (stop : Stop)
+pub unmet_because : {kind : WireKind} (ids : Ids) (h0 h1 : Health) (w0 w1 : WireState kind) (old new : Option (List ℤ)) (keeping : Keeping) (stop : Stop)
     → (it : IsGreeting ids h0 h1 w0 w1 old new keeping (Err stop)) → (moment : ℤ) → EndsBecause it.heard.answer moment [] keeping old (outcome_at stop)
 unmet_because ids h0 h1 w0 w1 old new keeping stop it moment = record {
   unmet = λ none. untold it.answer it.heard.came it.ends none;
@@ -161,7 +161,7 @@ unmet_because ids h0 h1 w0 w1 old new keeping stop it moment = record {
     met said (at, given, inr (pass, is)) = (at, new, given, by_device keeping stop said at pass is)
 
 -- ---- a greeting after which the sync went on
-pub met_because : (ids : Ids) (h0 h1 : Health) (w0 w1 : WireState) (old new : Option (List ℤ)) (keeping : Keeping) (met : Met) (tries : List TriedAsk) (outcome : Outcome)
+pub met_because : {kind : WireKind} (ids : Ids) (h0 h1 : Health) (w0 w1 : WireState kind) (old new : Option (List ℤ)) (keeping : Keeping) (met : Met) (tries : List TriedAsk) (outcome : Outcome)
     → (it : IsGreeting ids h0 h1 w0 w1 old new keeping (Ok met)) → WhereTold keeping (λ h. IsReady h met)
     → (at : ℤ) × GivesNext old new at × (clock_stop met.meta (second_of at) ≡ None) → is_told_by_meta outcome ≡ false
     → EndsBecause it.heard.answer met.meta.moment tries keeping old outcome

@@ -18,7 +18,7 @@ use Rattle.ak_keep.specs.declared.keepers.KeepFault.{KeepFault}
 use Rattle.ak_keep.specs.declared.keepers.KeepFault.TheVariants as faults
 use Rattle.ak_protocol.proofs.Commits.{not_both}
 use Rattle.ak_session.specs.Sessions.{MaySync}
-use Rattle.ak_wires.specs.Wires.{WireState}
+use Rattle.ak_wires.specs.Wires.{WireKind, WireState}
 use Rattle.ak_wires.specs.declared.asks.Unanswered.{Unanswered}
 use Rattle.ak_wires.specs.declared.asks.Unanswered.TheVariants as unanswered
 
@@ -69,7 +69,7 @@ fault_not_early faults.Failed early = not_both early refl
 fault_not_early faults.Memory early = not_both early refl
 
 -- ---- what was tried last
-module _ (tries : List TriedAsk) (now : WireState) where
+module _ {kind : WireKind} (tries : List TriedAsk) (now : WireState kind) where
   pub stop_ends : (stop : Stop) → StopsFor tries now stop → EndsAt tries now (outcome_at stop)
   stop_ends stops.NoChanges is = tt
   stop_ends (stops.FullSchema device server) is = tt
@@ -91,7 +91,7 @@ module _ (tries : List TriedAsk) (now : WireState) where
   fault_ends faults.Memory = tt
 
 -- what an exchange stops for is not told by the meta
-pub stop_told : (tries : List TriedAsk) (wire : WireState) (stop : Stop) → StopsFor tries wire stop → is_told_by_meta (outcome_at stop) ≡ false
+pub stop_told : {kind : WireKind} (tries : List TriedAsk) (wire : WireState kind) (stop : Stop) → StopsFor tries wire stop → is_told_by_meta (outcome_at stop) ≡ false
 stop_told tries wire stops.NoChanges is = absurd is
 stop_told tries wire (stops.FullSchema device server) is = absurd is
 stop_told tries wire (stops.FullSequence usn) is = absurd is
@@ -140,7 +140,7 @@ module _ (c s : Collection) where
   fault_fair faults.Memory may = tt
 
   -- one that shows no bad sanity check, and did not ask for too many chunks
-  pub good_end : (stop : Stop) (tries : List TriedAsk) (now : WireState) → shows_bad_check stop ≡ false → (AreTooMany tries → ⊥)
+  pub good_end : {kind : WireKind} (stop : Stop) (tries : List TriedAsk) (now : WireState kind) → shows_bad_check stop ≡ false → (AreTooMany tries → ⊥)
       → EndsAt tries now (outcome_at stop) → IsFairEnd c s (outcome_at stop)
   good_end stops.NoChanges tries now good few ends = tt
   good_end (stops.FullSchema device server) tries now good few ends = tt

@@ -36,7 +36,7 @@ use Rattle.ak_protocol.proofs.Commits.{not_both}
 use Rattle.ak_protocol.specs.Accounts.{AccountState}
 use Rattle.ak_session.specs.Plans.{planned}
 use Rattle.ak_session.specs.Slices.{wanted_graves}
-use Rattle.ak_wires.specs.Wires.{WireState}
+use Rattle.ak_wires.specs.Wires.{WireKind, WireState}
 use Rattle.ak_wires.specs.declared.asks.Unanswered.{Unanswered}
 use Rattle.ak_wires.specs.declared.asks.Unanswered.TheVariants as unanswered
 
@@ -98,7 +98,7 @@ bad_plain tries stop (inl plain) bad = plain
 bad_plain tries stop (inr (why, same, ends)) bad = absurd (not_both (sym (ap shows_bad_check same) ∙ bad) (unanswered_good why))
 
 -- a finish after plain requests stops before the commit
-before_commit : {T : Type 0} (was : Talk) (before tries : List TriedAsk) (result : Result T Stop) → ArePlain (asks_in before)
+before_commit : {kind : WireKind} {T : Type 0} (was : Talk kind) (before tries : List TriedAsk) (result : Result T Stop) → ArePlain (asks_in before)
     → IfErr result (λ (stop : Stop). IsOutOfSteps was tries stop ⊎ StopsUnanswered tries stop) → IfErr result (StopsBeforeCommit (before ++ tries))
 before_commit was before tries (Ok x) plain why = tt
 before_commit was before tries (Err stop) plain (inl out) =
@@ -106,14 +106,14 @@ before_commit was before tries (Err stop) plain (inl out) =
 before_commit was before tries (Err stop) plain (inr (why, same, ends)) = inr (why, same, ends_then before tries why ends)
 
 -- ---- up to the finish
-module _ (ids : Ids) (met : Met) (before mid : Keeping) (h0 h1 h2 : Health) (w0 w1 w2 : WireState) (envelopes last : Envelopes) where
-  abbrev was : Talk
+module _ {kind : WireKind} (ids : Ids) (met : Met) (before mid : Keeping) (h0 h1 h2 : Health) (w0 w1 w2 : WireState kind) (envelopes last : Envelopes) where
+  abbrev was : Talk kind
   was = record { health = h0; wire = w0; envelopes = record { ids = ids; base = met.meta.moment; step = 0 } }
 
-  abbrev between : Talk
+  abbrev between : Talk kind
   between = record { health = h1; wire = w1; envelopes = envelopes }
 
-  abbrev now : Talk
+  abbrev now : Talk kind
   now = record { health = h2; wire = w2; envelopes = last }
 
   -- at the meta
@@ -191,7 +191,7 @@ module _ (ids : Ids) (met : Met) (before mid : Keeping) (h0 h1 h2 : Health) (w0 
 
 -- ---- up to the end
 -- a device that could not be marked asked nothing
-pub asked_nothing : (spares : Bool) (ids : Ids) (met : Met) (before left : Keeping) (h : Health) (w : WireState) (fault : KeepFault)
+pub asked_nothing : {kind : WireKind} (spares : Bool) (ids : Ids) (met : Met) (before left : Keeping) (h : Health) (w : WireState kind) (fault : KeepFault)
     → Ends spares ids met before left h h w w (outcome_at (keep_stop fault))
 asked_nothing spares ids met before left h w fault = record {
   tries = [];
@@ -210,7 +210,7 @@ asked_nothing spares ids met before left h w fault = record {
   };
 }
 
-module _ (spares : Bool) (ids : Ids) (met : Met) (before marked mid left : Keeping) (h0 h1 : Health) (w0 w1 : WireState) (marks_it : marked ≡ marked_here before) where
+module _ {kind : WireKind} (spares : Bool) (ids : Ids) (met : Met) (before marked mid left : Keeping) (h0 h1 : Health) (w0 w1 : WireState kind) (marks_it : marked ≡ marked_here before) where
   marked_so : (c : Collection) → before ≡ holding c → marked ≡ marked_at c
   marked_so c is = marks_it ∙ ap marked_here is
 

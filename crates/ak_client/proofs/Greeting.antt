@@ -33,7 +33,7 @@ use Rattle.ak_protocol.specs.Replies.{granted, meta_reply}
 use Rattle.ak_protocol.specs.Syncs.{IsUnderWay, IsUnused}
 use Rattle.ak_wires.specs.Forms.{is_meta_in_range, meta_in, meta_told}
 use Rattle.ak_wires.specs.Tries.{Answered, granted_by, granted_in, in_form}
-use Rattle.ak_wires.specs.Wires.{WireState, Carries}
+use Rattle.ak_wires.specs.Wires.{WireKind, WireState, Carries}
 use Rattle.ak_wires.specs.declared.asks.Unanswered.{Unanswered}
 use Rattle.ak_wires.specs.declared.asks.Unanswered.TheVariants as unanswered
 use Rattle.ak_wires.specs.declared.wires.MetaSaid.{MetaSaid}
@@ -105,7 +105,7 @@ module _ (ids : Ids) (account : AccountState) (old : Log) (unused : IsUnused ids
   answered new (Err ends.Memory) grows = tt
 
   -- the meta of a sync whose key is unused: it stays so, and a granted reply tells what was committed at its place
-  pub greeted : (before now : Health) (was is : WireState) (result : Result MetaSaid Unanswered) → was.log ≡ Some old
+  pub greeted : {kind : WireKind} (before now : Health) (was is : WireState kind) (result : Result MetaSaid Unanswered) → was.log ≡ Some old
       → Answered before now was is (meta_of ids) meta_in result
       → (new : Log) × (is.log ≡ Some new) × IsUnused ids.host.digits ids.session.0 account new × IfOk result (IsMetBySome new)
   greeted before now was is result told call =
@@ -119,18 +119,18 @@ module _ (ids : Ids) (account : AccountState) (old : Log) (unused : IsUnused ids
 
 -- ---- what a greeting knows
 -- a meta was asked, and nothing else
-pub asked_meta : (ids : Ids) (before now : Health) (was is : WireState) (result : Result MetaSaid Unanswered)
+pub asked_meta : {kind : WireKind} (ids : Ids) (before now : Health) (was is : WireState kind) (result : Result MetaSaid Unanswered)
     → (call : Answered before now was is (meta_of ids) meta_in result) → AreTried (meta_of ids ∷ []) (call.answer ∷ []) before now was is
 asked_meta ids before now was is result call = (now, is, call.tried, (refl, refl))
 
 -- a meta that was granted, and what was not
-pub meta_granted : (ids : Ids) (before now : Health) (was is : WireState) (result : Result MetaSaid Unanswered) (meta : MetaSaid)
+pub meta_granted : {kind : WireKind} (ids : Ids) (before now : Health) (was is : WireState kind) (result : Result MetaSaid Unanswered) (meta : MetaSaid)
     → (call : Answered before now was is (meta_of ids) meta_in result) → result ≡ Ok meta → IsGranted (meta_tried call.answer)
 meta_granted ids before now was is result meta call granted =
     (was_granted meta_in asks.Meta (λ give. refl) call.answer meta (sym call.came ∙ granted)).granted
 
 -- why a greeting ends, by its meta
-clock_ends : (tries : List TriedAsk) (now : WireState) (meta : MetaSaid) (second : ℤ) (stop : Stop) → clock_stop meta second ≡ Some stop
+clock_ends : {kind : WireKind} (tries : List TriedAsk) (now : WireState kind) (meta : MetaSaid) (second : ℤ) (stop : Stop) → clock_stop meta second ≡ Some stop
     → EndsAt tries now (outcome_at stop)
 clock_ends tries now meta second stop = by (not meta.cont) (are_far_apart second meta.ts)
   where
@@ -143,7 +143,7 @@ clock_ends tries now meta second stop = by (not meta.cont) (are_far_apart second
     by false true is = is_so (stops.ClockOff second meta.ts) tt is
     by false false is = absurd (none-some stop is)
 
-head_ends : (tries : List TriedAsk) (now : WireState) (meta : MetaSaid) (head : Head) (unchanged : Bool) (stop : Stop) → head_stop meta head unchanged ≡ Some stop
+head_ends : {kind : WireKind} (tries : List TriedAsk) (now : WireState kind) (meta : MetaSaid) (head : Head) (unchanged : Bool) (stop : Stop) → head_stop meta head unchanged ≡ Some stop
     → EndsAt tries now (outcome_at stop)
 head_ends tries now meta head unchanged stop = by unchanged (not (int_eq head.schema meta.scm)) (int_eq meta.usn last_head_usn)
   where
@@ -158,13 +158,13 @@ head_ends tries now meta head unchanged stop = by unchanged (not (int_eq head.sc
     by false false true is = is_so (stops.FullSequence meta.usn) tt is
     by false false false is = absurd (none-some stop is)
 
-device_ends : (tries : List TriedAsk) (now : WireState) (meta : MetaSaid) (keeping : Keeping) (stop : Stop) → EndsAtDevice meta keeping stop
+device_ends : {kind : WireKind} (tries : List TriedAsk) (now : WireState kind) (meta : MetaSaid) (keeping : Keeping) (stop : Stop) → EndsAtDevice meta keeping stop
     → EndsAt tries now (outcome_at stop)
 device_ends tries now meta keeping stop (inl (fault, is)) = subst (λ (s : Stop). EndsAt tries now (outcome_at s)) (sym is) (fault_ends tries now fault)
 device_ends tries now meta keeping stop (inr (head, unchanged, found, inl is)) = head_ends tries now meta head unchanged stop is
 device_ends tries now meta keeping stop (inr (head, unchanged, found, inr (pass, unsound))) = subst (λ (s : Stop). EndsAt tries now (outcome_at s)) (sym unsound.1) tt
 
-pub greeting_ends : (ids : Ids) (h0 h1 : Health) (w0 w1 : WireState) (old new : Option (List ℤ)) (keeping : Keeping) (stop : Stop)
+pub greeting_ends : {kind : WireKind} (ids : Ids) (h0 h1 : Health) (w0 w1 : WireState kind) (old new : Option (List ℤ)) (keeping : Keeping) (stop : Stop)
     → (it : IsGreeting ids h0 h1 w0 w1 old new keeping (Err stop)) → EndsAt (meta_tried it.heard.answer ∷ []) w1 (outcome_at stop)
 greeting_ends ids h0 h1 w0 w1 old new keeping stop it = by it.answer refl it.ends
   where
@@ -177,14 +177,14 @@ greeting_ends ids h0 h1 w0 w1 old new keeping stop it = by it.answer refl it.end
     by (Ok meta) is (at, given, inr (pass, ends)) = device_ends (meta_tried it.heard.answer ∷ []) w1 meta keeping stop ends
 
 -- a greeting that stops
-pub greets_stop : (ids : Ids) (before now : Health) (was is : WireState) (result : Result MetaSaid Unanswered) (stop : Stop)
+pub greets_stop : {kind : WireKind} (ids : Ids) (before now : Health) (was is : WireState kind) (result : Result MetaSaid Unanswered) (stop : Stop)
     → Answered before now was is (meta_of ids) meta_in result → GreetsTold ids was.log is.log (Err stop)
 greets_stop ids before now was is result stop call account old told unused =
     let it = greeted ids account old unused before now was is result told call in
     (it.0, it.1, record { unused = it.2; met = tt })
 
 -- a greeting after which the sync may go on
-pub greets_on : (ids : Ids) (before now : Health) (was is : WireState) (meta : MetaSaid) (head : Head)
+pub greets_on : {kind : WireKind} (ids : Ids) (before now : Health) (was is : WireState kind) (meta : MetaSaid) (head : Head)
     → Answered before now was is (meta_of ids) meta_in (Ok meta) → GreetsTold ids was.log is.log (Ok (record { meta = meta; head = head }))
 greets_on ids before now was is meta head call account old told unused =
     let it = greeted ids account old unused before now was is (Ok meta) told call in

@@ -17,7 +17,7 @@ use Rattle.ak_protocol.specs.Commits.{CommitsGrow, EachNewer, HasFreshSchema}
 use Rattle.ak_protocol.specs.LawfulServers.{IsLawfulAccount}
 use Rattle.ak_protocol.specs.Logs.{Event, View, Asked, World, Log, Grows, IsTimely, MayCome, opened, world_after, with_growth, events_of}
 use Rattle.ak_session.specs.Plans.{Asker}
-use Rattle.ak_wires.specs.Wires.{Carries, WireState}
+use Rattle.ak_wires.specs.Wires.{WireKind, Carries, WireState}
 use Rattle.ak_wires.specs.declared.wires.WireEnd.{WireEnd}
 
 -- a log grew to what is told, by what came at moments that a clock may tell
@@ -35,11 +35,11 @@ timely_growth past request (View host ∷ events) all = (tt, timely_growth past 
 timely_growth past request (Asked other now setback ∷ events) all = (all.0.0, timely_growth past request events all.1)
 
 -- the log of a wire of which requests are tried grows
-pub tried_grows : (list : List Request) (answers : List (Result Reply WireEnd)) (h0 h1 : Health) (w0 w1 : WireState) (old : Log) → AreTried list answers h0 h1 w0 w1
+pub tried_grows : {kind : WireKind} (list : List Request) (answers : List (Result Reply WireEnd)) (h0 h1 : Health) (w0 w1 : WireState kind) (old : Log) → AreTried list answers h0 h1 w0 w1
     → w0.log ≡ Some old → HasGrown old w1.log
-tried_grows [] [] h0 h1 w0 w1 old tried is = record {
+tried_grows {kind} [] [] h0 h1 w0 w1 old tried is = record {
   now = old;
-  is = ap (λ (w : WireState). w.log) tried.1 ∙ is;
+  is = ap (λ (w : WireState kind). w.log) tried.1 ∙ is;
   growth = [];
   grown = ap (λ (events : List Event). record old { events = events }) (sym (append-nil old.events));
   timely = tt;

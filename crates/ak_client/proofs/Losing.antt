@@ -17,7 +17,7 @@ use Rattle.ak_messages.specs.declared.replies.Reply.{Reply}
 use Rattle.ak_messages.specs.declared.requests.Request.{Request}
 use Rattle.ak_session.specs.Plans.{requests_from}
 use Rattle.ak_wires.specs.Tries.{Tried, silence_tried}
-use Rattle.ak_wires.specs.Wires.{WireState, more, said_after, said_of}
+use Rattle.ak_wires.specs.Wires.{WireKind, WireState, more, said_after, said_of}
 use Rattle.ak_wires.specs.declared.asks.Unanswered.TheVariants as unanswered
 use Rattle.ak_wires.specs.declared.wires.Said.{Said}
 use Rattle.ak_wires.specs.declared.wires.WireEnd.TheVariants as ends
@@ -34,30 +34,30 @@ same_one x y xs ys is = (grind (arith, is), grind (arith, is))
 
 -- ---- the last request
 -- how what was tried last was tried: once the wire was called up to then
-pub record IsTriedLast (it : TriedAsk) (h0 h1 : Health) (w0 w1 : WireState) : Type 0 where
+pub record IsTriedLast {kind : WireKind} (it : TriedAsk) (h0 h1 : Health) (w0 w1 : WireState kind) : Type 0 where
   pub request : Request
   pub health : Health
-  pub wire : WireState
+  pub wire : WireState kind
   pub tried : Tried health h1 wire w1 request it.answer
   pub goes : GoesOn h0 health
   pub reads : GoesOn w0.reading wire.reading
   pub silent : (wire.silence ≡ 0) ⊎ (wire.silence ≡ w0.silence)
 
-only_one : (request : Request) (list : List Request) (it : TriedAsk) (h0 h1 : Health) (w0 w1 : WireState)
+only_one : {kind : WireKind} (request : Request) (list : List Request) (it : TriedAsk) (h0 h1 : Health) (w0 w1 : WireState kind)
     → AreTried (request ∷ list) (it.answer ∷ []) h0 h1 w0 w1 → IsTriedLast it h0 h1 w0 w1
-only_one request [] it h0 h1 w0 w1 tried = record {
+only_one {kind} request [] it h0 h1 w0 w1 tried = record {
   request = request;
   health = h0;
   wire = w0;
   tried = subst (λ (h : Health). Tried h0 h w0 w1 request it.answer) (sym tried.3.0)
-      (subst (λ (w : WireState). Tried h0 tried.0 w0 w request it.answer) (sym tried.3.1) tried.2);
+      (subst (λ (w : WireState kind). Tried h0 tried.0 w0 w request it.answer) (sym tried.3.1) tried.2);
   goes = goes_nowhere h0;
   reads = goes_nowhere w0.reading;
   silent = inr refl;
 }
 only_one request (next ∷ list) it h0 h1 w0 w1 tried = absurd tried.3
 
-tried_last : (list : List Request) (tries : List TriedAsk) (it : TriedAsk) (before : List TriedAsk) (h0 h1 : Health) (w0 w1 : WireState)
+tried_last : {kind : WireKind} (list : List Request) (tries : List TriedAsk) (it : TriedAsk) (before : List TriedAsk) (h0 h1 : Health) (w0 w1 : WireState kind)
     → AreTried list (answers_in tries) h0 h1 w0 w1 → AllGrantedButLast tries → tries ≡ before ++ it ∷ [] → IsTriedLast it h0 h1 w0 w1
 tried_last list [] it before h0 h1 w0 w1 tried granted last = absurd (never_none before it last)
 tried_last [] (first ∷ more_tries) it before h0 h1 w0 w1 tried granted last = absurd tried
@@ -85,7 +85,7 @@ tried_last (request ∷ list) (first ∷ next ∷ more_tries) it (b ∷ before) 
     none b a (inr is) answered = is ∙ answered
 
 -- ---- it was lost
-pub record IsLost (h0 h1 : Health) (w0 w1 : WireState) : Type 0 where
+pub record IsLost {kind : WireKind} (h0 h1 : Health) (w0 w1 : WireState kind) : Type 0 where
   pub rose : more 3 h0.faults ≤ h1.faults
   pub never : h0.calm ≡ true → ⊥
   pub silent : (w1.silence ≡ 3) ⊎ (w1.silence ≡ more 3 w0.silence)
@@ -93,7 +93,7 @@ pub record IsLost (h0 h1 : Health) (w0 w1 : WireState) : Type 0 where
 more_later : (a b c : ℕ) → a ≤ b → more 3 b ≤ c → more 3 a ≤ c
 more_later a b c later rose = grind (arith, later, rose)
 
-lost_last : (it : TriedAsk) (h0 h1 : Health) (w0 w1 : WireState) → IsTriedLast it h0 h1 w0 w1 → it.answer ≡ Err ends.Failed → IsLost h0 h1 w0 w1
+lost_last : {kind : WireKind} (it : TriedAsk) (h0 h1 : Health) (w0 w1 : WireState kind) → IsTriedLast it h0 h1 w0 w1 → it.answer ≡ Err ends.Failed → IsLost h0 h1 w0 w1
 lost_last it h0 h1 w0 w1 last lost = record {
   rose = more_later h0.faults last.health.faults h1.faults last.goes.later (last.tried.lost lost);
   never = λ calm. last.tried.unfailed (last.goes.calm calm) lost;
@@ -108,7 +108,7 @@ lost_last it h0 h1 w0 w1 last lost = record {
     three (inr same) = inr (grew ∙ ap (more 3) same)
 
 -- ---- a sync that ended so
-module _ (ids : Ids) (before left : Keeping) (h0 h1 : Health) (w0 w1 : WireState) (outcome : Outcome) (sync : IsSync ids before left h0 h1 w0 w1 outcome) where
+module _ {kind : WireKind} (ids : Ids) (before left : Keeping) (h0 h1 : Health) (w0 w1 : WireState kind) (outcome : Outcome) (sync : IsSync ids before left h0 h1 w0 w1 outcome) where
   abbrev tries : List TriedAsk
   tries = meta_tried sync.meta ∷ sync.tries
 

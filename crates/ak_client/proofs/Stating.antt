@@ -8,8 +8,9 @@ use Rattle.ak_exchange.specs.declared.envelopes.Met.{Met}
 use Rattle.ak_exchange.specs.declared.stops.Stop.{Stop}
 use Rattle.ak_keep.specs.Keepers.{IsMarkedAt, Keeping, back}
 use Rattle.ak_session.specs.Plans.{planned_changes, planned_graves, planned_start}
+use Rattle.ak_wires.specs.Wires.{WireKind}
 
-pub changes_exchanged : (met : Met) (before settled after : Keeping) (was mid now : Talk) (result : Result (Unit {0}) Stop)
+pub changes_exchanged : {kind : WireKind} (met : Met) (before settled after : Keeping) (was mid now : Talk kind) (result : Result (Unit {0}) Stop)
     → (graves : ℕ) × AreGraveRequests before graves
     × Advances {T = Unit {0}} 0 0 graves (at_end_of (λ c s. planned_start c)) (at_end_of planned_graves) met before settled was mid (Ok tt)
     → Advances {T = Unit {0}} 0 0 1 (at_end_of planned_graves) (at_end_of planned_changes) met settled after mid now result

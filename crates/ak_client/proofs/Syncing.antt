@@ -4,7 +4,7 @@ use Rattle.std.specs.Prelude.{◌≡◌, ℤ, pos, ◌+◌, ◌/◌, ◌≤◌, 
 use Rattle.std.proofs.Common.{refl, sym, ap, subst, ◌∙◌, append_assoc, inl, inr, arith}
 use Rattle.std.proofs.lemmas.List.{length-append}
 use Rattle.std.proofs.lemmas.Option.{same_Some}
-use Rattle.ak_client.proofs.Alone.{alone_stays, commits_alone, made_with_stays, requests_are_of}
+use Rattle.ak_client.proofs.Alone.{alone_stays, commits_alone, requests_are_of}
 use Rattle.ak_client.proofs.Causes.{met_because, unmet_because}
 use Rattle.ak_client.proofs.Clocks.{good_end, not_finished, unanswered_told}
 use Rattle.ak_client.proofs.Ending.{no_graves}
@@ -54,7 +54,7 @@ use Rattle.ak_session.specs.Plans.{Asker, planned, requests_from}
 use Rattle.ak_session.specs.Requests.{asks_commit}
 use Rattle.ak_session.specs.Sessions.{MaySync}
 use Rattle.ak_session.specs.Slices.{wanted_graves, wanted_in_chunks}
-use Rattle.ak_wires.specs.Wires.{WireState}
+use Rattle.ak_wires.specs.Wires.{WireKind, WireState}
 use Rattle.ak_wires.specs.declared.asks.Unanswered.{Unanswered}
 use Rattle.ak_wires.specs.declared.asks.Unanswered.TheVariants as unanswered
 use Rattle.ak_wires.specs.declared.wires.MetaSaid.{MetaSaid}
@@ -104,7 +104,7 @@ meta_is_one : (answer : Result Reply WireEnd) → AreTooMany (meta_tried answer 
 meta_is_one answer (inl came) = omega (arith, came)
 meta_is_one answer (inr sent) = omega (arith, sent)
 
-pub unmet : (ids : Ids) (stop : Stop) (before left : Keeping) (h0 h1 : Health) (w0 w1 : WireState) (old_moments new_moments : Option (List ℤ))
+pub unmet : {kind : WireKind} (ids : Ids) (stop : Stop) (before left : Keeping) (h0 h1 : Health) (w0 w1 : WireState kind) (old_moments new_moments : Option (List ℤ))
     → IsGreeting ids h0 h1 w0 w1 old_moments new_moments before (Err stop) → shows_bad_check stop ≡ false
     → GreetsTold ids w0.log w1.log (Err stop) → IsSync ids before left h0 h1 w0 w1 (outcome_at stop)
 unmet ids stop before left h0 h1 w0 w1 old_moments new_moments it good greets =
@@ -135,12 +135,11 @@ unmet ids stop before left h0 h1 w0 w1 old_moments new_moments it good greets =
                 it.answer (subst (λ (log : Log). IfOk it.answer (IsMetBySome ids account old may.unused log)) same greeted_so.3) it.ends,
           );
       alone = alone_stays (meta_of ids ∷ []) (it.heard.answer ∷ []) h0 h1 w0 w1 tried;
-      made_with = made_with_stays (meta_of ids ∷ []) (it.heard.answer ∷ []) h0 h1 w0 w1 tried;
       commits = commits_alone (asker ids) (meta_of ids ∷ []) (it.heard.answer ∷ []) h0 h1 w0 w1 tried (refl, tt);
     }
 
 -- and why
-pub unmet_ended : (ids : Ids) (stop : Stop) (before left : Keeping) (h0 h1 : Health) (w0 w1 : WireState) (old_moments new_moments : Option (List ℤ))
+pub unmet_ended : {kind : WireKind} (ids : Ids) (stop : Stop) (before left : Keeping) (h0 h1 : Health) (w0 w1 : WireState kind) (old_moments new_moments : Option (List ℤ))
     → IsGreeting ids h0 h1 w0 w1 old_moments new_moments before (Err stop) → shows_bad_check stop ≡ false
     → GreetsTold ids w0.log w1.log (Err stop) → IsSyncEnded ids before left h0 h1 w0 w1 old_moments (outcome_at stop)
 unfolding unmet
@@ -150,7 +149,7 @@ unmet_ended ids stop before left h0 h1 w0 w1 old_moments new_moments it good gre
 }
 
 -- what ended it at its meta asked no finish
-pub unmet_sparing : (spares : Bool) (ids : Ids) (stop : Stop) (before left : Keeping) (h0 h1 : Health) (w0 w1 : WireState) (old_moments new_moments : Option (List ℤ))
+pub unmet_sparing : {kind : WireKind} (spares : Bool) (ids : Ids) (stop : Stop) (before left : Keeping) (h0 h1 : Health) (w0 w1 : WireState kind) (old_moments new_moments : Option (List ℤ))
     → IsGreeting ids h0 h1 w0 w1 old_moments new_moments before (Err stop) → shows_bad_check stop ≡ false
     → GreetsTold ids w0.log w1.log (Err stop) → IsSyncSparing spares ids before left h0 h1 w0 w1 old_moments (outcome_at stop)
 unfolding unmet unmet_ended
@@ -286,7 +285,7 @@ told_of : (keeping : Keeping) (c : Collection) (P : Holding → Type 0) → keep
 told_of keeping c P is told = subst (λ (k : Keeping). WhereTold k P) is told
 
 -- what was tried last is so with the meta before it
-ends_after : (first : TriedAsk) (tries : List TriedAsk) (wire : WireState) (outcome : Outcome) → EndsAt tries wire outcome → EndsAt (first ∷ tries) wire outcome
+ends_after : {kind : WireKind} (first : TriedAsk) (tries : List TriedAsk) (wire : WireState kind) (outcome : Outcome) → EndsAt tries wire outcome → EndsAt (first ∷ tries) wire outcome
 ends_after first tries wire outcomes.Finished ends = tt
 ends_after first tries wire outcomes.NoChanges ends = tt
 ends_after first tries wire (outcomes.FullSchema device server) ends = tt
@@ -303,7 +302,7 @@ ends_after first tries wire outcomes.TooManyChunks ends = many_then (first ∷ [
 ends_after first tries wire outcomes.Keep ends = tt
 ends_after first tries wire outcomes.Memory ends = tt
 
-pub went_on : (spares : Bool) (ids : Ids) (met : Met) (before kept left : Keeping) (h0 h1 h2 : Health) (w0 w1 w2 : WireState) (old_moments new_moments : Option (List ℤ)) (read : Keeping)
+pub went_on : {kind : WireKind} (spares : Bool) (ids : Ids) (met : Met) (before kept left : Keeping) (h0 h1 h2 : Health) (w0 w1 w2 : WireState kind) (old_moments new_moments : Option (List ℤ)) (read : Keeping)
     (outcome : Outcome) → IsGreeting ids h0 h1 w0 w1 old_moments new_moments read (Ok met) → GreetsTold ids w0.log w1.log (Ok met) → WhereTold before (λ h. IsReady h met)
     → IsRightlyKnown before → kept ≡ before → Ends spares ids met kept left h1 h2 w1 w2 outcome → IsSync ids before left h0 h2 w0 w2 outcome
 went_on spares ids met before kept left h0 h1 h2 w0 w1 w2 old_moments new_moments read outcome it greets ready known same ends =
@@ -343,13 +342,12 @@ went_on spares ids met before kept left h0 h1 h2 w0 w1 w2 old_moments new_moment
                 (ends.told c greeted.2.met.0 account both (first.now, first.is, met_over.under_way) (same ∙ holds))),
           );
       alone = alone_stays (meta_of ids ∷ list) (it.heard.answer ∷ answers_in ends.tries) h0 h2 w0 w2 all_tried;
-      made_with = made_with_stays (meta_of ids ∷ list) (it.heard.answer ∷ answers_in ends.tries) h0 h2 w0 w2 all_tried;
       commits = commits_alone (asker ids) (meta_of ids ∷ list) (it.heard.answer ∷ answers_in ends.tries) h0 h2 w0 w2 all_tried
           (refl, requests_are_of (asker ids) met.meta.moment 1 (asks_in ends.tries));
     }
 
 -- and why it ended
-pub met_ended : (spares : Bool) (ids : Ids) (met : Met) (before kept left : Keeping) (h0 h1 h2 : Health) (w0 w1 w2 : WireState) (old_moments new_moments : Option (List ℤ))
+pub met_ended : {kind : WireKind} (spares : Bool) (ids : Ids) (met : Met) (before kept left : Keeping) (h0 h1 h2 : Health) (w0 w1 w2 : WireState kind) (old_moments new_moments : Option (List ℤ))
     (outcome : Outcome) → IsGreeting ids h0 h1 w0 w1 old_moments new_moments before (Ok met) → GreetsTold ids w0.log w1.log (Ok met)
     → WhereTold before (λ h. IsReady h met) → (at : ℤ) × GivesNext old_moments new_moments at × (clock_stop met.meta (second_of at) ≡ None)
     → IsRightlyKnown before → kept ≡ before → Ends spares ids met kept left h1 h2 w1 w2 outcome → IsSyncEnded ids before left h0 h2 w0 w2 old_moments outcome
@@ -365,7 +363,7 @@ early_after first tries plain (inl more) = inl (plain, more)
 early_after first tries plain (inr ends) = inr (ends_then (first ∷ []) tries unanswered.Memory ends)
 
 -- and where it may have run out of memory
-pub met_sparing : (spares : Bool) (ids : Ids) (met : Met) (before kept left : Keeping) (h0 h1 h2 : Health) (w0 w1 w2 : WireState) (old_moments new_moments : Option (List ℤ))
+pub met_sparing : {kind : WireKind} (spares : Bool) (ids : Ids) (met : Met) (before kept left : Keeping) (h0 h1 h2 : Health) (w0 w1 w2 : WireState kind) (old_moments new_moments : Option (List ℤ))
     (outcome : Outcome) → IsGreeting ids h0 h1 w0 w1 old_moments new_moments before (Ok met) → GreetsTold ids w0.log w1.log (Ok met)
     → WhereTold before (λ h. IsReady h met) → (at : ℤ) × GivesNext old_moments new_moments at × (clock_stop met.meta (second_of at) ≡ None)
     → IsRightlyKnown before → kept ≡ before → Ends spares ids met kept left h1 h2 w1 w2 outcome → IsSyncSparing spares ids before left h0 h2 w0 w2 old_moments outcome

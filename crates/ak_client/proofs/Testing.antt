@@ -30,7 +30,7 @@ use Rattle.ak_session.proofs.Ranges.{within}
 use Rattle.ak_session.specs.Refusals.{is_between}
 use Rattle.ak_wires.specs.Forms.{is_meta_in_range, is_moment, meta_in, meta_told}
 use Rattle.ak_wires.specs.Tries.{Answered, granted_in, in_form}
-use Rattle.ak_wires.specs.Wires.{WireState}
+use Rattle.ak_wires.specs.Wires.{WireKind, WireState}
 use Rattle.ak_wires.specs.declared.asks.Unanswered.{Unanswered}
 use Rattle.ak_wires.specs.declared.asks.Unanswered.TheVariants as unanswered
 use Rattle.ak_wires.specs.declared.wires.MetaSaid.{MetaSaid}
@@ -109,7 +109,7 @@ usn_answered (Err ends.BadReply) = tt
 usn_answered (Err ends.Memory) = tt
 
 -- the number that a granted meta tells is in the range of a head
-pub usn_within : (request : Request) (before now : Health) (was is : WireState) (met : MetaSaid) → Answered before now was is request meta_in (Ok met)
+pub usn_within : {kind : WireKind} (request : Request) (before now : Health) (was is : WireState kind) (met : MetaSaid) → Answered before now was is request meta_in (Ok met)
     → IsWithin (pos 0) last_head_usn met.usn
 usn_within request before now was is met call =
     subst (λ (r : Result MetaSaid Unanswered). IfOk r (λ (m : MetaSaid). IsWithin (pos 0) last_head_usn m.usn)) (sym call.came) (usn_answered call.answer)
@@ -172,7 +172,7 @@ ends_by_rows keeping read meta head unchanged stop same finds pass (inr (fault, 
     inr (head, unchanged, finds, inr (pass, (fault, own, subst (λ (k : Keeping). WhereTold k (λ h. first_fault h.rows ≡ Some fault)) same unsound)))
 
 -- the greeting, once its meta was granted and the clock gave this moment
-module _ (ids : Ids) (h0 h1 : Health) (w0 w1 : WireState) (old new : Option (List ℤ)) (keeping : Keeping) (meta : MetaSaid) (stop : Stop)
+module _ {kind : WireKind} (ids : Ids) (h0 h1 : Health) (w0 w1 : WireState kind) (old new : Option (List ℤ)) (keeping : Keeping) (meta : MetaSaid) (stop : Stop)
     (heard : Answered h0 h1 w0 w1 (meta_of ids) meta_in (Ok meta)) (at second : ℤ) (given : GivesNext old new at) (is : second ≡ second_of at) where
   pub greeting_by_clocks : Err stop ≡ stop_or_go (clock_stop meta second) → IsGreeting ids h0 h1 w0 w1 old new keeping (Err stop)
   greeting_by_clocks stopped = record {
@@ -191,10 +191,10 @@ module _ (ids : Ids) (h0 h1 : Health) (w0 w1 : WireState) (old new : Option (Lis
     ends = (at, given, inr (subst (λ (s : ℤ). clock_stop meta s ≡ None) is (passed (clock_stop meta second) (sym pass)), ends));
   }
 
-pub greeting_unheard : (ids : Ids) (h0 h1 : Health) (w0 w1 : WireState) (old : Option (List ℤ)) (keeping : Keeping) (why : Unanswered)
+pub greeting_unheard : {kind : WireKind} (ids : Ids) (h0 h1 : Health) (w0 w1 : WireState kind) (old : Option (List ℤ)) (keeping : Keeping) (why : Unanswered)
     → Answered h0 h1 w0 w1 (meta_of ids) meta_in (Err why) → IsGreeting ids h0 h1 w0 w1 old old keeping (Err (wire_stop why))
 greeting_unheard ids h0 h1 w0 w1 old keeping why heard = record { answer = Err why; heard = heard; goes_on = tt; ends = refl }
 
-pub greeting_goes_on : (ids : Ids) (h0 h1 : Health) (w0 w1 : WireState) (old new : Option (List ℤ)) (keeping : Keeping) (met : Met)
+pub greeting_goes_on : {kind : WireKind} (ids : Ids) (h0 h1 : Health) (w0 w1 : WireState kind) (old new : Option (List ℤ)) (keeping : Keeping) (met : Met)
     → Answered h0 h1 w0 w1 (meta_of ids) meta_in (Ok met.meta) → IsGreeting ids h0 h1 w0 w1 old new keeping (Ok met)
 greeting_goes_on ids h0 h1 w0 w1 old new keeping met heard = record { answer = Ok met.meta; heard = heard; goes_on = refl; ends = tt }

@@ -27,7 +27,7 @@ use Rattle.ak_protocol.specs.Logs.{Log, commits_of}
 use Rattle.ak_session.specs.Plans.{Asker, planned, requests_from}
 use Rattle.ak_session.specs.Replies.{all_replied}
 use Rattle.ak_session.specs.Sessions.{MaySync}
-use Rattle.ak_wires.specs.Wires.{WireState}
+use Rattle.ak_wires.specs.Wires.{WireKind, WireState}
 
 -- why a sync may stop between its meta and its start: it takes one moment of its clock then, and shows no bad sanity check
 pub record IsOfGreeting (stop : Stop) : Type 0 where
@@ -41,7 +41,7 @@ StopsBeforeCommit tries stop = ArePlain (asks_in tries) ⊎ StopsUnanswered trie
 
 -- what is asked after a meta of a wire, whatever keeper and wire are: each request is tried at most 3 times, there are few, each but the last
 -- was granted, and this holds of them. Of the device's c and what was committed as s, which the meta told, that holds then
-pub record AsksAfter (ids : Ids) (met : Met) (before : Keeping) (health_before health_now : Health) (old now : WireState)
+pub record AsksAfter {kind : WireKind} (ids : Ids) (met : Met) (before : Keeping) (health_before health_now : Health) (old now : WireState kind)
     (Ends : List TriedAsk → Type 0) (Leaves : Collection → Collection → AccountState → List Ask → Type 0) : Type 0 where
   pub tries : List TriedAsk
   pub tried : AreTried (requests_from (asker ids) met.meta.moment 1 (asks_in tries)) (answers_in tries)
@@ -90,7 +90,7 @@ pub record Exchanged (c s : Collection) (account : AccountState) (who : Asker) (
   pub fair : IfErr result (IsFairStop c s)
 
 -- the same from a marked keeper on
-abbrev pub ExchangesAll : Ids → Met → Keeping → Keeping → Health → Health → WireState → WireState → Result ℤ Stop → Type 0
+abbrev pub ExchangesAll : {kind : WireKind} → Ids → Met → Keeping → Keeping → Health → Health → WireState kind → WireState kind → Result ℤ Stop → Type 0
 ExchangesAll ids met before left health_before health_now old now result =
     AsksAfter ids met before health_before health_now old now
     (λ (tries : List TriedAsk). AreGranted tries result × IfErr result (StopsFor tries now) × IfErr result (StopsBeforeCommit tries))
@@ -121,7 +121,7 @@ pub record Ended (c s : Collection) (account : AccountState) (who : Asker) (asks
   pub fair : MaySync c s → IsFairEnd c s outcome
 
 -- the same from a keeper on that is not marked, and spares memory or not
-abbrev pub Ends : Bool → Ids → Met → Keeping → Keeping → Health → Health → WireState → WireState → Outcome → Type 0
+abbrev pub Ends : {kind : WireKind} → Bool → Ids → Met → Keeping → Keeping → Health → Health → WireState kind → WireState kind → Outcome → Type 0
 Ends spares ids met before left health_before health_now old now outcome =
     AsksAfter ids met before health_before health_now old now
     (λ (tries : List TriedAsk). (outcome ≡ outcomes.Finished → AllGranted tries) × EndsAt tries now outcome

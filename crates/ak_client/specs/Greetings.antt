@@ -28,7 +28,7 @@ use Rattle.ak_protocol.specs.Syncs.{IsUnderWay, IsUnused, world_of}
 use Rattle.ak_session.specs.Plans.{Asker}
 use Rattle.ak_wires.specs.Forms.{meta_in}
 use Rattle.ak_wires.specs.Tries.{Answered}
-use Rattle.ak_wires.specs.Wires.{WireState}
+use Rattle.ak_wires.specs.Wires.{WireKind, WireState}
 use Rattle.ak_wires.specs.declared.asks.Unanswered.{Unanswered}
 use Rattle.ak_wires.specs.declared.wires.MetaSaid.{MetaSaid}
 
@@ -97,7 +97,7 @@ EndsGreeting (Ok meta) to_come_before to_come keeping stop = (at : ℤ) × Gives
     ⊎ ((clock_stop meta (second_of at) ≡ None) × EndsAtDevice meta keeping stop))
 
 -- what a greeting heard, over any keeper and wire, and why it ended
-pub record IsGreeting (ids : Ids) (health_before health_now : Health) (old now : WireState)
+pub record IsGreeting {kind : WireKind} (ids : Ids) (health_before health_now : Health) (old now : WireState kind)
     (to_come_before to_come : Option (List ℤ)) (keeping : Keeping) (result : Result Met Stop) : Type 0 where
   pub answer : Result MetaSaid Unanswered
   pub heard : Answered health_before health_now old now (meta_of ids) meta_in answer

@@ -39,7 +39,7 @@ use Rattle.ak_session.specs.Plans.{Asker, planned, requests_from}
 use Rattle.ak_session.specs.Requests.{asks_commit}
 use Rattle.ak_session.specs.Slices.{wanted_graves, wanted_in_chunks}
 use Rattle.ak_wires.specs.Forms.{meta_in}
-use Rattle.ak_wires.specs.Wires.{WireState}
+use Rattle.ak_wires.specs.Wires.{WireKind, WireState}
 use Rattle.ak_wires.specs.declared.asks.Unanswered.TheVariants as unanswered
 use Rattle.ak_wires.specs.declared.wires.MetaSaid.{MetaSaid}
 use Rattle.ak_wires.specs.declared.wires.WireEnd.{WireEnd}
@@ -201,7 +201,7 @@ meta_tried answer = record { ask = asks.Meta; answer = answer }
 
 -- why a sync ended after what it tried: at a bad sanity check, at what was not granted, or at too many chunks. The other reasons are told
 -- by the meta, the clock and the keeper
-abbrev pub EndsAt : List TriedAsk → WireState → Outcome → Type 0
+abbrev pub EndsAt : {kind : WireKind} → List TriedAsk → WireState kind → Outcome → Type 0
 EndsAt tries now outcomes.Finished = ⊤
 EndsAt tries now outcomes.NoChanges = ⊤
 EndsAt tries now (outcomes.FullSchema device server) = ⊤
@@ -219,7 +219,7 @@ EndsAt tries now outcomes.Keep = ⊤
 EndsAt tries now outcomes.Memory = ⊤
 
 -- what a sync does over any keeper and wire, whose health and state go from the one to the other
-pub record IsSync (ids : Ids) (before left : Keeping) (health_before health_now : Health) (old now : WireState)
+pub record IsSync {kind : WireKind} (ids : Ids) (before left : Keeping) (health_before health_now : Health) (old now : WireState kind)
     (outcome : Outcome) : Type 0 where
   -- what its meta was answered, the moment that this told, and what it asked after it
   pub meta : Result Reply WireEnd
@@ -240,9 +240,8 @@ pub record IsSync (ids : Ids) (before left : Keeping) (health_before health_now 
   pub ends : EndsAt (meta_tried meta ∷ tries) now outcome
   -- and what that makes of what keeper and wire tell
   pub told : SyncsTold ids moment (asks_in tries) before left old.log now.log outcome
-  -- what is known of the wire from the start stays
+  -- whether the wire is known to be alone stays
   pub alone : now.alone ≡ old.alone
-  pub made_with : now.made_with ≡ old.made_with
   pub commits : old.alone ≡ true → CommitsAloneTold (asker ids) old.log now.log
 
 -- ---- why it ended at its meta
@@ -277,7 +276,7 @@ pub record EndsBecause (meta : Result Reply WireEnd) (moment : ℤ) (tries : Lis
       × (is_told_by_meta outcome ≡ false))
 
 -- a sync, and why it ended
-pub record IsSyncEnded (ids : Ids) (before left : Keeping) (health_before health_now : Health) (old now : WireState)
+pub record IsSyncEnded {kind : WireKind} (ids : Ids) (before left : Keeping) (health_before health_now : Health) (old now : WireState kind)
     (to_come_before : Option (List ℤ)) (outcome : Outcome) : Type 0 where
   pub sync : IsSync ids before left health_before health_now old now outcome
   pub because : EndsBecause sync.meta sync.moment sync.tries before to_come_before outcome
@@ -293,7 +292,7 @@ LacksMemoryEarly tries = ArePlain (asks_in tries) ⊎ EndsUnanswered tries unans
 
 -- a sync, and why it ended, over a keeper that spares memory or not. If it does, the sync runs out of memory only before it asks its finish,
 -- or in a call of the wire
-pub record IsSyncSparing (spares : Bool) (ids : Ids) (before left : Keeping) (health_before health_now : Health) (old now : WireState)
+pub record IsSyncSparing {kind : WireKind} (spares : Bool) (ids : Ids) (before left : Keeping) (health_before health_now : Health) (old now : WireState kind)
     (to_come_before : Option (List ℤ)) (outcome : Outcome) : Type 0 where
   pub ended : IsSyncEnded ids before left health_before health_now old now to_come_before outcome
   pub memory : spares ≡ true → outcome ≡ outcomes.Memory → LacksMemoryEarly (meta_tried ended.sync.meta ∷ ended.sync.tries)

@@ -25,9 +25,11 @@ impl<A: End, B: End> End for EitherWire<A, B> {
 }
 
 impl<A: Wire, B: Wire> Wire for EitherWire<A, B> {
-    ghost use Rattle.ak_either_wires.specs.EitherWires.{of_either};
+    ghost use Rattle.ak_either_wires.specs.EitherWires.{either_kind, either_state};
 
-    ghost state = { of_either A.state B.state };
+    ghost kind = { either_kind A.kind B.kind };
+
+    ghost state = { either_state A.state B.state };
 
     fn bad(&self) -> u64 {
         match self {

@@ -20,7 +20,7 @@ use Rattle.ak_session.specs.Contents.{answer, closed, refusal}
 use Rattle.ak_session.specs.Plans.{Asker}
 use Rattle.ak_session.specs.Requests.{asks_commit, is_download, is_meta}
 use Rattle.ak_wires.specs.Tries.{Answered, granted_by, granted_in, in_form}
-use Rattle.ak_wires.specs.Wires.{WireState, Carries}
+use Rattle.ak_wires.specs.Wires.{WireKind, WireState, Carries}
 use Rattle.ak_wires.specs.declared.asks.Unanswered.{Unanswered}
 use Rattle.ak_wires.specs.declared.asks.Unanswered.TheVariants as unanswered
 use Rattle.ak_wires.specs.declared.wires.WireEnd.{WireEnd}
@@ -95,11 +95,11 @@ module _ (who : Asker) (account : AccountState) (s : Collection) (asked : List R
   carried result old new carries log is = subst (λ (o : Option Log). Carries o new request result) is carries
 
   -- a request of a sync that does not commit: the sync is still under way, and what its reply gives is what the session answers
-  pub plain_call : {T : Type 0} (before now : Health) (old new : WireState) (part : Give → Option T) (result : Result T Unanswered)
+  pub plain_call : {kind : WireKind} {T : Type 0} (before now : Health) (old new : WireState kind) (part : Give → Option T) (result : Result T Unanswered)
       → is_meta ask ≡ false → is_download ask ≡ false → asks_commit ask ≡ false
       → IsShown who account s asked old.log → Answered before now old new request part result
       → IsShown who account s plan new.log × IfOk result (λ (it : T). part (answer s asked request) ≡ Some it)
-  plain_call {T} before now old new part result later reads commits reached call =
+  plain_call {kind} {T} before now old new part result later reads commits reached call =
       let grown = carried call.answer old.log new.log call.tried.carries reached.0 reached.1 in (
         (grown.0, grown.1, still reached.0 grown.0 call.answer reached.2 grown.2),
         subst (λ (r : Result T Unanswered). IfOk r (λ (it : T). part (answer s asked request) ≡ Some it)) (sym call.came)
@@ -145,13 +145,13 @@ module _ (who : Asker) (account : AccountState) (s : Collection) (asked : List R
   commit_answer part old new (Err ends.Memory) later commits under grows = tt
 
   -- a request of a sync that commits: if it is granted, the session committed once, and the reply tells the new moment
-  pub commit_call : {T : Type 0} (before now : Health) (old new : WireState) (part : Give → Option T) (result : Result T Unanswered)
+  pub commit_call : {kind : WireKind} {T : Type 0} (before now : Health) (old new : WireState kind) (part : Give → Option T) (result : Result T Unanswered)
       → is_meta ask ≡ false → asks_commit ask ≡ true
       → IsShown who account s asked old.log → Answered before now old new request part result
       → IsShown who account s plan new.log
       × IfOk result (λ (it : T). (log : Log) × (new.log ≡ Some log) × ((moment : ℤ) × (after : Collection) × CommitsOnce log moment after
       × (part (commit_reply ask after.head).give ≡ Some it)))
-  commit_call {T} before now old new part result later commits reached call =
+  commit_call {kind} {T} before now old new part result later commits reached call =
       let grown = carried call.answer old.log new.log call.tried.carries reached.0 reached.1 in
       let Given : T → Type 0 = λ it. (moment : ℤ) × (after : Collection) × CommitsOnce grown.0 moment after × (part (commit_reply ask after.head).give ≡ Some it) in
       let Ends : T → Type 0 = λ it. (log : Log) × (new.log ≡ Some log) × ((moment : ℤ) × (after : Collection) × CommitsOnce log moment after × (part (commit_reply ask after.head).give ≡ Some it)) in (

@@ -31,7 +31,7 @@ use Rattle.ak_session.specs.Contents.{closed, refusal}
 use Rattle.ak_session.specs.Plans.{Asker, requests_from}
 use Rattle.ak_wires.specs.Forms.{is_moment, moment_in}
 use Rattle.ak_wires.specs.Tries.{Answered}
-use Rattle.ak_wires.specs.Wires.{WireState}
+use Rattle.ak_wires.specs.Wires.{WireKind, WireState}
 use Rattle.ak_wires.specs.declared.asks.Unanswered.{Unanswered}
 use Rattle.ak_wires.specs.declared.asks.Unanswered.TheVariants as unanswered
 
@@ -79,21 +79,21 @@ no_moment (Ok x) why P is = absurd is
 no_moment (Err stop) why P is = tt
 
 -- no step was left
-stopped_unasked : {T : Type 0} (was : Talk) (result : Result T Stop) → was.envelopes.step + 1 ≡ 2 ^ 64 → IsErrAnd result (λ (stop : Stop). stop ≡ stops.Memory)
+stopped_unasked : {kind : WireKind} {T : Type 0} (was : Talk kind) (result : Result T Stop) → was.envelopes.step + 1 ≡ 2 ^ 64 → IsErrAnd result (λ (stop : Stop). stop ≡ stops.Memory)
     → IfErr result (λ (stop : Stop). IsOutOfSteps was [] stop ⊎ StopsUnanswered [] stop)
 stopped_unasked was (Ok x) full is = absurd is
 stopped_unasked was (Err stop) full is = inl (record { unasked = refl; last = full; memory = is })
 
 -- or because the last that was tried was not granted
-stopped_unanswered : {T : Type 0} (was : Talk) (tries : List TriedAsk) (result : Result T Stop) (why : Unanswered) → EndsUnanswered tries why
+stopped_unanswered : {kind : WireKind} {T : Type 0} (was : Talk kind) (tries : List TriedAsk) (result : Result T Stop) (why : Unanswered) → EndsUnanswered tries why
     → IsErrAnd result (λ (stop : Stop). stop ≡ wire_stop why) → IfErr result (λ (stop : Stop). IsOutOfSteps was tries stop ⊎ StopsUnanswered tries stop)
 stopped_unanswered was tries (Ok x) why ends is = absurd is
 stopped_unanswered was tries (Err stop) why ends is = inr (why, is, ends)
 
 -- a finish that was not asked
-pub finishes_unasked : (was now : Talk) (result : Result ℤ Stop) → was.envelopes.step + 1 ≡ 2 ^ 64
+pub finishes_unasked : {kind : WireKind} (was now : Talk kind) (result : Result ℤ Stop) → was.envelopes.step + 1 ≡ 2 ^ 64
     → IsErrAnd result (λ (stop : Stop). stop ≡ stops.Memory) → now.health ≡ was.health → now.wire ≡ was.wire → now.envelopes ≡ was.envelopes → Finishes was now result
-finishes_unasked was now result full is health wire envelopes = record {
+finishes_unasked {kind} was now result full is health wire envelopes = record {
   tries = [];
   asked = asked_none was now health wire envelopes;
   few = few_none 0 0 1;
@@ -105,7 +105,7 @@ finishes_unasked was now result full is health wire envelopes = record {
   leads = λ c s account earlier has. (
     record {
       reached = subst (λ (l : List Ask). IsReached (asker was.envelopes.ids) account s l now.wire.log) (sym (append-nil earlier))
-          (subst (λ (w : WireState). IsReached (asker was.envelopes.ids) account s earlier w.log) (sym wire) has.reached);
+          (subst (λ (w : WireState kind). IsReached (asker was.envelopes.ids) account s earlier w.log) (sym wire) has.reached);
       front = λ may. let ahead = after_check c s in (
         ahead.0,
         ap (λ (l : List Ask). l ++ ahead.0) (append-nil earlier) ∙ ap (λ (l : List Ask). l ++ ahead.0) (has.placed may).asked_is ∙ ahead.1,
@@ -115,7 +115,7 @@ finishes_unasked was now result full is health wire envelopes = record {
   );
 }
 
-module _ (was now : Talk) (given : Result ℤ Unanswered) (at : IsAsked was now asks.Finish moment_in given) where
+module _ {kind : WireKind} (was now : Talk kind) (given : Result ℤ Unanswered) (at : IsAsked was now asks.Finish moment_in given) where
   finish_few : AreFew 0 0 1 (asks.Finish ∷ [])
   finish_few = record { asked = omega arith; sent = omega arith; rest = omega arith }
 

@@ -20,7 +20,7 @@ use Rattle.ak_session.specs.Refusals.{are_changes_in_range, is_checked, is_id}
 use Rattle.ak_session.specs.Replies.{replied}
 use Rattle.ak_wires.specs.Forms.{changes_in, chunk_in, graves_in, is_chunk_in_form}
 use Rattle.ak_wires.specs.Tries.{Answered, granted_in, in_form}
-use Rattle.ak_wires.specs.Wires.{WireState}
+use Rattle.ak_wires.specs.Wires.{WireKind, WireState}
 use Rattle.ak_wires.specs.declared.asks.Unanswered.{Unanswered}
 use Rattle.ak_wires.specs.declared.asks.Unanswered.TheVariants as unanswered
 use Rattle.ak_wires.specs.declared.wires.WireEnd.{WireEnd}
@@ -45,9 +45,9 @@ given_in_form part (Err ends.BadReply) = tt
 given_in_form part (Err ends.Memory) = tt
 
 -- what was granted in its form is the part of some give
-pub granted_give : {T : Type 0} (before now : Health) (old new : WireState) (request : Request) (part : Give → Option T) (result : Result T Unanswered) (it : T)
+pub granted_give : {kind : WireKind} {T : Type 0} (before now : Health) (old new : WireState kind) (request : Request) (part : Give → Option T) (result : Result T Unanswered) (it : T)
     → Answered before now old new request part result → result ≡ Ok it → (g : Give) × (part g ≡ Some it)
-granted_give {T} before now old new request part result it call was =
+granted_give {kind} {T} before now old new request part result it call was =
     subst (λ (r : Result T Unanswered). IfOk r (λ (x : T). (g : Give) × (part g ≡ Some x))) (sym call.came ∙ was) (given_in_form part call.answer)
 
 -- ---- graves

@@ -29,13 +29,14 @@ use Rattle.ak_session.specs.Messages.{changes_of}
 use Rattle.ak_session.specs.Plans.{device_changes, device_rows, planned, planned_graves}
 use Rattle.ak_session.specs.Replies.{all_replied, replied, replied_after}
 use Rattle.ak_session.specs.Sessions.{MaySync}
+use Rattle.ak_wires.specs.Wires.{WireKind}
 
 -- what a keeper holds at a place
 abbrev pub held_at : Collection → Collection → List Ask → Holding
 held_at c s asked = taken_and_settled s.head.usn (all_replied s asked) asked (held_by c)
 
 -- what is true of what the keeper tells is true of that
-pub told_at : (c s : Collection) (account : AccountState) (asked : List Ask) (place : Place) (keeping : Keeping) (talk : Talk)
+pub told_at : {kind : WireKind} (c s : Collection) (account : AccountState) (asked : List Ask) (place : Place) (keeping : Keeping) (talk : Talk kind)
     → IsAt c s account asked place keeping talk → (P : Holding → Type 0) → WhereTold keeping P → P (held_at c s asked)
 told_at c s account asked place keeping talk at P told = subst (λ (k : Keeping). WhereTold k P) at.device told
 
@@ -66,7 +67,7 @@ head_same usn came head tags settings =
     ap (λ (t : List (List ℕ)). head_with usn (record { rows = came.rows; tags = t; settings = came.settings }) head) tags
     ∙ ap (λ (o : Option Settings). head_with usn (record { rows = came.rows; tags = []; settings = o }) head) settings
 
-pub changes_at : (c s : Collection) (account : AccountState) (asked : List Ask) (place : Place) (keeping : Keeping) (talk : Talk) (changes : Changes)
+pub changes_at : {kind : WireKind} (c s : Collection) (account : AccountState) (asked : List Ask) (place : Place) (keeping : Keeping) (talk : Talk kind) (changes : Changes)
     → IsAt c s account asked place keeping talk → MaySync c s → asked ≡ planned_graves c s → (rest : List Ask) × (asked ++ rest ≡ planned c s)
     → WhereTold keeping (λ h. IfSome h.head (λ head. changes ≡ changes_to_send s.head.moment h.rows head))
     → changes ≡ changes_of (device_changes c s)

@@ -1,4 +1,5 @@
 pub mod Asking
+pub mod Calls
 pub mod Checking
 pub mod Chunking
 pub mod Faults

@@ -61,7 +61,7 @@ use Rattle.ak_session.specs.Sessions.{MaySync}
 use Rattle.ak_session.specs.Slices.{slice, slices, wanted_graves}
 use Rattle.ak_wires.specs.Forms.{changes_in, chunk_in, graves_in, nothing_in, sanity_in, shows_cause, verdict_in}
 use Rattle.ak_wires.specs.Tries.{Answered, granted_in, in_form}
-use Rattle.ak_wires.specs.Wires.{said_after, said_of, sanity_said}
+use Rattle.ak_wires.specs.Wires.{WireKind, said_after, said_of, sanity_said}
 use Rattle.ak_wires.specs.declared.asks.Unanswered.{Unanswered}
 use Rattle.ak_wires.specs.declared.asks.Unanswered.TheVariants as unanswered
 use Rattle.ak_wires.specs.declared.wires.Said.{Said}
@@ -70,7 +70,7 @@ use Rattle.ak_wires.specs.declared.wires.WireEnd.TheVariants as ends
 use Rattle.ak_merge.specs.declared.sides.Side.TheVariants.{Device}
 
 -- a part with its request, as it was called
-pub record IsAsked {G : Type 0} (was now : Talk) (ask : Ask) (part : Give → Option G) (given : Result G Unanswered) : Type 0 where
+pub record IsAsked {kind : WireKind} {G : Type 0} (was now : Talk kind) (ask : Ask) (part : Give → Option G) (given : Result G Unanswered) : Type 0 where
   pub it : Request
   pub made : it ≡ request_at (asker was.envelopes.ids) was.envelopes.base (was.envelopes.step + 1) ask
   pub envelopes : now.envelopes ≡ record was.envelopes { step = was.envelopes.step + 1 }
@@ -108,7 +108,7 @@ quiet_verdict (gives.Uploaded m s) reply is = refl
 quiet_verdict (gives.Whole w) reply is = refl
 
 -- ---- the start
-module _ (met : Met) (before : Keeping) (was now : Talk) (given : Result GraveIds Unanswered)
+module _ {kind : WireKind} (met : Met) (before : Keeping) (was now : Talk kind) (given : Result GraveIds Unanswered)
     (at : IsAsked was now (asks.Start met.head.usn met.head.moment) graves_in given) where
   abbrev start_place : Place
   start_place = at_end_of (λ c s. planned_start c)
@@ -145,7 +145,7 @@ module _ (met : Met) (before : Keeping) (was now : Talk) (given : Result GraveId
       (λ c s account asked met_is place is may. start_is c s asked [] met_is (place.has.placed may))
 
 -- ---- graves
-module _ (met : Met) (before : Keeping) (was now : Talk) (given : Result (Unit {0}) Unanswered) (k : ℕ) (list : List Row) (ids : GraveIds)
+module _ {kind : WireKind} (met : Met) (before : Keeping) (was now : Talk kind) (given : Result (Unit {0}) Unanswered) (k : ℕ) (list : List Row) (ids : GraveIds)
     (less : 250 * k < length list) (ids_are : ids ≡ grave_ids (slice k list)) (at : IsAsked was now (asks.ApplyGraves ids) nothing_in given) where
   graves_few : AreFew 0 0 1 (asks.ApplyGraves ids ∷ [])
   graves_few = record { asked = omega arith; sent = omega arith; rest = omega arith }
@@ -173,7 +173,7 @@ module _ (met : Met) (before : Keeping) (was now : Talk) (given : Result (Unit {
       (sent_graves k list c s asked (place.has.placed may)))
 
 -- ---- the changes
-module _ (met : Met) (before : Keeping) (was now : Talk) (given : Result Changes Unanswered) (changes : Changes)
+module _ {kind : WireKind} (met : Met) (before : Keeping) (was now : Talk kind) (given : Result Changes Unanswered) (changes : Changes)
     (told : WhereTold before (λ h. IfSome h.head (λ head. changes ≡ changes_to_send met.meta.moment h.rows head)))
     (at : IsAsked was now (asks.ApplyChanges changes) changes_in given) where
   changes_few : AreFew 0 0 1 (asks.ApplyChanges changes ∷ [])
@@ -228,7 +228,7 @@ brought answer chunk gave unfinished =
     ∙ ap (λ (o : Option Chunk). option_map_or (λ (c : Chunk). not c.done) o false) gave.gave
     ∙ ap not unfinished
 
-module _ (met : Met) (before : Keeping) (was now : Talk) (given : Result Chunk Unanswered) (k : ℕ) (at : IsAsked was now asks.Chunk chunk_in given) where
+module _ {kind : WireKind} (met : Met) (before : Keeping) (was now : Talk kind) (given : Result Chunk Unanswered) (k : ℕ) (at : IsAsked was now asks.Chunk chunk_in given) where
   pull_few : AreFew 1 0 0 (asks.Chunk ∷ [])
   pull_few = record { asked = omega arith; sent = omega arith; rest = omega arith }
 
@@ -262,7 +262,7 @@ module _ (met : Met) (before : Keeping) (was now : Talk) (given : Result Chunk U
   pull_left after (Err stop) kept is = record { leads = pull_refused (λ c s asked. ⊤) after (Err stop) kept is; unfinished = tt }
 
 -- nothing was asked
-pub pull_stays : (k : ℕ) (met : Met) (before after : Keeping) (was now : Talk) (result : Result Bool Stop)
+pub pull_stays : {kind : WireKind} (k : ℕ) (met : Met) (before after : Keeping) (was now : Talk kind) (result : Result Bool Stop)
     → now.health ≡ was.health → now.wire ≡ was.wire → now.envelopes ≡ was.envelopes → IsRefused result → PullsOne k met before after was now result
 pull_stays k met before after was now (Ok done) health wire envelopes is = absurd is
 pull_stays k met before after was now (Err stop) health wire envelopes is = record {
@@ -293,7 +293,7 @@ last_sent_most (Ok (Some next)) = omega arith
 last_sent_most (Err stop) = omega arith
 
 -- the next chunk is that of what the device holds, which took the server's chunks and settled what it sent
-next_made : (keeping : Keeping) (was : Talk) (k : ℕ) (from next : Name) (chunk : Chunk) → WhereTold keeping (λ h. IsNextToSend h.rows from chunk next)
+next_made : {kind : WireKind} (keeping : Keeping) (was : Talk kind) (k : ℕ) (from next : Name) (chunk : Chunk) → WhereTold keeping (λ h. IsNextToSend h.rows from chunk next)
     → (c s : Collection) (account : AccountState) (asked : List Ask) → IsAt c s account asked (HavePushed k from) keeping was → MaySync c s
     → IsNextToSend (rows_once_sent c s asked) from chunk next
 next_made keeping was k from next chunk told c s account asked place may =
@@ -308,7 +308,7 @@ next_made keeping was k from next chunk told c s account asked place may =
     (told_at c s account asked (HavePushed k from) keeping was place (λ h. IsNextToSend h.rows from chunk next) told)
 
 -- if 39,999 chunks were sent and the next one is not the last one, the device has ten million rows to send
-pub too_many_pushed : (k : ℕ) (from next : Name) (chunk : Chunk) (keeping : Keeping) (now : Talk) → 39_999 ≤ k → chunk.done ≡ false
+pub too_many_pushed : {kind : WireKind} (k : ℕ) (from next : Name) (chunk : Chunk) (keeping : Keeping) (now : Talk kind) → 39_999 ≤ k → chunk.done ≡ false
     → WhereTold keeping (λ h. IsNextToSend h.rows from chunk next)
     → (c s : Collection) (account : AccountState) (asked : List Ask) → IsAt c s account asked (HavePushed k from) keeping now → MaySync c s
     → HasTenMillionRows c s
@@ -319,7 +319,7 @@ too_many_pushed k from next chunk keeping now many unfinished told c s account a
     let fewer = pushes_fewer c s may.committed.head.usn.low in
     inr (omega (arith, many, more, fewer))
 
-module _ (met : Met) (before : Keeping) (was now : Talk) (given : Result (Unit {0}) Unanswered) (k : ℕ) (from next : Name) (chunk : Chunk)
+module _ {kind : WireKind} (met : Met) (before : Keeping) (was now : Talk kind) (given : Result (Unit {0}) Unanswered) (k : ℕ) (from next : Name) (chunk : Chunk)
     (told : WhereTold before (λ h. IsNextToSend h.rows from chunk next)) (full : IsFullIfMore chunk)
     (at : IsAsked was now (asks.ApplyChunk chunk) nothing_in given) where
   -- the chunk is the next one of what the device holds
@@ -373,7 +373,7 @@ module _ (met : Met) (before : Keeping) (was now : Talk) (given : Result (Unit {
       record { leads = made.0; sent = ap asks_in made.1 }
 
 -- nothing was sent
-pub push_stays : (chunk : Chunk) (k : ℕ) (from next : Name) (met : Met) (before after : Keeping) (was now : Talk) (result : Result (Unit {0}) Stop)
+pub push_stays : {kind : WireKind} (chunk : Chunk) (k : ℕ) (from next : Name) (met : Met) (before after : Keeping) (was now : Talk kind) (result : Result (Unit {0}) Stop)
     → now.health ≡ was.health → now.wire ≡ was.wire → now.envelopes ≡ was.envelopes → IsRefused result → SendsOne chunk k from next met before after was now result
 push_stays chunk k from next met before after was now (Ok done) health wire envelopes is = absurd is
 push_stays chunk k from next met before after was now (Err stop) health wire envelopes is = record {
@@ -383,7 +383,7 @@ push_stays chunk k from next met before after was now (Err stop) health wire env
 }
 
 -- a chunk was sent, or refused
-pub pushes_left : (chunk : Chunk) (k : ℕ) (from next : Name) (met : Met) (k0 km k1 : Keeping) (was now : Talk) (e : Stop) (result : Result (Option Name) Stop) → km ≡ k0
+pub pushes_left : {kind : WireKind} (chunk : Chunk) (k : ℕ) (from next : Name) (met : Met) (k0 km k1 : Keeping) (was now : Talk kind) (e : Stop) (result : Result (Option Name) Stop) → km ≡ k0
     → IsErrAnd result (λ (stop : Stop). stop ≡ e) → SendsOne chunk k from next met km k1 was now (Err e) → PushesOne k from met k0 k1 was now result
 pushes_left chunk k from next met k0 km k1 was now e (Ok it) same is one = absurd is
 pushes_left chunk k from next met k0 km k1 was now e (Err stop) same is one = record {
@@ -399,7 +399,7 @@ pushes_left chunk k from next met k0 km k1 was now e (Err stop) same is one = re
     at_most_one true m n one two = one
     at_most_one false m n one two = two
 
-pub pushes_none : (k : ℕ) (from : Name) (met : Met) (k0 k1 : Keeping) (was now : Talk) (result : Result (Option Name) Stop)
+pub pushes_none : {kind : WireKind} (k : ℕ) (from : Name) (met : Met) (k0 k1 : Keeping) (was now : Talk kind) (result : Result (Option Name) Stop)
     → now.health ≡ was.health → now.wire ≡ was.wire → now.envelopes ≡ was.envelopes → IsRefused result → PushesOne k from met k0 k1 was now result
 pushes_none k from met k0 k1 was now (Ok it) health wire envelopes is = absurd is
 pushes_none k from met k0 k1 was now (Err stop) health wire envelopes is = record {
@@ -407,7 +407,7 @@ pushes_none k from met k0 k1 was now (Err stop) health wire envelopes is = recor
   unfinished = tt;
 }
 
-pub pushes_took : (chunk : Chunk) (k : ℕ) (from next : Name) (met : Met) (k0 km k1 : Keeping) (was now : Talk) (done : Bool) → km ≡ k0 → chunk.done ≡ done
+pub pushes_took : {kind : WireKind} (chunk : Chunk) (k : ℕ) (from next : Name) (met : Met) (k0 km k1 : Keeping) (was now : Talk kind) (done : Bool) → km ≡ k0 → chunk.done ≡ done
     → SendsOne chunk k from next met km k1 was now (Ok tt) → PushesOne k from met k0 k1 was now (Ok (if done then None else Some next))
 pushes_took chunk k from next met k0 km k1 was now true same is one = record {
   leads = advances_from 0 1 1 (HavePushed k from) (HasPushedOne k None) met k0 km k1 was now (Ok None) same
@@ -476,7 +476,7 @@ said_check it counts ask (Err ends.Failed) reply is = absurd (err-ok unanswered.
 said_check it counts ask (Err ends.BadReply) reply is = absurd (err-ok unanswered.BadReply reply is)
 said_check it counts ask (Err ends.Memory) reply is = absurd (err-ok unanswered.Memory reply is)
 
-module _ (met : Met) (keeping : Keeping) (was now : Talk) (given : Result SanityReply Unanswered) (counts : SanityCounts)
+module _ {kind : WireKind} (met : Met) (keeping : Keeping) (was now : Talk kind) (given : Result SanityReply Unanswered) (counts : SanityCounts)
     (told : WhereTold keeping (λ h. counts ≡ counts_of h.rows)) (at : IsAsked was now (asks.SanityCheck2 counts) verdict_in given) where
   check_few : AreFew 0 0 1 (asks.SanityCheck2 counts ∷ [])
   check_few = record { asked = omega arith; sent = omega arith; rest = omega arith }
@@ -578,7 +578,7 @@ module _ (met : Met) (keeping : Keeping) (was now : Talk) (given : Result Sanity
 
 -- ---- turns of chunks
 -- a loop came so far, and so many chunks that are not the last one came, or were sent
-pub record HasTurned (p q : ℕ) (from to : Place) (met : Met) (k0 k1 : Keeping) (t0 t1 : Talk) (turns : ℕ) (counted : List TriedAsk → ℕ) : Type 0 where
+pub record HasTurned {kind : WireKind} (p q : ℕ) (from to : Place) (met : Met) (k0 k1 : Keeping) (t0 t1 : Talk kind) (turns : ℕ) (counted : List TriedAsk → ℕ) : Type 0 where
   pub leads : Advances {T = Unit {0}} p q 0 from to met k0 k1 t0 t1 (Ok tt)
   pub many : turns ≤ counted leads.tries
 
@@ -598,7 +598,7 @@ sent_then a b m n one two = subst (λ (l : List Ask). m + n ≤ count_by sends_u
     of x y one two = let both = sum_by-append (λ (ask : Ask). cond (sends_unfinished ask) 1 0) x y in omega (arith, both, one, two)
 
 -- if 40,000 chunks came and none was the last one, the server has ten million rows to send
-pub too_many_pulled : (k : ℕ) (keeping : Keeping) (now : Talk) → 40_000 ≤ k
+pub too_many_pulled : {kind : WireKind} (k : ℕ) (keeping : Keeping) (now : Talk kind) → 40_000 ≤ k
     → (c s : Collection) (account : AccountState) (asked : List Ask) → IsAt c s account asked (HavePulled k) keeping now → MaySync c s
     → HasTenMillionRows c s
 too_many_pulled k keeping now many c s account asked place may =
@@ -607,7 +607,7 @@ too_many_pulled k keeping now many c s account asked place may =
     inl (omega (arith, many, full, fewer))
 
 -- another chunk came, and it is not the last one
-pub pulled_on : (turns : ℕ) (from : Place) (met : Met) (k0 k1 k2 : Keeping) (t0 t1 t2 : Talk) (done : Bool) → done ≡ false
+pub pulled_on : {kind : WireKind} (turns : ℕ) (from : Place) (met : Met) (k0 k1 k2 : Keeping) (t0 t1 t2 : Talk kind) (done : Bool) → done ≡ false
     → HasTurned turns 0 from (HavePulled turns) met k0 k1 t0 t1 turns came → PullsOne turns met k1 k2 t1 t2 (Ok done)
     → HasTurned (turns + 1) 0 from (HavePulled (turns + 1)) met k0 k2 t0 t2 (turns + 1) came
 pulled_on turns from met k0 k1 k2 t0 t1 t2 true is one two = absurd (grind (arith, is))
@@ -621,7 +621,7 @@ pulled_on turns from met k0 k1 k2 t0 t1 t2 false is one two =
     }
 
 -- another chunk was sent, and it is the last one
-pub pushed_end : (k : ℕ) (from : Name) (met : Met) (k0 k1 : Keeping) (t0 t1 : Talk) (next : Option Name) → next ≡ None
+pub pushed_end : {kind : WireKind} (k : ℕ) (from : Name) (met : Met) (k0 k1 : Keeping) (t0 t1 : Talk kind) (next : Option Name) → next ≡ None
     → PushesOne k from met k0 k1 t0 t1 (Ok next)
     → Advances {T = Unit {0}} 0 1 1 (HavePushed k from) (at_end_of planned_pushes) met k0 k1 t0 t1 (Ok tt)
 pushed_end k from met k0 k1 t0 t1 None is one =
@@ -629,7 +629,7 @@ pushed_end k from met k0 k1 t0 t1 None is one =
 pushed_end k from met k0 k1 t0 t1 (Some next) is one = absurd (grind (arith, is))
 
 -- or it is not
-pub pushed_on : (turns : ℕ) (from : Name) (start : Place) (met : Met) (k0 k1 k2 : Keeping) (t0 t1 t2 : Talk) (next : Option Name) (name : Name) → next ≡ Some name
+pub pushed_on : {kind : WireKind} (turns : ℕ) (from : Name) (start : Place) (met : Met) (k0 k1 k2 : Keeping) (t0 t1 t2 : Talk kind) (next : Option Name) (name : Name) → next ≡ Some name
     → HasTurned 0 turns start (HavePushed turns from) met k0 k1 t0 t1 turns sent → PushesOne turns from met k1 k2 t1 t2 (Ok next)
     → HasTurned 0 (turns + 1) start (HavePushed (turns + 1) name) met k0 k2 t0 t2 (turns + 1) sent
 pushed_on turns from start met k0 k1 k2 t0 t1 t2 None name is one two = absurd (none-some name is)
@@ -644,7 +644,7 @@ pushed_on turns from start met k0 k1 k2 t0 t1 t2 (Some next) name is one two =
     }
 
 -- the last chunk of all was sent, or refused
-pub last_pushed : (turns : ℕ) (from next : Name) (chunk : Chunk) (start : Place) (met : Met) (k0 k1 km k2 : Keeping) (t0 t1 t2 : Talk) (result : Result (Unit {0}) Stop)
+pub last_pushed : {kind : WireKind} (turns : ℕ) (from next : Name) (chunk : Chunk) (start : Place) (met : Met) (k0 k1 km k2 : Keeping) (t0 t1 t2 : Talk kind) (result : Result (Unit {0}) Stop)
     → km ≡ k1 → chunk.done ≡ true → HasTurned 0 turns start (HavePushed turns from) met k0 k1 t0 t1 turns sent → SendsOne chunk turns from next met km k2 t1 t2 result
     → Advances 0 turns 1 start (at_end_of planned_pushes) met k0 k2 t0 t2 result
 last_pushed turns from next chunk start met k0 k1 km k2 t0 t1 t2 result same is one two =
@@ -705,7 +705,7 @@ requests_before usn k0 k1 graves low took most = by k0.told (subst (λ (k : Keep
         omega (arith, is, fewer)
 
 -- the graves that were read are those of the plan
-pub graves_at : (c s : Collection) (account : AccountState) (asked : List Ask) (keeping : Keeping) (was : Talk) (list : List Row)
+pub graves_at : {kind : WireKind} (c s : Collection) (account : AccountState) (asked : List Ask) (keeping : Keeping) (was : Talk kind) (list : List Row)
     → IsAt c s account asked (at_end_of (λ d t. planned_start d)) keeping was → MaySync c s → WhereTold keeping (λ h. list ≡ wanted_graves Unsent h.rows)
     → HaveSentGraves 0 list c s asked
 graves_at c s account asked keeping was list place may told =
@@ -716,7 +716,7 @@ graves_at c s account asked keeping was list place may told =
     ∙ ap (λ (l : List Ask). settled_under s.head.usn (names_of (all_brought l).rows) (device_rows c s l)) is)) is
 
 -- ---- all but the finish
-pub exchanges_refused : (to : Place) (met : Met) (k0 k1 : Keeping) (t0 t1 : Talk) (result : Result (Unit {0}) Stop) (graves : ℕ)
+pub exchanges_refused : {kind : WireKind} (to : Place) (met : Met) (k0 k1 : Keeping) (t0 t1 : Talk kind) (result : Result (Unit {0}) Stop) (graves : ℕ)
     → AreGraveRequests k0 graves → IsErr result → Advances 40_000 39_999 (4 + graves) at_meta to met k0 k1 t0 t1 result → Exchanges met k0 k1 t0 t1 result
 exchanges_refused to met k0 k1 t0 t1 (Ok x) graves most is one = absurd (grind (arith, is))
 exchanges_refused to met k0 k1 t0 t1 (Err stop) graves most is one = record {
@@ -733,7 +733,7 @@ exchanges_refused to met k0 k1 t0 t1 (Err stop) graves most is one = record {
   leads = λ c s account met_is at. let led = one.leads c s account [] met_is at in (led.0, tt, led.2);
 }
 
-exchanges_went : (met : Met) (k0 k1 : Keeping) (t0 t1 : Talk) (graves : ℕ) (x : Unit {0}) → AreGraveRequests k0 graves
+exchanges_went : {kind : WireKind} (met : Met) (k0 k1 : Keeping) (t0 t1 : Talk kind) (graves : ℕ) (x : Unit {0}) → AreGraveRequests k0 graves
     → Advances 40_000 39_999 (4 + graves) at_meta HasPassedCheck met k0 k1 t0 t1 (Ok x) → Exchanges met k0 k1 t0 t1 (Ok x)
 exchanges_went met k0 k1 t0 t1 graves x most one = record {
   tries = one.tries;
@@ -755,7 +755,7 @@ exchanges_went met k0 k1 t0 t1 graves x most one = record {
 }
 
 -- all was asked but the finish, or it was refused
-pub exchanges_all : (met : Met) (k0 k1 : Keeping) (t0 t1 : Talk) (graves : ℕ) (result : Result (Unit {0}) Stop) → AreGraveRequests k0 graves
+pub exchanges_all : {kind : WireKind} (met : Met) (k0 k1 : Keeping) (t0 t1 : Talk kind) (graves : ℕ) (result : Result (Unit {0}) Stop) → AreGraveRequests k0 graves
     → Advances 40_000 39_999 (4 + graves) at_meta HasPassedCheck met k0 k1 t0 t1 result → Exchanges met k0 k1 t0 t1 result
 exchanges_all met k0 k1 t0 t1 graves (Ok x) most one = exchanges_went met k0 k1 t0 t1 graves x most one
 exchanges_all met k0 k1 t0 t1 graves (Err stop) most one = exchanges_refused HasPassedCheck met k0 k1 t0 t1 (Err stop) graves most (grind arith) one

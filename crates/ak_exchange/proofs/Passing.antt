@@ -36,7 +36,7 @@ use Rattle.ak_session.specs.Replies.{replied, all_replied}
 use Rattle.ak_session.specs.Requests.{asks_commit, is_download, is_meta}
 use Rattle.ak_session.specs.Sessions.{MaySync}
 use Rattle.ak_wires.specs.Tries.{Answered}
-use Rattle.ak_wires.specs.Wires.{WireState}
+use Rattle.ak_wires.specs.Wires.{WireKind, WireState}
 use Rattle.ak_wires.specs.declared.asks.Unanswered.{Unanswered}
 
 abbrev IsPlain : Ask → Type 0
@@ -48,15 +48,15 @@ abbrev pub LeadsOn : Place → Type 0
 LeadsOn place = (c s : Collection) (asked : List Ask) → MaySync c s → place c s asked → (rest : List Ask) × (asked ++ rest ≡ planned c s)
 
 -- a sync that asked these is left there
-pub left_here : (place : Place) → LeadsOn place → (c s : Collection) (account : AccountState) (asked : List Ask) (was now : Talk)
+pub left_here : {kind : WireKind} (place : Place) → LeadsOn place → (c s : Collection) (account : AccountState) (asked : List Ask) (was now : Talk kind)
     → HasAsked c s account asked place was → now.wire ≡ was.wire → IsLeft c s account (asker was.envelopes.ids) asked now
-left_here place on c s account asked was now has same = record {
-  reached = subst (λ (w : WireState). IsReached (asker was.envelopes.ids) account s asked w.log) (sym same) has.reached;
+left_here {kind} place on c s account asked was now has same = record {
+  reached = subst (λ (w : WireState kind). IsReached (asker was.envelopes.ids) account s asked w.log) (sym same) has.reached;
   front = λ may. on c s asked may (has.placed may);
 }
 
 -- a part that asked nothing and was refused
-pub stays_here : {T : Type 0} (pulled pushed others : ℕ) (from to : Place) (met : Met) (before after : Keeping) (was now : Talk) (result : Result T Stop)
+pub stays_here : {kind : WireKind} {T : Type 0} (pulled pushed others : ℕ) (from to : Place) (met : Met) (before after : Keeping) (was now : Talk kind) (result : Result T Stop)
     → LeadsOn from → now.health ≡ was.health → now.wire ≡ was.wire → now.envelopes ≡ was.envelopes → IsRefused result
     → Advances pulled pushed others from to met before after was now result
 stays_here pulled pushed others from to met before after was now result on health wire envelopes is = record {
@@ -130,9 +130,9 @@ exchanged_refused {G = G} usn it given k0 k1 (Err stop) so not_so kept is = by g
     by (Err why) was shows whole = exchanged_none usn it why k0 k1 (not_so why was) (kept why was)
 
 -- whether a head is held stays
-pub advances_held : {T : Type 0} (p q o : ℕ) (from to : Place) (met : Met) (k0 k1 : Keeping) (t0 t1 : Talk) (result : Result T Stop)
+pub advances_held : {kind : WireKind} {T : Type 0} (p q o : ℕ) (from to : Place) (met : Met) (k0 k1 : Keeping) (t0 t1 : Talk kind) (result : Result T Stop)
     → Advances p q o from to met k0 k1 t0 t1 result → k0.headed.current ≡ true → OnOk result (k1.headed.current ≡ true)
-advances_held {T} p q o from to met k0 k1 t0 t1 result one held =
+advances_held {kind} {T} p q o from to met k0 k1 t0 t1 result one held =
     by result one.device
   where
     by : (r : Result T Stop) → UnlessHalfDone one.tries r (HasExchanged met.meta.usn one.tries k0 k1) → OnOk r (k1.headed.current ≡ true)
@@ -140,7 +140,7 @@ advances_held {T} p q o from to met k0 k1 t0 t1 result one held =
     by (Err stop) is = tt
 
 -- ---- one part after another
-pub advances_then : {T U : Type 0} (p q o p2 q2 o2 : ℕ) (from mid to : Place) (met : Met) (k0 k1 k2 : Keeping) (t0 t1 t2 : Talk) (x : T) (result : Result U Stop)
+pub advances_then : {kind : WireKind} {T U : Type 0} (p q o p2 q2 o2 : ℕ) (from mid to : Place) (met : Met) (k0 k1 k2 : Keeping) (t0 t1 t2 : Talk kind) (x : T) (result : Result U Stop)
     → Advances p q o from mid met k0 k1 t0 t1 (Ok x) → Advances p2 q2 o2 mid to met k1 k2 t1 t2 result
     → Advances (p + p2) (q + q2) (o + o2) from to met k0 k2 t0 t2 result
 advances_then p q o p2 q2 o2 from mid to met k0 k1 k2 t0 t1 t2 x result one two = record {
@@ -166,7 +166,7 @@ advances_then p q o p2 q2 o2 from mid to met k0 k1 k2 t0 t1 t2 x result one two 
 }
 
 -- with what both tried
-pub both_tried : {T U : Type 0} (p q o p2 q2 o2 : ℕ) (from mid to : Place) (met : Met) (k0 k1 k2 : Keeping) (t0 t1 t2 : Talk) (x : T) (result : Result U Stop)
+pub both_tried : {kind : WireKind} {T U : Type 0} (p q o p2 q2 o2 : ℕ) (from mid to : Place) (met : Met) (k0 k1 k2 : Keeping) (t0 t1 t2 : Talk kind) (x : T) (result : Result U Stop)
     → (one : Advances p q o from mid met k0 k1 t0 t1 (Ok x)) → (two : Advances p2 q2 o2 mid to met k1 k2 t1 t2 result)
     → (it : Advances (p + p2) (q + q2) (o + o2) from to met k0 k2 t0 t2 result) × (it.tries ≡ one.tries ++ two.tries)
 unfolding advances_then
@@ -174,7 +174,7 @@ both_tried p q o p2 q2 o2 from mid to met k0 k1 k2 t0 t1 t2 x result one two =
     (advances_then p q o p2 q2 o2 from mid to met k0 k1 k2 t0 t1 t2 x result one two, refl)
 
 -- the same place, told in other words
-pub advances_to : {T U : Type 0} (p q o : ℕ) (from mid to : Place) (met : Met) (k0 k1 : Keeping) (t0 t1 : Talk) (x : T) (y : U)
+pub advances_to : {kind : WireKind} {T U : Type 0} (p q o : ℕ) (from mid to : Place) (met : Met) (k0 k1 : Keeping) (t0 t1 : Talk kind) (x : T) (y : U)
     → ((c s : Collection) (asked : List Ask) → MaySync c s → mid c s asked → to c s asked)
     → Advances p q o from mid met k0 k1 t0 t1 (Ok x) → Advances p q o from to met k0 k1 t0 t1 (Ok y)
 advances_to p q o from mid to met k0 k1 t0 t1 x y so one = record {
@@ -203,17 +203,17 @@ advances_to p q o from mid to met k0 k1 t0 t1 x y so one = record {
 }
 
 -- with what was tried
-pub same_tried : {T U : Type 0} (p q o : ℕ) (from mid to : Place) (met : Met) (k0 k1 : Keeping) (t0 t1 : Talk) (x : T) (y : U)
+pub same_tried : {kind : WireKind} {T U : Type 0} (p q o : ℕ) (from mid to : Place) (met : Met) (k0 k1 : Keeping) (t0 t1 : Talk kind) (x : T) (y : U)
     → ((c s : Collection) (asked : List Ask) → MaySync c s → mid c s asked → to c s asked)
     → (one : Advances p q o from mid met k0 k1 t0 t1 (Ok x)) → (it : Advances p q o from to met k0 k1 t0 t1 (Ok y)) × (it.tries ≡ one.tries)
 unfolding advances_to
 same_tried p q o from mid to met k0 k1 t0 t1 x y so one = (advances_to p q o from mid to met k0 k1 t0 t1 x y so one, refl)
 
 -- nothing was asked, and nothing was refused
-pub at_start : {T : Type 0} (p q o : ℕ) (from to : Place) (met : Met) (k0 k1 : Keeping) (was now : Talk) (x : T) → LeadsOn from
+pub at_start : {kind : WireKind} {T : Type 0} (p q o : ℕ) (from to : Place) (met : Met) (k0 k1 : Keeping) (was now : Talk kind) (x : T) → LeadsOn from
     → ((c s : Collection) (account : AccountState) (asked : List Ask) → IsMet c s met → IsAt c s account asked from k0 was → MaySync c s → to c s asked)
     → k1 ≡ k0 → now.health ≡ was.health → now.wire ≡ was.wire → now.envelopes ≡ was.envelopes → Advances p q o from to met k0 k1 was now (Ok x)
-at_start p q o from to met k0 k1 was now x on so kept health wire envelopes = record {
+at_start {kind} p q o from to met k0 k1 was now x on so kept health wire envelopes = record {
   tries = [];
   asked = asked_none was now health wire envelopes;
   few = few_none p q o;
@@ -230,7 +230,7 @@ at_start p q o from to met k0 k1 was now x on so kept health wire envelopes = re
             base = ap (λ (e : Envelopes). e.base) envelopes ∙ at.has.base;
             step = ap (λ (e : Envelopes). e.step) envelopes ∙ at.has.step;
             reached = subst (λ (e : Envelopes). IsReached (asker e.ids) account s earlier now.wire.log) (sym envelopes)
-                (subst (λ (w : WireState). IsReached (asker was.envelopes.ids) account s earlier w.log) (sym wire) at.has.reached);
+                (subst (λ (w : WireState kind). IsReached (asker was.envelopes.ids) account s earlier w.log) (sym wire) at.has.reached);
             placed = λ may. so c s account earlier met_is at may;
           };
           device = kept ∙ at.device;
@@ -240,7 +240,7 @@ at_start p q o from to met k0 k1 was now x on so kept health wire envelopes = re
 }
 
 -- the same place of any result, told in other words
-pub advances_place : {T : Type 0} (p q o : ℕ) (from mid to : Place) (met : Met) (k0 k1 : Keeping) (t0 t1 : Talk) (result : Result T Stop)
+pub advances_place : {kind : WireKind} {T : Type 0} (p q o : ℕ) (from mid to : Place) (met : Met) (k0 k1 : Keeping) (t0 t1 : Talk kind) (result : Result T Stop)
     → ((c s : Collection) (asked : List Ask) → MaySync c s → mid c s asked → to c s asked)
     → Advances p q o from mid met k0 k1 t0 t1 result → Advances p q o from to met k0 k1 t0 t1 result
 advances_place p q o from mid to met k0 k1 t0 t1 (Ok x) so one = advances_to p q o from mid to met k0 k1 t0 t1 x x so one
@@ -257,7 +257,7 @@ advances_place p q o from mid to met k0 k1 t0 t1 (Err stop) so one = record {
 }
 
 -- of more requests at most
-pub advances_more : {T : Type 0} (p q o p2 q2 o2 : ℕ) (from to : Place) (met : Met) (k0 k1 : Keeping) (t0 t1 : Talk) (result : Result T Stop)
+pub advances_more : {kind : WireKind} {T : Type 0} (p q o p2 q2 o2 : ℕ) (from to : Place) (met : Met) (k0 k1 : Keeping) (t0 t1 : Talk kind) (result : Result T Stop)
     → p ≤ p2 → q ≤ q2 → o ≤ o2 → Advances p q o from to met k0 k1 t0 t1 result → Advances p2 q2 o2 from to met k0 k1 t0 t1 result
 advances_more p q o p2 q2 o2 from to met k0 k1 t0 t1 result pulled pushed others one = record {
   tries = one.tries;
@@ -272,7 +272,7 @@ advances_more p q o p2 q2 o2 from to met k0 k1 t0 t1 result pulled pushed others
 }
 
 -- a part that went well, and then stopped all the same, for a reason that what it asked shows
-advances_stopped : {T U : Type 0} (p q o : ℕ) (from mid to : Place) (met : Met) (k0 k1 k2 : Keeping) (t0 t1 : Talk) (x : T) (result : Result U Stop)
+advances_stopped : {kind : WireKind} {T U : Type 0} (p q o : ℕ) (from mid to : Place) (met : Met) (k0 k1 k2 : Keeping) (t0 t1 : Talk kind) (x : T) (result : Result U Stop)
     → (one : Advances p q o from mid met k0 k1 t0 t1 (Ok x)) → IsErrAnd result (StopsFor one.tries t1.wire)
     → ((c s : Collection) (account : AccountState) (asked : List Ask) → IsAt c s account asked mid k1 t1 → IfErr result (IsFairStop c s))
     → UnlessHalfDone one.tries result (k2 ≡ k1) → Advances p q o from to met k0 k2 t0 t1 result
@@ -301,7 +301,7 @@ advances_stopped {U = U} p q o from mid to met k0 k1 k2 t0 t1 x result one is fa
     if_refused (Err stop) is = is
 
 -- a part that went well, and then was refused all the same
-pub advances_left : {T U : Type 0} (p q o : ℕ) (from mid to : Place) (met : Met) (k0 k1 k2 : Keeping) (t0 t1 : Talk) (x : T) (result : Result U Stop) → IsRefused result
+pub advances_left : {kind : WireKind} {T U : Type 0} (p q o : ℕ) (from mid to : Place) (met : Met) (k0 k1 k2 : Keeping) (t0 t1 : Talk kind) (x : T) (result : Result U Stop) → IsRefused result
     → Advances p q o from mid met k0 k1 t0 t1 (Ok x) → Advances p q o from to met k0 k2 t0 t1 result
 advances_left {U = U} p q o from mid to met k0 k1 k2 t0 t1 x result is one =
     advances_stopped p q o from mid to met k0 k1 k2 t0 t1 x result one (each result is) (λ c s account asked there. refused_is_fair c s result is)
@@ -312,7 +312,7 @@ advances_left {U = U} p q o from mid to met k0 k1 k2 t0 t1 x result is one =
     each (Err stop) is = quiet_stops one.tries t1.wire stop is
 
 -- a part that went well, and asked for too much
-pub advances_many : {T U : Type 0} (p q o : ℕ) (from mid to : Place) (met : Met) (k0 k1 k2 : Keeping) (t0 t1 : Talk) (x : T)
+pub advances_many : {kind : WireKind} {T U : Type 0} (p q o : ℕ) (from mid to : Place) (met : Met) (k0 k1 k2 : Keeping) (t0 t1 : Talk kind) (x : T)
     → (one : Advances p q o from mid met k0 k1 t0 t1 (Ok x)) → AreTooMany one.tries
     → ((c s : Collection) (account : AccountState) (asked : List Ask) → IsAt c s account asked mid k1 t1 → MaySync c s → HasTenMillionRows c s)
     → k2 ≡ k1 → Advances {T = U} p q o from to met k0 k2 t0 t1 (Err stops.TooManyChunks)
@@ -320,7 +320,7 @@ advances_many p q o from mid to met k0 k1 k2 t0 t1 x one many rows same =
     advances_stopped p q o from mid to met k0 k1 k2 t0 t1 x (Err stops.TooManyChunks) one many rows (λ whole. same)
 
 -- a refusal that was handed on
-pub advances_passed : {T U : Type 0} (p q o : ℕ) (from mid to : Place) (met : Met) (k0 k1 : Keeping) (t0 t1 : Talk) (e : Stop) (result : Result U Stop)
+pub advances_passed : {kind : WireKind} {T U : Type 0} (p q o : ℕ) (from mid to : Place) (met : Met) (k0 k1 : Keeping) (t0 t1 : Talk kind) (e : Stop) (result : Result U Stop)
     → IsErrAnd result (λ (stop : Stop). stop ≡ e) → Advances {T = T} p q o from mid met k0 k1 t0 t1 (Err e) → Advances p q o from to met k0 k1 t0 t1 result
 advances_passed p q o from mid to met k0 k1 t0 t1 e (Ok x) is one = absurd is
 advances_passed p q o from mid to met k0 k1 t0 t1 e (Err stop) is one = record {
@@ -337,17 +337,17 @@ advances_passed p q o from mid to met k0 k1 t0 t1 e (Err stop) is one = record {
 }
 
 -- over a keeper that was left as it was
-pub advances_kept : {T : Type 0} (p q o : ℕ) (from to : Place) (met : Met) (k0 k1 : Keeping) (t0 t1 : Talk) (result : Result T Stop)
+pub advances_kept : {kind : WireKind} {T : Type 0} (p q o : ℕ) (from to : Place) (met : Met) (k0 k1 : Keeping) (t0 t1 : Talk kind) (result : Result T Stop)
     → k1 ≡ k0 → Advances p q o from to met k0 k0 t0 t1 result → Advances p q o from to met k0 k1 t0 t1 result
 advances_kept p q o from to met k0 k1 t0 t1 result same one = subst (λ (k : Keeping). Advances p q o from to met k0 k t0 t1 result) (sym same) one
 
 -- over a keeper that was as this one is
-pub advances_from : {T : Type 0} (p q o : ℕ) (from to : Place) (met : Met) (k0 k1 k2 : Keeping) (t0 t1 : Talk) (result : Result T Stop)
+pub advances_from : {kind : WireKind} {T : Type 0} (p q o : ℕ) (from to : Place) (met : Met) (k0 k1 k2 : Keeping) (t0 t1 : Talk kind) (result : Result T Stop)
     → k1 ≡ k0 → Advances p q o from to met k1 k2 t0 t1 result → Advances p q o from to met k0 k2 t0 t1 result
 advances_from p q o from to met k0 k1 k2 t0 t1 result same one = subst (λ (k : Keeping). Advances p q o from to met k k2 t0 t1 result) same one
 
 -- ---- one request
-module _ {G : Type 0} (was now : Talk) (ask : Ask) (it : Request) (part : Give → Option G) (given : Result G Unanswered)
+module _ {kind : WireKind} {G : Type 0} (was now : Talk kind) (ask : Ask) (it : Request) (part : Give → Option G) (given : Result G Unanswered)
     (made : it ≡ request_at (asker was.envelopes.ids) was.envelopes.base (was.envelopes.step + 1) ask)
     (envelopes : now.envelopes ≡ record was.envelopes { step = was.envelopes.step + 1 })
     (call : Answered was.health now.health was.wire now.wire it part given) where

@@ -17,7 +17,7 @@ use Rattle.ak_session.specs.Contents.{answer}
 use Rattle.ak_session.specs.Plans.{Asker, requests_from}
 use Rattle.ak_session.specs.Requests.{asks_commit, is_download, is_meta}
 use Rattle.ak_wires.specs.Tries.{Answered}
-use Rattle.ak_wires.specs.Wires.{WireState}
+use Rattle.ak_wires.specs.Wires.{WireKind, WireState}
 use Rattle.ak_wires.specs.declared.asks.Unanswered.{Unanswered}
 
 pub answered_by : (s : Collection) (accepted : List Request) (request : Request) (asks : List Ask) → asks_of accepted ≡ asks
@@ -39,12 +39,12 @@ module _ (who : Asker) (account : AccountState) (s : Collection) (asks : List As
       let same : length asked + 1 ≡ 1 + length asks = ap (λ (n : ℕ). n + 1) (requests_count who s.head.moment 1 asks) ∙ omega arith in
       ap (λ (n : ℕ). asked ++ request_at who s.head.moment n ask ∷ []) same ∙ sym (requests_go_on who s.head.moment 1 asks ask)
 
-  pub asks_one : {T : Type 0} (before now : Health) (old new : WireState) (part : Give → Option T) (step : ℕ) (result : Result T Unanswered)
+  pub asks_one : {kind : WireKind} {T : Type 0} (before now : Health) (old new : WireState kind) (part : Give → Option T) (step : ℕ) (result : Result T Unanswered)
       → is_meta ask ≡ false → is_download ask ≡ false → asks_commit ask ≡ false → step ≡ length asks + 1
       → IsReached who account s asks old.log → Answered before now old new (request_at who s.head.moment step ask) part result
       → IsReached who account s (asks ++ ask ∷ []) new.log
       × IfOk result (λ (it : T). part (answer_to s asks ask) ≡ Some it)
-  asks_one {T} before now old new part step result later reads commits is reached call =
+  asks_one {kind} {T} before now old new part step result later reads commits is reached call =
       let made = plain_call who account s asked ask before now old new part result later reads commits reached
       (subst (λ (r : Request). Answered before now old new r part result) (step_is step is) call) in (
         subst (λ (l : List Request). IsShown who account s l new.log) one_more made.0,

@@ -22,7 +22,7 @@ use Rattle.ak_messages.specs.declared.replies.SanityReply.{SanityReply}
 use Rattle.ak_messages.specs.declared.requests.Ask.{Ask}
 use Rattle.ak_session.proofs.Ranges.{all_append, not_both}
 use Rattle.ak_wires.specs.Tries.{granted_in, in_form}
-use Rattle.ak_wires.specs.Wires.{WireState}
+use Rattle.ak_wires.specs.Wires.{WireKind, WireState}
 use Rattle.ak_wires.specs.declared.asks.Unanswered.{Unanswered}
 use Rattle.ak_wires.specs.declared.asks.Unanswered.TheVariants as unanswered
 use Rattle.ak_wires.specs.declared.wires.WireEnd.{WireEnd}
@@ -69,7 +69,7 @@ not_ok (Ok x) Q P is = absurd is
 not_ok (Err e) Q P is = tt
 
 -- ---- what a refusal says
-pub quiet_stops : (tries : List TriedAsk) (wire : WireState) (stop : Stop) → is_keep_or_memory stop ≡ true → StopsFor tries wire stop
+pub quiet_stops : {kind : WireKind} (tries : List TriedAsk) (wire : WireState kind) (stop : Stop) → is_keep_or_memory stop ≡ true → StopsFor tries wire stop
 quiet_stops tries wire stops.Keep quiet = tt
 quiet_stops tries wire stops.Memory quiet = tt
 quiet_stops tries wire stops.NoChanges quiet = absurd (grind (arith, quiet))
@@ -85,18 +85,18 @@ quiet_stops tries wire stops.Lost quiet = absurd (grind (arith, quiet))
 quiet_stops tries wire stops.BadReply quiet = absurd (grind (arith, quiet))
 quiet_stops tries wire stops.TooManyChunks quiet = absurd (grind (arith, quiet))
 
-pub refused_stops : {T : Type 0} (tries : List TriedAsk) (wire : WireState) (result : Result T Stop) → IsRefused result → IfErr result (StopsFor tries wire)
+pub refused_stops : {kind : WireKind} {T : Type 0} (tries : List TriedAsk) (wire : WireState kind) (result : Result T Stop) → IsRefused result → IfErr result (StopsFor tries wire)
 refused_stops tries wire (Ok x) is = tt
 refused_stops tries wire (Err stop) is = quiet_stops tries wire stop is
 
-pub unanswered_stops : (tries : List TriedAsk) (wire : WireState) (it : TriedAsk) (why : Unanswered) → IsLast it tries → IsNotGranted it why
+pub unanswered_stops : {kind : WireKind} (tries : List TriedAsk) (wire : WireState kind) (it : TriedAsk) (why : Unanswered) → IsLast it tries → IsNotGranted it why
     → StopsFor tries wire (wire_stop why)
 unanswered_stops tries wire it unanswered.Lost last is = (it, last, is)
 unanswered_stops tries wire it unanswered.BadReply last is = (it, last, is)
 unanswered_stops tries wire it (unanswered.Refused status word seen) last is = (it, last, is)
 unanswered_stops tries wire it unanswered.Memory last is = tt
 
-pub refused_after_stops : {T G : Type 0} (tries : List TriedAsk) (wire : WireState) (it : TriedAsk) (given : Result G Unanswered) (result : Result T Stop)
+pub refused_after_stops : {kind : WireKind} {T G : Type 0} (tries : List TriedAsk) (wire : WireState kind) (it : TriedAsk) (given : Result G Unanswered) (result : Result T Stop)
     → IsLast it tries → ((why : Unanswered) → given ≡ Err why → IsNotGranted it why) → IsRefusedAfter given result → IfErr result (StopsFor tries wire)
 refused_after_stops tries wire it given (Ok x) last so is = tt
 refused_after_stops tries wire it given (Err stop) last so (inl quiet) = quiet_stops tries wire stop quiet
@@ -267,7 +267,7 @@ last_then a b it (before, is) = (a ++ before, ap (λ (l : List TriedAsk). a ++ l
 pub ends_then : (a b : List TriedAsk) (why : Unanswered) → EndsUnanswered b why → EndsUnanswered (a ++ b) why
 ends_then a b why (it, last, is) = (it, last_then a b it last, is)
 
-pub checked_then : (a b : List TriedAsk) (stop : Stop) (wire : WireState) → IsCheckedLast b stop wire → IsCheckedLast (a ++ b) stop wire
+pub checked_then : {kind : WireKind} (a b : List TriedAsk) (stop : Stop) (wire : WireState kind) → IsCheckedLast b stop wire → IsCheckedLast (a ++ b) stop wire
 checked_then a b stop wire it = record {
   it = it.it;
   last = last_then a b it.it it.last;
@@ -289,7 +289,7 @@ many_then a b (inr sent) = inr (subst (λ (l : List Ask). 39_999 ≤ count_by se
     after : (x y : List Ask) → 39_999 ≤ count_by sends_unfinished y → 39_999 ≤ count_by sends_unfinished (x ++ y)
     after x y is = let both = sum_by-append (λ (ask : Ask). cond (sends_unfinished ask) 1 0) x y in omega (arith, both, is)
 
-stops_then : (a b : List TriedAsk) (wire : WireState) (stop : Stop) → StopsFor b wire stop → StopsFor (a ++ b) wire stop
+stops_then : {kind : WireKind} (a b : List TriedAsk) (wire : WireState kind) (stop : Stop) → StopsFor b wire stop → StopsFor (a ++ b) wire stop
 stops_then a b wire (stops.BadRow fault) is = checked_then a b (stops.BadRow fault) wire is
 stops_then a b wire (stops.BadCounts client server) is = checked_then a b (stops.BadCounts client server) wire is
 stops_then a b wire (stops.Refused status word seen) is = ends_then a b (unanswered.Refused status word seen) is
@@ -305,7 +305,7 @@ stops_then a b wire (stops.ClockOff device server) is = is
 stops_then a b wire (stops.OwnCheck fault) is = is
 stops_then a b wire stops.Stopped is = is
 
-pub part_stops : {T : Type 0} (a b : List TriedAsk) (wire : WireState) (result : Result T Stop) → IfErr result (StopsFor b wire) → IfErr result (StopsFor (a ++ b) wire)
+pub part_stops : {kind : WireKind} {T : Type 0} (a b : List TriedAsk) (wire : WireState kind) (result : Result T Stop) → IfErr result (StopsFor b wire) → IfErr result (StopsFor (a ++ b) wire)
 part_stops a b wire (Ok x) is = tt
 part_stops a b wire (Err stop) is = stops_then a b wire stop is
 
@@ -359,7 +359,7 @@ verdict_is_bad reply stop is = by reply.good is
     by true shown = absurd (not_err shown)
     by false shown = ap shows_bad_check (sym (same (check_stop reply.fault reply.client reply.server) stop shown)) ∙ bad reply.fault
 
-checked_stops : (tries : List TriedAsk) (wire : WireState) (stop : Stop) → shows_bad_check stop ≡ true → IsCheckedLast tries stop wire → StopsFor tries wire stop
+checked_stops : {kind : WireKind} (tries : List TriedAsk) (wire : WireState kind) (stop : Stop) → shows_bad_check stop ≡ true → IsCheckedLast tries stop wire → StopsFor tries wire stop
 checked_stops tries wire (stops.BadRow fault) bad is = is
 checked_stops tries wire (stops.BadCounts client server) bad is = is
 checked_stops tries wire stops.Keep bad is = absurd (grind (arith, bad))
@@ -375,7 +375,7 @@ checked_stops tries wire stops.Lost bad is = absurd (grind (arith, bad))
 checked_stops tries wire stops.BadReply bad is = absurd (grind (arith, bad))
 checked_stops tries wire stops.TooManyChunks bad is = absurd (grind (arith, bad))
 
-pub check_stops : (tries : List TriedAsk) (wire : WireState) (stop : Stop) → IsCheckedLast tries stop wire → StopsFor tries wire stop
+pub check_stops : {kind : WireKind} (tries : List TriedAsk) (wire : WireState kind) (stop : Stop) → IsCheckedLast tries stop wire → StopsFor tries wire stop
 check_stops tries wire stop is = checked_stops tries wire stop (verdict_is_bad is.reply stop is.verdict) is
 
 -- a sanity check does not stop a sync because the keeper failed

@@ -11,7 +11,7 @@ use Rattle.ak_messages.specs.declared.replies.Reply.{Reply}
 use Rattle.ak_messages.specs.declared.requests.Ask.{Ask}
 use Rattle.ak_messages.specs.declared.requests.Request.{Request}
 use Rattle.ak_session.specs.Plans.{Asker, requests_from}
-use Rattle.ak_wires.specs.Wires.{WireState}
+use Rattle.ak_wires.specs.Wires.{WireKind, WireState}
 use Rattle.ak_wires.specs.declared.wires.WireEnd.{WireEnd}
 
 abbrev Answer : Type 0
@@ -29,26 +29,26 @@ asks_count [] = refl
 asks_count (it ∷ more) = ap suc (asks_count more)
 
 -- ---- requests
-pub tried_then : (a b : List Request) (x y : List Answer) (h0 h1 h2 : Health) (w0 w1 w2 : WireState) → AreTried a x h0 h1 w0 w1 → AreTried b y h1 h2 w1 w2
+pub tried_then : {kind : WireKind} (a b : List Request) (x y : List Answer) (h0 h1 h2 : Health) (w0 w1 w2 : WireState kind) → AreTried a x h0 h1 w0 w1 → AreTried b y h1 h2 w1 w2
     → AreTried (a ++ b) (x ++ y) h0 h2 w0 w2
-tried_then [] b [] y h0 h1 h2 w0 w1 w2 one two =
-    subst (λ (h : Health). AreTried b y h h2 w0 w2) one.0 (subst (λ (w : WireState). AreTried b y h1 h2 w w2) one.1 two)
+tried_then {kind} [] b [] y h0 h1 h2 w0 w1 w2 one two =
+    subst (λ (h : Health). AreTried b y h h2 w0 w2) one.0 (subst (λ (w : WireState kind). AreTried b y h1 h2 w w2) one.1 two)
 tried_then [] b (answer ∷ x) y h0 h1 h2 w0 w1 w2 one two = absurd one
 tried_then (request ∷ more) b [] y h0 h1 h2 w0 w1 w2 one two = absurd one
 tried_then (request ∷ more) b (answer ∷ x) y h0 h1 h2 w0 w1 w2 one two =
     (one.0, one.1, one.2, tried_then more b x y one.0 h1 h2 one.1 w1 w2 one.3 two)
 
 -- the count of faults of a wire never falls, and neither does that of its bad answers
-pub tried_goes : (list : List Request) (answers : List Answer) (h0 h1 : Health) (w0 w1 : WireState) → AreTried list answers h0 h1 w0 w1 → GoesOn h0 h1
+pub tried_goes : {kind : WireKind} (list : List Request) (answers : List Answer) (h0 h1 : Health) (w0 w1 : WireState kind) → AreTried list answers h0 h1 w0 w1 → GoesOn h0 h1
 tried_goes [] [] h0 h1 w0 w1 tried = subst (λ (h : Health). GoesOn h0 h) (sym tried.0) (goes_nowhere h0)
 tried_goes [] (answer ∷ answers) h0 h1 w0 w1 tried = absurd tried
 tried_goes (request ∷ more) [] h0 h1 w0 w1 tried = absurd tried
 tried_goes (request ∷ more) (answer ∷ answers) h0 h1 w0 w1 tried = goes_further tried.2.goes (tried_goes more answers tried.0 h1 tried.1 w1 tried.3)
 
-pub tried_reads : (list : List Request) (answers : List Answer) (h0 h1 : Health) (w0 w1 : WireState) → AreTried list answers h0 h1 w0 w1
+pub tried_reads : {kind : WireKind} (list : List Request) (answers : List Answer) (h0 h1 : Health) (w0 w1 : WireState kind) → AreTried list answers h0 h1 w0 w1
     → GoesOn w0.reading w1.reading
-tried_reads [] [] h0 h1 w0 w1 tried =
-    subst (λ (w : WireState). GoesOn w0.reading w.reading) (sym tried.1) (goes_nowhere w0.reading)
+tried_reads {kind} [] [] h0 h1 w0 w1 tried =
+    subst (λ (w : WireState kind). GoesOn w0.reading w.reading) (sym tried.1) (goes_nowhere w0.reading)
 tried_reads [] (answer ∷ answers) h0 h1 w0 w1 tried = absurd tried
 tried_reads (request ∷ more) [] h0 h1 w0 w1 tried = absurd tried
 tried_reads (request ∷ more) (answer ∷ answers) h0 h1 w0 w1 tried =
@@ -64,14 +64,14 @@ requests_append who base step (ask ∷ more) b =
     ∙ ap (λ (n : ℕ). requests_from who base (step + 1) more ++ requests_from who base n b) same)
 
 -- ---- asks
-pub asked_none : (was now : Talk) → now.health ≡ was.health → now.wire ≡ was.wire → now.envelopes ≡ was.envelopes → AreAsked [] was now
+pub asked_none : {kind : WireKind} (was now : Talk kind) → now.health ≡ was.health → now.wire ≡ was.wire → now.envelopes ≡ was.envelopes → AreAsked [] was now
 asked_none was now health wire envelopes = record {
   tried = (health, wire);
   envelopes = let same : was.envelopes.step ≡ was.envelopes.step + 0 = omega arith in
       envelopes ∙ ap (λ (n : ℕ). record was.envelopes { step = n }) same;
 }
 
-pub asked_then : (a b : List TriedAsk) (was mid now : Talk) → AreAsked a was mid → AreAsked b mid now → AreAsked (a ++ b) was now
+pub asked_then : {kind : WireKind} (a b : List TriedAsk) (was mid now : Talk kind) → AreAsked a was mid → AreAsked b mid now → AreAsked (a ++ b) was now
 asked_then a b was mid now one two = record {
   tried = subst (λ (l : List Request). AreTried l (answers_in (a ++ b)) was.health now.health was.wire now.wire)
       (sym (ap (requests_from (asker was.envelopes.ids) was.envelopes.base (was.envelopes.step + 1)) (asks_append a b)

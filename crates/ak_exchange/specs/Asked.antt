@@ -11,7 +11,7 @@ use Rattle.ak_messages.specs.declared.requests.Request.{Request}
 use Rattle.ak_session.specs.Plans.{Asker, requests_from}
 use Rattle.ak_session.specs.Requests.{asked_method, same_method}
 use Rattle.ak_wires.specs.Tries.{Tried}
-use Rattle.ak_wires.specs.Wires.{WireState}
+use Rattle.ak_wires.specs.Wires.{WireKind, WireState}
 use Rattle.ak_wires.specs.declared.wires.WireEnd.{WireEnd}
 
 -- ---- the requests
@@ -37,22 +37,22 @@ abbrev pub answers_in : List TriedAsk → List (Result Reply WireEnd)
 answers_in tries = map (λ (it : TriedAsk). it.answer) tries
 
 -- these requests were asked of a wire, one after the other, and so answered; each was tried at most 3 times
-abbrev pub AreTried : List Request → List (Result Reply WireEnd) → Health → Health → WireState → WireState → Type 0
+abbrev pub AreTried : {kind : WireKind} → List Request → List (Result Reply WireEnd) → Health → Health → WireState kind → WireState kind → Type 0
 AreTried [] [] before now old new = (now ≡ before) × (new ≡ old)
 AreTried [] (answer ∷ answers) before now old new = ⊥
 AreTried (request ∷ more) [] before now old new = ⊥
-AreTried (request ∷ more) (answer ∷ answers) before now old new =
-    (between : Health) × (mid : WireState)
+AreTried {kind} (request ∷ more) (answer ∷ answers) before now old new =
+    (between : Health) × (mid : WireState kind)
     × Tried before between old mid request answer × AreTried more answers between now mid new
 
 -- a sync and its wire: how many of its calls failed, what is known of it, and the envelopes of the next request
-pub record Talk : Type 0 where
+pub record Talk (kind : WireKind) : Type 0 where
   pub health : Health
-  pub wire : WireState
+  pub wire : WireState kind
   pub envelopes : Envelopes
 
 -- these were tried from one talk to another: the steps go on from the last one, over the same base
-pub record AreAsked (tries : List TriedAsk) (was now : Talk) : Type 0 where
+pub record AreAsked {kind : WireKind} (tries : List TriedAsk) (was now : Talk kind) : Type 0 where
   pub tried : AreTried (requests_from (asker was.envelopes.ids) was.envelopes.base (was.envelopes.step + 1) (asks_in tries))
       (answers_in tries) was.health now.health was.wire now.wire
   pub envelopes : now.envelopes ≡ record was.envelopes { step = was.envelopes.step + length tries }

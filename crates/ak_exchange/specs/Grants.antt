@@ -15,7 +15,7 @@ use Rattle.ak_messages.specs.declared.requests.Ask.TheVariants as asks
 use Rattle.ak_messages.specs.declared.requests.Chunk.{Chunk}
 use Rattle.ak_messages.specs.declared.requests.SanityCounts.{SanityCounts}
 use Rattle.ak_wires.specs.Forms.{changes_in, chunk_in, graves_in, meta_in, moment_in, nothing_in, verdict_in}
-use Rattle.ak_wires.specs.Wires.{WireState}
+use Rattle.ak_wires.specs.Wires.{WireKind, WireState}
 use Rattle.ak_wires.specs.declared.asks.Unanswered.{Unanswered}
 use Rattle.ak_wires.specs.declared.asks.Unanswered.TheVariants as unanswered
 use Rattle.ak_wires.specs.declared.wires.Said.{Said}
@@ -73,8 +73,9 @@ AreGranted tries (Ok it) = AllGranted tries
 AreGranted tries (Err stop) = AllGrantedButLast tries
 
 -- ---- chunks that are sent
--- a chunk that is sent and is not the last one has 250 rows
+-- no collection is uploaded, and a chunk that is sent and is not the last one has 250 rows
 abbrev pub SendsRows : Ask → Type 0
+SendsRows (asks.Upload whole) = ⊥
 SendsRows (asks.ApplyChunk chunk) = IsFullIfMore chunk
 SendsRows ask = ⊤
 
@@ -102,7 +103,7 @@ abbrev pub StopsUnanswered : List TriedAsk → Stop → Type 0
 StopsUnanswered tries stop = (why : Unanswered) × (stop ≡ wire_stop why) × EndsUnanswered tries why
 
 -- the last that was tried is a sanity check, and this is what its reply showed
-pub record IsCheckedLast (tries : List TriedAsk) (stop : Stop) (wire : WireState) : Type 0 where
+pub record IsCheckedLast {kind : WireKind} (tries : List TriedAsk) (stop : Stop) (wire : WireState kind) : Type 0 where
   pub it : TriedAsk
   pub last : IsLast it tries
   pub counts : SanityCounts
@@ -130,7 +131,7 @@ AreTooMany tries = (40_000 ≤ count_by came_unfinished tries) ⊎ (39_999 ≤ c
 
 -- why an exchange stopped, by what was tried. A keeper's fault and want of memory may come at any time; the reasons that are none here come
 -- before an exchange
-abbrev pub StopsFor : List TriedAsk → WireState → Stop → Type 0
+abbrev pub StopsFor : {kind : WireKind} → List TriedAsk → WireState kind → Stop → Type 0
 StopsFor tries wire (stops.BadRow fault) = IsCheckedLast tries (stops.BadRow fault) wire
 StopsFor tries wire (stops.BadCounts client server) = IsCheckedLast tries (stops.BadCounts client server) wire
 StopsFor tries wire (stops.Refused status word seen) = EndsUnanswered tries (unanswered.Refused status word seen)

@@ -20,6 +20,7 @@ use Rattle.ak_session.specs.Asks.{all_brought}
 use Rattle.ak_session.specs.Messages.{chunk_of, grave_ids}
 use Rattle.ak_session.specs.Plans.{device_rows, planned_changes, planned_chunks, planned_pushes, planned_start}
 use Rattle.ak_session.specs.Slices.{slices, wanted_graves, wanted_in_chunks}
+use Rattle.ak_wires.specs.Wires.{WireKind}
 
 -- this many slices of the device's graves were sent, after its start
 pub record HaveSentGraves (count : ℕ) (list : List Row) (c s : Collection) (asked : List Ask) : Type 0 where
@@ -65,20 +66,20 @@ last_sent (Err stop) = 1
 
 -- ---- one chunk
 -- one chunk more was asked for; if it is not the last one, that shows
-pub record PullsOne (count : ℕ) (met : Met) (before after : Keeping) (was now : Talk) (result : Result Bool Stop) : Type 0 where
+pub record PullsOne {kind : WireKind} (count : ℕ) (met : Met) (before after : Keeping) (was now : Talk kind) (result : Result Bool Stop) : Type 0 where
   pub leads : Advances 1 0 0 (HavePulled count) (λ c s asked. IfOk result (λ done. HasPulledOne count done c s asked)) met
       before after was now result
   pub unfinished : IfOk result (λ done. done ≡ false → 1 ≤ count_by came_unfinished leads.tries)
 
 -- this chunk was sent and nothing else, which is the next after so many, and behind which the next one begins at a place
-pub record SendsOne (chunk : Chunk) (count : ℕ) (from next : Name) (met : Met) (before after : Keeping) (was now : Talk)
+pub record SendsOne {kind : WireKind} (chunk : Chunk) (count : ℕ) (from next : Name) (met : Met) (before after : Keeping) (was now : Talk kind)
     (result : Result (Unit {0}) Stop) : Type 0 where
   pub leads : Advances 0 (if chunk.done then 0 else 1) (if chunk.done then 1 else 0) (HavePushed count from)
       (HasPushedOne count (if chunk.done then None else Some next)) met before after was now result
   pub sent : OnOk result (asks_in leads.tries ≡ asks.ApplyChunk chunk ∷ [])
 
 -- one chunk more was sent; if it is not the last one, that shows
-pub record PushesOne (count : ℕ) (from : Name) (met : Met) (before after : Keeping) (was now : Talk)
+pub record PushesOne {kind : WireKind} (count : ℕ) (from : Name) (met : Met) (before after : Keeping) (was now : Talk kind)
     (result : Result (Option Name) Stop) : Type 0 where
   pub leads : Advances 0 1 (last_sent result) (HavePushed count from)
       (λ c s asked. IfOk result (λ next. HasPushedOne count next c s asked)) met before after was now result

@@ -32,6 +32,7 @@ use Rattle.ak_session.specs.Requests.{asks_commit}
 use Rattle.ak_session.specs.Sessions.{MaySync}
 use Rattle.ak_session.specs.Slices.{wanted_graves, wanted_in_chunks}
 use Rattle.ak_wires.specs.declared.wires.WireEnd.{WireEnd}
+use Rattle.ak_wires.specs.Wires.{WireKind}
 
 -- ---- the device
 -- what a keeper holds if it holds this collection
@@ -102,21 +103,21 @@ IsReached who account s asked told = (log : Log) × (told ≡ Some log)
     × IsUnderWay who.host.digits who.session.0 (requests_from who s.head.moment 1 asked) s account log
 
 -- a sync with what was committed as s asked these after its meta, step by step, and nothing else. If the two may sync, that led to a place
-pub record HasAsked (c s : Collection) (account : AccountState) (asked : List Ask) (place : Place)
-    (talk : Talk) : Type 0 where
+pub record HasAsked {kind : WireKind} (c s : Collection) (account : AccountState) (asked : List Ask) (place : Place)
+    (talk : Talk kind) : Type 0 where
   pub base : talk.envelopes.base ≡ s.head.moment
   pub step : talk.envelopes.step ≡ length asked
   pub reached : IsReached (asker talk.envelopes.ids) account s asked talk.wire.log
   pub placed : MaySync c s → place c s asked
 
 -- and the device, which is marked at c, took what the replies brought, and settled what these sent and nothing else
-pub record IsAt (c s : Collection) (account : AccountState) (asked : List Ask) (place : Place)
-    (keeping : Keeping) (talk : Talk) : Type 0 where
+pub record IsAt {kind : WireKind} (c s : Collection) (account : AccountState) (asked : List Ask) (place : Place)
+    (keeping : Keeping) (talk : Talk kind) : Type 0 where
   pub has : HasAsked c s account asked place talk
   pub device : keeping ≡ changed (taken_and_settled s.head.usn (all_replied s asked) asked) (marked_at c)
 
 -- a sync was left once it had asked these, a front of its plan if the two may sync
-pub record IsLeft (c s : Collection) (account : AccountState) (who : Asker) (asked : List Ask) (talk : Talk) : Type 0 where
+pub record IsLeft {kind : WireKind} (c s : Collection) (account : AccountState) (who : Asker) (asked : List Ask) (talk : Talk kind) : Type 0 where
   pub reached : IsReached who account s asked talk.wire.log
   pub front : MaySync c s → (rest : List Ask) × (asked ++ rest ≡ planned c s)
 
@@ -137,8 +138,8 @@ IsFairStop c s stop = ⊤
 -- a part of a sync: what it asked, and that nothing of it commits; what the device took and settled, also if it stopped, unless it is half
 -- done; and where keeper and wire tell what they hold, that it leads from one place of the plan to another. If it is refused, the
 -- sync is left where it is
-pub record Advances {T : Type 0} (pulled pushed others : ℕ) (from to : Place) (met : Met)
-    (before after : Keeping) (was now : Talk) (result : Result T Stop) : Type 0 where
+pub record Advances {kind : WireKind} {T : Type 0} (pulled pushed others : ℕ) (from to : Place) (met : Met)
+    (before after : Keeping) (was now : Talk kind) (result : Result T Stop) : Type 0 where
   pub tries : List TriedAsk
   pub asked : AreAsked tries was now
   pub few : AreFew pulled pushed others (asks_in tries)
@@ -160,7 +161,7 @@ AreGraveRequests keeping graves = WhereTold keeping (λ h. graves ≤ div_ceil (
 -- ---- all but the finish
 -- what a sync asks between its meta and its finish, and what the device took and settled; and where keeper and wire tell what they hold, that
 -- it was left in its plan, or that all of the plan but the finish was asked
-pub record Exchanges (met : Met) (before after : Keeping) (was now : Talk) (result : Result (Unit {0}) Stop) : Type 0 where
+pub record Exchanges {kind : WireKind} (met : Met) (before after : Keeping) (was now : Talk kind) (result : Result (Unit {0}) Stop) : Type 0 where
   pub tries : List TriedAsk
   pub asked : AreAsked tries was now
   -- at most 40,000 chunks each way; the start, the changes, the last chunk that is sent and the sanity check are others
@@ -183,8 +184,8 @@ abbrev pub finish_after : Asker → Collection → List Ask → Request
 finish_after who s before = request_at who s.head.moment (length before + 1) Finish
 
 -- the session committed once: at the finish, which came after these, what they made of s; and it had no reason to refuse it
-pub record HasCommitted (c s : Collection) (account : AccountState) (who : Asker) (before : List Ask)
-    (moment : ℤ) (talk : Talk) : Type 0 where
+pub record HasCommitted {kind : WireKind} (c s : Collection) (account : AccountState) (who : Asker) (before : List Ask)
+    (moment : ℤ) (talk : Talk kind) : Type 0 where
   pub log : Log
   pub told : talk.wire.log ≡ Some log
   pub at : ℤ
@@ -196,14 +197,14 @@ pub record HasCommitted (c s : Collection) (account : AccountState) (who : Asker
   pub moment_is : moment ≡ after.head.moment
 
 -- memory is told to have run out since the last step has no successor in 64 bits, and nothing was asked
-pub record IsOutOfSteps (was : Talk) (tries : List TriedAsk) (stop : Stop) : Type 0 where
+pub record IsOutOfSteps {kind : WireKind} (was : Talk kind) (tries : List TriedAsk) (stop : Stop) : Type 0 where
   pub unasked : tries ≡ []
   pub last : was.envelopes.step + 1 ≡ 2 ^ 64
   pub memory : stop ≡ stops.Memory
 
 -- a finish: what it asked; and where the wire tells its log, that the sync was left, or that its session committed. It stops only because no
 -- step was left, so that it was not asked, or because it was not granted
-pub record Finishes (was now : Talk) (result : Result ℤ Stop) : Type 0 where
+pub record Finishes {kind : WireKind} (was now : Talk kind) (result : Result ℤ Stop) : Type 0 where
   pub tries : List TriedAsk
   pub asked : AreAsked tries was now
   pub few : AreFew 0 0 1 (asks_in tries)

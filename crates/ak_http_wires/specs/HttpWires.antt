@@ -6,13 +6,13 @@ use Rattle.ak_io.specs.Ends.{uncertain}
 use Rattle.ak_links.specs.Dials.{GivesFirst}
 use Rattle.ak_messages.specs.declared.methods.Method.{Method}
 use Rattle.ak_messages.specs.declared.replies.Reply.{Reply}
-use Rattle.ak_wires.specs.Wires.{WireState}
+use Rattle.ak_wires.specs.Wires.{WireState, plain_kind}
 use Rattle.ak_wires.specs.declared.wires.WireEnd.{WireEnd}
 use Rattle.ak_wires.specs.declared.wires.WireEnd.TheVariants as ends
 use Rattle.ak_http_wires.specs.Exchanges.{Exchanges}
 
 -- it tells no log, may fail at any call, and may get an answer that can't be read at any
-abbrev pub http_state : CallCounts → ℕ → WireState
+abbrev pub http_state : CallCounts → ℕ → WireState plain_kind
 http_state c bad = record {
   log = None;
   reading = uncertain bad;
@@ -20,7 +20,7 @@ http_state c bad = record {
   said = c.said;
   calls = c.calls;
   alone = false;
-  made_with = [];
+  inside = tt;
 }
 
 -- how many answers could not be read, once so many could not before this call

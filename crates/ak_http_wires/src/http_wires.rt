@@ -83,7 +83,9 @@ impl<D: Dial> Wire for HttpWire<D> {
     ghost use Rattle.ak_http_wires.specs.HttpWires.{CallsOnce, http_state, bad_after};
     ghost use Rattle.ak_http_wires.specs.RequestTexts.{request_http};
     ghost use Rattle.ak_session.specs.Requests.{asked_method};
-    ghost use Rattle.ak_wires.specs.Wires.{Called};
+    ghost use Rattle.ak_wires.specs.Wires.{Called, plain_kind};
+
+    ghost kind = { plain_kind };
 
     ghost state = { λ wire. http_state wire.counts wire.bad };
 

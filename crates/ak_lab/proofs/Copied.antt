@@ -1,20 +1,16 @@
 -- What is said of a copy of the server's collection is said of that collection.
-use Rattle.std.proofs.Common.{◌≡◌, ℕ, ℤ, pos, negsuc, SFits, w64, to_z, of_z, arith, [], List, Option, Some, None, Result, Ok, Err, IfOk, refl, sym, ap, subst, ◌∙◌}
+use Rattle.std.proofs.Common.{◌≡◌, ℕ, ℤ, pos, negsuc, SFits, w64, to_z, of_z, arith, [], List, Option, Some, Result, Ok, Err, IfOk, refl, sym, ap, subst, ◌∙◌}
 use Rattle.std.proofs.lemmas.Int.{ints, to_z-of_z}
-use Rattle.std.proofs.lemmas.Option.{none-some, same_Some}
-use Rattle.std.specs.Option.{option_map}
 use Rattle.ak_base.specs.Heads.{IsHeadInRange, IsMoment}
-use Rattle.ak_base.specs.declared.heads.Head.{Head}
-use Rattle.ak_keep.specs.Collections.{Collection, Holding, Rows, collection_of}
+use Rattle.ak_keep.specs.Collections.{Collection, Holding, collection_of}
 use Rattle.ak_keep.specs.Marks.{WithMark}
 use Rattle.ak_lab_devices.specs.Devices.{as_downloaded, new_device}
 use Rattle.ak_lab_devices.specs.declared.devices.Device.{Device}
 use Rattle.ak_lab_keepers.specs.RestingKeepers.{Holds, kept_of}
 use Rattle.ak_lab_lines.specs.LabTexts.{counts_text}
-use Rattle.ak_loops.specs.Entries.{LoggedState, collection_in}
+use Rattle.ak_loops.specs.Entries.{collection_in}
 use Rattle.ak_messages.specs.declared.requests.SanityCounts.{SanityCounts}
 use Rattle.ak_openings.specs.declared.whole_collections.Opening.{Opening}
-use Rattle.ak_server_copies.specs.Copies.{committed_in}
 use Rattle.ak_session.specs.Answers.{counts_of}
 use Rattle.ak_undo.specs.declared.steps.Step.{Step}
 
@@ -65,5 +61,5 @@ counted kept counts (Err end) held is = tt
 
 -- a new device, with a copy
 pub made_new : (name : List ℕ) (held : WithMark Holding) (steps : List Step) (c : Collection) → held ≡ kept_of (as_downloaded c) → steps ≡ []
-    → (let d : Device = record { name = name; collection = held; undo = steps; shift = pos 0; done = 0; calls = 0 } in d) ≡ new_device name c
+    → (let d : Device = record { name = name; collection = held; undo = steps; shift = pos 0; done = 0; calls = 0; mishaps = []; planned = [] } in d) ≡ new_device name c
 made_new name held steps c same none = rw (same, none) refl

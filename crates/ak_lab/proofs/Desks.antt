@@ -6,8 +6,8 @@ use Rattle.ak_edit.specs.declared.desk_faults.DeskFault.{DeskFault}
 use Rattle.ak_filters.specs.Meanings.{Meaning}
 use Rattle.ak_io.specs.Arrivals.{IsClockMoment}
 use Rattle.ak_lab.proofs.Coming.{short}
-use Rattle.ak_lab.proofs.InTime.{place_in_time, unshifted_in_time}
-use Rattle.ak_lab.proofs.Placing.{read_there}
+use Rattle.ak_lab_devices.proofs.InTime.{place_in_time, unshifted_in_time}
+use Rattle.ak_lab_devices.proofs.Placing.{read_there}
 use Rattle.ak_lab.specs.LabDesks.{EndsDo, EndsReview, IsObeyed, desk_of, turn_of}
 use Rattle.ak_lab.specs.LabStates.{IsReady, LabState}
 use Rattle.ak_lab.specs.LabStops.{IsLineStop}

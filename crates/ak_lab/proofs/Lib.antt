@@ -1,14 +1,12 @@
 mod Coming
-mod ComingInTurn
 mod Copied
 mod Desks
 mod Going
-mod InTime
 mod Numbers
 pub mod Openings
-mod Placing
+mod Planned
+mod Preparing
 mod Printing
+mod Shifting
 mod Stopping
-mod SyncChains
 mod Syncing
-pub mod Transferring

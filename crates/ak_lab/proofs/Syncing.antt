@@ -1,85 +1,119 @@
 -- A session of the device at a place is one of the device of its name.
-use Rattle.std.proofs.Common.{◌≡◌, ℕ, ℤ, ◌+ℤ◌, true, List, None, Result, Ok, Err, get_or, refl, sym, ap, subst, ◌∙◌, inl, inr, slice_set}
+use Rattle.std.proofs.Common.{◌≡◌, ℕ, ℤ, ◌+ℤ◌, List, [], ◌∷◌, ◌++◌, Some, None, Result, Ok, Err, refl, sym, ap, subst, ◌∙◌, inl, inr, slice_get, slice_set}
 use Rattle.ak_client.specs.declared.outcomes.Outcome.{Outcome}
 use Rattle.ak_faults.specs.Causes.{one_more}
 use Rattle.ak_lab.proofs.Coming.{stopped_at_once}
-use Rattle.ak_lab.proofs.Desks.{put_there, read_twice, ready_there}
-use Rattle.ak_lab.proofs.Placing.{back_there, read_there}
+use Rattle.ak_lab.proofs.Shifting.{ready_after}
 use Rattle.ak_lab.specs.LabStates.{IsReady, LabState}
 use Rattle.ak_lab.specs.LabStops.{IsStopBy, PrintsOutcome}
-use Rattle.ak_lab.specs.LabSyncs.{EndsLabSession, IsLabSession, RunsAt, session_line}
+use Rattle.ak_lab.specs.LabSyncs.{EndsLabSession, RunsAt, mishaps_for, planned_for, session_line, without_plan_for}
 use Rattle.ak_lab.specs.LineStops.{CameOut}
 use Rattle.ak_lab.specs.declared.lab_stops.LabStop.{LabStop}
 use Rattle.ak_lab.specs.declared.lab_stops.LabStop.TheVariants as stops
-use Rattle.ak_lab.specs.declared.lab_syncs.SessionKind.{SessionKind}
-use Rattle.ak_lab.specs.declared.lab_syncs.SessionKind.TheVariants as kinds
 use Rattle.ak_lab_devices.specs.Devices.{IsPlaceOf, device_of}
 use Rattle.ak_lab_devices.specs.declared.devices.Device.{Device}
-use Rattle.ak_lab_lines.specs.LabTexts.{no_device_text}
+use Rattle.ak_lab_lines.specs.LabTexts.{direction_word, ending_text, no_device_text}
+use Rattle.ak_lab_lines.specs.declared.lab_lines.Direction.{Direction}
 use Rattle.ak_lab_lines.specs.declared.lab_lines.LabLine.TheVariants as lines
-use Rattle.ak_loops.specs.Entries.{LoggedState, health_in}
+use Rattle.ak_lab_wires.proofs.Alone.{lab_stays}
+use Rattle.ak_lab_wires.specs.CrossedSyncs.{CrossState, CrossesAt, cross_state, crosses_nothing}
+use Rattle.ak_lab_wires.specs.LabSessions.{IsSessionOver}
+use Rattle.ak_lab_wires.specs.declared.crossed_syncs.Crossings.{Crossings}
+use Rattle.ak_lab_wires.specs.declared.lab_sessions.SessionKind.{SessionKind}
+use Rattle.ak_lab_wires.specs.declared.lab_sessions.SessionKind.TheVariants as kinds
+use Rattle.ak_loops.specs.Entries.{LoggedState}
+use Rattle.ak_loops.specs.declared.mishaps.Mishap.{Mishap}
 
 -- the lab after a session of the device at a place
-abbrev pub synced_at : ℕ → Device → LoggedState → ℕ → LabState → LabState
-synced_at place made server sessions s =
-    record s { server = server; sessions = sessions; devices = slice_set s.devices place made }
+abbrev pub synced_at : ℕ → Device → LoggedState → Crossings → LabState → LabState
+synced_at place made server became s =
+    record s { server = server; sessions = became.lab.sessions; devices = slice_set became.lab.devices.items place made }
 
--- the session of the device that was read at a place
-pub syncs_there : (kind : SessionKind) (name : List ℕ) (s : LabState) (place : ℕ) (read d made : Device) (server : LoggedState) (session : ℕ) (at device_at : ℤ) (outcome : Outcome)
-    → IsPlaceOf name s.devices place → read ≡ get_or s.devices place read → d ≡ get_or s.devices place d
-    → at ≡ s.clock → device_at ≡ s.clock +ℤ read.shift → session ≡ one_more s.sessions
-    → IsLabSession kind session at device_at d made s.server server outcome → RunsAt kind place s (synced_at place made server session s) outcome
-syncs_there kind name s place read d made server session at device_at outcome is first second clock moment next sync =
-    let there = read_there name s.devices place d is second in
-    let same : read ≡ d = read_twice name s place read d is first second in
-    let own : device_at ≡ s.clock +ℤ d.shift = moment ∙ ap (λ (x : Device). s.clock +ℤ x.shift) same in
+-- the lab in which others sync meanwhile, field by field
+pub cross_begins : (s : LabState) (x : CrossState) (place : ℕ) (stand_in : Device) → x.clock ≡ s.clock → x.sessions ≡ one_more s.sessions
+    → x.devices ≡ slice_set s.devices place stand_in → x.printed ≡ []
+    → x ≡ (let y : CrossState = record { clock = s.clock; sessions = one_more s.sessions; devices = slice_set s.devices place stand_in; printed = [] } in y)
+cross_begins s x place stand_in clock sessions devices printed =
+    ap (λ (z : ℤ). let y : CrossState = record x { clock = z } in y) clock
+    ∙ ap (λ (n : ℕ). let y : CrossState = record x { clock = s.clock; sessions = n } in y) sessions
+    ∙ ap (λ (l : List Device). let y : CrossState = record x { clock = s.clock; sessions = one_more s.sessions; devices = l } in y) devices
+    ∙ ap (λ (l : List (List ℕ)). let y : CrossState = record {
+      clock = s.clock;
+      sessions = one_more s.sessions;
+      devices = slice_set s.devices place stand_in;
+      printed = l;
+    } in y) printed
+
+-- a session over a wire that was made with the server, and with what others do between its calls
+pub runs_there : (kind : SessionKind) (place key : ℕ) (s t : LabState) (d taken made stand_in : Device) (at : ℤ) (moments : List ℤ) (mishaps : List Mishap) (was became : Crossings)
+    (old new : LoggedState) (crossed : List (List ℕ)) (outcome : Outcome) → slice_get s.devices place ≡ Some d → stand_in.name ≡ [] → stand_in.shift ≡ d.shift
+    → was.acts ≡ planned_for kind d
+    → cross_state was.lab ≡ (let x : CrossState = record { clock = s.clock; sessions = one_more s.sessions; devices = slice_set s.devices place stand_in; printed = [] } in x)
+    → key ≡ one_more s.sessions → at ≡ s.clock → moments ≡ (s.clock +ℤ d.shift) ∷ [] → mishaps ≡ mishaps_for kind d → taken ≡ without_plan_for kind d → old ≡ s.server
+    → IsSessionOver CrossesAt crosses_nothing kind key at moments mishaps taken made was became old new outcome
+    → t ≡ synced_at place made new became s → crossed ≡ became.lab.printed → RunsAt kind place s t crossed outcome
+runs_there kind place key s t d taken made stand_in at moments mishaps was became old new crossed outcome there nameless shift acts lab next clock gives mishaps_are taken_is server ran left told =
+    let handed : new ≡ t.server = sym (ap (λ (x : LabState). x.server) left) in
     record {
       d = d;
       made = made;
-      at = there.0;
-      session = rw (next, clock, own) at sync;
-      left = ap (λ (n : ℕ). synced_at place made server n s) next
-          ∙ ap (λ (x : LabState). let t : LabState = record x { server = server; sessions = one_more s.sessions } in t)
-          (put_there name s place d made is second (ap (λ (x : Device). x.name) sync.rest));
+      at = there;
+      was = was;
+      became = became;
+      begins = record { stand_in = stand_in; nameless = nameless; shift = shift; acts = acts; lab = lab };
+      session = subst (λ (x : LoggedState). IsSessionOver CrossesAt crosses_nothing kind (one_more s.sessions) s.clock ((s.clock +ℤ d.shift) ∷ []) (mishaps_for kind d) (without_plan_for kind d) made was became s.server x outcome) handed
+          (rw (next, clock, gives, mishaps_are, taken_is, server) at ran);
+      left = left ∙ ap (λ (x : LoggedState). synced_at place made x became s) handed;
+      told = told;
     }
 
--- no session began
-pub unsynced_there : (name : List ℕ) (s : LabState) (place : ℕ) (d made : Device) (server : LoggedState) → IsPlaceOf name s.devices place → d ≡ get_or s.devices place d
-    → (made ≡ d) × (server ≡ s.server) → synced_at place made server s.sessions s ≡ s
-unsynced_there name s place d made server is read (same, stays) =
-    ap (λ (server : LoggedState). synced_at place made server s.sessions s) stays
-    ∙ ap (λ (devices : List Device). let t : LabState = record s { devices = devices } in t) (back_there s.devices place d made is.within read same)
+-- the clock of a device is no part of its plan
+pub unplanned_shift : (kind : SessionKind) (d : Device) → (without_plan_for kind d).shift ≡ d.shift
+unplanned_shift kinds.Sync d = refl
+unplanned_shift (kinds.Transfer direction) d = refl
 
--- the clocks stand as they did
-pub synced_ready : (kind : SessionKind) (name : List ℕ) (s : LabState) (place : ℕ) (d made : Device) (server : LoggedState) (sessions key : ℕ) (at device_at : ℤ) (outcome : Outcome)
-    → IsPlaceOf name s.devices place → d ≡ get_or s.devices place d → IsLabSession kind key at device_at d made s.server server outcome
-    → (health_in server).calm ≡ true → IsReady s → IsReady (synced_at place made server sessions s)
-synced_ready kind name s place d made server sessions key at device_at outcome is read sync calm ready =
-    let still = ready_there name s place d made is read (ap (λ (x : Device). x.name) sync.rest) (ap (λ (x : Device). x.shift) sync.rest) ready in
-    record { clocks = still.clocks; calm = calm }
+-- the clocks stand as they did, and the keeper does not fail
+pub session_ready : (kind : SessionKind) (place : ℕ) (s t : LabState) (crossed : List (List ℕ)) (outcome : Outcome) → RunsAt kind place s t crossed outcome → IsReady s → IsReady t
+session_ready kind place s t crossed outcome runs ready =
+    ready_after kind place s t crossed outcome runs (ap (λ (x : Device). x.shift) runs.session.rest ∙ unplanned_shift kind runs.d) ready
 
 -- the session of the device at a place
-pub ends_session : (kind : SessionKind) (name : List ℕ) (s t : LabState) (place : ℕ) (outcome : Outcome) → IsPlaceOf name s.devices place → RunsAt kind place s t outcome
-    → EndsLabSession kind name s t outcome
-ends_session kind name s t place outcome is runs = record {
-  d = runs.d;
-  made = runs.made;
-  found = is.held runs.d runs.at;
-  session = runs.session;
-  left = runs.left;
+pub ends_session : (kind : SessionKind) (name : List ℕ) (s t : LabState) (place : ℕ) (crossed : List (List ℕ)) (outcome : Outcome) → IsPlaceOf name s.devices place
+    → RunsAt kind place s t crossed outcome → EndsLabSession kind name s t crossed outcome
+ends_session kind name s t place crossed outcome is runs = record {
+  place = place;
+  is = is;
+  runs = runs;
 }
 
+-- nothing crosses an upload and a download
+uncrossed : (direction : Direction) (name : List ℕ) (s t : LabState) (crossed : List (List ℕ)) (outcome : Outcome) → EndsLabSession (kinds.Transfer direction) name s t crossed outcome
+    → crossed ≡ []
+uncrossed direction name s t crossed outcome ends =
+    let runs = ends.runs in
+    runs.told
+    ∙ ap (λ (x : CrossState). x.printed)
+    ((lab_stays (kinds.Transfer direction) _ _ _ _ _ runs.made runs.was runs.became s.server t.server outcome runs.session runs.begins.acts).1 ∙ runs.begins.lab)
+
 -- the outcome is printed, if memory suffices for it
-pub session_printed : (kind : SessionKind) (name : List ℕ) (s t : LabState) (outcome : Outcome) (result : Result (List (List ℕ)) LabStop)
-    → PrintsOutcome kind name outcome result → EndsLabSession kind name s t outcome → CameOut (session_line kind name) s t result
-session_printed kinds.Sync name s t outcome (Ok printed) (text, is, said) ends = (outcome, text, ends, is, said)
-session_printed (kinds.Transfer direction) name s t outcome (Ok printed) (text, is, said) ends = (outcome, text, ends, is, said)
-session_printed kind name s t outcome (Err stop) out ends =
+pub session_printed : (kind : SessionKind) (name : List ℕ) (s t : LabState) (crossed : List (List ℕ)) (outcome : Outcome) (result : Result (List (List ℕ)) LabStop)
+    → PrintsOutcome kind name crossed outcome result → EndsLabSession kind name s t crossed outcome → CameOut (session_line kind name) s t result
+session_printed kinds.Sync name s t crossed outcome (Ok printed) (text, is, said) ends = (outcome, text, crossed, ends, is, said)
+session_printed (kinds.Transfer direction) name s t crossed outcome (Ok printed) (text, is, said) ends =
+    let none = uncrossed direction name s t crossed outcome ends in (
+      outcome,
+      text,
+      subst (λ (l : List (List ℕ)). EndsLabSession (kinds.Transfer direction) name s t l outcome) none ends,
+      is,
+      said ∙ ap (λ (l : List (List ℕ)). l ++ ending_text (direction_word direction) name text ∷ []) none,
+    )
+session_printed kind name s t crossed outcome (Err stop) out ends =
     subst (λ (stop : LabStop). CameOut (session_line kind name) s t (Err stop)) (sym out) (short_of kind ends)
   where
-    short_of : (it : SessionKind) → EndsLabSession it name s t outcome → CameOut (session_line it name) s t (Err stops.Memory)
-    short_of kinds.Sync ended = inr (outcome, ended)
-    short_of (kinds.Transfer direction) ended = inr (outcome, ended)
+    short_of : (it : SessionKind) → EndsLabSession it name s t crossed outcome → CameOut (session_line it name) s t (Err stops.Memory)
+    short_of kinds.Sync ended = inr (crossed, outcome, ended)
+    short_of (kinds.Transfer direction) ended =
+        inr (outcome, subst (λ (l : List (List ℕ)). EndsLabSession (kinds.Transfer direction) name s t l outcome) (uncrossed direction name s t crossed outcome ended) ended)
 
 -- memory ran out before the session began
 pub session_unbegun : (kind : SessionKind) (name : List ℕ) (s t : LabState) → t ≡ s → CameOut (session_line kind name) s t (Err stops.Memory)

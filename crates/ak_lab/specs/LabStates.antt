@@ -1,8 +1,9 @@
 -- A lab between two lines of its script.
-use Rattle.std.specs.Prelude.{◌≡◌, ℕ, ℤ, pos, true, List, [], codes}
+use Rattle.std.specs.Prelude.{◌≡◌, ℕ, ℤ, pos, true, List, []}
 use Rattle.ak_lab_devices.specs.Devices.{are_in_time, with_device}
 use Rattle.ak_lab_devices.specs.declared.devices.Device.{Device}
 use Rattle.ak_lab.specs.declared.labs.Lab.{Lab}
+use Rattle.ak_lab_wires.specs.LabSessions.{lab_host}
 use Rattle.ak_loops.specs.Entries.{LoggedState, health_in}
 use Rattle.ak_loops.specs.LoggedServers.{begins_with}
 use Rattle.ak_openings.specs.declared.whole_collections.Opening.{Opening}
@@ -18,10 +19,6 @@ pub record LabState : Type 0 where
 abbrev pub state_of : Lab → LabState
 state_of lab =
     record { clock = lab.clock; server = lab.server; sessions = lab.sessions; devices = lab.devices.items }
-
--- the digits of the host key of the server's account
-abbrev pub lab_host : List ℕ
-lab_host = codes "aaaaaaaaaaaaaaaaaaaaaaaaaaaaaaaa"
 
 -- the lab before its first line: the server has the opening collection and nothing came to it, and there is no device
 abbrev pub opened_lab : Opening → LabState

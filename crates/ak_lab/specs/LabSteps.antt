@@ -6,9 +6,12 @@ use Rattle.ak_edit.specs.declared.desk_faults.DeskFault.{DeskFault}
 use Rattle.ak_keep.specs.Collections.{Collection}
 use Rattle.ak_lab_devices.specs.Devices.{are_in_time, device_of, is_clock_moment, new_device}
 use Rattle.ak_lab.specs.LabDesks.{EndsDo, EndsReview}
+use Rattle.ak_lab.specs.LabPlans.{LacksRequest, Plans, Resends, ResendsSome, with_act, with_mishap}
 use Rattle.ak_lab.specs.LabStates.{LabState, with_changed}
 use Rattle.ak_lab.specs.LabSyncs.{EndsSync, EndsTransfer}
 use Rattle.ak_lab_devices.specs.declared.devices.Device.{Device}
+use Rattle.ak_lab_devices.specs.declared.plans.Act.TheVariants as acts
+use Rattle.ak_lab_wires.specs.Servings.{HasRequests}
 use Rattle.ak_lab_keepers.specs.RestingKeepers.{Holds}
 use Rattle.ak_lab_keepers.specs.Shown.{shown_lines}
 use Rattle.ak_lab_lines.specs.LabTexts.{counts_text, direction_word, ending_text, no_device_text, requests_text, sync_text}
@@ -18,6 +21,7 @@ use Rattle.ak_lab_lines.specs.declared.lab_lines.Side.{Side}
 use Rattle.ak_lab_lines.specs.declared.lab_lines.Side.TheVariants as sides
 use Rattle.ak_lab_sides.specs.declared.new_reviews.ReviewPlan.{ReviewPlan}
 use Rattle.ak_outcomes.specs.OutcomeTexts.{outcome_text}
+use Rattle.ak_loops.specs.Entries.{health_in}
 use Rattle.ak_server_copies.specs.Copies.{IsViewed, committed_in}
 use Rattle.ak_session.specs.Answers.{counts_of}
 use Rattle.ak_texts.specs.AnswerTexts.{answer_text}
@@ -26,10 +30,16 @@ use Rattle.ak_texts.specs.declared.answers.DeskAnswer.{DeskAnswer}
 use Rattle.ak_texts.specs.declared.line_refusals.LineRefusal.{LineRefusal}
 
 -- ---- what is looked at
+-- the server was viewed, some times or not at all, and none of the calls of its keeper is to fail then
+pub record ReadsServer (s t : LabState) : Type 0 where
+  pub viewed : IsViewed s.server t.server
+  pub calm : (health_in t.server).calm ≡ true
+  pub left : t ≡ record s { server = t.server }
+
 -- a side holds this collection. The server is read by views
 abbrev pub SideHolds : Side → LabState → LabState → Collection → Type 0
 SideHolds sides.Server s t c =
-    (committed_in s.server ≡ Some c) × IsViewed s.server t.server × (t ≡ record s { server = t.server })
+    (committed_in s.server ≡ Some c) × ReadsServer s t
 SideHolds (sides.Device name) s t c =
     (t ≡ s) × (d : Device) × (device_of name s.devices ≡ Some d) × Holds d.collection c
 
@@ -41,6 +51,7 @@ pub record AddsDevice (name : List ℕ) (s t : LabState) : Type 0 where
   pub room : length s.devices < 16
   pub is : committed_in s.server ≡ Some committed
   pub read : IsViewed s.server t.server
+  pub calm : (health_in t.server).calm ≡ true
   pub left : t ≡ record s { server = t.server; devices = s.devices ++ new_device name committed ∷ [] }
 
 -- `shift <device> <ms>`: the device's clock is the lab's plus this, if a clock may stand there
@@ -65,8 +76,14 @@ Accepts (lines.Review name card ease count) s t printed =
 Accepts (lines.Do name text) s t printed =
     (answer : DeskAnswer) × EndsDo name text s t (Ok answer) × (printed ≡ answer_text answer ∷ [])
 Accepts (lines.Sync name) s t printed =
-    (outcome : Outcome) × (text : List ℕ) × EndsSync name s t outcome × (outcome_text outcome ≡ Some text)
-    × (printed ≡ sync_text name text ∷ [])
+    (outcome : Outcome) × (text : List ℕ) × (crossed : List (List ℕ)) × EndsSync name s t crossed outcome
+    × (outcome_text outcome ≡ Some text) × (printed ≡ crossed ++ sync_text name text ∷ [])
+Accepts (lines.Disturb name call what) s t printed = Plans name (with_mishap call what) s t × (printed ≡ [])
+Accepts (lines.Cross name call other) s t printed = (o : Device) × (device_of other s.devices ≡ Some o)
+    × Plans name (with_act call s.server.line (acts.Cross other)) s t × (printed ≡ [])
+Accepts (lines.Replay name call from count) s t printed = HasRequests from count s.server
+    × Plans name (with_act call s.server.line (acts.Replay from count)) s t × (printed ≡ [])
+Accepts (lines.Resend from count) s t printed = Resends from count s t printed
 Accepts (lines.Transfer direction name) s t printed =
     (outcome : Outcome) × (text : List ℕ) × EndsTransfer direction name s t outcome × (outcome_text outcome ≡ Some text)
     × (printed ≡ ending_text (direction_word direction) name text ∷ [])
@@ -116,6 +133,12 @@ RefusesWith (lines.Review name card ease count) s t why = NoDevice name s t why
 RefusesWith (lines.Do name text) s t why = NoDevice name s t why ⊎ SaysNoDeskLine name text s t why
     ⊎ (refusal : LineRefusal) × EndsDo name text s t (Err refusal) × (refusal_text refusal ≡ Some why)
 RefusesWith (lines.Sync name) s t why = NoDevice name s t why
+RefusesWith (lines.Disturb name call what) s t why = NoDevice name s t why
+RefusesWith (lines.Cross name call other) s t why = NoDevice name s t why
+    ⊎ (d : Device) × (device_of name s.devices ≡ Some d) × NoDevice other s t why
+RefusesWith (lines.Replay name call from count) s t why = NoDevice name s t why
+    ⊎ (d : Device) × (device_of name s.devices ≡ Some d) × LacksRequest from count s t why
+RefusesWith (lines.Resend from count) s t why = LacksRequest from count s t why
 RefusesWith (lines.Transfer direction name) s t why = NoDevice name s t why
 RefusesWith (lines.Show side what) s t why = NoSide side s t why
 RefusesWith (lines.Count side) s t why = NoSide side s t why
@@ -135,7 +158,8 @@ abbrev pub OnlyLooks : Side → LabState → LabState → Type 0
 OnlyLooks sides.Server s t = OnlyViews s t
 OnlyLooks (sides.Device name) s t = t ≡ s
 
--- memory ran out in a line: before it did anything; or after views of the server, which only a new device and what looks at the server make; or at the desk or in the session, or for the text of what these came to
+-- memory ran out in a line: before it did anything; or after views of the server, which only a new device and what looks at the server make; or at the desk or in the session, or among requests
+-- that are sent again, or for the text of what these came to
 abbrev pub RunsShort : LabLine → LabState → LabState → Type 0
 RunsShort (lines.Clock at) s t = t ≡ s
 RunsShort (lines.Device name) s t = (t ≡ s) ⊎ HasRoomFor name s × OnlyViews s t
@@ -143,7 +167,11 @@ RunsShort (lines.Shift name by) s t = t ≡ s
 RunsShort (lines.Review name card ease count) s t = (t ≡ s)
     ⊎ (result : Result (Unit {0}) DeskFault) × EndsReview name (plan_of card ease count) s t result
 RunsShort (lines.Do name text) s t = (t ≡ s) ⊎ (result : Result DeskAnswer LineRefusal) × EndsDo name text s t result
-RunsShort (lines.Sync name) s t = (t ≡ s) ⊎ (outcome : Outcome) × EndsSync name s t outcome
+RunsShort (lines.Sync name) s t = (t ≡ s) ⊎ (crossed : List (List ℕ)) × (outcome : Outcome) × EndsSync name s t crossed outcome
+RunsShort (lines.Disturb name call what) s t = t ≡ s
+RunsShort (lines.Cross name call other) s t = t ≡ s
+RunsShort (lines.Replay name call from count) s t = t ≡ s
+RunsShort (lines.Resend from count) s t = (t ≡ s) ⊎ ResendsSome from count s t
 RunsShort (lines.Transfer direction name) s t = (t ≡ s) ⊎ (outcome : Outcome) × EndsTransfer direction name s t outcome
 RunsShort (lines.Show side what) s t = OnlyLooks side s t
 RunsShort (lines.Count side) s t = OnlyLooks side s t

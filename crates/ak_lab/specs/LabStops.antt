@@ -1,13 +1,15 @@
 -- Why a line of a lab does not go.
-use Rattle.std.specs.Prelude.{◌≡◌, ⊤, ℕ, List, [], ◌∷◌, Some, Result, Ok, Err}
+use Rattle.std.specs.Prelude.{◌≡◌, ⊤, ℕ, List, [], ◌∷◌, ◌++◌, Some, Result, Ok, Err}
 use Rattle.ak_client.specs.declared.outcomes.Outcome.{Outcome}
 use Rattle.ak_edit.specs.declared.desk_faults.DeskFault.{DeskFault}
 use Rattle.ak_lab.specs.LabSyncs.{session_word}
 use Rattle.ak_lab.specs.declared.lab_stops.LabStop.{LabStop}
 use Rattle.ak_lab.specs.declared.lab_stops.LabStop.TheVariants as stops
-use Rattle.ak_lab.specs.declared.lab_syncs.SessionKind.{SessionKind}
-use Rattle.ak_lab_lines.specs.LabTexts.{ending_text}
+use Rattle.ak_lab_wires.specs.declared.lab_sessions.SessionKind.{SessionKind}
+use Rattle.ak_lab_lines.specs.LabTexts.{ending_text, no_request_text}
+use Rattle.ak_lab_wires.specs.Servings.{HasRequests, first_lacking}
 use Rattle.ak_lines.specs.declared.line_faults.LineFault.{LineFault}
+use Rattle.ak_loops.specs.Entries.{LoggedState}
 use Rattle.ak_outcomes.specs.OutcomeTexts.{outcome_text}
 use Rattle.ak_texts.specs.FaultTexts.{desk_fault_text, line_fault_text, refusal_text}
 use Rattle.ak_texts.specs.declared.line_refusals.LineRefusal.{LineRefusal}
@@ -16,6 +18,12 @@ use Rattle.ak_texts.specs.declared.line_refusals.LineRefusal.{LineRefusal}
 abbrev pub IsStopBy : List ℕ → LabStop → Type 0
 IsStopBy text (stops.Refused why) = why ≡ text
 IsStopBy text stops.Memory = ⊤
+
+-- the stop for requests that the server's log lacks
+abbrev pub LacksStop : ℕ → ℕ → LoggedState → LabStop → Type 0
+LacksStop from count server (stops.Refused why) =
+    (HasRequests from count server → ⊥) × (why ≡ no_request_text (first_lacking from count server))
+LacksStop from count server stops.Memory = ⊤
 
 -- the stop for a text that says no line of the desk
 abbrev pub IsLineStop : LineFault → LabStop → Type 0
@@ -32,8 +40,8 @@ abbrev pub IsDeskStop : DeskFault → LabStop → Type 0
 IsDeskStop fault (stops.Refused why) = desk_fault_text fault ≡ Some why
 IsDeskStop fault stops.Memory = ⊤
 
--- the line of a session that ended so, or memory was out for it. An outcome that has no text is that memory was out
-abbrev pub PrintsOutcome : SessionKind → List ℕ → Outcome → Result (List (List ℕ)) LabStop → Type 0
-PrintsOutcome kind name outcome (Ok printed) =
-    (text : List ℕ) × (outcome_text outcome ≡ Some text) × (printed ≡ ending_text (session_word kind) name text ∷ [])
-PrintsOutcome kind name outcome (Err stop) = stop ≡ stops.Memory
+-- the line of a session that ended so after those of what crossed it, or memory was out for it. An outcome that has no text is that memory was out
+abbrev pub PrintsOutcome : SessionKind → List ℕ → List (List ℕ) → Outcome → Result (List (List ℕ)) LabStop → Type 0
+PrintsOutcome kind name crossed outcome (Ok printed) = (text : List ℕ) × (outcome_text outcome ≡ Some text)
+    × (printed ≡ crossed ++ ending_text (session_word kind) name text ∷ [])
+PrintsOutcome kind name crossed outcome (Err stop) = stop ≡ stops.Memory

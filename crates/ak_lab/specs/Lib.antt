@@ -1,4 +1,5 @@
 pub mod LabStates
+pub mod LabPlans
 pub mod LabSyncs
 pub mod LabDesks
 pub mod LabSteps

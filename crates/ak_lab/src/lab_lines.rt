@@ -26,8 +26,9 @@ ghost use Rattle.ak_session.specs.Answers.{counts_of};
 ghost use Rattle.ak_texts.specs.AnswerTexts.{answer_text};
 ghost use Rattle.ak_texts.specs.declared.line_refusals.LineRefusal.TheVariants as refusals;
 
+use crate::lab_plans::Again;
 use crate::lab_stops::{LabStop, desk_stop, line_stop, no_device, refusal_stop, stop_by};
-use crate::lab_syncs::{SessionKind, run_session};
+use crate::lab_syncs::run_session;
 use crate::labs::Lab;
 use crate::server_copies::{copy_for_device, counted_of_server, shown_of_server};
 use ak_base::{List, Memory, Text};
@@ -36,8 +37,9 @@ use ak_edit::DeskFault;
 use ak_lab_devices::{Device, are_in_time, is_shifted_in_time, place_of};
 use ak_lab_lines::{LabLine, Shown, Side, write_counts, write_requests};
 use ak_lab_sides::ReviewPlan;
+use ak_lab_wires::SessionKind;
 use ak_lines::{AnyLine, read_line};
-use ak_loops::LoggedServer;
+use ak_loops::{LoggedServer, Mishap};
 use ak_texts::{DeskAnswer, LineRefusal, write_answer};
 use ak_undo::UndoList;
 use std::alloc::Global;
@@ -82,6 +84,31 @@ pub(crate) fn obey(lab: Lab, said: LabLine) -> (Lab, Result<List<Text>, LabStop>
         LabLine::Sync(name) => run_session(lab, SessionKind::Sync, &name),
         LabLine::Transfer { direction, device } => {
             run_session(lab, SessionKind::Transfer(direction), &device)
+        }
+        LabLine::Disturb { device, call, what } => {
+            let came = lab.plan_mishap(&device, Mishap { call, what });
+            (lab, came)
+        }
+        LabLine::Cross {
+            device,
+            call,
+            other,
+        } => {
+            let came = lab.plan_crossing(&device, call, other);
+            (lab, came)
+        }
+        LabLine::Replay {
+            device,
+            call,
+            from,
+            count,
+        } => {
+            let came = lab.plan_replay(&device, call, Again { from, count });
+            (lab, came)
+        }
+        LabLine::Resend { from, count } => {
+            let came = lab.resend(Again { from, count });
+            (lab, came)
         }
         LabLine::Show { side, what } => {
             let came = lab.show(&side, what);
@@ -315,6 +342,8 @@ fn new_device(alloc: Global, name: Text, server: &mut LoggedServer) -> Result<De
         shift: 0,
         done: 0,
         calls: 0,
+        mishaps: List::new(alloc),
+        planned: List::new(alloc),
     })
 }
 

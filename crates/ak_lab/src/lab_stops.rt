@@ -1,9 +1,9 @@
-ghost use Rattle.ak_lab_lines.specs.LabTexts.{no_device_text};
+ghost use Rattle.ak_lab_lines.specs.LabTexts.{no_device_text, no_request_text};
 ghost use Rattle.ak_lab.specs.LabStops.{IsDeskStop, IsLineStop, IsRefusalStop, IsStopBy};
 
 use ak_base::{Memory, Text};
 use ak_edit::DeskFault;
-use ak_lab_lines::write_no_device;
+use ak_lab_lines::{write_no_device, write_no_request};
 use ak_lines::LineFault;
 use ak_texts::{LineRefusal, write_desk_fault, write_line_fault, write_refusal};
 use std::alloc::{AllocFailed, Global};
@@ -44,6 +44,16 @@ pub(crate) fn stop_by(alloc: Global, text: &str) -> LabStop
     ensures { IsStopBy text.now result }
 {
     match Text::of(alloc, text) {
+        Ok(text) => LabStop::Refused(text),
+        Err(Memory) => LabStop::Memory,
+    }
+}
+
+/// The stop for a line that names a request that the log does not have.
+pub(crate) fn no_request(alloc: Global, number: u64) -> LabStop
+    ensures { IsStopBy (no_request_text number) result }
+{
+    match write_no_request(alloc, number) {
         Ok(text) => LabStop::Refused(text),
         Err(Memory) => LabStop::Memory,
     }

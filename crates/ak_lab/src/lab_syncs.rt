@@ -1,34 +1,26 @@
 // A sync, an upload and a download of a device.
-ghost use Rattle.std.specs.Prelude.{◌≡◌, ◌≢◌, ◌∷◌, [], ℕ, ℤ, Some, true, List as Sequence, IfOk, OnErr, OnOk};
-ghost use Rattle.ak_client.specs.Outcomes.{HasOutcomeCause};
-ghost use Rattle.ak_client.specs.declared.outcomes.Outcome.TheVariants as outcomes;
+ghost use Rattle.std.specs.Prelude.{◌≡◌, ◌∷◌, [], ◌+ℤ◌, ℕ, List as Sequence, IfOk, OnErr};
 ghost use Rattle.ak_io.specs.Arrivals.{IsClockMoment};
-ghost use Rattle.ak_lab.specs.LabStates.{IsReady, lab_host, state_of};
+ghost use Rattle.ak_lab.specs.LabStates.{IsReady, state_of};
 ghost use Rattle.ak_lab.specs.LabStops.{PrintsOutcome};
-ghost use Rattle.ak_lab.specs.LabSyncs.{EndsByKind, IsLabSession, LeavesDevice, MayEnd, RunsAt, calls_known_after, session_line, session_word};
+ghost use Rattle.ak_lab.specs.LabSyncs.{IsPreparedAt, IsPreparedThere, RunsAt, mishaps_for, planned_for, session_line, session_word, without_plan_for};
 ghost use Rattle.ak_lab.specs.LineStops.{CameOut};
-ghost use Rattle.ak_lab_devices.specs.Devices.{IsPlaceOf, keeping_of, given_outside};
-ghost use Rattle.ak_loops.specs.Entries.{health_in};
-ghost use Rattle.ak_loops.specs.LoopWires.{health_over, state_over};
+ghost use Rattle.ak_lab_devices.specs.Devices.{IsPlaceOf};
 
-use crate::lab_lines::one_line;
 use crate::lab_stops::{LabStop, no_device};
 use crate::labs::Lab;
-use ak_base::{HostKey, List, Memory, SessionKey, Text};
-use ak_client::{Ids, Outcome};
+use ak_base::{List, Memory, Text};
+use ak_client::Outcome;
 use ak_io::ListClock;
-use ak_lab_devices::{Device, place_of};
-use ak_lab_lines::{Direction, direction_word, write_ending};
-use ak_loops::{LoggedServer, LoopWire, NothingBetween};
+use ak_lab_devices::{Device, Planned, place_of};
+use ak_lab_lines::{direction_word, write_ending};
+use ak_lab_wires::{
+    CrossedLab, Crossings, SessionKind, SessionTurn, run_over, stand_in, still_clock, take_plan,
+};
+use ak_loops::{LoopWire, Mishap};
 use ak_outcomes::outcome_text;
 use std::alloc::Global;
-
-/// What a device does in a session with the server. The laws of labs speak of a session by its kind.
-#[derive(Clone, Copy, Debug)]
-pub enum SessionKind {
-    Sync,
-    Transfer(Direction),
-}
+use std::mem;
 
 /// `sync <device>`, `upload <device>` and `download <device>`
 pub(crate) fn run_session(
@@ -45,32 +37,65 @@ pub(crate) fn run_session(
         return (lab, Err(stop));
     };
     let alloc = lab.alloc;
-    let (lab, outcome) = run_at(lab, kind, place);
-    match outcome {
-        Ok(outcome) => {
-            let came = print_outcome(alloc, kind, name, &outcome);
+    let (lab, ran) = run_at(lab, kind, place);
+    match ran {
+        Ok(ran) => {
+            let came = print_outcome(alloc, kind, name, ran);
             (lab, came)
         }
         Err(Memory) => (lab, Err(LabStop::Memory)),
     }
 }
 
-/// What a session is for, when it is made, in milliseconds by the server's clock and by the device's, and which one it is.
-#[derive(Clone, Copy, Debug)]
-struct SessionTurn {
-    kind: SessionKind,
-    at: i64,
-    device_at: i64,
-    session: u64,
+/// How a session ended, and what the syncs that crossed it printed.
+#[derive(Drop)]
+pub(crate) struct Ran {
+    pub(crate) outcome: Outcome,
+    pub(crate) crossed: List<Text>,
 }
 
 /// Runs a session of this kind for the device at this place: the next one.
-fn run_at(lab: Lab, kind: SessionKind, place: usize) -> (Lab, Result<Outcome, Memory>)
+fn run_at(lab: Lab, kind: SessionKind, place: usize) -> (Lab, Result<Ran, Memory>)
     requires ready { IsReady (state_of lab) }
     requires there { (name : Sequence ℕ) × IsPlaceOf name lab.devices.items place }
-    ensures ok { IfOk result.1 (RunsAt kind place (state_of lab) (state_of result.0)) }
+    ensures ok { IfOk result.1 (λ ran. RunsAt kind place (state_of lab) (state_of result.0) ran.crossed ran.outcome) }
     ensures err { OnErr result.1 (state_of result.0 ≡ state_of lab) }
-    ensures ready { IfOk result.1 (λ outcome. IsReady (state_of result.0)) }
+    ensures ready { IfOk result.1 (λ ran. IsReady (state_of result.0)) }
+{
+    let shift = lab.devices[place].shift;
+    match prepare(lab.alloc, lab.clock + shift, shift) {
+        Ok(prepared) => {
+            let (lab, ran) = run_prepared(lab, kind, place, prepared);
+            (lab, Ok(ran))
+        }
+        Err(Memory) => (lab, Err(Memory)),
+    }
+}
+
+/// What a session takes: the clock of its device, and what stands in for this meanwhile.
+#[derive(Drop)]
+pub(crate) struct Prepared {
+    pub(crate) clock: ListClock,
+    pub(crate) stand_in: Device,
+}
+
+/// Makes what a session takes at this moment of the clock of its device, which is so far after the lab's, in milliseconds.
+fn prepare(alloc: Global, at: i64, shift: i64) -> Result<Prepared, Memory>
+    requires clock { IsClockMoment at }
+    ensures { IfOk result (IsPreparedAt at shift) }
+{
+    let clock = still_clock(alloc, at)?;
+    let stand_in = stand_in(alloc, shift)?;
+    Ok(Prepared { clock, stand_in })
+}
+
+/// Runs the session of the device at this place, for which all is made.
+fn run_prepared(lab: Lab, kind: SessionKind, place: usize, prepared: Prepared) -> (Lab, Ran)
+    requires ready { IsReady (state_of lab) }
+    requires there { (name : Sequence ℕ) × IsPlaceOf name lab.devices.items place }
+    requires prepared { IsPreparedThere place (state_of lab) prepared }
+    ensures runs { RunsAt kind place (state_of lab) (state_of result.0) result.1.crossed result.1.outcome }
+    ensures ready { IsReady (state_of result.0) }
 {
     let Lab {
         alloc,
@@ -79,135 +104,79 @@ fn run_at(lab: Lab, kind: SessionKind, place: usize) -> (Lab, Result<Outcome, Me
         sessions,
         mut devices,
     } = lab;
-    let session = sessions.saturating_add(1);
-    let device_at = clock + devices[place].shift;
+    let Prepared {
+        clock: device_clock,
+        stand_in,
+    } = prepared;
+    let key = sessions.saturating_add(1);
+    let mut device = mem::replace(&mut devices[place], stand_in);
+    let (mishaps, acts) = plan_for(alloc, kind, &mut device);
+    let between = Crossings {
+        lab: CrossedLab {
+            alloc,
+            clock,
+            sessions: key,
+            devices,
+            printed: List::new(alloc),
+        },
+        acts,
+    };
+    let wire = LoopWire::new(server, clock, mishaps, between);
     let turn = SessionTurn {
         kind,
-        at: clock,
-        device_at,
-        session,
+        key,
+        clock: device_clock,
     };
-    let (server, outcome) = run_device(alloc, &mut devices[place], server, turn);
-    let mut lab = Lab {
+    let (server, between, outcome) = run_over(&mut device, wire, turn);
+    let Crossings { lab, .. } = between;
+    let CrossedLab {
+        sessions,
+        mut devices,
+        printed,
+        ..
+    } = lab;
+    devices[place] = device;
+    let lab = Lab {
         alloc,
         clock,
         server,
         sessions,
         devices,
     };
-    match outcome {
-        Ok(outcome) => {
-            lab.sessions = session;
-            (lab, Ok(outcome))
-        }
-        Err(Memory) => (lab, Err(Memory)),
-    }
+    let ran = Ran {
+        outcome,
+        crossed: printed,
+    };
+    (lab, ran)
 }
 
-/// Runs the session of a device over a wire that leads to this server. It hands back the server, and how the session ended.
-fn run_device(
-    alloc: Global,
-    device: &mut Device,
-    server: LoggedServer,
-    turn: SessionTurn,
-) -> (LoggedServer, Result<Outcome, Memory>)
-    requires at { IsClockMoment turn.at }
-    requires device_at { IsClockMoment turn.device_at }
-    requires calm { (health_in server).calm ≡ true }
-    ensures ok { IfOk result.1 (IsLabSession turn.kind turn.session turn.at turn.device_at
-        device.old device.new server result.0) }
-    ensures err { OnErr result.1 ((device.new ≡ device.old) × (result.0 ≡ server)) }
-    ensures calm { OnOk result.1 ((health_in result.0).calm ≡ true) }
-{
-    let clock = still_clock(alloc, turn.device_at);
-    let mut clock = match clock {
-        Ok(clock) => clock,
-        Err(Memory) => return (server, Err(Memory)),
-    };
-    let ids = Ids {
-        host: lab_key(),
-        session: SessionKey(turn.session),
-    };
-    let mut wire = LoopWire::new(server, turn.at, List::new(alloc), NothingBetween);
-    let outcome = run_over(device, turn.kind, &mut wire, &mut clock, ids);
-    let (mut server, _) = wire.into_parts();
-    // None is, but a wire tells nothing of it.
-    server.fail_at(List::new(alloc));
-    (server, Ok(outcome))
-}
-
-/// Runs a session of a device over a wire, by a clock. A sync sets how many calls its device knows of.
-fn run_over(
-    device: &mut Device,
-    kind: SessionKind,
-    wire: &mut LoopWire<NothingBetween>,
-    clock: &mut ListClock,
-    ids: Ids,
-) -> Outcome
-    ensures ended { EndsByKind kind ids (keeping_of device.old) (keeping_of device.new)
-        (given_outside (health_over wire.old.counts wire.old.mishaps)
-        (state_over wire.old.server wire.old.counts wire.old.moment true) (Some clock.old))
-        (given_outside (health_over wire.new.counts wire.new.mishaps)
-        (state_over wire.new.server wire.new.counts wire.new.moment true) (Some clock.new)) result }
-    ensures may { MayEnd kind result }
-    ensures device { LeavesDevice kind (keeping_of device.old) (keeping_of device.new)
-        (Some clock.old) (Some clock.new) result }
-    ensures unfailed { result ≢ outcomes.Keep }
-    ensures lost { HasOutcomeCause outcomes.Lost (health_over wire.old.counts wire.old.mishaps)
-        (health_over wire.new.counts wire.new.mishaps) result }
-    ensures rest { device.new ≡ record device.old {
-      collection = device.new.collection;
-      undo = [];
-      calls = calls_known_after kind device.old.calls wire.new.counts.calls;
-    } }
+/// Takes what is planned for a session of this kind of a device: to a sync all of it, to the others nothing.
+fn plan_for(alloc: Global, kind: SessionKind, device: &mut Device) -> (List<Mishap>, List<Planned>)
+    ensures mishaps { result.0 ≡ mishaps_for kind device.old }
+    ensures planned { result.1 ≡ planned_for kind device.old }
+    ensures left { device.new ≡ without_plan_for kind device.old }
 {
     match kind {
-        SessionKind::Sync => {
-            let outcome = device.collection.sync(&mut device.undo, wire, clock, ids);
-            device.calls = wire.calls();
-            outcome
-        }
-        SessionKind::Transfer(Direction::Upload) => device
-            .collection
-            .upload(&mut device.undo, wire, clock, ids),
-        SessionKind::Transfer(Direction::Download) => device
-            .collection
-            .download(&mut device.undo, wire, clock, ids),
+        SessionKind::Sync => take_plan(alloc, device, List::new(alloc)),
+        SessionKind::Transfer(_) => (List::new(alloc), List::new(alloc)),
     }
 }
 
-/// A clock that stands at this moment, in milliseconds.
-fn still_clock(alloc: Global, at: i64) -> Result<ListClock, Memory>
-    requires { IsClockMoment at }
-    ensures { IfOk result (λ clock. clock ≡ at ∷ []) }
-{
-    let mut moments = List::new(alloc);
-    moments.push(at)?;
-    Ok(ListClock::new(moments))
-}
-
-/// The host key of the server's account: 32 times the letter `a`.
-pub(crate) fn lab_key() -> HostKey
-    ensures { result.digits ≡ lab_host }
-{
-    match HostKey::of("aaaaaaaaaaaaaaaaaaaaaaaaaaaaaaaa") {
-        Some(key) => key,
-        None => unreachable!(),
-    }
-}
-
-/// The line of a session that ended so.
+/// The lines of a session that ended so: those of the syncs that crossed it, and its own.
 fn print_outcome(
     alloc: Global,
     kind: SessionKind,
     name: &Text,
-    outcome: &Outcome,
+    ran: Ran,
 ) -> Result<List<Text>, LabStop>
-    ensures { PrintsOutcome kind name.now outcome.now result }
+    ensures { PrintsOutcome kind name.now ran.crossed ran.outcome result }
 {
-    let text = outcome_text(alloc, outcome)?;
+    let Ran { outcome, crossed } = ran;
+    let text = outcome_text(alloc, &outcome)?;
     let line = write_ending(alloc, session_word(kind), name.as_str(), text.as_str())?;
-    one_line(alloc, line)
+    let mut printed = crossed;
+    printed.push(line)?;
+    Ok(printed)
 }
 
 /// The first word of the line of a session.

@@ -3,9 +3,9 @@ ghost use Rattle.ak_lab.specs.LabStates.{IsReady, at_line, opened_lab, state_of}
 ghost use Rattle.ak_lab.specs.LabRuns.{IsLabOpening};
 ghost use Rattle.ak_openings.specs.declared.whole_collections.Opening.{Opening};
 
-use crate::lab_syncs::lab_key;
 use ak_base::{Memory, Text};
 use ak_lab_devices::Device;
+use ak_lab_wires::lab_key;
 use ak_loops::{Log, LoggedServer};
 use ak_openings::opening;
 use std::alloc::Global;

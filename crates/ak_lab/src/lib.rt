@@ -2,11 +2,12 @@
 #![tactic(auto)]
 
 mod lab_lines;
+mod lab_plans;
 mod lab_runs;
 mod lab_stops;
 mod lab_syncs;
 mod labs;
 mod server_copies;
 
+pub use ak_lab_wires::SessionKind;
 pub use lab_runs::run_lab;
-pub use lab_syncs::SessionKind;

@@ -1,2 +1,5 @@
 pub mod Held
+pub mod InTime
 pub mod Places
+pub mod Placing
+mod Planning

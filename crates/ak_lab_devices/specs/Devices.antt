@@ -7,8 +7,10 @@ use Rattle.ak_keep.specs.Collections.{Collection}
 use Rattle.ak_keep.specs.Keepers.{Keeping, all_known}
 use Rattle.ak_lab_keepers.specs.RestingKeepers.{kept_of}
 use Rattle.ak_lab_devices.specs.declared.devices.Device.{Device}
+use Rattle.ak_lab_devices.specs.declared.plans.Planned.{Planned}
+use Rattle.ak_loops.specs.declared.mishaps.Mishap.{Mishap}
 use Rattle.ak_transfers.specs.Greetings.{TransferOutside}
-use Rattle.ak_wires.specs.Wires.{WireState}
+use Rattle.ak_wires.specs.Wires.{WireKind, WireState}
 
 -- what is known of the keeper of a device
 abbrev pub keeping_of : Device → Keeping
@@ -18,7 +20,8 @@ keeping_of d = all_known d.collection
 abbrev pub as_downloaded : Collection → Collection
 as_downloaded c = record c { head = record c.head { last_sync = c.head.moment } }
 
--- a new device with a copy of the server's collection. Its clock is the lab's, there is nothing to undo, and nothing was answered or asked yet
+-- a new device with a copy of the server's collection. Its clock is the lab's, there is nothing to undo, nothing was answered or asked yet, and
+-- nothing is planned
 abbrev pub new_device : List ℕ → Collection → Device
 new_device name c = record {
   name = name;
@@ -27,10 +30,16 @@ new_device name c = record {
   shift = pos 0;
   done = 0;
   calls = 0;
+  mishaps = [];
+  planned = [];
 }
 
+-- a device with these mishaps and acts planned for its next sync
+abbrev pub with_plan : List Mishap → List Planned → Device → Device
+with_plan mishaps planned d = record d { mishaps = mishaps; planned = planned }
+
 -- what a session is given, by what is known of its wire, which is its health and its state, and by the moments that its clock has still to give
-abbrev pub given_outside : Health → WireState → Option (List ℤ) → TransferOutside
+abbrev pub given_outside : {kind : WireKind} → Health → WireState kind → Option (List ℤ) → TransferOutside kind
 given_outside health wire moments = record { line = record { health = health; wire = wire }; moments = moments }
 
 -- ---- by name

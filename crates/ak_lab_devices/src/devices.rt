@@ -2,7 +2,9 @@ ghost use Rattle.std.specs.Prelude.{◌≡◌, None, MatchOption};
 ghost use Rattle.ak_lab_devices.specs.Devices.{IsPlaceOf, device_of};
 
 use crate::held_collections::HeldCollection;
-use ak_base::Text;
+use crate::plans::Planned;
+use ak_base::{List, Text};
+use ak_loops::Mishap;
 use ak_undo::UndoList;
 
 /// A device of a lab.
@@ -18,6 +20,10 @@ pub struct Device {
     pub done: u64,
     /// How many calls its last sync made. At the last `u64` it stays.
     pub calls: u64,
+    /// What happens to the messages of its next sync.
+    pub mishaps: List<Mishap>,
+    /// What lines planned before the calls of its next sync, in the order of the lines.
+    pub planned: List<Planned>,
 }
 
 /// Where the device of a name stands in the list.

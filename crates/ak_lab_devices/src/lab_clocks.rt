@@ -32,7 +32,7 @@ pub fn is_shifted_in_time(clock: i64, by: i64) -> bool
 }
 
 /// Whether a clock may tell the moment.
-fn is_clock_moment(moment: i64) -> bool
+pub fn is_clock_moment(moment: i64) -> bool
     ensures { result ≡ is_clock_moment moment }
 {
     !(moment < 0) && !(LAST_CLOCK_MOMENT < moment)

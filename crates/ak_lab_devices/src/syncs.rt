@@ -1,7 +1,7 @@
 use crate::held_collections::HeldCollection;
 use ak_client::{Ids, Outcome, sync_over};
 use ak_io::ListClock;
-use ak_loops::{LoopWire, NothingBetween};
+use ak_loops::{Between, LoopWire};
 use ak_transfers::{download_over, upload_over};
 use ak_undo::UndoList;
 
@@ -11,22 +11,24 @@ impl HeldCollection {
     ghost use Rattle.ak_client.specs.declared.outcomes.Outcome.TheVariants as outcomes;
     ghost use Rattle.ak_keep.specs.Keepers.{all_known};
     ghost use Rattle.ak_lab_devices.specs.Devices.{given_outside};
-    ghost use Rattle.ak_loops.specs.LoopWires.{health_over, state_over};
+    ghost use Rattle.ak_loops.specs.LoopWires.{health_over, inside_with, state_of_loop};
     ghost use Rattle.ak_transfers.specs.Transfers.{IsDownload, IsUpload, StaysUnlessFinished, may_end_download, may_end_upload};
     ghost use Rattle.std.specs.Prelude.{◌≡◌, ◌≢◌, [], true, Some};
 
-    /// Syncs over a wire, by a clock. It never ends because the keeper failed.
-    pub fn sync(
+    /// Syncs over a wire, between whose calls others may act, by a clock. It never ends because the keeper failed.
+    pub fn sync<B: Between>(
         &mut self,
         undo: &mut UndoList,
-        wire: &mut LoopWire<NothingBetween>,
+        wire: &mut LoopWire<B>,
         clock: &mut ListClock,
         ids: Ids,
     ) -> Outcome
         ensures ended { IsSyncEnded ids (all_known self.old) (all_known self.new)
             (health_over wire.old.counts wire.old.mishaps) (health_over wire.new.counts wire.new.mishaps)
-            (state_over wire.old.server wire.old.counts wire.old.moment true)
-            (state_over wire.new.server wire.new.counts wire.new.moment true) (Some clock.old) result }
+            (state_of_loop B.acts B.idle
+            (inside_with wire.old.server wire.old.between wire.old.moment wire.old.mishaps wire.old.counts))
+            (state_of_loop B.acts B.idle
+            (inside_with wire.new.server wire.new.between wire.new.moment wire.new.mishaps wire.new.counts)) (Some clock.old) result }
         ensures device { KeepsDevice 1 (all_known self.old) (all_known self.new) (Some clock.old) (Some clock.new) result }
         ensures unfailed { result ≢ outcomes.Keep }
         ensures lost { HasOutcomeCause outcomes.Lost (health_over wire.old.counts wire.old.mishaps)
@@ -37,18 +39,20 @@ impl HeldCollection {
     }
 
     /// Uploads over a wire, by a clock. It never ends because the keeper failed.
-    pub fn upload(
+    pub fn upload<B: Between>(
         &mut self,
         undo: &mut UndoList,
-        wire: &mut LoopWire<NothingBetween>,
+        wire: &mut LoopWire<B>,
         clock: &mut ListClock,
         ids: Ids,
     ) -> Outcome
         ensures uploads { IsUpload true ids (all_known self.old) (all_known self.new)
             (given_outside (health_over wire.old.counts wire.old.mishaps)
-            (state_over wire.old.server wire.old.counts wire.old.moment true) (Some clock.old))
+            (state_of_loop B.acts B.idle
+            (inside_with wire.old.server wire.old.between wire.old.moment wire.old.mishaps wire.old.counts)) (Some clock.old))
             (given_outside (health_over wire.new.counts wire.new.mishaps)
-            (state_over wire.new.server wire.new.counts wire.new.moment true) (Some clock.new)) result }
+            (state_of_loop B.acts B.idle
+            (inside_with wire.new.server wire.new.between wire.new.moment wire.new.mishaps wire.new.counts)) (Some clock.new)) result }
         ensures device { StaysUnlessFinished (all_known self.old) (all_known self.new) result }
         ensures ends { may_end_upload result ≡ true }
         ensures unfailed { result ≢ outcomes.Keep }
@@ -60,18 +64,20 @@ impl HeldCollection {
     }
 
     /// Downloads over a wire, by a clock. It never ends because the keeper failed.
-    pub fn download(
+    pub fn download<B: Between>(
         &mut self,
         undo: &mut UndoList,
-        wire: &mut LoopWire<NothingBetween>,
+        wire: &mut LoopWire<B>,
         clock: &mut ListClock,
         ids: Ids,
     ) -> Outcome
         ensures downloads { IsDownload ids (all_known self.old) (all_known self.new)
             (given_outside (health_over wire.old.counts wire.old.mishaps)
-            (state_over wire.old.server wire.old.counts wire.old.moment true) (Some clock.old))
+            (state_of_loop B.acts B.idle
+            (inside_with wire.old.server wire.old.between wire.old.moment wire.old.mishaps wire.old.counts)) (Some clock.old))
             (given_outside (health_over wire.new.counts wire.new.mishaps)
-            (state_over wire.new.server wire.new.counts wire.new.moment true) (Some clock.new)) result }
+            (state_of_loop B.acts B.idle
+            (inside_with wire.new.server wire.new.between wire.new.moment wire.new.mishaps wire.new.counts)) (Some clock.new)) result }
         ensures device { StaysUnlessFinished (all_known self.old) (all_known self.new) result }
         ensures ends { may_end_download result ≡ true }
         ensures unfailed { result ≢ outcomes.Keep }

@@ -6,10 +6,10 @@ use Rattle.ak_lab_devices.proofs.Places.{name_is}
 use Rattle.ak_lab_devices.specs.Devices.{device_of, same_name, with_device}
 use Rattle.ak_lab_devices.specs.declared.devices.Device.{Device}
 
-same_is : (a b : List ℕ) → a ≡ b → same_name a b ≡ true
+pub same_is : (a b : List ℕ) → a ≡ b → same_name a b ≡ true
 same_is a b is = (bytes_decides a b).1 is
 
-not_both : {b : Bool} → b ≡ true → b ≡ false → ⊥
+pub not_both : {b : Bool} → b ≡ true → b ≡ false → ⊥
 not_both is not = grind (arith, is, not)
 
 -- a device that is found is the changed one, or was found before

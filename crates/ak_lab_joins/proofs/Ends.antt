@@ -1,7 +1,7 @@
 -- The law of a lab's sync: finished, both sides hold the join; otherwise they hold what they held.
 use Rattle.std.specs.List.{AllByRecursion}
-use Rattle.std.specs.Prelude.{◌≡◌, ◌≢◌, ◌⊎◌, ℕ, suc, ℤ, pos, ◌+◌, ◌<◌, ◌≤◌, ◌+ℤ◌, Bool, true, false, List, [], ◌∷◌, ◌++◌, length, Some}
-use Rattle.std.proofs.Common.{refl, sym, ap, subst, ◌∙◌, inl, inr, append_assoc, length-append, arith, rules}
+use Rattle.std.specs.Prelude.{◌≡◌, ◌≢◌, ◌⊎◌, ℕ, suc, ℤ, pos, ◌+◌, ◌+ℤ◌, Bool, true, false, List, [], ◌∷◌, ◌++◌, length, Some}
+use Rattle.std.proofs.Common.{refl, sym, ap, subst, ◌∙◌, inl, inr, append_assoc, arith, rules}
 use Rattle.std.proofs.lemmas.Option.{same_Some}
 use Rattle.ak_client.specs.Syncs.{ends_before_finish}
 use Rattle.ak_client.specs.declared.outcomes.Outcome.{Outcome}
@@ -9,19 +9,24 @@ use Rattle.ak_client.specs.declared.outcomes.Outcome.TheVariants as outcomes
 use Rattle.ak_faults.specs.Causes.{one_more}
 use Rattle.ak_io.specs.declared.lines.Line.{Line}
 use Rattle.ak_keep.specs.Collections.{Collection}
+use Rattle.ak_lab_joins.proofs.Alone.{EndsAlone, sync_alone}
+use Rattle.ak_lab_joins.proofs.Counts.{all_room, fresh_goes}
 use Rattle.ak_lab_joins.proofs.Devices.{changed_found, others_found}
 use Rattle.ak_lab_joins.proofs.Lines as law_lines
 use Rattle.ak_lab_joins.proofs.Lines.{LinesStep, all_linked, at_line_linked, base_of, opened_linked, sync_linked}
-use Rattle.ak_lab_joins.proofs.Ordered.{at_line_ordered, run_ordered, sync_fresh}
+use Rattle.ak_lab_joins.proofs.Ordered.{at_line_ordered, run_unloaded, sync_fresh}
 use Rattle.ak_lab_joins.proofs.Servers.{committed_is}
 use Rattle.ak_lab_joins.proofs.Syncs.{CommitsNoneOrJoin}
 use Rattle.ak_lab_joins.proofs.Synced as synced
 use Rattle.ak_lab_joins.proofs.Synced.{holds_is}
 use Rattle.ak_lab_joins.proofs.Worlds.{commit_as, StaysQuiet}
-use Rattle.ak_lab_joins.specs.LabJoins.{Agrees, AllGoFresh, CommitsOnceIn, Finishes, GoFresh, HasFreshCheck, HasSession, IsLinkedDevice, IsLinkedLab, IsLinkedServer, KeepsCommitted, KeepsOthers, KeepsSides, MayHoldJoin, RunsToSync, SaysNoUpload, StillCommits, StillHolds, ends_at_check, world_in}
+use Rattle.ak_lab_joins.specs.LabJoins.{Agrees, AllGoFresh, CommitsOnceIn, Finishes, GoFresh, HasFreshCheck, HasSession, IsLinkedDevice, IsLinkedLab, IsLinkedServer, KeepsCommitted, KeepsOthers, KeepsSides, MayHoldJoin, PlansNothing, RunsToSync, SaysNoUpload, StillCommits, StillHolds, ends_at_check, world_in}
 use Rattle.ak_lab.specs.LabRuns.{AllGo, IsLabOpening}
-use Rattle.ak_lab.specs.LabStates.{LabState, at_line, lab_host, opened_lab}
+use Rattle.ak_lab.specs.LabStates.{LabState, at_line, opened_lab}
+use Rattle.ak_lab_wires.specs.LabSessions.{lab_host}
 use Rattle.ak_lab.specs.LabSyncs.{EndsSync}
+use Rattle.ak_lab_wires.specs.declared.lab_sessions.SessionKind.{SessionKind}
+use Rattle.ak_lab_wires.specs.declared.lab_sessions.SessionKind.TheVariants as kinds
 use Rattle.ak_lab_devices.proofs.Places.{found_has_name}
 use Rattle.ak_lab_devices.specs.Devices.{device_of}
 use Rattle.ak_lab_devices.specs.declared.devices.Device.{Device}
@@ -44,7 +49,7 @@ by_number key key' c before after own (inr (one, joins)) = inr (once_by_number k
 
 -- ---- a sync
 module _ (account : AccountState) (name : List ℕ) (s t : LabState) (outcome : Outcome) (linked : IsLinkedLab account s) (room : HasSession s)
-    (ends : EndsSync name s t outcome) (enough : outcome ≢ outcomes.Memory) where
+    (ends : EndsAlone kinds.Sync name s t outcome) (enough : outcome ≢ outcomes.Memory) where
   abbrev host : List ℕ
   host = ends.session.ids.host.digits
 
@@ -80,7 +85,7 @@ module _ (account : AccountState) (name : List ℕ) (s t : LabState) (outcome : 
   was_held d found =
       subst (λ (x : Device). Holds x.collection own.c) (same_Some ends.d d (sym ends.found ∙ found)) (holds_is ends.d own.c own.holds)
 
-  pub keeps_others : KeepsOthers name s t
+  pub keeps_others : KeepsOthers kinds.Sync name s t
   keeps_others = record {
     clock = ap (λ (x : LabState). x.clock) ends.left;
     sessions = ap (λ (x : LabState). x.sessions) ends.left;
@@ -90,9 +95,7 @@ module _ (account : AccountState) (name : List ℕ) (s t : LabState) (outcome : 
     made = ends.made;
     was = ends.found;
     now = now_found;
-    rest = ends.session.rest
-        ∙ ap (λ (n : ℕ). let made : Device = record ends.d { collection = ends.made.collection; undo = []; calls = n } in made)
-        (sym (ap (λ (x : Device). x.calls) ends.session.rest));
+    rest = ends.session.plan;
   }
 
   -- what was committed, by the lab's host key
@@ -127,7 +130,7 @@ module _ (account : AccountState) (name : List ℕ) (s t : LabState) (outcome : 
   still_commits other (outcomes.OwnCheck fault) is = kept (ap ends_before_finish is)
   still_commits other outcomes.Stopped is = kept (ap ends_before_finish is)
   still_commits other (outcomes.Refused status word seen) is = committed_so
-  still_commits other outcomes.Lost is = absurd (ends.session.unlost is)
+  still_commits other outcomes.Lost is = committed_so
   still_commits other outcomes.BadReply is = committed_so
   still_commits other outcomes.TooManyChunks is = kept (ap ends_before_finish is)
   still_commits other outcomes.Keep is = absurd (ends.session.unfailed is)
@@ -213,18 +216,20 @@ not_memory is = absurd (search (is, rules))
 unchanged_enough : outcomes.NoChanges ≢ outcomes.Memory
 unchanged_enough is = absurd (search (is, rules))
 
-pub unchanged_agrees : (account : AccountState) (name : List ℕ) (s t : LabState) → IsLinkedLab account s → HasSession s → EndsSync name s t outcomes.NoChanges
-    → Agrees account name s
-unchanged_agrees account name s t linked room ends = agrees account name s t outcomes.NoChanges linked room ends unchanged_enough refl
+pub unchanged_agrees : (account : AccountState) (name : List ℕ) (s t : LabState) (crossed : List (List ℕ)) → IsLinkedLab account s → HasSession s → PlansNothing name s
+    → EndsSync name s t crossed outcomes.NoChanges → Agrees account name s
+unchanged_agrees account name s t crossed linked room plans ends =
+    agrees account name s t outcomes.NoChanges linked room (sync_alone name s t crossed outcomes.NoChanges ends plans) unchanged_enough refl
 
-pub finished_joins : (account : AccountState) (name : List ℕ) (s t : LabState) → IsLinkedLab account s → HasSession s → EndsSync name s t outcomes.Finished
-    → Finishes account name s t
-finished_joins account name s t linked room ends = finishes account name s t outcomes.Finished linked room ends not_memory refl
+pub finished_joins : (account : AccountState) (name : List ℕ) (s t : LabState) (crossed : List (List ℕ)) → IsLinkedLab account s → HasSession s → PlansNothing name s
+    → EndsSync name s t crossed outcomes.Finished → Finishes account name s t
+finished_joins account name s t crossed linked room plans ends =
+    finishes account name s t outcomes.Finished linked room (sync_alone name s t crossed outcomes.Finished ends plans) not_memory refl
 
 -- ---- over a run
 -- the lab before a line of this number is the lab before it
-unfoldable pub lines_aside_others : (number : ℕ) (name : List ℕ) (s t : LabState) → KeepsOthers name (at_line number s) t → KeepsOthers name s t
-lines_aside_others number name s t it = record {
+unfoldable pub lines_aside_others : (kind : SessionKind) (number : ℕ) (name : List ℕ) (s t : LabState) → KeepsOthers kind name (at_line number s) t → KeepsOthers kind name s t
+lines_aside_others kind number name s t it = record {
   clock = it.clock;
   sessions = it.sessions;
   others = it.others;
@@ -258,7 +263,7 @@ lines_aside_finishes account number name s t it = record {
   };
   once = it.once;
   linked = it.linked;
-  keeps = lines_aside_others number name s t it.keeps;
+  keeps = lines_aside_others kinds.Sync number name s t it.keeps;
 }
 
 lines_aside_keeps : (account : AccountState) (number : ℕ) (name : List ℕ) (s t : LabState) (outcome : Outcome) → KeepsSides account name (at_line number s) t outcome
@@ -269,14 +274,8 @@ lines_aside_keeps account number name s t outcome it = record {
   device = it.device;
   server = it.server;
   linked = it.linked;
-  keeps = lines_aside_others number name s t it.keeps;
+  keeps = lines_aside_others kinds.Sync number name s t it.keeps;
 }
-
--- lines that took fresh schema moments went
-gone : (account : AccountState) (number : ℕ) (all : List Line) (s t : LabState) (printed : List (List ℕ)) → AllGoFresh account number all s t printed → AllGo number all s t printed
-gone account number [] s t printed goes = goes
-gone account number (line ∷ more) s t printed (mid, first, others, ends, takes, goes, is) =
-    (mid, first, others, ends, gone account (number + 1) more mid t others goes, is)
 
 -- such lines after such lines
 fresh_joined : (account : AccountState) (number next : ℕ) (front rest : List Line) (s mid t : LabState) (first later : List (List ℕ)) → next ≡ number + length front
@@ -303,61 +302,55 @@ fresh_joined account number next (line ∷ more) rest s mid t first later at (th
 
 -- after the lines of a run, of which none uploads at first, and whose schema moments are fresh then
 goes_fresh : LinesStep → (opening : Opening) (all : List Line) (s : LabState) (printed : List (List ℕ)) → IsLabOpening opening
-    → length all < 18_446_744_073_709_551_615 → GoFresh opening all s printed → AllGoFresh (account_opened opening) 1 all (opened_lab opening) s printed
+    → HasSession s → GoFresh opening all s printed → AllGoFresh (account_opened opening) 1 all (opened_lab opening) s printed
 goes_fresh steps opening all s printed opens room it =
+    let there : HasSession it.mid =
+    all_room (length it.front + 1) it.rest it.mid s it.later (fresh_goes (account_opened opening) (length it.front + 1) it.rest it.mid s it.later it.fresh) room in
     subst (λ (them : List Line). AllGoFresh (account_opened opening) 1 them (opened_lab opening) s printed) (sym it.parts)
     (subst (λ (texts : List (List ℕ)). AllGoFresh (account_opened opening) 1 (it.front ++ it.rest) (opened_lab opening) s texts) (sym it.said)
     (fresh_joined (account_opened opening) 1 (length it.front + 1) it.front it.rest (opened_lab opening) it.mid s it.first it.later (next (length it.front))
-    (run_ordered steps opening it.front it.mid it.first opens
-    (fewer (length all) (length it.front) (length it.rest) (ap length it.parts ∙ length-append it.front it.rest) room) it.plain it.goes).0 it.fresh))
+    (run_unloaded steps opening it.front it.mid it.first opens there it.plain it.goes).0 it.fresh))
   where
     next : (n : ℕ) → n + 1 ≡ 1 + n
     next n = omega (arith)
 
-    fewer : (all front rest : ℕ) → all ≡ front + rest → all < 18_446_744_073_709_551_615 → front < 18_446_744_073_709_551_615
-    fewer all front rest is low = omega (arith, is, low)
-
 pub run_linked : LinesStep → (opening : Opening) (all : List Line) (s : LabState) (printed : List (List ℕ)) → IsLabOpening opening
-    → length all < 18_446_744_073_709_551_615 → GoFresh opening all s printed → IsLinkedLab (account_opened opening) s × HasSession s
+    → HasSession s → GoFresh opening all s printed → IsLinkedLab (account_opened opening) s
 run_linked steps opening all s printed opens room apart =
-    let goes = goes_fresh steps opening all s printed opens room apart in
-    let it = all_linked steps (account_opened opening) 1 all (opened_lab opening) s printed (opened_linked opening opens) (few (length all) room) goes in
-    (it.0, low s.sessions (length all) it.1 room)
-  where
-    few : (n : ℕ) → n < 18_446_744_073_709_551_615 → 0 + n < 18_446_744_073_709_551_615
-    few n low = omega (arith, low)
-
-    low : (a n : ℕ) → a ≤ 0 + n → n < 18_446_744_073_709_551_615 → a < 18_446_744_073_709_551_615
-    low a n most room = omega (arith, most, room)
+    all_linked steps (account_opened opening) 1 all (opened_lab opening) s printed (opened_linked opening opens) room (goes_fresh steps opening all s printed opens room apart)
 
 module _ (steps : LinesStep) (opening : Opening) (all : List Line) (name : List ℕ) (s t : LabState) (outcome : Outcome)
     (runs : RunsToSync opening all name s t outcome) where
-  abbrev here : IsLinkedLab (account_opened opening) s × HasSession s
+  abbrev here : IsLinkedLab (account_opened opening) s
   here = run_linked steps opening all s runs.printed runs.opens runs.room runs.goes.0
 
   abbrev before : LabState
   before = at_line (length all + 1) s
 
   linked_before : IsLinkedLab (account_opened opening) (at_line (length all + 1) s)
-  linked_before = at_line_linked (account_opened opening) (length all + 1) s here.0
+  linked_before = at_line_linked (account_opened opening) (length all + 1) s here
 
   goes : AllGo 1 all (opened_lab opening) s runs.printed
   goes =
-      gone (account_opened opening) 1 all (opened_lab opening) s runs.printed (goes_fresh steps opening all s runs.printed runs.opens runs.room runs.goes.0)
+      fresh_goes (account_opened opening) 1 all (opened_lab opening) s runs.printed (goes_fresh steps opening all s runs.printed runs.opens runs.room runs.goes.0)
+
+  -- the sync, between whose calls nothing came
+  alone : EndsAlone kinds.Sync name before t outcome
+  alone = sync_alone name before t runs.crossed outcome runs.comes runs.plans
 
   fresh_before : outcome ≢ outcomes.Memory → AllByRecursion SaysNoUpload all ⊎ HasFreshCheck (account_opened opening) name s t outcome
       → HasFreshCheck (account_opened opening) name (at_line (length all + 1) s) t outcome
   fresh_before enough (inl plain) =
-      sync_fresh (account_opened opening) name before t outcome linked_before here.1
-      (at_line_ordered (account_opened opening) (length all + 1) s (run_ordered steps opening all s runs.printed runs.opens runs.room plain goes).1) runs.comes enough
+      sync_fresh (account_opened opening) name before t outcome linked_before runs.room
+      (at_line_ordered (account_opened opening) (length all + 1) s (run_unloaded steps opening all s runs.printed runs.opens runs.room plain goes).1) alone enough
   fresh_before enough (inr fresh) = fresh
 
   pub run_finishes : outcome ≡ outcomes.Finished → Finishes (account_opened opening) name s t
   run_finishes is =
       lines_aside_finishes (account_opened opening) (length all + 1) name s t
-      (finishes (account_opened opening) name before t outcome linked_before here.1 runs.comes (λ wrong. not_memory (sym is ∙ wrong)) is)
+      (finishes (account_opened opening) name before t outcome linked_before runs.room alone (λ wrong. not_memory (sym is ∙ wrong)) is)
 
   pub run_keeps : outcome ≢ outcomes.Finished → outcome ≢ outcomes.Memory → KeepsSides (account_opened opening) name s t outcome
   run_keeps other enough =
       lines_aside_keeps (account_opened opening) (length all + 1) name s t outcome
-      (keeps_sides (account_opened opening) name before t outcome linked_before here.1 runs.comes enough (fresh_before enough runs.goes.1) other)
+      (keeps_sides (account_opened opening) name before t outcome linked_before runs.room alone enough (fresh_before enough runs.goes.1) other)

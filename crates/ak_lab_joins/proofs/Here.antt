@@ -5,12 +5,13 @@ use Rattle.ak_client.specs.declared.outcomes.Outcome.{Outcome}
 use Rattle.ak_desk_lines.specs.LineSteps.{LinksWith}
 use Rattle.ak_exchange.specs.Phases.{holding}
 use Rattle.ak_keep.specs.Collections.{Collection}
-use Rattle.ak_lab.specs.LabStates.{LabState, lab_host, with_changed}
-use Rattle.ak_lab.specs.LabSyncs.{EndsLabSession}
-use Rattle.ak_lab.specs.declared.lab_syncs.SessionKind.{SessionKind}
+use Rattle.ak_lab.specs.LabStates.{LabState, with_changed}
+use Rattle.ak_lab_wires.specs.LabSessions.{lab_host}
+use Rattle.ak_lab_wires.specs.declared.lab_sessions.SessionKind.{SessionKind}
 use Rattle.ak_lab_devices.proofs.Places.{found_has_name}
 use Rattle.ak_lab_devices.specs.Devices.{device_of, keeping_of}
 use Rattle.ak_lab_devices.specs.declared.devices.Device.{Device}
+use Rattle.ak_lab_joins.proofs.Alone.{EndsAlone}
 use Rattle.ak_lab_joins.proofs.Devices.{changed_found}
 use Rattle.ak_lab_joins.proofs.Synced.{holds_is, kept_is}
 use Rattle.ak_lab_joins.specs.LabJoins.{DeviceHolds, IsLinkedDevice, IsLinkedLab, IsLinkedServer, committed_of, world_in}
@@ -30,7 +31,7 @@ changed_holds name s t d made c left found same known =
 
 -- ---- a session
 module _ (kind : SessionKind) (account : AccountState) (name : List ℕ) (s t : LabState) (outcome : Outcome) (linked : IsLinkedLab account s)
-    (ends : EndsLabSession kind name s t outcome) where
+    (ends : EndsAlone kind name s t outcome) where
   abbrev pub host : List ℕ
   host = ends.session.ids.host.digits
 

@@ -1,5 +1,5 @@
 -- Each accepted line of a lab's script leaves its devices linked with the server.
-use Rattle.std.specs.Prelude.{◌≡◌, ◌≢◌, ◌⊎◌, ℕ, suc, ℤ, ◌+◌, ◌<◌, ◌≤◌, ◌+ℤ◌, true, List, [], ◌∷◌, length, Some, Result, Ok}
+use Rattle.std.specs.Prelude.{◌≡◌, ◌≢◌, ◌⊎◌, ℕ, ℤ, ◌+◌, ◌+ℤ◌, true, List, [], ◌∷◌, Some, Result, Ok}
 use Rattle.std.proofs.Common.{refl, sym, ap, subst, ◌∙◌, inl, inr, arith}
 use Rattle.std.proofs.lemmas.List.Elements.{All-nil}
 use Rattle.std.proofs.lemmas.Option.{none-some, same_Some}
@@ -15,24 +15,34 @@ use Rattle.ak_faults.specs.Causes.{one_more}
 use Rattle.ak_io.specs.declared.lines.Line.{Line}
 use Rattle.ak_keep.specs.Collections.{Collection}
 use Rattle.ak_keep.specs.Keepers.{Keeping, WhereHeld}
+use Rattle.ak_lab_joins.proofs.Alone.{EndsAlone, sync_alone, transfer_alone}
+use Rattle.ak_lab_joins.proofs.Counts.{all_room, fresh_goes, line_room}
+use Rattle.ak_lab_joins.proofs.CrossedLab.{any_crossed_linked}
+use Rattle.ak_lab_joins.proofs.Resent.{resent_linked}
 use Rattle.ak_lab_joins.proofs.Devices.{changed_or_old, new_or_old}
 use Rattle.ak_lab_joins.proofs.Edits.{finished_so, reviews_are_admitted, reviews_keep_schema, series_so}
 use Rattle.ak_lab_joins.proofs.Here as here
 use Rattle.ak_lab_joins.proofs.Here.{changed_holds, here_holds}
+use Rattle.ak_lab_joins.proofs.Names.{added_unlike, changed_unlike}
 use Rattle.ak_lab_joins.proofs.Servers.{committed_is, opened_server, viewed_grows, viewed_server, views_stay_quiet}
 use Rattle.ak_lab_joins.proofs.Synced as synced
 use Rattle.ak_lab_joins.proofs.Synced.{device_linked, known_is, linked_device}
 use Rattle.ak_lab_joins.proofs.Transfers.{download_keeps_schema, transfer_linked}
+use Rattle.ak_lab.specs.LabPlans.{Plans, with_act, with_mishap}
 use Rattle.ak_lab.specs.LabDesks.{EndsDo, EndsReview, desk_of, turn_of}
-use Rattle.ak_lab_joins.specs.LabJoins.{AllGoFresh, HasFreshCheck, HasFreshDevice, HasOtherSchema, HasSession, IsLinkedDevice, IsLinkedLab, IsLinkedServer, TakesFreshSchema, TakesFreshSchemas, world_in}
+use Rattle.ak_lab_joins.specs.LabJoins.{AllGoFresh, HasFreshCheck, HasFreshDevice, HasOtherSchema, HasSession, IsAloneFresh, IsLevelFresh, IsLinkedDevice, IsLinkedLab, IsLinkedServer, TakesFreshSchema, TakesFreshSchemas, world_in}
 use Rattle.ak_lab.specs.LabRuns.{IsLabOpening}
-use Rattle.ak_lab.specs.LabStates.{LabState, at_line, lab_host, opened_lab, with_changed}
-use Rattle.ak_lab.specs.LabSteps.{Accepts, AddsDevice, Shifts, SideHolds, plan_of}
 use Rattle.ak_lab.specs.LabSyncs.{EndsSync}
+use Rattle.ak_lab.specs.LabStates.{LabState, at_line, opened_lab, with_changed}
+use Rattle.ak_lab_wires.specs.LabSessions.{lab_host}
+use Rattle.ak_lab.specs.LabSteps.{Accepts, AddsDevice, Shifts, SideHolds, plan_of}
 use Rattle.ak_lab.specs.LineOutcomes.{Accepted, EndsAs, Says}
-use Rattle.ak_lab.specs.declared.lab_syncs.SessionKind.TheVariants as kinds
+use Rattle.ak_lab_wires.specs.declared.lab_sessions.SessionKind.TheVariants as kinds
 use Rattle.ak_lab_devices.specs.Devices.{as_downloaded, device_of, keeping_of, new_device}
 use Rattle.ak_lab_devices.specs.declared.devices.Device.{Device}
+use Rattle.ak_lab_devices.specs.declared.plans.Act.{Act}
+use Rattle.ak_lab_devices.specs.declared.plans.Act.TheVariants as acts
+use Rattle.ak_loops.specs.declared.mishaps.What.{What}
 use Rattle.ak_lab_lines.specs.LabLines.{lab_line_of}
 use Rattle.ak_lab_lines.specs.declared.lab_lines.Direction.TheVariants as directions
 use Rattle.ak_lab_lines.specs.declared.lab_lines.LabLine.{LabLine}
@@ -67,6 +77,7 @@ base_of account s = (world_in lab_host account s.server).state.committed
 pub opened_linked : (opening : Opening) → IsLabOpening opening → IsLinkedLab (account_opened opening) (opened_lab opening)
 opened_linked opening is = record {
   server = opened_server opening is;
+  names = tt;
   devices = λ name d found. absurd (none-some d found);
 }
 
@@ -83,13 +94,14 @@ module _ (account : AccountState) (s : LabState) (server : LoggedState) (linked 
   device_viewed d is = subst (λ (base : Collection). IsLinkedDevice base d) (sym base_viewed) is
 
   pub lab_viewed : IsLinkedLab account (record s { server = server })
-  lab_viewed = record { server = server_viewed; devices = λ name d found. device_viewed d (linked.devices name d found) }
+  lab_viewed = record { server = server_viewed; names = linked.names; devices = λ name d found. device_viewed d (linked.devices name d found) }
 
 -- ---- a device that was changed
 pub changed_linked : (account : AccountState) (s : LabState) (made : Device) → IsLinkedLab account s → IsLinkedDevice (base_of account s) made
     → IsLinkedLab account (with_changed made s)
 changed_linked account s made linked is = record {
   server = linked.server;
+  names = changed_unlike made s.devices linked.names;
   devices = λ name d found. by name d (changed_or_old made s.devices name d found);
 }
   where
@@ -117,6 +129,7 @@ device_added account name s t linked adds =
     same_Some adds.committed base (sym adds.is ∙ committed_is lab_host account s.sessions s.server linked.server) in
     subst (IsLinkedLab account) (sym adds.left) (record {
       server = server_viewed account s t.server linked adds.read;
+      names = added_unlike s.devices (new_device name adds.committed) linked.names adds.new;
       devices = λ other d found. by same other d (new_or_old (new_device name adds.committed) s.devices other d found);
     })
   where
@@ -135,6 +148,18 @@ shifted account name by s t linked shifts =
     subst (IsLinkedLab account) (sym shifts.left)
     (changed_linked account s (record shifts.d { shift = by }) linked
     (record { c = it.c; holds = it.holds; named = it.named; links = it.links; suits = it.suits }))
+
+-- ---- what is planned for a device is no part of what it holds
+planned : (account : AccountState) (name : List ℕ) (change : Device → Device) (s t : LabState) → IsLinkedLab account s → Plans name change s t
+    → ((d : Device) → IsLinkedDevice (base_of account s) d → IsLinkedDevice (base_of account s) (change d)) → IsLinkedLab account t
+planned account name change s t linked plans keeps =
+    subst (IsLinkedLab account) (sym plans.left) (changed_linked account s (change plans.d) linked (keeps plans.d (linked.devices name plans.d plans.found)))
+
+disturbed : (base : Collection) (call : ℕ) (what : What) (d : Device) → IsLinkedDevice base d → IsLinkedDevice base (with_mishap call what d)
+disturbed base call what d it = record { c = it.c; holds = it.holds; named = it.named; links = it.links; suits = it.suits }
+
+acted : (base : Collection) (call line : ℕ) (act : Act) (d : Device) → IsLinkedDevice base d → IsLinkedDevice base (with_act call line act d)
+acted base call line act d it = record { c = it.c; holds = it.holds; named = it.named; links = it.links; suits = it.suits }
 
 -- ---- new reviews, and lines of the desk
 reviewed : (account : AccountState) (name : List ℕ) (card ease : ℤ) (count : ℕ) (s t : LabState) → IsLinkedLab account s
@@ -167,8 +192,8 @@ obeyed steps account name text s t result linked ends fresh =
 
 -- ---- what is looked at
 looked : (account : AccountState) (side : Side) (s t : LabState) (c : Collection) → IsLinkedLab account s → SideHolds side s t c → IsLinkedLab account t
-looked account sides.Server s t c linked (committed, viewed, left) =
-    subst (IsLinkedLab account) (sym left) (lab_viewed account s t.server linked viewed)
+looked account sides.Server s t c linked (committed, reads) =
+    subst (IsLinkedLab account) (sym reads.left) (lab_viewed account s t.server linked reads.viewed)
 looked account (sides.Device name) s t c linked holds = subst (IsLinkedLab account) (sym holds.0) linked
 
 -- ---- a sync
@@ -177,7 +202,7 @@ pub told_enough : (outcome : Outcome) (text : List ℕ) → outcome_text outcome
 told_enough outcome text told is = none-some text (sym (ap outcome_text is) ∙ told)
 
 module _ (account : AccountState) (name : List ℕ) (s t : LabState) (outcome : Outcome) (linked : IsLinkedLab account s) (room : HasSession s)
-    (ends : EndsSync name s t outcome) (enough : outcome ≢ client_outcomes.Memory) where
+    (ends : EndsAlone kinds.Sync name s t outcome) (enough : outcome ≢ client_outcomes.Memory) where
   abbrev pub same_host : lab_host ≡ ends.session.ids.host.digits
   same_host = here.same_host kinds.Sync account name s t outcome linked ends
 
@@ -217,6 +242,7 @@ module _ (account : AccountState) (name : List ℕ) (s t : LabState) (outcome : 
   sync_linked fresh =
       subst (IsLinkedLab account) (sym ends.left) (record {
         server = server_left;
+        names = changed_unlike ends.made s.devices linked.names;
         devices = λ other d found. by other d (changed_or_old ends.made s.devices other d found);
       })
     where
@@ -224,22 +250,36 @@ module _ (account : AccountState) (name : List ℕ) (s t : LabState) (outcome : 
       by other d (inl is) = subst (λ (x : Device). IsLinkedDevice (world_in lab_host account t.server).state.committed x) is (made_left fresh)
       by other d (inr found) = other_left d (linked.devices other d found)
 
+-- a sync between whose calls something may come
+synced_linked : (account : AccountState) (name : List ℕ) (s t : LabState) (crossed : List (List ℕ)) (outcome : Outcome) → IsLinkedLab account s → HasSession s
+    → EndsSync name s t crossed outcome → outcome ≢ client_outcomes.Memory → IsAloneFresh account name s t ⊎ IsLevelFresh account s t → IsLinkedLab account t
+synced_linked account name s t crossed outcome linked room ends enough (inl alone) =
+    sync_linked account name s t outcome linked room (sync_alone name s t crossed outcome ends alone.0) enough (alone.1 crossed outcome ends)
+synced_linked account name s t crossed outcome linked room ends enough (inr level) = any_crossed_linked account name s t crossed outcome linked room ends level
+
 -- ---- a line
 said_linked : LinesStep → (account : AccountState) (said : LabLine) (s t : LabState) (printed : List (List ℕ)) → IsLinkedLab account s → HasSession s
     → Accepts said s t printed → TakesFreshSchema account said s t → IsLinkedLab account t
 said_linked steps account (lines.Clock at) s t printed linked room (in_time, left, none) fresh =
-    subst (IsLinkedLab account) (sym left) (record { server = linked.server; devices = linked.devices })
+    subst (IsLinkedLab account) (sym left) (record { server = linked.server; names = linked.names; devices = linked.devices })
 said_linked steps account (lines.Device name) s t printed linked room (adds, none) fresh = device_added account name s t linked adds
 said_linked steps account (lines.Shift name by) s t printed linked room (shifts, none) fresh = shifted account name by s t linked shifts
 said_linked steps account (lines.Review name card ease count) s t printed linked room (ends, none) fresh = reviewed account name card ease count s t linked ends
 said_linked steps account (lines.Do name text) s t printed linked room (answer, ends, is) fresh = obeyed steps account name text s t (Ok answer) linked ends fresh
-said_linked steps account (lines.Sync name) s t printed linked room (outcome, text, ends, told, is) fresh =
-    sync_linked account name s t outcome linked room ends (told_enough outcome text told) (fresh outcome ends)
+said_linked steps account (lines.Sync name) s t printed linked room (outcome, text, crossed, ends, told, is) fresh =
+    synced_linked account name s t crossed outcome linked room ends (told_enough outcome text told) fresh
+said_linked steps account (lines.Disturb name call what) s t printed linked room (plans, none) fresh = planned account name (with_mishap call what) s t linked plans (disturbed (base_of account s) call what)
+said_linked steps account (lines.Cross name call other) s t printed linked room (o, found, plans, none) fresh =
+    planned account name (with_act call s.server.line (acts.Cross other)) s t linked plans (acted (base_of account s) call s.server.line (acts.Cross other))
+said_linked steps account (lines.Replay name call from count) s t printed linked room (has, plans, none) fresh =
+    planned account name (with_act call s.server.line (acts.Replay from count)) s t linked plans (acted (base_of account s) call s.server.line (acts.Replay from count))
+said_linked steps account (lines.Resend from count) s t printed linked room resends fresh = resent_linked account from count s t printed linked resends fresh
 said_linked steps account (lines.Transfer directions.Upload name) s t printed linked room (outcome, text, ends, told, is) fresh =
-    transfer_linked account directions.Upload name s t outcome linked room ends fresh
+    transfer_linked account directions.Upload name s t outcome linked room (transfer_alone directions.Upload name s t outcome ends) fresh
 said_linked steps account (lines.Transfer directions.Download name) s t printed linked room (outcome, text, ends, told, is) fresh =
-    transfer_linked account directions.Download name s t outcome linked room ends
-    (inl (download_keeps_schema account name s t outcome linked room ends))
+    let alone = transfer_alone directions.Download name s t outcome ends in
+    transfer_linked account directions.Download name s t outcome linked room alone
+    (inl (download_keeps_schema account name s t outcome linked room alone))
 said_linked steps account (lines.Show side what) s t printed linked room (c, holds, is) fresh = looked account side s t c linked holds
 said_linked steps account (lines.Count side) s t printed linked room (c, holds, is) fresh = looked account side s t c linked holds
 said_linked steps account (lines.Requests name) s t printed linked room is fresh = subst (IsLinkedLab account) (sym is.0) linked
@@ -262,6 +302,7 @@ at_line_linked account number s linked = record {
     lawful = linked.server.lawful;
     number = linked.server.number;
   };
+  names = linked.names;
   devices = linked.devices;
 }
 
@@ -272,56 +313,11 @@ line_linked steps account number line s t printed linked room (inl nothing) fres
 line_linked steps account number line s t printed linked room (inr (said, says, accepts)) fresh =
     said_linked steps account said (at_line number s) t printed (at_line_linked account number s linked) room accepts (fresh said says)
 
--- ---- the count of sessions rises by at most one in a line
-one_at_most : (n : ℕ) → one_more n ≤ n + 1
-one_at_most n = omega arith
-
-same_count : (s t : LabState) → t.sessions ≡ s.sessions → t.sessions ≤ s.sessions + 1
-same_count s t same = no_more t.sessions s.sessions same
-  where
-    no_more : (a b : ℕ) → a ≡ b → a ≤ b + 1
-    no_more a b is = omega (arith, is)
-
-said_count : (said : LabLine) (s t : LabState) (printed : List (List ℕ)) → Accepts said s t printed → t.sessions ≤ s.sessions + 1
-said_count (lines.Clock at) s t printed (in_time, left, none) = same_count s t (ap (λ (x : LabState). x.sessions) left)
-said_count (lines.Device name) s t printed (adds, none) = same_count s t (ap (λ (x : LabState). x.sessions) adds.left)
-said_count (lines.Shift name by) s t printed (shifts, none) = same_count s t (ap (λ (x : LabState). x.sessions) shifts.left)
-said_count (lines.Review name card ease count) s t printed (ends, none) = same_count s t (ap (λ (x : LabState). x.sessions) ends.left)
-said_count (lines.Do name text) s t printed (answer, ends, is) = same_count s t (ap (λ (x : LabState). x.sessions) ends.left)
-said_count (lines.Sync name) s t printed (outcome, text, ends, told, is) =
-    subst (λ (n : ℕ). n ≤ s.sessions + 1) (sym (ap (λ (x : LabState). x.sessions) ends.left)) (one_at_most s.sessions)
-said_count (lines.Transfer direction name) s t printed (outcome, text, ends, told, is) =
-    subst (λ (n : ℕ). n ≤ s.sessions + 1) (sym (ap (λ (x : LabState). x.sessions) ends.left)) (one_at_most s.sessions)
-said_count (lines.Show sides.Server what) s t printed (c, holds, is) = same_count s t (ap (λ (x : LabState). x.sessions) holds.2)
-said_count (lines.Show (sides.Device name) what) s t printed (c, holds, is) = same_count s t (ap (λ (x : LabState). x.sessions) holds.0)
-said_count (lines.Count sides.Server) s t printed (c, holds, is) = same_count s t (ap (λ (x : LabState). x.sessions) holds.2)
-said_count (lines.Count (sides.Device name)) s t printed (c, holds, is) = same_count s t (ap (λ (x : LabState). x.sessions) holds.0)
-said_count (lines.Requests name) s t printed is = same_count s t (ap (λ (x : LabState). x.sessions) is.0)
-
-pub line_count : (number : ℕ) (line : Line) (s t : LabState) (printed : List (List ℕ)) → EndsAs number line s t (Accepted printed) → t.sessions ≤ s.sessions + 1
-line_count number line s t printed (inl nothing) = same_count s t (ap (λ (x : LabState). x.sessions) nothing.0)
-line_count number line s t printed (inr (said, says, accepts)) = said_count said (at_line number s) t printed accepts
-
 -- ---- all lines
 pub all_linked : LinesStep → (account : AccountState) (number : ℕ) (all : List Line) (s t : LabState) (printed : List (List ℕ)) → IsLinkedLab account s
-    → s.sessions + length all < 18_446_744_073_709_551_615 → AllGoFresh account number all s t printed → IsLinkedLab account t × (t.sessions ≤ s.sessions + length all)
-all_linked steps account number [] s t printed linked room (same, none) =
-    (subst (IsLinkedLab account) (sym same) linked, still t.sessions s.sessions (ap (λ (x : LabState). x.sessions) same))
-  where
-    still : (a b : ℕ) → a ≡ b → a ≤ b + 0
-    still a b is = omega (arith, is)
+    → HasSession t → AllGoFresh account number all s t printed → IsLinkedLab account t
+all_linked steps account number [] s t printed linked room (same, none) = subst (IsLinkedLab account) (sym same) linked
 all_linked steps account number (line ∷ more) s t printed linked room (mid, first, others, ends, fresh, goes, is) =
-    let count = line_count number line s mid first ends in
-    let rest = all_linked steps account (number + 1) more mid t others
-    (line_linked steps account number line s mid first linked (enough s.sessions (length more) room) ends fresh)
-    (enough_left s.sessions mid.sessions (length more) room count) goes in
-    (rest.0, all s.sessions mid.sessions t.sessions (length more) count rest.1)
-  where
-    enough : (a n : ℕ) → a + suc n < 18_446_744_073_709_551_615 → a < 18_446_744_073_709_551_615
-    enough a n low = omega (arith, low)
-
-    enough_left : (a b n : ℕ) → a + suc n < 18_446_744_073_709_551_615 → b ≤ a + 1 → b + n < 18_446_744_073_709_551_615
-    enough_left a b n low at = omega (arith, low, at)
-
-    all : (a b e n : ℕ) → b ≤ a + 1 → e ≤ b + n → e ≤ a + suc n
-    all a b e n first rest = omega (arith, first, rest)
+    let there : HasSession mid = all_room (number + 1) more mid t others (fresh_goes account (number + 1) more mid t others goes) room in
+    all_linked steps account (number + 1) more mid t others
+    (line_linked steps account number line s mid first linked (line_room number line s mid first ends there) ends fresh) room goes

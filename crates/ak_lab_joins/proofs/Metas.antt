@@ -39,12 +39,12 @@ use Rattle.ak_protocol.specs.Replies.{meta_reply}
 use Rattle.ak_protocol.specs.Syncs.{IsUnused, world_of}
 use Rattle.ak_wires.specs.Forms.{is_meta_in_range, meta_in, meta_told}
 use Rattle.ak_wires.specs.Tries.{Tried}
-use Rattle.ak_wires.specs.Wires.{Carries, GrowsByServings, WireState}
+use Rattle.ak_wires.specs.Wires.{WireKind, Carries, GrowsByServings, WireState}
 use Rattle.ak_wires.specs.declared.wires.MetaSaid.{MetaSaid}
 use Rattle.ak_wires.specs.declared.wires.WireEnd.{WireEnd}
 
 -- ---- what the meta said
-is_200 : (status : ℕ) → (status == 200) ≡ true → status ≡ 200
+pub is_200 : (status : ℕ) → (status == 200) ≡ true → status ≡ 200
 is_200 status is = grind (arith, is)
 
 said_by : (b : Bool) (x y : MetaSaid) → (if b then Some x else None) ≡ Some y → x ≡ y
@@ -52,12 +52,12 @@ said_by true x y is = same_Some x y is
 said_by false x y is = absurd (none-some y is)
 
 -- a meta in its form says the schema moment of the head
-schema_said : (head : Head) (now : ℤ) (said : MetaSaid) → meta_in (gives.Meta (meta_reply head now)) ≡ Some said → said.scm ≡ head.schema
+pub schema_said : (head : Head) (now : ℤ) (said : MetaSaid) → meta_in (gives.Meta (meta_reply head now)) ≡ Some said → said.scm ≡ head.schema
 schema_said head now said is =
     sym (ap (λ (m : MetaSaid). m.scm)
     (said_by (is_meta_in_range (meta_reply head now)) (meta_told (meta_reply head now)) said is))
 
-granted_so : (b : Bool) (o : Option MetaSaid) (said : MetaSaid) → (if b then o else None) ≡ Some said → (b ≡ true) × (o ≡ Some said)
+pub granted_so : (b : Bool) (o : Option MetaSaid) (said : MetaSaid) → (if b then o else None) ≡ Some said → (b ≡ true) × (o ≡ Some said)
 granted_so true o said is = (refl, is)
 granted_so false o said is = absurd (none-some said is)
 
@@ -83,7 +83,7 @@ module _ (ids : Ids) (account : AccountState) (old : Log) (unused : IsUnused ids
       ∙ (ap (λ w. w.state.committed) (world_grown ids.host.digits account old grows.reply.before) ∙ stays.committed))
 
   -- what the meta said is the schema moment that is committed
-  pub schema_is : (h h' : Health) (w mid : WireState) (answer : Result Reply WireEnd) → Tried h h' w mid (meta_of ids) answer
+  pub schema_is : {kind : WireKind} (h h' : Health) (w mid : WireState kind) (answer : Result Reply WireEnd) → Tried h h' w mid (meta_of ids) answer
       → w.alone ≡ true → w.log ≡ Some old → told_by answer ≡ Some said → said.scm ≡ committed.head.schema
   schema_is h h' w mid (Err end) tried alone is told = absurd (none-some said told)
   schema_is h h' w mid (Ok reply) tried alone is told =

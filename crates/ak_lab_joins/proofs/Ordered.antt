@@ -1,6 +1,6 @@
 -- As long as nothing is uploaded in a lab, the schema moment of each device is at least the server's, and each new one is fresh.
 use Rattle.std.specs.List.{AllByRecursion}
-use Rattle.std.specs.Prelude.{◌≡◌, ◌≢◌, ◌⊎◌, ℕ, suc, ℤ, ◌+◌, ◌<◌, ◌≤◌, ◌≤ℤ◌, ◌<ℤ◌, ◌+ℤ◌, Bool, true, false, if◌then◌else◌, List, [], ◌∷◌, ◌++◌, length, Some, Result, Ok}
+use Rattle.std.specs.Prelude.{◌≡◌, ◌≢◌, ◌⊎◌, ℕ, ℤ, ◌+◌, ◌<◌, ◌≤ℤ◌, ◌<ℤ◌, ◌+ℤ◌, Bool, true, false, if◌then◌else◌, List, [], ◌∷◌, ◌++◌, Some, Result, Ok}
 use Rattle.std.proofs.Common.{refl, sym, ap, subst, ◌∙◌, inl, inr, arith}
 use Rattle.std.proofs.lemmas.Int.{ints}
 use Rattle.std.proofs.lemmas.Option.{none-some, same_Some}
@@ -20,25 +20,34 @@ use Rattle.ak_io.specs.declared.lines.Line.{Line}
 use Rattle.ak_keep.specs.Collections.{Collection, Holding}
 use Rattle.ak_keep.specs.Keepers.{Keeping, WhereHeld, changed}
 use Rattle.ak_keep.specs.Marks.{WithMark}
+use Rattle.ak_lab.specs.LabPlans.{Plans, Resends, with_act, with_mishap}
+use Rattle.ak_lab_wires.specs.declared.lab_sessions.SessionKind.TheVariants as kinds
 use Rattle.ak_lab.specs.LabDesks.{EndsDo, EndsReview, desk_of, turn_of}
 use Rattle.ak_lab.specs.LabRuns.{AllGo, IsLabOpening}
-use Rattle.ak_lab.specs.LabStates.{LabState, at_line, lab_host, opened_lab}
+use Rattle.ak_lab.specs.LabStates.{LabState, at_line, opened_lab}
+use Rattle.ak_lab_wires.specs.LabSessions.{lab_host}
 use Rattle.ak_lab.specs.LabSteps.{Accepts, AddsDevice, SideHolds, plan_of}
-use Rattle.ak_lab.specs.LabSyncs.{EndsSync, EndsTransfer}
 use Rattle.ak_lab.specs.LineOutcomes.{Accepted, EndsAs}
 use Rattle.ak_lab_devices.proofs.Places.{found_has_name}
 use Rattle.ak_lab_devices.specs.Devices.{as_downloaded, device_of, keeping_of, new_device, with_device}
 use Rattle.ak_lab_devices.specs.declared.devices.Device.{Device}
+use Rattle.ak_lab_devices.specs.declared.plans.Act.TheVariants as acts
+use Rattle.ak_lab_joins.proofs.Alone.{EndsAlone, sync_alone, transfer_alone}
+use Rattle.ak_lab_joins.proofs.Counts.{all_room, line_room}
+use Rattle.ak_lab_joins.proofs.CrossedLab.{any_crossed_ordered, sync_finishes}
+use Rattle.ak_lab_joins.proofs.NoUploads.{resent_fresh, resent_schema}
+use Rattle.ak_lab_joins.proofs.Unloaded.{line_none}
+use Rattle.ak_lab_joins.proofs.Plain.{at_line_plans, line_plans, says_no_act}
 use Rattle.ak_lab_joins.proofs.Devices.{changed_found, changed_or_old, new_or_old}
 use Rattle.ak_lab_joins.proofs.Edits.{reviews_keep_schema, through_holds}
 use Rattle.ak_lab_joins.proofs.Lines as law_lines
-use Rattle.ak_lab_joins.proofs.Lines.{LinesStep, at_line_linked, base_viewed, line_count, line_linked, opened_linked, says_one, skips_nothing, told_enough}
+use Rattle.ak_lab_joins.proofs.Lines.{LinesStep, at_line_linked, base_viewed, line_linked, opened_linked, says_one, skips_nothing, told_enough}
 use Rattle.ak_lab_joins.proofs.Servers.{committed_is, opened_schema}
 use Rattle.ak_lab_joins.proofs.Synced as synced
 use Rattle.ak_lab_joins.proofs.Synced.{held_once, holds_is, kept_is, known_is, raised_past}
 use Rattle.ak_lab_joins.proofs.Transferred.{finished_or_not}
 use Rattle.ak_lab_joins.proofs.Transfers.{copies, download_keeps_schema, held_still}
-use Rattle.ak_lab_joins.specs.LabJoins.{AllGoFresh, DeviceHolds, HasFreshCheck, HasFreshDevice, HasOrderedSchemas, HasSession, IsFreshSchema, IsLinkedDevice, IsLinkedLab, IsNoUpload, SaysNoUpload, TakesFreshSchema, TakesFreshSchemas, committed_of, ends_at_check, world_in}
+use Rattle.ak_lab_joins.specs.LabJoins.{AllGoFresh, DeviceHolds, HasFreshCheck, HasFreshDevice, HasNoPlans, HasNoUpload, HasOrderedSchemas, HasSession, IsFreshSchema, IsLevelFresh, IsLinkedDevice, IsLinkedLab, IsPlain, SaysNoUpload, SaysPlain, TakesFreshSchema, TakesFreshSchemas, UploadsNothing, committed_of, ends_at_check, world_in}
 use Rattle.ak_lab_keepers.specs.RestingKeepers.{Holds, kept_of}
 use Rattle.ak_lab_lines.specs.declared.lab_lines.Direction.TheVariants as directions
 use Rattle.ak_lab_lines.specs.declared.lab_lines.LabLine.{LabLine}
@@ -216,7 +225,7 @@ module _ (account : AccountState) (name : List ℕ) (card ease : ℤ) (count : �
 
 -- ---- a sync
 module _ (account : AccountState) (name : List ℕ) (s t : LabState) (outcome : Outcome) (linked : IsLinkedLab account s) (room : HasSession s)
-    (ordered : HasOrderedSchemas account s) (ends : EndsSync name s t outcome) (enough : outcome ≢ outcomes.Memory) where
+    (ordered : HasOrderedSchemas account s) (ends : EndsAlone kinds.Sync name s t outcome) (enough : outcome ≢ outcomes.Memory) where
   abbrev synced_of : IsLinkedDevice (committed_of account s) ends.d
   synced_of = linked.devices name ends.d ends.found
 
@@ -306,7 +315,7 @@ module _ (account : AccountState) (name : List ℕ) (s t : LabState) (outcome : 
 
 -- ---- a download
 module _ (account : AccountState) (name : List ℕ) (s t : LabState) (outcome : Outcome) (linked : IsLinkedLab account s) (room : HasSession s)
-    (ordered : HasOrderedSchemas account s) (ends : EndsTransfer directions.Download name s t outcome) where
+    (ordered : HasOrderedSchemas account s) (ends : EndsAlone (kinds.Transfer directions.Download) name s t outcome) where
   abbrev downloaded_of : IsLinkedDevice (committed_of account s) ends.d
   downloaded_of = linked.devices name ends.d ends.found
 
@@ -340,6 +349,13 @@ module _ (account : AccountState) (name : List ℕ) (s t : LabState) (outcome : 
   download_ordered : HasOrderedSchemas account t
   download_ordered = changed_ordered account s t ordered same ends.made (ap (λ (x : LabState). x.devices) ends.left) (download_low (finished_or_not outcome))
 
+-- ---- what is planned for a device
+planned_ordered : (account : AccountState) (name : List ℕ) (change : Device → Device) (s t : LabState) → HasOrderedSchemas account s → Plans name change s t
+    → ((d : Device) → (change d).collection ≡ d.collection) → HasOrderedSchemas account t
+planned_ordered account name change s t ordered plan same =
+    changed_ordered account s t ordered (ap (λ (x : LabState). (committed_of account x).head.schema) plan.left) (change plan.d) (ap (λ (x : LabState). x.devices) plan.left)
+    (λ c holds. ordered.devices name c (plan.d, plan.found, subst (λ (k : WithMark Holding). Holds k c) (same plan.d) holds))
+
 -- ---- a new device, and what is looked at
 module _ (account : AccountState) (name : List ℕ) (s t : LabState) (linked : IsLinkedLab account s) (ordered : HasOrderedSchemas account s) (adds : AddsDevice name s t) where
   abbrev there : LabState
@@ -364,9 +380,9 @@ module _ (account : AccountState) (name : List ℕ) (s t : LabState) (linked : I
 
 looked_ordered : (account : AccountState) (side : Side) (s t : LabState) (c : Collection) → IsLinkedLab account s → HasOrderedSchemas account s → SideHolds side s t c
     → HasOrderedSchemas account t
-looked_ordered account sides.Server s t c linked ordered (committed, viewed, left) =
-    subst (HasOrderedSchemas account) (sym left)
-    (ordered_by account s (record s { server = t.server }) ordered (ap (λ (x : Collection). x.head.schema) (base_viewed account s t.server linked viewed)) ordered.devices)
+looked_ordered account sides.Server s t c linked ordered (committed, reads) =
+    subst (HasOrderedSchemas account) (sym reads.left)
+    (ordered_by account s (record s { server = t.server }) ordered (ap (λ (x : Collection). x.head.schema) (base_viewed account s t.server linked reads.viewed)) ordered.devices)
 looked_ordered account (sides.Device name) s t c linked ordered holds = subst (HasOrderedSchemas account) (sym holds.0) ordered
 
 -- ---- a line
@@ -382,69 +398,106 @@ at_check outcome bad is = not_true (sym (ap ends_at_check is) ∙ bad)
     not_true is = grind (arith, is)
 
 pub any_sync_fresh : (account : AccountState) (name : List ℕ) (s t : LabState) (outcome : Outcome) → IsLinkedLab account s → HasSession s → HasOrderedSchemas account s
-    → EndsSync name s t outcome → HasFreshCheck account name s t outcome
+    → EndsAlone kinds.Sync name s t outcome → HasFreshCheck account name s t outcome
 any_sync_fresh account name s t outcome linked room ordered ends bad = sync_fresh account name s t outcome linked room ordered ends (at_check outcome bad) bad
 
+-- why it takes none: nothing is planned and it is plain, or nothing was uploaded and it does not upload
+abbrev IsOrderly : LabLine → LabState → Type 0
+IsOrderly said s = HasNoPlans s × IsPlain said ⊎ HasNoUpload s.server × UploadsNothing said
+
+-- requests that are sent again where nothing was uploaded
+resent_ordered : (account : AccountState) (from count : ℕ) (s t : LabState) (printed : List (List ℕ)) → IsLinkedLab account s → HasOrderedSchemas account s → HasNoUpload s.server
+    → Resends from count s t printed → HasOrderedSchemas account t
+resent_ordered account from count s t printed linked ordered none resends =
+    subst (HasOrderedSchemas account) (sym resends.left)
+    (ordered_by account s (record s { server = t.server }) ordered (resent_schema account from count s t printed linked none resends) ordered.devices)
+
 said_ordered : LinesStep → (account : AccountState) (said : LabLine) (s t : LabState) (printed : List (List ℕ)) → IsLinkedLab account s → HasSession s → HasOrderedSchemas account s
-    → IsNoUpload said → Accepts said s t printed → StaysOrdered account said s t
-said_ordered steps account (lines.Clock moment) s t printed linked room ordered plain (in_time, left, none) =
+    → IsOrderly said s → Accepts said s t printed → StaysOrdered account said s t
+said_ordered steps account (lines.Clock moment) s t printed linked room ordered why (in_time, left, none) =
     (tt, subst (HasOrderedSchemas account) (sym left) (record { server = ordered.server; devices = ordered.devices }))
-said_ordered steps account (lines.Device name) s t printed linked room ordered plain (adds, none) = (tt, added_ordered account name s t linked ordered adds)
-said_ordered steps account (lines.Shift name by) s t printed linked room ordered plain (shifts, none) = (
+said_ordered steps account (lines.Device name) s t printed linked room ordered why (adds, none) = (tt, added_ordered account name s t linked ordered adds)
+said_ordered steps account (lines.Shift name by) s t printed linked room ordered why (shifts, none) = (
   tt,
   changed_ordered account s t ordered (ap (λ (x : LabState). (committed_of account x).head.schema) shifts.left) (record shifts.d { shift = by })
       (ap (λ (x : LabState). x.devices) shifts.left) (λ c holds. ordered.devices name c (shifts.d, shifts.found, holds)),
 )
-said_ordered steps account (lines.Review name card ease count) s t printed linked room ordered plain (ends, none) =
+said_ordered steps account (lines.Review name card ease count) s t printed linked room ordered why (ends, none) =
     (tt, reviewed_ordered account name card ease count s t linked ordered ends)
-said_ordered steps account (lines.Do name text) s t printed linked room ordered plain (answer, ends, is) =
+said_ordered steps account (lines.Do name text) s t printed linked room ordered why (answer, ends, is) =
     (do_fresh steps account name text s t (Ok answer) linked ordered ends, do_ordered steps account name text s t (Ok answer) linked ordered ends)
-said_ordered steps account (lines.Sync name) s t printed linked room ordered plain (outcome, text, ends, told, is) = (
-  λ other. any_sync_fresh account name s t other linked room ordered,
-  sync_ordered account name s t outcome linked room ordered ends (told_enough outcome text told),
+said_ordered steps account (lines.Sync name) s t printed linked room ordered (inl (plans, plain)) (outcome, text, crossed, ends, told, is) = (
+  inl (plans name, λ others other ended. any_sync_fresh account name s t other linked room ordered (sync_alone name s t others other ended (plans name))),
+  sync_ordered account name s t outcome linked room ordered (sync_alone name s t crossed outcome ends (plans name)) (told_enough outcome text told),
 )
-said_ordered steps account (lines.Transfer directions.Upload name) s t printed linked room ordered plain accepts = absurd plain
-said_ordered steps account (lines.Transfer directions.Download name) s t printed linked room ordered plain (outcome, text, ends, told, is) =
-    (tt, download_ordered account name s t outcome linked room ordered ends)
-said_ordered steps account (lines.Show side what) s t printed linked room ordered plain (c, holds, is) = (tt, looked_ordered account side s t c linked ordered holds)
-said_ordered steps account (lines.Count side) s t printed linked room ordered plain (c, holds, is) = (tt, looked_ordered account side s t c linked ordered holds)
-said_ordered steps account (lines.Requests name) s t printed linked room ordered plain is = (tt, subst (HasOrderedSchemas account) (sym is.0) ordered)
+said_ordered steps account (lines.Sync name) s t printed linked room ordered (inr (none, quiet)) (outcome, text, crossed, ends, told, is) =
+    let fresh : IsLevelFresh account s t = (ordered.server, sync_finishes account false name s t crossed outcome ends linked none) in
+    (inr fresh, any_crossed_ordered account name s t crossed outcome linked room ends fresh ordered)
+said_ordered steps account (lines.Disturb name call what) s t printed linked room ordered why (plan, none) =
+    (tt, planned_ordered account name (with_mishap call what) s t ordered plan (λ d. refl))
+said_ordered steps account (lines.Cross name call other) s t printed linked room ordered why (o, found, plan, none) =
+    (tt, planned_ordered account name (with_act call s.server.line (acts.Cross other)) s t ordered plan (λ d. refl))
+said_ordered steps account (lines.Replay name call from count) s t printed linked room ordered why (has, plan, none) =
+    (tt, planned_ordered account name (with_act call s.server.line (acts.Replay from count)) s t ordered plan (λ d. refl))
+said_ordered steps account (lines.Resend from count) s t printed linked room ordered (inl (plans, plain)) resends = absurd plain
+said_ordered steps account (lines.Resend from count) s t printed linked room ordered (inr (none, quiet)) resends =
+    (resent_fresh account from count s t printed linked none resends, resent_ordered account from count s t printed linked ordered none resends)
+said_ordered steps account (lines.Transfer directions.Upload name) s t printed linked room ordered (inl (plans, plain)) accepts = absurd plain
+said_ordered steps account (lines.Transfer directions.Upload name) s t printed linked room ordered (inr (none, quiet)) accepts = absurd quiet
+said_ordered steps account (lines.Transfer directions.Download name) s t printed linked room ordered why (outcome, text, ends, told, is) =
+    (tt, download_ordered account name s t outcome linked room ordered (transfer_alone directions.Download name s t outcome ends))
+said_ordered steps account (lines.Show side what) s t printed linked room ordered why (c, holds, is) = (tt, looked_ordered account side s t c linked ordered holds)
+said_ordered steps account (lines.Count side) s t printed linked room ordered why (c, holds, is) = (tt, looked_ordered account side s t c linked ordered holds)
+said_ordered steps account (lines.Requests name) s t printed linked room ordered why is = (tt, subst (HasOrderedSchemas account) (sym is.0) ordered)
 
 pub line_ordered : LinesStep → (account : AccountState) (number : ℕ) (line : Line) (s t : LabState) (printed : List (List ℕ)) → IsLinkedLab account s → HasSession s
-    → HasOrderedSchemas account s → SaysNoUpload line → EndsAs number line s t (Accepted printed) → TakesFreshSchemas account number line s t × HasOrderedSchemas account t
-line_ordered steps account number line s t printed linked room ordered plain (inl nothing) = (
+    → HasOrderedSchemas account s → HasNoPlans s → SaysPlain line → EndsAs number line s t (Accepted printed)
+    → TakesFreshSchemas account number line s t × HasOrderedSchemas account t × HasNoPlans t
+line_ordered steps account number line s t printed linked room ordered plans plain (inl nothing) = (
   λ said says. absurd (skips_nothing line said says nothing.1.0),
   subst (HasOrderedSchemas account) (sym nothing.0) (at_line_ordered account number s ordered),
+  line_plans number line s t printed plans (says_no_act line plain) (inl nothing),
 )
-line_ordered steps account number line s t printed linked room ordered plain (inr (said, says, accepts)) =
-    let it = said_ordered steps account said (at_line number s) t printed (at_line_linked account number s linked) room (at_line_ordered account number s ordered) (plain said says) accepts in (
+line_ordered steps account number line s t printed linked room ordered plans plain (inr (said, says, accepts)) =
+    let it = said_ordered steps account said (at_line number s) t printed (at_line_linked account number s linked) room (at_line_ordered account number s ordered)
+    (inl (at_line_plans number s plans, plain said says)) accepts in (
       λ other again. subst (λ (l : LabLine). TakesFreshSchema account l (at_line number s) t) (says_one line said other says again) it.0,
       it.1,
+      line_plans number line s t printed plans (says_no_act line plain) (inr (said, says, accepts)),
+    )
+
+-- the same where nothing was uploaded, of a line that does not upload
+pub line_unloaded : LinesStep → (account : AccountState) (number : ℕ) (line : Line) (s t : LabState) (printed : List (List ℕ)) → IsLinkedLab account s → HasSession s
+    → HasOrderedSchemas account s → HasNoUpload s.server → SaysNoUpload line → EndsAs number line s t (Accepted printed)
+    → TakesFreshSchemas account number line s t × HasOrderedSchemas account t × HasNoUpload t.server
+line_unloaded steps account number line s t printed linked room ordered none quiet (inl nothing) = (
+  λ said says. absurd (skips_nothing line said says nothing.1.0),
+  subst (HasOrderedSchemas account) (sym nothing.0) (at_line_ordered account number s ordered),
+  line_none account number line s t printed quiet (inl nothing) none,
+)
+line_unloaded steps account number line s t printed linked room ordered none quiet (inr (said, says, accepts)) =
+    let it = said_ordered steps account said (at_line number s) t printed (at_line_linked account number s linked) room (at_line_ordered account number s ordered)
+    (inr (none, quiet said says)) accepts in (
+      λ other again. subst (λ (l : LabLine). TakesFreshSchema account l (at_line number s) t) (says_one line said other says again) it.0,
+      it.1,
+      line_none account number line s t printed quiet (inr (said, says, accepts)) none,
     )
 
 -- ---- all lines
-all_ordered : LinesStep → (account : AccountState) (number : ℕ) (all : List Line) (s t : LabState) (printed : List (List ℕ)) → IsLinkedLab account s → HasOrderedSchemas account s
-    → s.sessions + length all < 18_446_744_073_709_551_615 → AllByRecursion SaysNoUpload all → AllGo number all s t printed
-    → AllGoFresh account number all s t printed × HasOrderedSchemas account t
-all_ordered steps account number [] s t printed linked ordered room plain (same, none) = ((same, none), subst (HasOrderedSchemas account) (sym same) ordered)
-all_ordered steps account number (line ∷ more) s t printed linked ordered room plain (mid, first, others, ends, goes, is) =
-    let here = line_ordered steps account number line s mid first linked (enough s.sessions (length more) room) ordered plain.0 ends in
-    let rest = all_ordered steps account (number + 1) more mid t others
-    (line_linked steps account number line s mid first linked (enough s.sessions (length more) room) ends here.0) here.1
-    (enough_left s.sessions mid.sessions (length more) room (line_count number line s mid first ends)) plain.1 goes in
-    ((mid, first, others, ends, here.0, rest.0, is), rest.1)
-  where
-    enough : (a n : ℕ) → a + suc n < 18_446_744_073_709_551_615 → a < 18_446_744_073_709_551_615
-    enough a n low = omega (arith, low)
+all_unloaded : LinesStep → (account : AccountState) (number : ℕ) (all : List Line) (s t : LabState) (printed : List (List ℕ)) → IsLinkedLab account s → HasOrderedSchemas account s
+    → HasNoUpload s.server → HasSession t → AllByRecursion SaysNoUpload all → AllGo number all s t printed
+    → AllGoFresh account number all s t printed × HasOrderedSchemas account t × HasNoUpload t.server
+all_unloaded steps account number [] s t printed linked ordered none room quiet (same, nothing) =
+    ((same, nothing), subst (HasOrderedSchemas account) (sym same) ordered, subst (λ (x : LabState). HasNoUpload x.server) (sym same) none)
+all_unloaded steps account number (line ∷ more) s t printed linked ordered none room quiet (mid, first, others, ends, goes, is) =
+    let there : HasSession s = line_room number line s mid first ends (all_room (number + 1) more mid t others goes room) in
+    let here = line_unloaded steps account number line s mid first linked there ordered none quiet.0 ends in
+    let rest = all_unloaded steps account (number + 1) more mid t others
+    (line_linked steps account number line s mid first linked there ends here.0) here.1 here.2 room quiet.1 goes in
+    ((mid, first, others, ends, here.0, rest.0, is), rest.1, rest.2)
 
-    enough_left : (a b n : ℕ) → a + suc n < 18_446_744_073_709_551_615 → b ≤ a + 1 → b + n < 18_446_744_073_709_551_615
-    enough_left a b n low at = omega (arith, low, at)
-
-pub run_ordered : LinesStep → (opening : Opening) (all : List Line) (s : LabState) (printed : List (List ℕ)) → IsLabOpening opening
-    → length all < 18_446_744_073_709_551_615 → AllByRecursion SaysNoUpload all → AllGo 1 all (opened_lab opening) s printed
-    → AllGoFresh (account_opened opening) 1 all (opened_lab opening) s printed × HasOrderedSchemas (account_opened opening) s
-run_ordered steps opening all s printed opens room plain goes =
-    all_ordered steps (account_opened opening) 1 all (opened_lab opening) s printed (opened_linked opening opens) (opened_ordered opening opens) (few (length all) room) plain goes
-  where
-    few : (n : ℕ) → n < 18_446_744_073_709_551_615 → 0 + n < 18_446_744_073_709_551_615
-    few n low = omega (arith, low)
+pub run_unloaded : LinesStep → (opening : Opening) (all : List Line) (s : LabState) (printed : List (List ℕ)) → IsLabOpening opening
+    → HasSession s → AllByRecursion SaysNoUpload all → AllGo 1 all (opened_lab opening) s printed
+    → AllGoFresh (account_opened opening) 1 all (opened_lab opening) s printed × HasOrderedSchemas (account_opened opening) s × HasNoUpload s.server
+run_unloaded steps opening all s printed opens room quiet goes =
+    all_unloaded steps (account_opened opening) 1 all (opened_lab opening) s printed (opened_linked opening opens) (opened_ordered opening opens) tt room quiet goes

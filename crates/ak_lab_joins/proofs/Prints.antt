@@ -1,5 +1,5 @@
 -- What the printed line of a sync tells of its outcome.
-use Rattle.std.specs.Prelude.{◌≡◌, ◌<◌, ◌+◌, ℕ, true, false, List, [], ◌∷◌, ◌++◌, length, Option, Some, None, codes}
+use Rattle.std.specs.Prelude.{◌≡◌, ◌+◌, ℕ, true, false, List, [], ◌∷◌, ◌++◌, length, Option, Some, None, codes}
 use Rattle.std.proofs.Common.{refl, sym, ap, subst, ◌∙◌, inl, inr, arith}
 use Rattle.std.proofs.lemmas.List.{append_cancel_left}
 use Rattle.std.proofs.lemmas.Option.{none-some}
@@ -8,11 +8,12 @@ use Rattle.ak_client.specs.declared.outcomes.Outcome.TheVariants as outcomes
 use Rattle.ak_io.specs.declared.lines.Line.{Line}
 use Rattle.ak_lab_joins.proofs.Ends.{run_finishes}
 use Rattle.ak_lab_joins.proofs.Lines.{LinesStep, says_one, skips_nothing}
-use Rattle.ak_lab_joins.specs.LabJoins.{Finishes, GoFresh}
+use Rattle.ak_lab_joins.specs.LabJoins.{Finishes, GoFresh, HasSession, PlansNothing}
 use Rattle.ak_lab.specs.LabRuns.{IsLabOpening}
 use Rattle.ak_lab.specs.LabStates.{LabState, at_line}
 use Rattle.ak_lab.specs.LabSteps.{Accepts}
 use Rattle.ak_lab.specs.LabSyncs.{EndsSync}
+use Rattle.ak_lab_joins.proofs.Alone.{sync_uncrossed}
 use Rattle.ak_lab.specs.LineOutcomes.{Accepted, EndsAs, Says}
 use Rattle.ak_lab_lines.specs.LabTexts.{ending_text, sync_text}
 use Rattle.ak_lab_lines.specs.declared.lab_lines.LabLine.{LabLine}
@@ -57,30 +58,41 @@ unfolding first_of
 text_told word name text other is =
     append_cancel_left (word ++ codes " " ++ name ++ codes ": ") text other (ap first_of is)
 
-sync_told : (name : List ℕ) (s t : LabState) → Accepts (lines.Sync name) s t (sync_text name (codes "finished") ∷ []) → EndsSync name s t outcomes.Finished
-sync_told name s t (outcome, text, ends, told, is) =
-    subst (λ (o : Outcome). EndsSync name s t o)
-    (finished_told outcome (told ∙ ap Some (sym (text_told (codes "sync") name (codes "finished") text is)))) ends
+-- a sync that finished, and what others that crossed it printed
+abbrev pub Ended : List ℕ → LabState → LabState → Type 0
+Ended name s t = (crossed : List (List ℕ)) × EndsSync name s t crossed outcomes.Finished
 
-line_told : (number : ℕ) (line : Line) (name : List ℕ) (s t : LabState) → Says line (lines.Sync name)
-    → EndsAs number line s t (Accepted (sync_text name (codes "finished") ∷ [])) → EndsSync name (at_line number s) t outcomes.Finished
-line_told number line name s t says (inl nothing) = absurd (skips_nothing line (lines.Sync name) says nothing.1.0)
-line_told number line name s t says (inr (said, others, accepts)) =
-    sync_told name (at_line number s) t
+sync_told : (name : List ℕ) (s t : LabState) → PlansNothing name s → Accepts (lines.Sync name) s t (sync_text name (codes "finished") ∷ []) → Ended name s t
+sync_told name s t plans (outcome, text, crossed, ends, told, is) =
+    let alone : sync_text name (codes "finished") ∷ [] ≡ sync_text name text ∷ [] =
+    is ∙ ap (λ (l : List (List ℕ)). l ++ sync_text name text ∷ []) (sync_uncrossed name s t crossed outcome ends plans) in (
+      crossed,
+      subst (λ (o : Outcome). EndsSync name s t crossed o)
+          (finished_told outcome (told ∙ ap Some (sym (text_told (codes "sync") name (codes "finished") text alone)))) ends,
+    )
+
+line_told : (number : ℕ) (line : Line) (name : List ℕ) (s t : LabState) → PlansNothing name s → Says line (lines.Sync name)
+    → EndsAs number line s t (Accepted (sync_text name (codes "finished") ∷ [])) → Ended name (at_line number s) t
+line_told number line name s t plans says (inl nothing) = absurd (skips_nothing line (lines.Sync name) says nothing.1.0)
+line_told number line name s t plans says (inr (said, others, accepts)) =
+    sync_told name (at_line number s) t plans
     (subst (λ (it : LabLine). Accepts it (at_line number s) t (sync_text name (codes "finished") ∷ [])) (says_one line said (lines.Sync name) others says) accepts)
 
 -- ---- in a script
 pub printed_joins : LinesStep → (opening : Opening) (all : List Line) (earlier : List (List ℕ)) (line : Line) (name : List ℕ) (s t : LabState) → IsLabOpening opening
-    → length all < 18_446_744_073_709_551_615 → GoFresh opening all s earlier → Says line (lines.Sync name)
+    → HasSession s → GoFresh opening all s earlier → PlansNothing name s → Says line (lines.Sync name)
     → EndsAs (length all + 1) line s t (Accepted (sync_text name (codes "finished") ∷ [])) → Finishes (account_opened opening) name s t
-printed_joins steps opening all earlier line name s t opens room goes says ends =
+printed_joins steps opening all earlier line name s t opens room goes plans says ends =
+    let told = line_told (length all + 1) line name s t plans says ends in
     run_finishes steps opening all name s t outcomes.Finished
     (record {
       opens = opens;
       printed = earlier;
       goes = (goes, inr (λ bad. absurd (not_checked bad)));
       room = room;
-      comes = line_told (length all + 1) line name s t says ends;
+      plans = plans;
+      crossed = told.0;
+      comes = told.1;
     }) refl
   where
     -- a sync that finished took no schema moment

@@ -8,10 +8,10 @@ use Rattle.ak_base.specs.Limits.{last_moment}
 use Rattle.ak_io.specs.Arrivals.{IsClockMoment}
 use Rattle.ak_keep.specs.Collections.{Collection}
 use Rattle.ak_lab_joins.proofs.Worlds.{IsView, StaysQuiet, quiet_after, views_are_quiet, views_of_none, world_grown}
-use Rattle.ak_lab.proofs.Openings.{opening_is_committed}
+use Rattle.ak_lab_wires.proofs.Openings.{opening_is_committed}
 use Rattle.ak_lab_joins.specs.LabJoins.{IsLinkedServer, world_in}
 use Rattle.ak_lab.specs.LabRuns.{IsLabOpening}
-use Rattle.ak_lab.specs.LabStates.{lab_host}
+use Rattle.ak_lab_wires.specs.LabSessions.{lab_host}
 use Rattle.ak_loops.proofs.Logging.{events_append}
 use Rattle.ak_loops.specs.Entries.{LoggedState, account_opened, collection_in, entry_of, events_in, log_in, server_of, server_opened}
 use Rattle.ak_loops.specs.LoggedServers.{begins_with}

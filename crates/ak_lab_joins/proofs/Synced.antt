@@ -21,18 +21,21 @@ use Rattle.ak_io.specs.Arrivals.{GivesNext}
 use Rattle.ak_keep.specs.Collections.{Collection, Holding, collection_of}
 use Rattle.ak_keep.specs.Keepers.{Keeping, all_known, changed}
 use Rattle.ak_keep.specs.Marks.{WithMark}
+use Rattle.ak_lab_joins.proofs.Alone.{IsAlone}
 use Rattle.ak_lab_joins.proofs.Edits.{HoldsLinked}
 use Rattle.ak_lab_joins.proofs.Syncs as syncs
 use Rattle.ak_lab_joins.proofs.Syncs.{CommitsNoneOrJoin}
 use Rattle.ak_lab_joins.proofs.Worlds.{GrowsSo, IsOfSession, commit_as, StaysQuiet, others_of_session}
 use Rattle.ak_lab_joins.specs.LabJoins.{HasRisen, ends_at_check, IsLinkedDevice, IsLinkedServer, StillHolds, world_in}
-use Rattle.ak_lab.specs.LabSyncs.{IsLabSync}
 use Rattle.ak_lab_devices.specs.Devices.{keeping_of}
 use Rattle.ak_lab_devices.specs.declared.devices.Device.{Device}
 use Rattle.ak_lab_keepers.specs.RestingKeepers.{Holds, kept_of}
 use Rattle.ak_loops.specs.Entries.{LoggedState, log_in}
 use Rattle.ak_call_counts.specs.CallCounts.{no_calls}
-use Rattle.ak_loops.specs.LoopWires.{health_over, state_over}
+use Rattle.ak_loops.specs.LoopWires.{health_over, inside_with, loop_kind, state_of_loop}
+use Rattle.ak_loops.specs.declared.mishaps.Mishap.{Mishap}
+use Rattle.ak_lab_wires.specs.CrossedSyncs.{CrossesAt, crosses_nothing}
+use Rattle.ak_lab_wires.specs.declared.lab_sessions.SessionKind.TheVariants as kinds
 use Rattle.ak_merge.specs.Edits.{Reversal}
 use Rattle.ak_merge.specs.Exchanges.{AreExchanged}
 use Rattle.ak_keep.specs.Graves.{RowsByName}
@@ -46,6 +49,7 @@ use Rattle.ak_protocol.specs.Logs.{Commit, Log, World}
 use Rattle.ak_protocol.specs.Sessions.{IsMetaOrOther}
 use Rattle.ak_protocol.specs.Syncs.{IsUnused}
 use Rattle.ak_undo.specs.declared.steps.Step.{Step}
+use Rattle.ak_wires.specs.Wires.{WireState}
 
 -- ---- what a device holds
 -- what a device's keeper is known to hold
@@ -127,14 +131,14 @@ pub raised_past : (at c s : ℤ) → s ≤ℤ c → s <ℤ last_moment → s <�
 raised_past at c s low early = grind (arith, ints, low, early)
 
 -- a clock that stands still gives one moment
-stands_still : (device_at at : ℤ) (to_come : Option (List ℤ)) → GivesAfter 1 (Some (device_at ∷ [])) to_come at → at ≡ device_at
+pub stands_still : (device_at at : ℤ) (to_come : Option (List ℤ)) → GivesAfter 1 (Some (device_at ∷ [])) to_come at → at ≡ device_at
 stands_still device_at at to_come (mid, earlier, first, next) =
     let given : GivesNext (Some (device_at ∷ [])) to_come at = subst (λ (m : Option (List ℤ)). GivesNext m to_come at) first.1 next in
     given.0
 
 -- ---- the sync
-module _ (account : AccountState) (sessions : ℕ) (at device_at : ℤ) (d made : Device) (met new : LoggedState) (outcome : Outcome) (room : sessions < 18_446_744_073_709_551_615)
-    (sync : IsLabSync (one_more sessions) at device_at d made met new outcome) (enough : outcome ≢ outcomes.Memory)
+module _ {mishaps : List Mishap} (account : AccountState) (sessions : ℕ) (at device_at : ℤ) (d made : Device) (met new : LoggedState) (outcome : Outcome) (room : sessions < 18_446_744_073_709_551_615)
+    (sync : IsAlone kinds.Sync (one_more sessions) at device_at mishaps d made met new outcome) (enough : outcome ≢ outcomes.Memory)
     (server : IsLinkedServer sync.ids.host.digits account sessions met)
     (linked : IsLinkedDevice (world_in sync.ids.host.digits account met).state.committed d) where
   abbrev pub host : List ℕ
@@ -148,6 +152,16 @@ module _ (account : AccountState) (sessions : ℕ) (at device_at : ℤ) (d made 
 
   abbrev pub c : Collection
   c = linked.c
+
+  -- what is known of the wire before the first call and after the last one
+  abbrev first : WireState (loop_kind CrossesAt crosses_nothing)
+  first = state_of_loop CrossesAt crosses_nothing (inside_with met sync.was at mishaps no_calls)
+
+  abbrev last : WireState (loop_kind CrossesAt crosses_nothing)
+  last = state_of_loop CrossesAt crosses_nothing sync.end
+
+  log_now : last.log ≡ Some (log_in new)
+  log_now = ap (λ (z : LoggedState). Some (log_in z)) sync.server
 
   below_next : sessions < one_more sessions
   below_next = next_over sessions room
@@ -168,40 +182,40 @@ module _ (account : AccountState) (sessions : ℕ) (at device_at : ℤ) (d made 
   -- what was committed
   pub committed : CommitsNoneOrJoin sync.ids.session.0 c was is_now
   committed =
-      syncs.committed sync.ids account (log_in met) (log_in new) (keeping_of d) (keeping_of made) (health_over no_calls []) sync.health (state_over met no_calls at true) sync.wire
-      (Some (device_at ∷ [])) outcome c refl refl sync.log known sync.ended.sync ended sync.unfailed enough may
+      syncs.committed sync.ids account (log_in met) (log_in new) (keeping_of d) (keeping_of made) (health_over no_calls mishaps) sync.health first last
+      (Some (device_at ∷ [])) outcome c sync.alone refl log_now known sync.ended.sync ended sync.unfailed enough may
 
   pub schema_stays : is_now.state.committed.head.schema ≡ was.state.committed.head.schema
   schema_stays =
-      syncs.schema_stays sync.ids account (log_in met) (log_in new) (keeping_of d) (keeping_of made) (health_over no_calls []) sync.health (state_over met no_calls at true) sync.wire
-      (Some (device_at ∷ [])) outcome c refl refl sync.log known sync.ended.sync ended sync.unfailed enough may server.number
+      syncs.schema_stays sync.ids account (log_in met) (log_in new) (keeping_of d) (keeping_of made) (health_over no_calls mishaps) sync.health first last
+      (Some (device_at ∷ [])) outcome c sync.alone refl log_now known sync.ended.sync ended sync.unfailed enough may server.number
 
   linked_now : (e : Collection) → AreLinked e was.state.committed → AreLinked e is_now.state.committed
   linked_now e is =
-      syncs.linked_now sync.ids account (log_in met) (log_in new) (keeping_of d) (keeping_of made) (health_over no_calls []) sync.health (state_over met no_calls at true) sync.wire
-      (Some (device_at ∷ [])) outcome c refl refl sync.log known sync.ended.sync ended sync.unfailed enough may server.number e is
+      syncs.linked_now sync.ids account (log_in met) (log_in new) (keeping_of d) (keeping_of made) (health_over no_calls mishaps) sync.health first last
+      (Some (device_at ∷ [])) outcome c sync.alone refl log_now known sync.ended.sync ended sync.unfailed enough may server.number e is
 
   fits_now : (e : Collection) (step : Reversal) → StepFits e step was.state.committed → StepFits e step is_now.state.committed
   fits_now e step is =
-      syncs.fits_now sync.ids account (log_in met) (log_in new) (keeping_of d) (keeping_of made) (health_over no_calls []) sync.health (state_over met no_calls at true) sync.wire
-      (Some (device_at ∷ [])) outcome c refl refl sync.log known sync.ended.sync ended sync.unfailed enough may server.number e step is
+      syncs.fits_now sync.ids account (log_in met) (log_in new) (keeping_of d) (keeping_of made) (health_over no_calls mishaps) sync.health first last
+      (Some (device_at ∷ [])) outcome c sync.alone refl log_now known sync.ended.sync ended sync.unfailed enough may server.number e step is
 
   abbrev own_growth : GrowsSo (IsOfSession sync.ids.session.0) (log_in met) (log_in new)
   own_growth =
-      syncs.own_growth sync.ids account (log_in met) (log_in new) (keeping_of d) (keeping_of made) (health_over no_calls []) sync.health (state_over met no_calls at true) sync.wire
-      (Some (device_at ∷ [])) outcome c refl refl sync.log known sync.ended.sync ended sync.unfailed enough may
+      syncs.own_growth sync.ids account (log_in met) (log_in new) (keeping_of d) (keeping_of made) (health_over no_calls mishaps) sync.health first last
+      (Some (device_at ∷ [])) outcome c sync.alone refl log_now known sync.ended.sync ended sync.unfailed enough may
 
   -- ---- the server
   pub server_now : IsLinkedServer host account (one_more sessions) new
   server_now = record {
-    host_is = sync.served.host ∙ server.host_is;
+    host_is = sync.host ∙ server.host_is;
     unused = unused_next host account sessions sync.ids.session.0 (log_in met) (log_in new) room sync.of.session server.unused own_growth;
     lawful =
-        syncs.lawful_now sync.ids account (log_in met) (log_in new) (keeping_of d) (keeping_of made) (health_over no_calls []) sync.health (state_over met no_calls at true) sync.wire
-        (Some (device_at ∷ [])) outcome c refl refl sync.log known sync.ended.sync ended sync.unfailed enough may server.number;
+        syncs.lawful_now sync.ids account (log_in met) (log_in new) (keeping_of d) (keeping_of made) (health_over no_calls mishaps) sync.health first last
+        (Some (device_at ∷ [])) outcome c sync.alone refl log_now known sync.ended.sync ended sync.unfailed enough may server.number;
     number =
-        syncs.number_stays sync.ids account (log_in met) (log_in new) (keeping_of d) (keeping_of made) (health_over no_calls []) sync.health (state_over met no_calls at true) sync.wire
-        (Some (device_at ∷ [])) outcome c refl refl sync.log known sync.ended.sync ended sync.unfailed enough may server.number;
+        syncs.number_stays sync.ids account (log_in met) (log_in new) (keeping_of d) (keeping_of made) (health_over no_calls mishaps) sync.health first last
+        (Some (device_at ∷ [])) outcome c sync.alone refl log_now known sync.ended.sync ended sync.unfailed enough may server.number;
   }
 
   -- ---- the other devices
@@ -274,8 +288,8 @@ module _ (account : AccountState) (sessions : ℕ) (at device_at : ℤ) (d made 
 
   pub finished_now : outcome ≡ outcomes.Finished → FinishedSo
   finished_now is =
-      let it = syncs.finished sync.ids account (log_in met) (log_in new) (keeping_of d) (keeping_of made) (health_over no_calls []) sync.health (state_over met no_calls at true) sync.wire
-      (Some (device_at ∷ [])) outcome c refl refl sync.log known sync.ended.sync ended sync.unfailed enough may is in
+      let it = syncs.finished sync.ids account (log_in met) (log_in new) (keeping_of d) (keeping_of made) (health_over no_calls mishaps) sync.health first last
+      (Some (device_at ∷ [])) outcome c sync.alone refl log_now known sync.ended.sync ended sync.unfailed enough may is in
       let device : Collection = it.0.device in
       let kept : made.collection ≡ kept_of device = kept_is made device it.0.holds in
       record {
@@ -318,11 +332,11 @@ module _ (account : AccountState) (sessions : ℕ) (at device_at : ℤ) (d made 
   -- a device that found nothing to sync has the content of what is committed
   pub agreed_now : outcome ≡ outcomes.NoChanges → SameContent (content_of c) (content_of was.state.committed)
   agreed_now is =
-      syncs.agreed sync.ids account (log_in met) (log_in new) (keeping_of d) (keeping_of made) (health_over no_calls []) sync.health (state_over met no_calls at true) sync.wire
-      (Some (device_at ∷ [])) outcome c refl refl sync.log known sync.ended.sync ended sync.unfailed enough may is
+      syncs.agreed sync.ids account (log_in met) (log_in new) (keeping_of d) (keeping_of made) (health_over no_calls mishaps) sync.health first last
+      (Some (device_at ∷ [])) outcome c sync.alone refl log_now known sync.ended.sync ended sync.unfailed enough may is
 
   -- an end before the finish leaves what is committed
   pub early_quiet : ends_before_finish outcome ≡ true → StaysQuiet was is_now
   early_quiet early =
-      syncs.quiet_if_early sync.ids account (log_in met) (log_in new) (keeping_of d) (keeping_of made) (health_over no_calls []) sync.health (state_over met no_calls at true) sync.wire
-      (Some (device_at ∷ [])) outcome c refl refl sync.log known sync.ended.sync ended sync.unfailed enough may early
+      syncs.quiet_if_early sync.ids account (log_in met) (log_in new) (keeping_of d) (keeping_of made) (health_over no_calls mishaps) sync.health first last
+      (Some (device_at ∷ [])) outcome c sync.alone refl log_now known sync.ended.sync ended sync.unfailed enough may early

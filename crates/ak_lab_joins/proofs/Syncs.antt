@@ -32,7 +32,7 @@ use Rattle.ak_protocol.specs.Commits.{EachNewer, HasFreshSchema, IsMade}
 use Rattle.ak_protocol.specs.LawfulServers.{IsLawfulAccount}
 use Rattle.ak_protocol.specs.Logs.{Commit, Event, IsTimely, Log, World, events_of, world_after}
 use Rattle.ak_session.specs.Plans.{Asker, requests_from}
-use Rattle.ak_wires.specs.Wires.{WireState}
+use Rattle.ak_wires.specs.Wires.{WireKind, WireState}
 use Rattle.ak_wires.specs.declared.wires.MetaSaid.{MetaSaid}
 
 -- a log grows by requests of one session
@@ -61,7 +61,7 @@ all_front P (event ∷ front) rest all = (all.0, all_front P front rest all.1)
 not_zero : (usn : ℤ) → pos 1 ≡ usn +ℤ pos 1 → pos 0 <ℤ usn → ⊥
 not_zero usn is over = omega (arith, ints, is, over)
 
-module _ (ids : Ids) (account : AccountState) (old now : Log) (before left : Keeping) (h0 h1 : Health) (w0 w1 : WireState) (to_come : Option (List ℤ)) (outcome : Outcome) (c : Collection)
+module _ {kind : WireKind} (ids : Ids) (account : AccountState) (old now : Log) (before left : Keeping) (h0 h1 : Health) (w0 w1 : WireState kind) (to_come : Option (List ℤ)) (outcome : Outcome) (c : Collection)
     (alone : w0.alone ≡ true) (told : w0.log ≡ Some old) (told_now : w1.log ≡ Some now) (holds : before ≡ holding c)
     (sync : IsSync ids before left h0 h1 w0 w1 outcome) (because : EndsBecause sync.meta sync.moment sync.tries before to_come outcome)
     (unfailed : outcome ≢ outcomes.Keep) (enough : outcome ≢ outcomes.Memory)

@@ -7,7 +7,6 @@ use Rattle.std.proofs.lemmas.Int.{ints}
 use Rattle.std.proofs.lemmas.List.{append_cancel_right}
 use Rattle.std.proofs.lemmas.List.Elements.{All-weaker}
 use Rattle.std.proofs.lemmas.Option.{same_Some}
-use Rattle.ak_call_counts.specs.CallCounts.{no_calls}
 use Rattle.ak_client.proofs.Alone.{commits_alone, requests_are_of}
 use Rattle.ak_client.proofs.Growing.{commits_grown, lawful_grown, linked_grown, world_grown}
 use Rattle.ak_client.specs.Greetings.{clock_stop}
@@ -21,12 +20,14 @@ use Rattle.ak_exchange.specs.Phases.{holding}
 use Rattle.ak_exchange.specs.Stops.{wire_stop}
 use Rattle.ak_exchange.specs.declared.envelopes.Ids.{Ids}
 use Rattle.ak_exchange.specs.declared.stops.Stop.{Stop}
-use Rattle.ak_faults.specs.Causes.{Health, one_more}
+use Rattle.ak_faults.specs.Causes.{one_more}
 use Rattle.ak_keep.specs.Collections.{Collection, Rows}
 use Rattle.ak_keep.specs.Keepers.{Keeping}
-use Rattle.ak_lab.proofs.Transferring.{TriesInTurn, transfer_tried}
-use Rattle.ak_lab.specs.LabSyncs.{EndsByKind, IsLabSession, moment_told, sent_by}
-use Rattle.ak_lab.specs.declared.lab_syncs.SessionKind.TheVariants as kinds
+use Rattle.ak_lab_wires.proofs.Transferring.{TriesInTurn, transfer_tried}
+use Rattle.ak_lab_joins.proofs.Alone.{IsAlone}
+use Rattle.ak_lab_wires.specs.CrossedSyncs.{CrossesAt, crosses_nothing}
+use Rattle.ak_lab_wires.specs.LabSessions.{EndsByKind, before_calls, moment_told, sent_by}
+use Rattle.ak_lab_wires.specs.declared.lab_sessions.SessionKind.TheVariants as kinds
 use Rattle.ak_lab_devices.specs.Devices.{keeping_of, given_outside}
 use Rattle.ak_lab_devices.specs.declared.devices.Device.{Device}
 use Rattle.ak_lab_joins.proofs.Synced.{kept_is, known_is, next_over, nothing_to_undo, single_of, unused_next}
@@ -36,7 +37,8 @@ use Rattle.ak_lab_lines.specs.declared.lab_lines.Direction.{Direction}
 use Rattle.ak_lab_lines.specs.declared.lab_lines.Direction.TheVariants as directions
 use Rattle.ak_lab_keepers.specs.RestingKeepers.{kept_of}
 use Rattle.ak_loops.specs.Entries.{LoggedState, log_in}
-use Rattle.ak_loops.specs.LoopWires.{health_over, state_over}
+use Rattle.ak_loops.specs.LoopWires.{state_of_loop}
+use Rattle.ak_loops.specs.declared.mishaps.Mishap.{Mishap}
 use Rattle.ak_merge.proofs.FirstLinks.{copies_are_linked}
 use Rattle.ak_merge.specs.Commits.{IsCommitted, IsCopyOf}
 use Rattle.ak_merge.specs.Edits.{Reversal, second_of}
@@ -53,7 +55,7 @@ use Rattle.ak_protocol.specs.Logs.{Asked, Commit, Event, IsTimely, Log, World, c
 use Rattle.ak_transfers.specs.Greetings.{Line, TransferOutside}
 use Rattle.ak_transfers.specs.Transfers.{Continues, Downloaded, Follows, HoldsUpload, IsServedOver, IsTransfer, MayTransfer, StaysUnlessFinished, TransferEnds, Uploaded, UploadedAt, UploadsAtMostOnce, download_errand, upload_errand}
 use Rattle.ak_transfers.specs.declared.asks.UploadMoments.{UploadMoments}
-use Rattle.ak_wires.specs.Wires.{WireState}
+use Rattle.ak_wires.specs.Wires.{WireKind}
 use Rattle.ak_wires.specs.declared.asks.Unanswered.{Unanswered}
 use Rattle.ak_wires.specs.declared.asks.Unanswered.TheVariants as unanswered
 use Rattle.ak_wires.specs.declared.wires.MetaSaid.{MetaSaid}
@@ -91,7 +93,7 @@ pub record TransferTold (direction : Direction) (key : ℕ) (ids : Ids) (c : Col
   pub finished : outcome ≡ outcomes.Finished → (device : Collection) × (left ≡ holding device) × IsCopyOf (world_at (asker ids) account now).state.committed device
 
 -- ---- how an upload ends
-module _ (k k' : Keeping) (ids : Ids) (asked : List Ask) (was now : TransferOutside) (outcome : Outcome)
+module _ {kind : WireKind} (k k' : Keeping) (ids : Ids) (asked : List Ask) (was now : TransferOutside kind) (outcome : Outcome)
     (transfer : IsTransfer (upload_errand true k k') ids asked was now outcome) where
   not_given : (why : Unanswered) → outcome ≡ outcome_at (wire_stop why) → EndsAfterAsk outcome
   not_given unanswered.Lost is = inr (inr (inl is))
@@ -158,7 +160,7 @@ pub kept_if : (outcome : Outcome) (before left : Keeping) → outcome ≢ outcom
 kept_if outcomes.Finished before left other stays = absurd (other refl)
 kept_if outcome before left other stays = stays
 
-module _ (ids : Ids) (account : AccountState) (old now : Log) (asked : List Ask) (moment : ℤ) (meta : Result Reply WireEnd) (was is : Line)
+module _ {kind : WireKind} (ids : Ids) (account : AccountState) (old now : Log) (asked : List Ask) (moment : ℤ) (meta : Result Reply WireEnd) (was is : Line kind)
     (tries : TriesInTurn ids moment meta asked was is)
     (alone : was.wire.alone ≡ true) (told : was.wire.log ≡ Some old) (told_now : is.wire.log ≡ Some now) (may : MayTransfer (asker ids) account old) where
   abbrev key : ℕ
@@ -258,28 +260,24 @@ module _ (ids : Ids) (account : AccountState) (old now : Log) (asked : List Ask)
       here base place = served_here ids account old now base place (quiet_if never).commits
 
 -- ---- the session
-transfer_told : (direction : Direction) (ids : Ids) (account : AccountState) (met new : LoggedState) (at device_at : ℤ) (health : Health) (wire : WireState) (to_come : Option (List ℤ))
-    (k k' : Keeping) (outcome : Outcome) (c : Collection) → k ≡ holding c → wire.log ≡ Some (log_in new) → MayTransfer (asker ids) account (log_in met)
-    → EndsByKind (kinds.Transfer direction) ids k k' (given_outside (health_over no_calls []) (state_over met no_calls at true) (Some (device_at ∷ []))) (given_outside health wire to_come) outcome
+transfer_told : {kind : WireKind} (direction : Direction) (ids : Ids) (account : AccountState) (met new : LoggedState) (was is : TransferOutside kind)
+    (k k' : Keeping) (outcome : Outcome) (c : Collection) → k ≡ holding c → was.line.wire.alone ≡ true → was.line.wire.log ≡ Some (log_in met) → is.line.wire.log ≡ Some (log_in new)
+    → MayTransfer (asker ids) account (log_in met) → EndsByKind (kinds.Transfer direction) ids k k' was is outcome
     → TransferTold direction ids.session.0 ids c account (log_in met) (log_in new) k' outcome
-transfer_told directions.Upload ids account met new at device_at health wire to_come k k' outcome c known log may ended =
-    let was : TransferOutside = given_outside (health_over no_calls []) (state_over met no_calls at true) (Some (device_at ∷ [])) in
-    let is : TransferOutside = given_outside health wire to_come in
+transfer_told directions.Upload ids account met new was is k k' outcome c known alone begins log may ended =
     let tries = transfer_tried (upload_errand true k k') ids ended.asked was is outcome ended.transfer in
-    let it = ended.told (log_in met) refl in
-    uploaded ids account (log_in met) (log_in new) ended.asked (moment_told ended.transfer.answer) ended.transfer.meta.answer was.line is.line tries refl refl log may c k' outcome
+    let it = ended.told (log_in met) begins in
+    uploaded ids account (log_in met) (log_in new) ended.asked (moment_told ended.transfer.answer) ended.transfer.meta.answer was.line is.line tries alone begins log may c k' outcome
     (subst (λ (now : Log). Uploaded (asker ids) ended.asked c account (log_in met) now k' outcome) (same_Some it.0 (log_in new) (sym it.1 ∙ log)) (it.2 c account known may))
     (asked_ends k k' ids ended.asked was is outcome ended.transfer)
-transfer_told directions.Download ids account met new at device_at health wire to_come k k' outcome c known log may ended =
-    let was : TransferOutside = given_outside (health_over no_calls []) (state_over met no_calls at true) (Some (device_at ∷ [])) in
-    let is : TransferOutside = given_outside health wire to_come in
+transfer_told directions.Download ids account met new was is k k' outcome c known alone begins log may ended =
     let tries = transfer_tried (download_errand k k') ids ended.asked was is outcome ended.transfer in
-    let it = ended.told (log_in met) refl in
-    downloaded ids account (log_in met) (log_in new) ended.asked (moment_told ended.transfer.answer) ended.transfer.meta.answer was.line is.line tries refl refl log may c k' outcome
+    let it = ended.told (log_in met) begins in
+    downloaded ids account (log_in met) (log_in new) ended.asked (moment_told ended.transfer.answer) ended.transfer.meta.answer was.line is.line tries alone begins log may c k' outcome
     (subst (λ (now : Log). Downloaded (asker ids) ended.asked account (log_in met) now k' outcome) (same_Some it.0 (log_in new) (sym it.1 ∙ log)) (it.2 c account known may))
 
-module _ (direction : Direction) (account : AccountState) (sessions : ℕ) (at device_at : ℤ) (d made : Device) (met new : LoggedState) (outcome : Outcome)
-    (room : sessions < 18_446_744_073_709_551_615) (session : IsLabSession (kinds.Transfer direction) (one_more sessions) at device_at d made met new outcome)
+module _ {mishaps : List Mishap} (direction : Direction) (account : AccountState) (sessions : ℕ) (at device_at : ℤ) (d made : Device) (met new : LoggedState) (outcome : Outcome)
+    (room : sessions < 18_446_744_073_709_551_615) (session : IsAlone (kinds.Transfer direction) (one_more sessions) at device_at mishaps d made met new outcome)
     (server : IsLinkedServer session.ids.host.digits account sessions met)
     (linked : IsLinkedDevice (world_in session.ids.host.digits account met).state.committed d) where
   abbrev pub host : List ℕ
@@ -304,7 +302,10 @@ module _ (direction : Direction) (account : AccountState) (sessions : ℕ) (at d
   }
 
   pub told : TransferTold direction session.ids.session.0 session.ids c account (log_in met) (log_in new) (keeping_of made) outcome
-  told = transfer_told direction session.ids account met new at device_at session.health session.wire session.to_come (keeping_of d) (keeping_of made) outcome c known session.log may session.ended
+  told =
+      transfer_told direction session.ids account met new (before_calls CrossesAt crosses_nothing met session.was at mishaps (device_at ∷ []))
+      (given_outside session.health (state_of_loop CrossesAt crosses_nothing session.end) session.to_come) (keeping_of d) (keeping_of made) outcome c known session.alone refl
+      (ap (λ (z : LoggedState). Some (log_in z)) session.server) may session.ended
 
   -- ---- the server
   lawful_now : IsLawfulAccount is_now.state
@@ -321,7 +322,7 @@ module _ (direction : Direction) (account : AccountState) (sessions : ℕ) (at d
 
   pub server_now : IsLinkedServer session.ids.host.digits account (one_more sessions) new
   server_now = record {
-    host_is = session.served.host ∙ server.host_is;
+    host_is = session.host ∙ server.host_is;
     unused = unused_next host account sessions session.ids.session.0 (log_in met) (log_in new) room session.of.session server.unused told.grows;
     lawful = lawful_now;
     number = number_by told.committed;

@@ -1,19 +1,21 @@
 -- The laws of a lab's uploads and downloads.
-use Rattle.std.specs.Prelude.{◌≡◌, ◌≢◌, ◌⊎◌, ℕ, ◌+ℤ◌, true, List, [], Some}
+use Rattle.std.specs.Prelude.{◌≡◌, ◌≢◌, ◌⊎◌, ℕ, ◌+ℤ◌, true, List, Some}
 use Rattle.std.proofs.Common.{refl, sym, ap, subst, ◌∙◌, inl, inr}
 use Rattle.ak_client.specs.declared.outcomes.Outcome.{Outcome}
 use Rattle.ak_client.specs.declared.outcomes.Outcome.TheVariants as outcomes
 use Rattle.ak_faults.specs.Causes.{one_more}
 use Rattle.ak_keep.specs.Collections.{Collection}
-use Rattle.ak_lab.specs.LabStates.{LabState, lab_host}
-use Rattle.ak_lab.specs.LabSyncs.{EndsTransfer}
-use Rattle.ak_lab.specs.declared.lab_syncs.SessionKind.{SessionKind}
-use Rattle.ak_lab.specs.declared.lab_syncs.SessionKind.TheVariants as kinds
+use Rattle.ak_lab.specs.LabStates.{LabState}
+use Rattle.ak_lab_wires.specs.LabSessions.{lab_host}
+use Rattle.ak_lab_wires.specs.declared.lab_sessions.SessionKind.{SessionKind}
+use Rattle.ak_lab_wires.specs.declared.lab_sessions.SessionKind.TheVariants as kinds
 use Rattle.ak_lab_devices.proofs.Places.{found_has_name}
 use Rattle.ak_lab_devices.specs.Devices.{device_of, keeping_of}
 use Rattle.ak_lab_devices.specs.declared.devices.Device.{Device}
+use Rattle.ak_lab_joins.proofs.Alone.{EndsAlone}
 use Rattle.ak_lab_joins.proofs.Devices.{changed_found, changed_or_old, others_found}
 use Rattle.ak_lab_joins.proofs.Here as here
+use Rattle.ak_lab_joins.proofs.Names.{changed_unlike}
 use Rattle.ak_lab_joins.proofs.Servers.{committed_is}
 use Rattle.ak_lab_joins.proofs.Synced.{holds_is, known_is}
 use Rattle.ak_lab_joins.proofs.Transferred as transferred
@@ -31,7 +33,7 @@ use Rattle.ak_protocol.specs.Logs.{World}
 use Rattle.ak_transfers.specs.Transfers.{HoldsUpload}
 
 module _ (account : AccountState) (direction : Direction) (name : List ℕ) (s t : LabState) (outcome : Outcome) (linked : IsLinkedLab account s) (room : HasSession s)
-    (ends : EndsTransfer direction name s t outcome) where
+    (ends : EndsAlone (kinds.Transfer direction) name s t outcome) where
   abbrev kind : SessionKind
   kind = kinds.Transfer direction
 
@@ -83,6 +85,7 @@ module _ (account : AccountState) (direction : Direction) (name : List ℕ) (s t
   transfer_linked fresh =
       subst (IsLinkedLab account) (sym ends.left) (record {
         server = server_left;
+        names = changed_unlike ends.made s.devices linked.names;
         devices = λ other d found. by other d (changed_or_old ends.made s.devices other d found);
       })
     where
@@ -107,7 +110,7 @@ module _ (account : AccountState) (direction : Direction) (name : List ℕ) (s t
   own_name : ends.made.name ≡ name
   own_name = ap (λ (x : Device). x.name) ends.session.rest ∙ found_has_name name s.devices ends.d ends.found
 
-  pub keeps_others : KeepsOthers name s t
+  pub keeps_others : KeepsOthers (kinds.Transfer direction) name s t
   keeps_others = record {
     clock = ap (λ (x : LabState). x.clock) ends.left;
     sessions = ap (λ (x : LabState). x.sessions) ends.left;
@@ -117,13 +120,11 @@ module _ (account : AccountState) (direction : Direction) (name : List ℕ) (s t
     made = ends.made;
     was = ends.found;
     now = ap (λ (x : LabState). device_of name x.devices) ends.left ∙ changed_found ends.made ends.d s.devices name own_name ends.found;
-    rest = ends.session.rest
-        ∙ ap (λ (n : ℕ). let made : Device = record ends.d { collection = ends.made.collection; undo = []; calls = n } in made)
-        (sym (ap (λ (x : Device). x.calls) ends.session.rest));
+    rest = ends.session.plan;
   }
 
   pub same_calls : ends.made.calls ≡ ends.d.calls
-  same_calls = ap (λ (x : Device). x.calls) ends.session.rest
+  same_calls = ends.session.calls
 
   was_held : DeviceHolds name s own.c
   was_held = here.here_holds name s ends.d own.c ends.found (known_is ends.d own.c own.holds)
@@ -154,19 +155,19 @@ kept_committed before after quiet = (quiet.committed, quiet.commits)
 
 -- a download commits nothing
 pub download_quiet : (account : AccountState) (name : List ℕ) (s t : LabState) (outcome : Outcome) → IsLinkedLab account s → HasSession s
-    → EndsTransfer directions.Download name s t outcome → StaysQuiet (lab_world account s) (lab_world account t)
+    → EndsAlone (kinds.Transfer directions.Download) name s t outcome → StaysQuiet (lab_world account s) (lab_world account t)
 download_quiet account name s t outcome linked room ends =
     subst (λ (h : List ℕ). StaysQuiet (world_in h account s.server) (world_in h account t.server)) ends.session.of.host
     (told account directions.Download name s t outcome linked room ends).by_direction
 
 pub download_keeps_schema : (account : AccountState) (name : List ℕ) (s t : LabState) (outcome : Outcome) → IsLinkedLab account s → HasSession s
-    → EndsTransfer directions.Download name s t outcome → (committed_of account t).head.schema ≡ (committed_of account s).head.schema
+    → EndsAlone (kinds.Transfer directions.Download) name s t outcome → (committed_of account t).head.schema ≡ (committed_of account s).head.schema
 download_keeps_schema account name s t outcome linked room ends =
     ap (λ (c : Collection). c.head.schema) (download_quiet account name s t outcome linked room ends).committed
 
 -- ---- the laws
 -- an upload that finished committed
-pub uploads : (account : AccountState) (name : List ℕ) (s t : LabState) → IsLinkedLab account s → HasSession s → EndsTransfer directions.Upload name s t outcomes.Finished
+pub uploads : (account : AccountState) (name : List ℕ) (s t : LabState) → IsLinkedLab account s → HasSession s → EndsAlone (kinds.Transfer directions.Upload) name s t outcomes.Finished
     → LeavesUpload account name s t
 unfolding keeps_others
 uploads account name s t linked room ends =
@@ -184,7 +185,7 @@ uploads account name s t linked room ends =
       calls = same_calls account directions.Upload name s t outcomes.Finished linked room ends;
     }
 
-pub downloads : (account : AccountState) (name : List ℕ) (s t : LabState) → IsLinkedLab account s → HasSession s → EndsTransfer directions.Download name s t outcomes.Finished
+pub downloads : (account : AccountState) (name : List ℕ) (s t : LabState) → IsLinkedLab account s → HasSession s → EndsAlone (kinds.Transfer directions.Download) name s t outcomes.Finished
     → LeavesDownload account name s t
 unfolding keeps_others
 downloads account name s t linked room ends = record {
@@ -197,7 +198,7 @@ downloads account name s t linked room ends = record {
 }
 
 pub keeps_sides : (direction : Direction) (account : AccountState) (name : List ℕ) (s t : LabState) (outcome : Outcome) → IsLinkedLab account s → HasSession s
-    → outcome ≢ outcomes.Finished → EndsTransfer direction name s t outcome → KeepsTransferSides direction account name s t outcome
+    → outcome ≢ outcomes.Finished → EndsAlone (kinds.Transfer direction) name s t outcome → KeepsTransferSides direction account name s t outcome
 unfolding keeps_others
 keeps_sides direction account name s t outcome linked room other ends = record {
   c = (linked.devices name ends.d ends.found).c;
@@ -215,7 +216,7 @@ keeps_sides direction account name s t outcome linked room other ends = record {
     may_have : EndsAfterAsk outcome → may_have_uploaded outcome ≡ true
     may_have (inl is) = is
     may_have (inr (inl finished)) = absurd (other finished)
-    may_have (inr (inr (inl lost))) = absurd (ends.session.unlost lost)
+    may_have (inr (inr (inl lost))) = absurd (ends.session.unlost refl lost)
     may_have (inr (inr (inr kept))) = absurd (ends.session.unfailed kept)
 
     none_or_once : (c : Collection) → StaysQuiet (lab_world account s) (lab_world account t) ⊎ EndsAfterAsk outcome
@@ -225,7 +226,7 @@ keeps_sides direction account name s t outcome linked room other ends = record {
     none_or_once c (inr ended) (inl quiet) = inl (quiet_now quiet)
     none_or_once c (inr ended) (inr once) = inr (may_have ended, once.0, once.1)
 
-    by : (way : Direction) → (it : EndsTransfer way name s t outcome)
+    by : (way : Direction) → (it : EndsAlone (kinds.Transfer way) name s t outcome)
         → MayHoldUpload way (one_more s.sessions) (linked.devices name it.d it.found).c (lab_world account s) (lab_world account t) outcome
     by directions.Upload it =
         none_or_once (linked.devices name it.d it.found).c (early_so account directions.Upload name s t outcome linked room it)

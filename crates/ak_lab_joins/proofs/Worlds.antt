@@ -18,7 +18,7 @@ use Rattle.ak_protocol.specs.Sessions.{IsMetaOrOther}
 use Rattle.ak_protocol.specs.Syncs.{world_of}
 use Rattle.ak_session.specs.Plans.{Asker, requests_from}
 use Rattle.ak_session.specs.Requests.{is_meta}
-use Rattle.ak_wires.specs.Wires.{Carries, GrowsByServings, IsServing, WireState}
+use Rattle.ak_wires.specs.Wires.{WireKind, Carries, GrowsByServings, IsServing, WireState}
 use Rattle.ak_wires.specs.declared.wires.WireEnd.{WireEnd}
 
 -- ---- events that commit nothing
@@ -87,11 +87,11 @@ servings_so P request (View host ∷ events) so all = absurd all.0
 servings_so P request (Asked other now setback ∷ events) so all =
     (subst (λ (r : Request). P (Asked r now setback)) (sym all.0) (so now setback), servings_so P request events so all.1)
 
-pub grows_so : (P : Event → Type 0) (list : List Request) (answers : List (Result Reply WireEnd)) (h0 h1 : Health) (w0 w1 : WireState) (old now : Log)
+pub grows_so : {kind : WireKind} (P : Event → Type 0) (list : List Request) (answers : List (Result Reply WireEnd)) (h0 h1 : Health) (w0 w1 : WireState kind) (old now : Log)
     → AreTried list answers h0 h1 w0 w1 → AllByRecursion (ComesSo P) list → w0.alone ≡ true → w0.log ≡ Some old → w1.log ≡ Some now → GrowsSo P old now
-grows_so P [] [] h0 h1 w0 w1 old now tried all alone is told = record {
+grows_so {kind} P [] [] h0 h1 w0 w1 old now tried all alone is told = record {
   growth = [];
-  grown = same_Some now old (sym told ∙ ap (λ (w : WireState). w.log) tried.1 ∙ is)
+  grown = same_Some now old (sym told ∙ ap (λ (w : WireState kind). w.log) tried.1 ∙ is)
       ∙ ap (λ (events : List Event). record old { events = events }) (sym (append-nil old.events));
   all = tt;
 }

@@ -1,6 +1,6 @@
 -- What a user may rely on in a lab: each device stays linked with the server, so that a finished sync leaves both with the join.
 use Rattle.std.specs.List.{AllByRecursion}
-use Rattle.std.specs.Prelude.{◌≡◌, ◌≢◌, ◌⊎◌, ℕ, ℤ, pos, ◌+◌, ◌+ℤ◌, ◌<◌, ◌≤ℤ◌, ◌<ℤ◌, Bool, true, false, List, [], ◌∷◌, ◌++◌, length, Some, ⊤}
+use Rattle.std.specs.Prelude.{◌≡◌, ◌≢◌, ◌⊎◌, ℕ, ℤ, pos, ◌+◌, ◌+ℤ◌, ◌<◌, ◌≤ℤ◌, ◌<ℤ◌, Bool, true, false, List, [], ◌∷◌, ◌++◌, length, map, Some, ⊤}
 use Rattle.ak_base.specs.Limits.{last_moment}
 use Rattle.ak_client.specs.declared.outcomes.Outcome.{Outcome}
 use Rattle.ak_client.specs.declared.outcomes.Outcome.TheVariants as outcomes
@@ -11,28 +11,36 @@ use Rattle.ak_faults.specs.Causes.{one_more}
 use Rattle.ak_io.specs.declared.lines.Line.{Line}
 use Rattle.ak_keep.specs.Collections.{Collection}
 use Rattle.ak_lab.specs.LabRuns.{AllGo, IsLabOpening}
-use Rattle.ak_lab.specs.LabStates.{LabState, at_line, lab_host, opened_lab}
-use Rattle.ak_lab.specs.LabSyncs.{EndsSync}
+use Rattle.ak_lab.specs.LabStates.{LabState, at_line, opened_lab}
+use Rattle.ak_lab.specs.LabSyncs.{EndsSync, without_plan_for}
+use Rattle.ak_lab_wires.specs.declared.lab_sessions.SessionKind.{SessionKind}
+use Rattle.ak_lab_wires.specs.declared.lab_sessions.SessionKind.TheVariants as kinds
 use Rattle.ak_lab.specs.LineOutcomes.{Accepted, EndsAs, Says}
 use Rattle.ak_lab_devices.specs.Devices.{device_of}
 use Rattle.ak_lab_devices.specs.declared.devices.Device.{Device}
 use Rattle.ak_lab_keepers.specs.RestingKeepers.{Holds, kept_of}
+use Rattle.ak_lab_wires.specs.LabSessions.{lab_host}
+use Rattle.ak_lab_wires.specs.Servings.{requests_in}
 use Rattle.ak_lab_lines.specs.declared.lab_lines.Direction.{Direction}
 use Rattle.ak_lab_lines.specs.declared.lab_lines.Direction.TheVariants as directions
 use Rattle.ak_lab_lines.specs.declared.lab_lines.LabLine.{LabLine}
 use Rattle.ak_lab_lines.specs.declared.lab_lines.LabLine.TheVariants as lines
 use Rattle.ak_loops.specs.Entries.{LoggedState, account_opened, log_in}
-use Rattle.ak_merge.specs.Commits.{IsCopyOf}
+use Rattle.ak_merge.specs.Commits.{IsCopyOf, Received}
 use Rattle.ak_merge.specs.Exchanges.{HoldsJoin}
 use Rattle.ak_merge.specs.Holdings.{AreNamed, SameContent, content_of, row_under}
 use Rattle.ak_merge.specs.Joins.{join}
 use Rattle.ak_merge.specs.Links.{AreLinkedParts}
+use Rattle.ak_messages.specs.declared.methods.Method.TheVariants as methods
+use Rattle.ak_messages.specs.declared.requests.Request.{Request}
 use Rattle.ak_openings.specs.declared.whole_collections.Opening.{Opening}
 use Rattle.ak_protocol.specs.Accounts.{AccountState}
+use Rattle.ak_protocol.specs.Commits.{EachNewer, HasFreshSchema, IsFinishOf}
 use Rattle.ak_protocol.specs.LawfulServers.{IsLawfulAccount}
-use Rattle.ak_protocol.specs.Logs.{World}
+use Rattle.ak_protocol.specs.Logs.{Commit, World}
 use Rattle.ak_protocol.specs.Syncs.{IsUnused, world_of}
 use Rattle.ak_server_copies.specs.Copies.{committed_in}
+use Rattle.ak_session.specs.Requests.{asked_method}
 use Rattle.ak_transfers.specs.Transfers.{HoldsUpload}
 
 -- ---- between two lines
@@ -60,15 +68,33 @@ pub record IsLinkedServer (host : List ℕ) (account : AccountState) (sessions :
   pub lawful : IsLawfulAccount (world_in host account server).state
   pub number : pos 0 <ℤ (world_in host account server).state.committed.head.usn
 
--- a lab whose devices are each linked with what its server committed
+-- no two of these names are one
+abbrev pub AreUnlike : List (List ℕ) → Type 0
+AreUnlike [] = ⊤
+AreUnlike (name ∷ names) = AllByRecursion (λ (other : List ℕ). other ≢ name) names × AreUnlike names
+
+-- the names of devices
+abbrev pub device_names : List Device → List (List ℕ)
+device_names devices = map (λ (d : Device). d.name) devices
+
+-- a lab whose devices are each linked with what its server committed, and no two of which have one name
 pub record IsLinkedLab (account : AccountState) (s : LabState) : Type 0 where
   pub server : IsLinkedServer lab_host account s.sessions s.server
+  pub names : AreUnlike (device_names s.devices)
   pub devices : (name : List ℕ) (d : Device) → device_of name s.devices ≡ Some d
       → IsLinkedDevice (lab_world account s).state.committed d
 
 -- another session may begin: it has a key that none had before. At the last `u64` keys would come again
 abbrev pub HasSession : LabState → Type 0
 HasSession s = s.sessions < 18_446_744_073_709_551_615
+
+-- nothing is planned between the calls of the next sync of the device of this name. Its messages may be lost and repeated all the same
+abbrev pub PlansNothing : List ℕ → LabState → Type 0
+PlansNothing name s = (d : Device) → device_of name s.devices ≡ Some d → d.planned ≡ []
+
+-- so it is of each device
+abbrev pub HasNoPlans : LabState → Type 0
+HasNoPlans s = (name : List ℕ) → PlansNothing name s
 
 -- ---- schema moments
 -- what a lab's server has committed
@@ -108,12 +134,40 @@ abbrev pub HasFreshServer : AccountState → LabState → LabState → Type 0
 HasFreshServer account s t = ((committed_of account t).head.schema ≡ (committed_of account s).head.schema)
     ⊎ ((name : List ℕ) (c : Collection) → DeviceHolds name s c → c.head.schema ≢ (committed_of account t).head.schema)
 
+-- each commit that comes leaves the server's schema moment, or takes one that no device has
+abbrev pub HasFreshCommits : AccountState → LabState → LabState → Type 0
+HasFreshCommits account s t =
+    (name : List ℕ) (c : Collection) → DeviceHolds name s c → EachNewer (HasFreshSchema c) (lab_world account s) (lab_world account t)
+
+-- a commit is the finish of a sync, no upload
+abbrev pub IsFinish : Commit → Type 0
+IsFinish commit = (came : Received) × IsFinishOf came commit.before commit.after
+
+-- the schema moment of the server is not the last one, past which no device's can rise
+abbrev pub HasEarlySchema : AccountState → LabState → Type 0
+HasEarlySchema account s = (committed_of account s).head.schema <ℤ last_moment
+
+-- a sync of the device of this name between whose calls nothing comes takes a fresh schema moment, if any
+abbrev pub IsAloneFresh : AccountState → List ℕ → LabState → LabState → Type 0
+IsAloneFresh account name s t = PlansNothing name s
+    × ((crossed : List (List ℕ)) (outcome : Outcome) → EndsSync name s t crossed outcome → HasFreshCheck account name s t outcome)
+
+-- nothing is uploaded meanwhile: each commit that comes is a finish. So the server's schema moment stays, and whatever a device takes is past it
+abbrev pub IsLevelFresh : AccountState → LabState → LabState → Type 0
+IsLevelFresh account s t = HasEarlySchema account s × EachNewer IsFinish (lab_world account s) (lab_world account t)
+
+-- none of the requests that came to a server is an upload
+abbrev pub HasNoUpload : LoggedState → Type 0
+HasNoUpload server = AllByRecursion (λ (request : Request). asked_method request.ask ≢ methods.Upload) (requests_in server.entries)
+
 -- each schema moment that a line takes is fresh. A line of the desk takes one for its device, if it changes the schema, and so does a sync whose sanity
--- check is bad. An upload takes one for the server. No other line takes any
+-- check is bad. An upload takes one for the server, and so may requests that are sent again, by a line of their own or between the calls of a sync. No
+-- other line takes any. Two uploads that come again in one sync could take one moment for two contents: so if anything comes between the calls of a
+-- sync, no upload may be committed
 abbrev pub TakesFreshSchema : AccountState → LabLine → LabState → LabState → Type 0
 TakesFreshSchema account (lines.Do name text) s t = HasFreshDevice account name s t
-TakesFreshSchema account (lines.Sync name) s t =
-    (outcome : Outcome) → EndsSync name s t outcome → HasFreshCheck account name s t outcome
+TakesFreshSchema account (lines.Sync name) s t = IsAloneFresh account name s t ⊎ IsLevelFresh account s t
+TakesFreshSchema account (lines.Resend from count) s t = HasFreshCommits account s t
 TakesFreshSchema account (lines.Transfer directions.Upload name) s t = HasFreshServer account s t
 TakesFreshSchema account said s t = ⊤
 
@@ -129,21 +183,58 @@ AllGoFresh account number (line ∷ more) s t printed =
     (mid : LabState) × (first : List (List ℕ)) × (others : List (List ℕ)) × EndsAs number line s mid (Accepted first)
     × TakesFreshSchemas account number line s mid × AllGoFresh account (number + 1) more mid t others × (printed ≡ first ++ others)
 
--- a line does not upload
-abbrev pub IsNoUpload : LabLine → Type 0
-IsNoUpload (lines.Transfer directions.Upload name) = ⊥
-IsNoUpload said = ⊤
+-- ---- session keys
+-- nothing is planned between the calls of a sync, if the line is one
+abbrev pub IsUncrossed : LabLine → LabState → Type 0
+IsUncrossed (lines.Sync name) s = PlansNothing name s
+IsUncrossed said s = ⊤
 
--- a line of a script does not
+-- lines go one after another, and nothing is planned between the calls of their syncs
+abbrev pub AllGoUncrossed : ℕ → List Line → LabState → LabState → List (List ℕ) → Type 0
+AllGoUncrossed number [] s t printed = (t ≡ s) × (printed ≡ [])
+AllGoUncrossed number (line ∷ more) s t printed =
+    (mid : LabState) × (first : List (List ℕ)) × (others : List (List ℕ)) × EndsAs number line s mid (Accepted first)
+    × ((said : LabLine) → Says line said → IsUncrossed said (at_line number s)) × AllGoUncrossed (number + 1) more mid t others
+    × (printed ≡ first ++ others)
+
+-- ---- lines that upload nothing
+-- a line does not upload
+abbrev pub UploadsNothing : LabLine → Type 0
+UploadsNothing (lines.Transfer directions.Upload name) = ⊥
+UploadsNothing said = ⊤
+
+-- the same of a line of a script
 abbrev pub SaysNoUpload : Line → Type 0
-SaysNoUpload line = (said : LabLine) → Says line said → IsNoUpload said
+SaysNoUpload line = (said : LabLine) → Says line said → UploadsNothing said
+
+-- a line does not upload, plans nothing between the calls of a sync, and sends no request again
+abbrev pub IsPlain : LabLine → Type 0
+IsPlain (lines.Transfer directions.Upload name) = ⊥
+IsPlain (lines.Cross name call other) = ⊥
+IsPlain (lines.Replay name call from count) = ⊥
+IsPlain (lines.Resend from count) = ⊥
+IsPlain said = ⊤
+
+-- a line plans nothing between the calls of a sync
+abbrev pub PlansNoAct : LabLine → Type 0
+PlansNoAct (lines.Cross name call other) = ⊥
+PlansNoAct (lines.Replay name call from count) = ⊥
+PlansNoAct said = ⊤
+
+-- the same of a line of a script
+abbrev pub SaysNoAct : Line → Type 0
+SaysNoAct line = (said : LabLine) → Says line said → PlansNoAct said
+
+-- a line of a script is plain
+abbrev pub SaysPlain : Line → Type 0
+SaysPlain line = (said : LabLine) → Says line said → IsPlain said
 
 -- the schema moment of each device is at least the server's, which is not the last one. So it stays if nothing is uploaded
 pub record HasOrderedSchemas (account : AccountState) (s : LabState) : Type 0 where
   pub server : (committed_of account s).head.schema <ℤ last_moment
   pub devices : (name : List ℕ) (c : Collection) → DeviceHolds name s c → (committed_of account s).head.schema ≤ℤ c.head.schema
 
--- lines went one after another in a lab that was opened so, and printed this: first some of which none uploads, whatever schema moments they took;
+-- lines went one after another in a lab that was opened so, and printed this: first some that upload nothing, whatever schema moments they took;
 -- and then some, each of which took schema moments that no other collection has
 pub record GoFresh (opening : Opening) (all : List Line) (t : LabState) (printed : List (List ℕ)) : Type 0 where
   pub front : List Line
@@ -159,8 +250,8 @@ pub record GoFresh (opening : Opening) (all : List Line) (t : LabState) (printed
 
 -- ---- what a sync leaves
 -- what a session of the device of this name leaves as it was: the clock, the other devices, and of the device its name, its clock and its
--- count of answers. There is nothing to undo then
-pub record KeepsOthers (name : List ℕ) (s t : LabState) : Type 0 where
+-- count of answers. There is nothing to undo then, and a sync used up what was planned for it
+pub record KeepsOthers (kind : SessionKind) (name : List ℕ) (s t : LabState) : Type 0 where
   pub clock : t.clock ≡ s.clock
   pub sessions : t.sessions ≡ one_more s.sessions
   pub others : (other : List ℕ) → other ≢ name → device_of other t.devices ≡ device_of other s.devices
@@ -168,7 +259,7 @@ pub record KeepsOthers (name : List ℕ) (s t : LabState) : Type 0 where
   pub made : Device
   pub was : device_of name s.devices ≡ Some d
   pub now : device_of name t.devices ≡ Some made
-  pub rest : made ≡ record d { collection = made.collection; undo = []; calls = made.calls }
+  pub rest : made ≡ record (without_plan_for kind d) { collection = made.collection; undo = []; calls = made.calls }
 
 -- the server committed once in a session: over what it had committed before, what it has committed now
 abbrev pub CommitsOnceIn : ℕ → World → World → Type 0
@@ -206,7 +297,7 @@ pub record Finishes (account : AccountState) (name : List ℕ) (s t : LabState) 
   pub joins : JoinsSides name s t
   pub once : CommitsOnceIn (one_more s.sessions) (lab_world account s) (lab_world account t)
   pub linked : IsLinkedLab account t
-  pub keeps : KeepsOthers name s t
+  pub keeps : KeepsOthers kinds.Sync name s t
 
 -- what was committed is as it was
 abbrev pub KeepsCommitted : World → World → Type 0
@@ -231,10 +322,11 @@ abbrev pub MayHoldJoin : ℕ → Collection → World → World → Type 0
 MayHoldJoin key c before after = KeepsCommitted before after
     ⊎ CommitsOnceIn key before after × HoldsJoin c before.state.committed after.state.committed
 
--- a server on which a sync did not finish has committed what it had. If the last request was refused, or its reply was not one that was asked for,
+-- a server on which a sync did not finish has committed what it had. If the last request was refused or lost, or its reply was not one that was asked for,
 -- that may have been the finish: then it may hold the join already
 abbrev pub StillCommits : ℕ → Collection → World → World → Outcome → Type 0
 StillCommits key c before after (outcomes.Refused status word seen) = MayHoldJoin key c before after
+StillCommits key c before after outcomes.Lost = MayHoldJoin key c before after
 StillCommits key c before after outcomes.BadReply = MayHoldJoin key c before after
 StillCommits key c before after outcome = KeepsCommitted before after
 
@@ -247,7 +339,7 @@ pub record KeepsSides (account : AccountState) (name : List ℕ) (s t : LabState
   pub device : (d : Device) → device_of name t.devices ≡ Some d → StillHolds (s.clock +ℤ d.shift) c outcome d
   pub server : StillCommits (one_more s.sessions) c (lab_world account s) (lab_world account t) outcome
   pub linked : IsLinkedLab account t
-  pub keeps : KeepsOthers name s t
+  pub keeps : KeepsOthers kinds.Sync name s t
 
 -- the device of this name holds the content of what the server has committed
 pub record Agrees (account : AccountState) (name : List ℕ) (s : LabState) : Type 0 where
@@ -273,7 +365,7 @@ pub record LeavesUpload (account : AccountState) (name : List ℕ) (s t : LabSta
   pub upload : HoldsUpload c (committed_of account s) (committed_of account t)
   pub copy : HoldsCopy account name t
   pub linked : HasFreshServer account s t → IsLinkedLab account t
-  pub keeps : KeepsOthers name s t
+  pub keeps : KeepsOthers (kinds.Transfer directions.Upload) name s t
   pub calls : keeps.made.calls ≡ keeps.d.calls
 
 -- a download of the device of this name finished: the server has committed what it had, and the device holds that
@@ -281,7 +373,7 @@ pub record LeavesDownload (account : AccountState) (name : List ℕ) (s t : LabS
   pub kept : KeepsCommitted (lab_world account s) (lab_world account t)
   pub copy : HoldsCopy account name t
   pub linked : IsLinkedLab account t
-  pub keeps : KeepsOthers name s t
+  pub keeps : KeepsOthers (kinds.Transfer directions.Download) name s t
   pub calls : keeps.made.calls ≡ keeps.d.calls
 
 -- whether an upload that did not finish may have ended so after its request: that was refused, or its reply was no good, or memory ran out
@@ -304,13 +396,13 @@ pub record KeepsTransferSides (direction : Direction) (account : AccountState) (
   pub holds : DeviceHolds name t c
   pub server : MayHoldUpload direction (one_more s.sessions) c (lab_world account s) (lab_world account t) outcome
   pub linked : HasFreshServer account s t → IsLinkedLab account t
-  pub keeps : KeepsOthers name s t
+  pub keeps : KeepsOthers (kinds.Transfer direction) name s t
   pub calls : keeps.made.calls ≡ keeps.d.calls
 
 -- ---- over a script
 -- the line of this number syncs the device of this name, and comes to this outcome
-abbrev pub ComesTo : ℕ → List ℕ → LabState → LabState → Outcome → Type 0
-ComesTo number name s t outcome = EndsSync name (at_line number s) t outcome
+abbrev pub ComesTo : ℕ → List ℕ → LabState → LabState → List (List ℕ) → Outcome → Type 0
+ComesTo number name s t crossed outcome = EndsSync name (at_line number s) t crossed outcome
 
 -- the same, and a sync of the device of this name comes next. None of the lines uploads, or the sync takes a fresh schema moment too if its sanity
 -- check is bad
@@ -318,12 +410,14 @@ abbrev pub SyncsFresh : Opening → List Line → List ℕ → LabState → LabS
 SyncsFresh opening all name s t printed outcome =
     GoFresh opening all s printed × (AllByRecursion SaysNoUpload all ⊎ HasFreshCheck (account_opened opening) name s t outcome)
 
--- a lab was opened and ran these lines one after another, and a sync of the device of this name came next, with this outcome. There are too few
--- lines for the sessions to reach the last `u64`
+-- a lab was opened and ran these lines one after another, and a sync of the device of this name came next, between whose calls nothing was
+-- planned, with this outcome. There was a session key left for it
 pub record RunsToSync (opening : Opening) (all : List Line) (name : List ℕ) (s t : LabState)
     (outcome : Outcome) : Type 0 where
   pub opens : IsLabOpening opening
   pub printed : List (List ℕ)
   pub goes : SyncsFresh opening all name s t printed outcome
-  pub room : length all < 18_446_744_073_709_551_615
-  pub comes : ComesTo (length all + 1) name s t outcome
+  pub room : HasSession s
+  pub plans : PlansNothing name s
+  pub crossed : List (List ℕ)
+  pub comes : ComesTo (length all + 1) name s t crossed outcome

@@ -1,1 +1,3 @@
+pub mod LabCrossings
 pub mod LabJoins
+pub mod LabMishaps

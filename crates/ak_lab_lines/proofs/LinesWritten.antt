@@ -16,9 +16,9 @@ use Rattle.ak_base.specs.declared.names.Table.TheVariants as tables
 use Rattle.ak_lines.specs.Reading.{is_word, number_in, next_number}
 use Rattle.ak_lines.proofs.Numerals.{number_written}
 use Rattle.ak_lines.proofs.Spaces.{cut_back}
-use Rattle.ak_lab_lines.specs.LabLines.{filled, word_of, next_word, is_device_name, side_of, shown_of, negated, signed_number, clock_line, device_line, shift_line, reviews_of, review_line, do_line, sync_line, transfer_line, show_line, count_line, requests_line, line_of, lab_line_of}
+use Rattle.ak_lab_lines.specs.LabLines.{filled, word_of, next_word, is_device_name, side_of, shown_of, negated, signed_number, clock_line, device_line, shift_line, reviews_of, review_line, do_line, sync_line, lost_of, lose_line, repeat_line, another_word, cross_line, replay_line, resend_line, transfer_line, show_line, count_line, requests_line, line_of, lab_line_of}
 use Rattle.ak_lab_lines.specs.LabTexts.{direction_word}
-use Rattle.ak_lab_lines.specs.Written.{IsWord, IsSide, IsShown, AreReviews, side_word, shown_word, reviews_text, SaysLine}
+use Rattle.ak_lab_lines.specs.Written.{IsWord, IsSide, IsShown, AreReviews, IsLabNumber, IsCrossing, IsReplaying, side_word, shown_word, reviews_text, replaying_text, SaysLine}
 use Rattle.ak_lab_lines.specs.declared.lab_lines.Direction.{Direction}
 use Rattle.ak_lab_lines.specs.declared.lab_lines.Direction.TheVariants as directions
 use Rattle.ak_lab_lines.specs.declared.lab_lines.LabLine.{LabLine}
@@ -26,6 +26,8 @@ use Rattle.ak_lab_lines.specs.declared.lab_lines.LabLine.TheVariants as lines
 use Rattle.ak_lab_lines.specs.declared.lab_lines.Shown.{Shown}
 use Rattle.ak_lab_lines.specs.declared.lab_lines.Shown.TheVariants as shown
 use Rattle.ak_lab_lines.specs.declared.lab_lines.Side.TheVariants as sides
+use Rattle.ak_loops.specs.declared.mishaps.What.{What}
+use Rattle.ak_loops.specs.declared.mishaps.What.TheVariants as whats
 use Rattle.ak_lab_lines.proofs.WordsRead.{below_zero}
 
 map_some : {A B P : Type 0} (f : A → B) (o : Option A) (y : B) → option_map f o ≡ Some y → ((x : A) → o ≡ Some x → f x ≡ y → P) → P
@@ -234,6 +236,109 @@ sync_written text line h =
     let w = word_written text word one in
     subst (SaysAfter (codes "sync") text) is (w.1, inl (ap (λ t. codes "sync " ++ t) w.0)))
 
+-- a number that is not bounded
+abbrev Counted : List ℕ → ℤ → Type 0
+Counted text z = IsLabNumber (unsigned_abs z) × (decimal (unsigned_abs z) ≡ text)
+
+counted : (text : List ℕ) (z : ℤ) → signed_decimal z ≡ text → IsWithin (pos 0) (pos 9_223_372_036_854_775_807) z → Counted text z
+counted text (pos n) is w = (omega (arith, ints, w.high), is)
+counted text (negsuc n) is w = absurd (omega (arith, ints, w.low))
+
+next_counted : (text : List ℕ) (p : ℤ × List ℕ) → next_number (0, 9_223_372_036_854_775_807) text ≡ Some p
+    → (text ≡ decimal (unsigned_abs p.0) ++ (32 ∷ p.1)) × IsLabNumber (unsigned_abs p.0)
+next_counted text p h =
+    let w = next_number_written 0 9_223_372_036_854_775_807 text p (omega arith) h in
+    let c = counted (signed_decimal p.0) p.0 refl w.1 in
+    (w.0 ∙ ap (λ digits. digits ++ (32 ∷ p.1)) (sym c.1), c.0)
+
+last_counted : (text : List ℕ) (z : ℤ) → number_in (0, 9_223_372_036_854_775_807) text ≡ Some z → Counted text z
+last_counted text z h =
+    let w = number_written 0 9_223_372_036_854_775_807 text z (omega arith) h in
+    counted text z w.0 w.1
+
+-- ---- what the lines between syncs say
+-- the word of a message that is lost
+abbrev LosesBy : List ℕ → What → Type 0
+LosesBy word whats.LoseRequest = word ≡ codes "request"
+LosesBy word whats.LoseReply = word ≡ codes "reply"
+LosesBy word whats.Repeat = ⊥
+
+lost_as : (word : List ℕ) (what known : What) → LosesBy word known → ◌≡◌ {A = Option What} (Some known) (Some what) → LosesBy word what
+lost_as word what known is same = subst (LosesBy word) (same_Some known what same) is
+
+lost_written : (word : List ℕ) (what : What) → lost_of word ≡ Some what → LosesBy word what
+lost_written word what =
+    named_or_other word (codes "request") _ _ what (lost_as word what whats.LoseRequest) (
+    named_or_other word (codes "reply") _ None what (lost_as word what whats.LoseReply) (none_is what))
+
+losing_said : (text device rest word : List ℕ) (call : ℕ) (what : What) → text ≡ device ++ (32 ∷ rest) → IsWord device → rest ≡ decimal call ++ (32 ∷ word) → IsLabNumber call
+    → LosesBy word what → SaysAfter (codes "lose") text (lines.Disturb device call what)
+losing_said text device rest word call whats.LoseRequest is w parts small lost =
+    ((w, small), inl (ap (λ t. codes "lose " ++ t) (is ∙ ap (λ t. device ++ (32 ∷ t)) (parts ∙ ap (λ v. decimal call ++ (32 ∷ v)) lost))))
+losing_said text device rest word call whats.LoseReply is w parts small lost =
+    ((w, small), inl (ap (λ t. codes "lose " ++ t) (is ∙ ap (λ t. device ++ (32 ∷ t)) (parts ∙ ap (λ v. decimal call ++ (32 ∷ v)) lost))))
+losing_said text device rest word call whats.Repeat is w parts small lost = absurd lost
+
+lose_written : (text : List ℕ) (line : LabLine) → lose_line text ≡ Some line → SaysAfter (codes "lose") text line
+lose_written text line h =
+    option_and_then_some _ (next_word text) line h (λ p one more.
+    option_and_then_some _ (next_number (0, 9_223_372_036_854_775_807) p.1) line more (λ call two last.
+    map_some (lines.Disturb p.0 (unsigned_abs call.0)) (lost_of call.1) line last (λ what was is.
+    let n = next_word_written text p one in
+    let c = next_counted p.1 call two in
+    subst (SaysAfter (codes "lose") text) is (losing_said text p.0 p.1 call.1 (unsigned_abs call.0) what n.0 n.1 c.0 c.1 (lost_written call.1 what was)))))
+
+repeat_written : (text : List ℕ) (line : LabLine) → repeat_line text ≡ Some line → SaysAfter (codes "repeat") text line
+repeat_written text line h =
+    option_and_then_some _ (next_word text) line h (λ p one more.
+    map_some (λ call. lines.Disturb p.0 (unsigned_abs call) whats.Repeat) (number_in (0, 9_223_372_036_854_775_807) p.1) line more (λ call was is.
+    let n = next_word_written text p one in
+    let c = last_counted p.1 call was in
+    subst (SaysAfter (codes "repeat") text) is ((n.1, c.0), inl (ap (λ t. codes "repeat " ++ t) (n.0 ∙ ap (λ t. p.0 ++ (32 ∷ t)) (sym c.1))))))
+
+another_written : (first text word : List ℕ) → another_word first text ≡ Some word → (text ≡ word) × IsWord word × (word ≢ first)
+another_written first text word h =
+    elim (is_word text first) as (λ b. is_word text first ≡ b → (if b then None else word_of text) ≡ Some word → (text ≡ word) × IsWord word × (word ≢ first)) [
+      | true ↦ λ _ is. none_is word is
+      | false ↦ λ e is.
+          let w = word_written text word is in
+          (w.0, w.1, λ same. absurd (let both : true ≡ false = sym ((bytes_decides text first).1 (w.0 ∙ same)) ∙ e in grind (arith, both)))
+    ] refl h
+
+cross_written : (text : List ℕ) (line : LabLine) → cross_line text ≡ Some line → SaysAfter (codes "cross") text line
+cross_written text line h =
+    option_and_then_some _ (next_word text) line h (λ p one more.
+    option_and_then_some _ (next_number (0, 9_223_372_036_854_775_807) p.1) line more (λ call two last.
+    map_some (lines.Cross p.0 (unsigned_abs call.0)) (another_word p.0 call.1) line last (λ other was is.
+    let n = next_word_written text p one in
+    let c = next_counted p.1 call two in
+    let o = another_written p.0 call.1 other was in
+    let crossing : IsCrossing p.0 (unsigned_abs call.0) other = record { call_fits = c.1; word = o.1; another = o.2 } in
+    subst (SaysAfter (codes "cross") text) is ((n.1, crossing), inl (ap (λ t. codes "cross " ++ t) (n.0 ∙ ap (λ t. p.0 ++ (32 ∷ t)) (c.0 ∙ ap (λ v. decimal (unsigned_abs call.0) ++ (32 ∷ v)) o.0)))))))
+
+replay_written : (text : List ℕ) (line : LabLine) → replay_line text ≡ Some line → SaysAfter (codes "replay") text line
+replay_written text line h =
+    option_and_then_some _ (next_word text) line h (λ p one more.
+    option_and_then_some _ (next_number (0, 9_223_372_036_854_775_807) p.1) line more (λ call two last.
+    option_and_then_some _ (next_number (0, 9_223_372_036_854_775_807) call.1) line last (λ from three end.
+    map_some (λ count. lines.Replay p.0 (unsigned_abs call.0) (unsigned_abs from.0) (unsigned_abs count)) (number_in (0, 9_223_372_036_854_775_807) from.1) line end (λ count was is.
+    let n = next_word_written text p one in
+    let c = next_counted p.1 call two in
+    let f = next_counted call.1 from three in
+    let l = last_counted from.1 count was in
+    let replaying : IsReplaying (unsigned_abs call.0) (unsigned_abs from.0) (unsigned_abs count) = record { call_fits = c.1; from_fits = f.1; count_fits = l.0 } in
+    let numbers : p.1 ≡ replaying_text (unsigned_abs call.0) (unsigned_abs from.0) (unsigned_abs count) =
+    c.0 ∙ ap (λ t. decimal (unsigned_abs call.0) ++ (32 ∷ t)) (f.0 ∙ ap (λ t. decimal (unsigned_abs from.0) ++ (32 ∷ t)) (sym l.1)) in
+    subst (SaysAfter (codes "replay") text) is ((n.1, replaying), inl (ap (λ t. codes "replay " ++ t) (n.0 ∙ ap (λ t. p.0 ++ (32 ∷ t)) numbers)))))))
+
+resend_written : (text : List ℕ) (line : LabLine) → resend_line text ≡ Some line → SaysAfter (codes "resend") text line
+resend_written text line h =
+    option_and_then_some _ (next_number (0, 9_223_372_036_854_775_807) text) line h (λ from one more.
+    map_some (λ count. lines.Resend (unsigned_abs from.0) (unsigned_abs count)) (number_in (0, 9_223_372_036_854_775_807) from.1) line more (λ count was is.
+    let f = next_counted text from one in
+    let l = last_counted from.1 count was in
+    subst (SaysAfter (codes "resend") text) is ((f.1, l.0), inl (ap (λ t. codes "resend " ++ t) (f.0 ∙ ap (λ t. decimal (unsigned_abs from.0) ++ (32 ∷ t)) (sym l.1))))))
+
 transfer_written : (direction : Direction) (text : List ℕ) (line : LabLine) → transfer_line direction text ≡ Some line → SaysAfter (direction_word direction) text line
 transfer_written direction text line h =
     map_some (lines.Transfer direction) (word_of text) line h (λ word one is.
@@ -275,11 +380,16 @@ line_written word text line =
     named_or_other word (codes "review") _ _ line (by_verb word (codes "review") text line _ (review_written text line)) (
     named_or_other word (codes "do") _ _ line (by_verb word (codes "do") text line _ (do_written text line)) (
     named_or_other word (codes "sync") _ _ line (by_verb word (codes "sync") text line _ (sync_written text line)) (
+    named_or_other word (codes "lose") _ _ line (by_verb word (codes "lose") text line _ (lose_written text line)) (
+    named_or_other word (codes "repeat") _ _ line (by_verb word (codes "repeat") text line _ (repeat_written text line)) (
+    named_or_other word (codes "cross") _ _ line (by_verb word (codes "cross") text line _ (cross_written text line)) (
+    named_or_other word (codes "replay") _ _ line (by_verb word (codes "replay") text line _ (replay_written text line)) (
+    named_or_other word (codes "resend") _ _ line (by_verb word (codes "resend") text line _ (resend_written text line)) (
     named_or_other word (codes "upload") _ _ line (by_verb word (codes "upload") text line _ (transfer_written directions.Upload text line)) (
     named_or_other word (codes "download") _ _ line (by_verb word (codes "download") text line _ (transfer_written directions.Download text line)) (
     named_or_other word (codes "show") _ _ line (by_verb word (codes "show") text line _ (show_written text line)) (
     named_or_other word (codes "count") _ _ line (by_verb word (codes "count") text line _ (count_written text line)) (
-    named_or_other word (codes "requests") _ None line (by_verb word (codes "requests") text line _ (requests_written text line)) (none_is line)))))))))))
+    named_or_other word (codes "requests") _ None line (by_verb word (codes "requests") text line _ (requests_written text line)) (none_is line))))))))))))))))
 
 pub read_said : (text : List ℕ) (line : LabLine) → lab_line_of text ≡ Some line → SaysLine text line
 read_said text line h =

@@ -17,7 +17,7 @@ use Rattle.ak_base.proofs.Numerals.{decimal_read}
 use Rattle.ak_lines.specs.Reading.{is_word, next_number}
 use Rattle.ak_lines.proofs.Numerals.{number_read, number_spaceless}
 use Rattle.ak_lines.proofs.Spaces.{is_spaceless, cut_at}
-use Rattle.ak_lab_lines.specs.LabLines.{filled, word_of, next_word, side_of, negated, signed_number}
+use Rattle.ak_lab_lines.specs.LabLines.{filled, word_of, another_word, next_word, side_of, negated, signed_number}
 use Rattle.ak_lab_lines.specs.Written.{IsWord, IsSide, side_word}
 use Rattle.ak_lab_lines.specs.declared.lab_lines.Side.{Side}
 use Rattle.ak_lab_lines.specs.declared.lab_lines.Side.TheVariants as sides
@@ -43,17 +43,21 @@ next_word_read word rest w =
     let cut = cut_at word rest (spaceless word w.spaceless) in
     rw cut.found (rw cut.before (rw cut.after (ap (option_map (λ w. (w, rest))) (not_empty word w.filled))))
 
--- a side has one word, and is named by it
-pub side_filled : (side : Side) → IsSide side → IsWord (side_word side)
-side_filled sides.Server h = record { filled = λ e. grind (arith, e); spaceless = refl }
-side_filled (sides.Device name) h = h.0
-
-other_word : (name word : List ℕ) → name ≢ word → is_word name word ≡ false
+pub other_word : (name word : List ℕ) → name ≢ word → is_word name word ≡ false
 other_word name word differs =
     elim (is_word name word) as (λ b. is_word name word ≡ b → b ≡ false) [
       | true ↦ λ e. absurd (differs ((bytes_decides name word).0 e))
       | false ↦ λ e. refl
     ] refl
+
+-- another word than the first one
+pub another_read : (first word : List ℕ) → IsWord word → word ≢ first → another_word first word ≡ Some word
+another_read first word w differs = rw (other_word word first differs) (word_read word w)
+
+-- a side has one word, and is named by it
+pub side_filled : (side : Side) → IsSide side → IsWord (side_word side)
+side_filled sides.Server h = record { filled = λ e. grind (arith, e); spaceless = refl }
+side_filled (sides.Device name) h = h.0
 
 pub side_read : (side : Side) → IsSide side → side_of (side_word side) ≡ side
 side_read sides.Server h = refl

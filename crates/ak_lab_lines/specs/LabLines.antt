@@ -15,6 +15,8 @@ use Rattle.ak_lab_lines.specs.declared.lab_lines.Shown.{Shown}
 use Rattle.ak_lab_lines.specs.declared.lab_lines.Shown.TheVariants as shown
 use Rattle.ak_lab_lines.specs.declared.lab_lines.Side.{Side}
 use Rattle.ak_lab_lines.specs.declared.lab_lines.Side.TheVariants as sides
+use Rattle.ak_loops.specs.declared.mishaps.What.{What}
+use Rattle.ak_loops.specs.declared.mishaps.What.TheVariants as whats
 
 -- ---- words
 -- the text, if it is not empty
@@ -25,6 +27,10 @@ filled (byte ∷ bytes) = Some (byte ∷ bytes)
 -- the text, if it is one word: not empty, and without a space
 abbrev pub word_of : List ℕ → Option (List ℕ)
 word_of text = if has (codes " ") text then None else filled text
+
+-- the text, if it is one word and not the first one
+abbrev pub another_word : List ℕ → List ℕ → Option (List ℕ)
+another_word first text = if is_word text first then None else word_of text
 
 -- the word before the first space, and what follows that space
 abbrev pub next_word : List ℕ → Option (List ℕ × List ℕ)
@@ -54,6 +60,13 @@ shown_of word =
     else if is_word word (codes "options") then Some (shown.Rows tables.Options)
     else if is_word word (codes "graves") then Some shown.Graves
     else if is_word word (codes "head") then Some shown.Head
+    else None
+
+-- the message of a call that a word names, lost
+abbrev pub lost_of : List ℕ → Option What
+lost_of word =
+    if is_word word (codes "request") then Some whats.LoseRequest
+    else if is_word word (codes "reply") then Some whats.LoseReply
     else None
 
 -- ---- numbers
@@ -100,6 +113,50 @@ do_line text = option_map (λ p. lines.Do p.0 p.1) (next_word text)
 abbrev pub sync_line : List ℕ → Option LabLine
 sync_line text = option_map lines.Sync (word_of text)
 
+-- the call of a `lose` line of a device, and what of it is lost
+abbrev pub losing_of : List ℕ → List ℕ → Option LabLine
+losing_of device text =
+    option_and_then (λ call. option_map (lines.Disturb device (unsigned_abs call.0)) (lost_of call.1))
+    (next_number (0, 9_223_372_036_854_775_807) text)
+
+-- `lose <device> <call> request`, `lose <device> <call> reply`
+abbrev pub lose_line : List ℕ → Option LabLine
+lose_line text = option_and_then (λ p. losing_of p.0 p.1) (next_word text)
+
+-- `repeat <device> <call>`
+abbrev pub repeat_line : List ℕ → Option LabLine
+repeat_line text =
+    option_and_then (λ p. option_map (λ call. lines.Disturb p.0 (unsigned_abs call) whats.Repeat)
+    (number_in (0, 9_223_372_036_854_775_807) p.1)) (next_word text)
+
+-- the call of a `cross` line of a device, and the other device
+abbrev pub crossing_of : List ℕ → List ℕ → Option LabLine
+crossing_of device text =
+    option_and_then (λ call. option_map (lines.Cross device (unsigned_abs call.0)) (another_word device call.1))
+    (next_number (0, 9_223_372_036_854_775_807) text)
+
+-- `cross <device> <call> <other>`: the other device is not the same
+abbrev pub cross_line : List ℕ → Option LabLine
+cross_line text = option_and_then (λ p. crossing_of p.0 p.1) (next_word text)
+
+-- the call of a `replay` line of a device, the first request and how many there are
+abbrev pub replaying_of : List ℕ → List ℕ → Option LabLine
+replaying_of device text =
+    option_and_then (λ call. option_and_then (λ from.
+    option_map (λ count. lines.Replay device (unsigned_abs call.0) (unsigned_abs from.0) (unsigned_abs count))
+    (number_in (0, 9_223_372_036_854_775_807) from.1))
+    (next_number (0, 9_223_372_036_854_775_807) call.1)) (next_number (0, 9_223_372_036_854_775_807) text)
+
+-- `replay <device> <call> <from> <count>`
+abbrev pub replay_line : List ℕ → Option LabLine
+replay_line text = option_and_then (λ p. replaying_of p.0 p.1) (next_word text)
+
+-- `resend <from> <count>`
+abbrev pub resend_line : List ℕ → Option LabLine
+resend_line text =
+    option_and_then (λ from. option_map (λ count. lines.Resend (unsigned_abs from.0) (unsigned_abs count))
+    (number_in (0, 9_223_372_036_854_775_807) from.1)) (next_number (0, 9_223_372_036_854_775_807) text)
+
 -- `upload <device>`, `download <device>`
 abbrev pub transfer_line : Direction → List ℕ → Option LabLine
 transfer_line direction text = option_map (lines.Transfer direction) (word_of text)
@@ -125,6 +182,11 @@ line_of word text =
     else if is_word word (codes "review") then review_line text
     else if is_word word (codes "do") then do_line text
     else if is_word word (codes "sync") then sync_line text
+    else if is_word word (codes "lose") then lose_line text
+    else if is_word word (codes "repeat") then repeat_line text
+    else if is_word word (codes "cross") then cross_line text
+    else if is_word word (codes "replay") then replay_line text
+    else if is_word word (codes "resend") then resend_line text
     else if is_word word (codes "upload") then transfer_line directions.Upload text
     else if is_word word (codes "download") then transfer_line directions.Download text
     else if is_word word (codes "show") then show_line text

@@ -1,8 +1,10 @@
--- What the lab prints of syncs, uploads, downloads, wire calls and counts, and of names of no device.
+-- What the lab prints of syncs, uploads, downloads, wire calls, counts and replies, and of names and numbers of nothing.
 use Rattle.std.specs.Prelude.{ℕ, List, ◌++◌, codes, decimal}
 use Rattle.ak_lab_lines.specs.declared.lab_lines.Direction.{Direction}
 use Rattle.ak_lab_lines.specs.declared.lab_lines.Direction.TheVariants as directions
+use Rattle.ak_messages.specs.declared.replies.Reply.{Reply}
 use Rattle.ak_messages.specs.declared.requests.SanityCounts.{SanityCounts}
+use Rattle.ak_wire.specs.Words.{word_text}
 
 -- `<word> <device>: <outcome>`
 abbrev pub ending_text : List ℕ → List ℕ → List ℕ → List ℕ
@@ -39,3 +41,11 @@ counts_text counts = rows_text counts.notes counts.cards counts.reviews ++ other
 -- `no device <name>`
 abbrev pub no_device_text : List ℕ → List ℕ
 no_device_text name = codes "no device " ++ name
+
+-- `no request <n>`
+abbrev pub no_request_text : ℕ → List ℕ
+no_request_text number = codes "no request " ++ decimal number
+
+-- `<status> <word>`
+abbrev pub reply_text : Reply → List ℕ
+reply_text reply = decimal reply.status ++ codes " " ++ word_text reply.word

@@ -14,6 +14,8 @@ use Rattle.ak_lab_lines.specs.declared.lab_lines.Shown.{Shown}
 use Rattle.ak_lab_lines.specs.declared.lab_lines.Shown.TheVariants as shown
 use Rattle.ak_lab_lines.specs.declared.lab_lines.Side.{Side}
 use Rattle.ak_lab_lines.specs.declared.lab_lines.Side.TheVariants as sides
+use Rattle.ak_loops.specs.declared.mishaps.What.{What}
+use Rattle.ak_loops.specs.declared.mishaps.What.TheVariants as whats
 
 -- ---- the parts of a line are in their ranges
 -- a word: not empty, and without a space
@@ -39,6 +41,22 @@ pub record AreReviews (card ease : ℤ) (count : ℕ) : Type 0 where
   pub least : 1 ≤ count
   pub most : count ≤ 100_000
 
+-- a number that fits 64 bits with its sign
+abbrev pub IsLabNumber : ℕ → Type 0
+IsLabNumber number = number ≤ 9_223_372_036_854_775_807
+
+-- the number of a call of a device, and the other device of a `cross` line
+pub record IsCrossing (device : List ℕ) (call : ℕ) (other : List ℕ) : Type 0 where
+  pub call_fits : IsLabNumber call
+  pub word : IsWord other
+  pub another : other ≢ device
+
+-- the numbers of a `replay` line: those of a call and of a request, and how many requests
+pub record IsReplaying (call from count : ℕ) : Type 0 where
+  pub call_fits : IsLabNumber call
+  pub from_fits : IsLabNumber from
+  pub count_fits : IsLabNumber count
+
 -- the line has words and numbers as its form wants them
 abbrev pub IsLabLine : LabLine → Type 0
 IsLabLine (lines.Clock at) = IsWithin (pos 0) (pos 9_223_372_036_854_775_807) at
@@ -48,6 +66,10 @@ IsLabLine (lines.Shift device by) =
 IsLabLine (lines.Review device card ease count) = IsWord device × AreReviews card ease count
 IsLabLine (lines.Do device line) = IsWord device
 IsLabLine (lines.Sync device) = IsWord device
+IsLabLine (lines.Disturb device call what) = IsWord device × IsLabNumber call
+IsLabLine (lines.Cross device call other) = IsWord device × IsCrossing device call other
+IsLabLine (lines.Replay device call from count) = IsWord device × IsReplaying call from count
+IsLabLine (lines.Resend from count) = IsLabNumber from × IsLabNumber count
 IsLabLine (lines.Transfer direction device) = IsWord device
 IsLabLine (lines.Show side what) = IsSide side × IsShown what
 IsLabLine (lines.Count side) = IsSide side
@@ -83,6 +105,17 @@ spaced word rest = word ++ (codes " " ++ rest)
 abbrev pub reviews_text : ℤ → ℤ → ℕ → List ℕ
 reviews_text card ease count = spaced (signed_decimal card) (spaced (signed_decimal ease) (decimal count))
 
+-- what happens to the messages of a call of a device
+abbrev pub disturbing_text : List ℕ → ℕ → What → List ℕ
+disturbing_text device call whats.LoseRequest =
+    spaced (codes "lose") (spaced device (spaced (decimal call) (codes "request")))
+disturbing_text device call whats.LoseReply = spaced (codes "lose") (spaced device (spaced (decimal call) (codes "reply")))
+disturbing_text device call whats.Repeat = spaced (codes "repeat") (spaced device (decimal call))
+
+-- the numbers of a `replay` line
+abbrev pub replaying_text : ℕ → ℕ → ℕ → List ℕ
+replaying_text call from count = spaced (decimal call) (spaced (decimal from) (decimal count))
+
 -- the text of a line
 abbrev pub line_text : LabLine → List ℕ
 line_text (lines.Clock at) = spaced (codes "clock") (signed_decimal at)
@@ -92,6 +125,11 @@ line_text (lines.Review device card ease count) =
     spaced (codes "review") (spaced device (reviews_text card ease count))
 line_text (lines.Do device line) = spaced (codes "do") (spaced device line)
 line_text (lines.Sync device) = spaced (codes "sync") device
+line_text (lines.Disturb device call what) = disturbing_text device call what
+line_text (lines.Cross device call other) = spaced (codes "cross") (spaced device (spaced (decimal call) other))
+line_text (lines.Replay device call from count) =
+    spaced (codes "replay") (spaced device (replaying_text call from count))
+line_text (lines.Resend from count) = spaced (codes "resend") (spaced (decimal from) (decimal count))
 line_text (lines.Transfer direction device) = spaced (direction_word direction) device
 line_text (lines.Show side what) = spaced (codes "show") (spaced (side_word side) (shown_word what))
 line_text (lines.Count side) = spaced (codes "count") (side_word side)

@@ -1,13 +1,17 @@
 ghost use Rattle.std.specs.Prelude.{◌≡◌, IfOk, IfErr, Some, None};
-ghost use Rattle.ak_lab_lines.specs.LabLines.{lab_line_of, line_of, clock_line, device_line, shift_line, review_line, reviews_of, do_line, sync_line, transfer_line, show_line, count_line, requests_line, side_of, shown_of};
+ghost use Rattle.ak_lab_lines.specs.LabLines.{lab_line_of, line_of, clock_line, device_line, shift_line, review_line, reviews_of, do_line, sync_line, lose_line, losing_of, lost_of, repeat_line, cross_line, crossing_of, another_word, replay_line, replaying_of, resend_line, transfer_line, show_line, count_line, requests_line, side_of, shown_of};
 ghost use Rattle.ak_lab_lines.specs.Reading.{Reads, Refuses};
 ghost use Rattle.ak_lab_lines.specs.Written.{IsLabLine};
 
 use crate::LabLineFault;
-use crate::words::{is_device_name, next_word, signed_number, word_of};
+use crate::words::{another_word, is_device_name, next_word, signed_number, word_of};
 use ak_base::{Memory, Table, Text, cut};
 use ak_lines::{next_number, number_in};
+use ak_loops::What;
 use std::alloc::Global;
+
+/// The greatest number of a call or of a request: it fits 64 bits with its sign.
+const LAST: u64 = 9_223_372_036_854_775_807;
 
 /// A line of a lab script, read. Whether a device is held is not asked, nor whether a word can be a device's name,
 /// but for the name of a new one.
@@ -36,6 +40,32 @@ pub enum LabLine {
     },
     /// `sync <device>`
     Sync(Text),
+    /// `lose <device> <call> request`, `lose <device> <call> reply` and `repeat <device> <call>`: what happens to the
+    /// messages of the call of this number of the device's next sync, counted from 0.
+    Disturb {
+        device: Text,
+        call: u64,
+        what: What,
+    },
+    /// `cross <device> <call> <other>`: before that call of the device's next sync the other device makes a whole one.
+    Cross {
+        device: Text,
+        call: u64,
+        other: Text,
+    },
+    /// `replay <device> <call> <from> <count>`: before that call of the device's next sync requests of the log are served
+    /// again.
+    Replay {
+        device: Text,
+        call: u64,
+        from: u64,
+        count: u64,
+    },
+    /// `resend <from> <count>`: requests of the log are served again, now.
+    Resend {
+        from: u64,
+        count: u64,
+    },
     /// `upload <device>` and `download <device>`
     Transfer {
         direction: Direction,
@@ -112,6 +142,11 @@ fn read_words(alloc: Global, word: &str, text: &str) -> Result<LabLine, LabLineF
         "review" => read_review(alloc, text),
         "do" => read_do(alloc, text),
         "sync" => read_sync(alloc, text),
+        "lose" => read_lose(alloc, text),
+        "repeat" => read_repeat(alloc, text),
+        "cross" => read_cross(alloc, text),
+        "replay" => read_replay(alloc, text),
+        "resend" => read_resend(text),
         "upload" => read_transfer(alloc, Direction::Upload, text),
         "download" => read_transfer(alloc, Direction::Download, text),
         "show" => read_show(alloc, text),
@@ -218,6 +253,137 @@ fn read_sync(alloc: Global, text: &str) -> Result<LabLine, LabLineFault>
     Ok(LabLine::Sync(device))
 }
 
+/// What follows `lose`.
+fn read_lose(alloc: Global, text: &str) -> Result<LabLine, LabLineFault>
+    ensures line { IfOk result (Reads (lose_line text.now)) }
+    ensures bad { IfErr result (Refuses (lose_line text.now)) }
+{
+    match next_word(text) {
+        Some((device, rest)) => read_losing(alloc, device, rest),
+        None => Err(LabLineFault::BadLine),
+    }
+}
+
+/// The call of a `lose` line, and what of it is lost.
+fn read_losing(alloc: Global, device: &str, text: &str) -> Result<LabLine, LabLineFault>
+    ensures line { IfOk result (Reads (losing_of device.now text.now)) }
+    ensures bad { IfErr result (Refuses (losing_of device.now text.now)) }
+{
+    let Some((call, word)) = next_number(0, LAST, text) else {
+        return Err(LabLineFault::BadLine);
+    };
+    let Some(what) = lost_of(word) else {
+        return Err(LabLineFault::BadLine);
+    };
+    let device = Text::of(alloc, device)?;
+    Ok(LabLine::Disturb {
+        device,
+        call: call.unsigned_abs(),
+        what,
+    })
+}
+
+/// What follows `repeat`.
+fn read_repeat(alloc: Global, text: &str) -> Result<LabLine, LabLineFault>
+    ensures line { IfOk result (Reads (repeat_line text.now)) }
+    ensures bad { IfErr result (Refuses (repeat_line text.now)) }
+{
+    let Some((device, number)) = next_word(text) else {
+        return Err(LabLineFault::BadLine);
+    };
+    let Some(call) = number_in(0, LAST, number) else {
+        return Err(LabLineFault::BadLine);
+    };
+    let device = Text::of(alloc, device)?;
+    Ok(LabLine::Disturb {
+        device,
+        call: call.unsigned_abs(),
+        what: What::Repeat,
+    })
+}
+
+/// What follows `cross`.
+fn read_cross(alloc: Global, text: &str) -> Result<LabLine, LabLineFault>
+    ensures line { IfOk result (Reads (cross_line text.now)) }
+    ensures bad { IfErr result (Refuses (cross_line text.now)) }
+{
+    match next_word(text) {
+        Some((device, rest)) => read_crossing(alloc, device, rest),
+        None => Err(LabLineFault::BadLine),
+    }
+}
+
+/// The call of a `cross` line, and the other device.
+fn read_crossing(alloc: Global, device: &str, text: &str) -> Result<LabLine, LabLineFault>
+    ensures line { IfOk result (Reads (crossing_of device.now text.now)) }
+    ensures bad { IfErr result (Refuses (crossing_of device.now text.now)) }
+{
+    let Some((call, rest)) = next_number(0, LAST, text) else {
+        return Err(LabLineFault::BadLine);
+    };
+    let Some(other) = another_word(device, rest) else {
+        return Err(LabLineFault::BadLine);
+    };
+    let device = Text::of(alloc, device)?;
+    let other = Text::of(alloc, other)?;
+    Ok(LabLine::Cross {
+        device,
+        call: call.unsigned_abs(),
+        other,
+    })
+}
+
+/// What follows `replay`.
+fn read_replay(alloc: Global, text: &str) -> Result<LabLine, LabLineFault>
+    ensures line { IfOk result (Reads (replay_line text.now)) }
+    ensures bad { IfErr result (Refuses (replay_line text.now)) }
+{
+    match next_word(text) {
+        Some((device, numbers)) => read_replaying(alloc, device, numbers),
+        None => Err(LabLineFault::BadLine),
+    }
+}
+
+/// The numbers of a `replay` line.
+fn read_replaying(alloc: Global, device: &str, text: &str) -> Result<LabLine, LabLineFault>
+    ensures line { IfOk result (Reads (replaying_of device.now text.now)) }
+    ensures bad { IfErr result (Refuses (replaying_of device.now text.now)) }
+{
+    let Some((call, rest)) = next_number(0, LAST, text) else {
+        return Err(LabLineFault::BadLine);
+    };
+    let Some((from, rest)) = next_number(0, LAST, rest) else {
+        return Err(LabLineFault::BadLine);
+    };
+    let Some(count) = number_in(0, LAST, rest) else {
+        return Err(LabLineFault::BadLine);
+    };
+    let device = Text::of(alloc, device)?;
+    Ok(LabLine::Replay {
+        device,
+        call: call.unsigned_abs(),
+        from: from.unsigned_abs(),
+        count: count.unsigned_abs(),
+    })
+}
+
+/// What follows `resend`.
+fn read_resend(text: &str) -> Result<LabLine, LabLineFault>
+    ensures line { IfOk result (Reads (resend_line text.now)) }
+    ensures bad { IfErr result (Refuses (resend_line text.now)) }
+{
+    let Some((from, rest)) = next_number(0, LAST, text) else {
+        return Err(LabLineFault::BadLine);
+    };
+    let Some(count) = number_in(0, LAST, rest) else {
+        return Err(LabLineFault::BadLine);
+    };
+    Ok(LabLine::Resend {
+        from: from.unsigned_abs(),
+        count: count.unsigned_abs(),
+    })
+}
+
 /// What follows `upload` or `download`.
 fn read_transfer(alloc: Global, direction: Direction, text: &str) -> Result<LabLine, LabLineFault>
     ensures line { IfOk result (Reads (transfer_line direction text.now)) }
@@ -278,6 +444,17 @@ fn side_of(alloc: Global, word: &str) -> Result<Side, Memory>
     }
     let name = Text::of(alloc, word)?;
     Ok(Side::Device(name))
+}
+
+/// The message of a call that a word names, lost.
+fn lost_of(word: &str) -> Option<What>
+    ensures { result ≡ lost_of word.now }
+{
+    match word {
+        "request" => Some(What::LoseRequest),
+        "reply" => Some(What::LoseReply),
+        _ => None,
+    }
 }
 
 /// What of a side a word names.

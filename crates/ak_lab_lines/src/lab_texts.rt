@@ -1,10 +1,11 @@
 // What the lab prints of what its lines name.
 ghost use Rattle.std.specs.Prelude.{◌≡◌, ◌++◌, IfOk, decimal};
-ghost use Rattle.ak_lab_lines.specs.LabTexts.{direction_word, ending_text, requests_text, counts_text, rows_text, others_text, no_device_text};
+ghost use Rattle.ak_lab_lines.specs.LabTexts.{direction_word, ending_text, requests_text, counts_text, rows_text, others_text, no_device_text, no_request_text, reply_text};
 
 use crate::Direction;
 use ak_base::{Memory, Text};
-use ak_messages::SanityCounts;
+use ak_messages::{Reply, SanityCounts};
+use ak_wire::word_text;
 use std::alloc::Global;
 
 /// How a sync, an upload or a download of a device ended. The first word of its line tells which.
@@ -68,5 +69,23 @@ pub fn write_no_device(alloc: Global, name: &str) -> Result<Text, Memory>
     ensures { IfOk result (λ text. text ≡ no_device_text name.now) }
 {
     let text = format!(in alloc; "no device {name}")?;
+    Ok(Text::from(text))
+}
+
+/// The refusal of a number that is past the requests of the log.
+pub fn write_no_request(alloc: Global, number: u64) -> Result<Text, Memory>
+    ensures { IfOk result (λ text. text ≡ no_request_text number) }
+{
+    let text = format!(in alloc; "no request {number}")?;
+    Ok(Text::from(text))
+}
+
+/// The status and the word of a reply.
+pub fn write_status(alloc: Global, reply: &Reply) -> Result<Text, Memory>
+    ensures { IfOk result (λ text. text ≡ reply_text reply.now) }
+{
+    let status = reply.status;
+    let word = word_text(reply.word);
+    let text = format!(in alloc; "{status} {word}")?;
     Ok(Text::from(text))
 }

@@ -9,5 +9,8 @@ mod words;
 
 pub use lab_faults::LabLineFault;
 pub use lab_lines::{Direction, LabLine, Shown, Side, read_lab_line};
-pub use lab_texts::{direction_word, write_counts, write_ending, write_no_device, write_requests};
+pub use lab_texts::{
+    direction_word, write_counts, write_ending, write_no_device, write_no_request, write_requests,
+    write_status,
+};
 pub use laws::{a_line_is_said_so, a_said_line_is_read};

@@ -4,7 +4,7 @@ ghost use Rattle.std.specs.Char.{is_ascii_alphanumeric};
 ghost use Rattle.std.specs.List.{list_all};
 ghost use Rattle.std.specs.Option.{option_map};
 ghost use Rattle.ak_base.specs.Decimals.{number_of};
-ghost use Rattle.ak_lab_lines.specs.LabLines.{word_of, next_word, is_device_name, negated, signed_number};
+ghost use Rattle.ak_lab_lines.specs.LabLines.{word_of, another_word, next_word, is_device_name, negated, signed_number};
 
 use ak_base::{cut, read_number};
 use ak_lines::number_in;
@@ -17,6 +17,16 @@ pub(crate) fn word_of(text: &str) -> Option<&str>
         return None;
     }
     Some(text)
+}
+
+/// The text, if it is one word and not the first one.
+pub(crate) fn another_word<'a>(first: &str, text: &'a str) -> Option<&'a str>
+    ensures { option_map (λ word. word.now) result ≡ another_word first.now text.now }
+{
+    if text == first {
+        return None;
+    }
+    word_of(text)
 }
 
 /// The word before the first space, and what follows that space.

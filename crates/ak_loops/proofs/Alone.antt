@@ -1,15 +1,14 @@
 -- A wire between whose calls nobody acts: the log of its server grows by servings of what it asks alone.
 use Rattle.std.specs.Prelude.{ℕ, zero, suc, ℤ, Bool, List, [], Result, Ok, Err}
-use Rattle.std.proofs.Common.{sym, ap, subst, inl, inr}
+use Rattle.std.proofs.Common.{sym, ap, subst}
 use Rattle.std.proofs.lemmas.List.{append-nil}
 use Rattle.std.proofs.lemmas.Option.{same_Some}
 use Rattle.ak_io.specs.Arrivals.{IsClockMoment}
 use Rattle.ak_loops.proofs.Carrying.{row_brings}
-use Rattle.ak_loops.specs.Betweens.{StaysIdle}
+use Rattle.ak_loops.specs.Betweens.{ActEnd, Acting, StaysIdle}
 use Rattle.ak_loops.specs.Entries.{LoggedState, log_in}
-use Rattle.ak_loops.specs.LoopWires.{Fares, FaresAt, ServesUpTo, state_over}
+use Rattle.ak_loops.specs.LoopWires.{Fares, FaresAfter, LoopInside, ServesUpTo, state_of_loop}
 use Rattle.ak_loops.specs.Mishaps.{is_lost, servings}
-use Rattle.ak_call_counts.specs.declared.call_counts.CallCounts.{CallCounts}
 use Rattle.ak_loops.specs.declared.mishaps.Mishap.{Mishap}
 use Rattle.ak_messages.specs.declared.replies.Reply.{Reply}
 use Rattle.ak_messages.specs.declared.requests.Request.{Request}
@@ -38,20 +37,21 @@ module _ (request : Request) (now : ℤ) (clock : IsClockMoment now) where
   fares_brings lost times old new (Err ends.BadReply) fares = absurd fares
   fares_brings lost times old new (Err ends.Memory) fares = up_to_brings fares.0 old new fares.2
 
-  fares_at_brings : (call : ℕ) (mishaps : List Mishap) (old new : LoggedState) (result : Result Reply WireEnd)
-      → FaresAt call mishaps old new request now result → GrowsByServings (log_in old) (log_in new) request
-  fares_at_brings call mishaps old new result (inl fares) = fares_brings (is_lost call mishaps) (servings call mishaps) old new result fares
-  fares_at_brings call mishaps old new result (inr ended) = up_to_brings 0 old new ended.1
+  fares_after_brings : (came : ActEnd) (call : ℕ) (mishaps : List Mishap) (old new : LoggedState) (result : Result Reply WireEnd)
+      → FaresAfter came call mishaps old new request now result → GrowsByServings (log_in old) (log_in new) request
+  fares_after_brings (Ok done) call mishaps old new result fares = fares_brings (is_lost call mishaps) (servings call mishaps) old new result fares
+  fares_after_brings (Err end) call mishaps old new result fares = up_to_brings 0 old new fares.1
 
   -- a wire before whose call nobody acted, if they are known to be idle, and whose request fared so, stays as alone as it was
-  pub stays_alone : (call : ℕ) (mishaps : List Mishap) (was became : Bool) (old met new : LoggedState) (c d : CallCounts) (result : Result Reply WireEnd)
-      → StaysIdle was became old met → FaresAt call mishaps met new request now result
-      → StaysAlone (state_over old c now was) (state_over new d now became) request
-  stays_alone call mishaps was became old met new c d result quiet fares = record {
+  pub stays_alone : {B : Type 0} (acts : Acting B) (idle : B → Bool) (was became : LoopInside B) (met : LoggedState) (came : ActEnd) (call : ℕ)
+      (mishaps : List Mishap) (result : Result Reply WireEnd)
+      → StaysIdle (idle was.between) (idle became.between) was.server met → FaresAfter came call mishaps met became.server request now result
+      → StaysAlone (state_of_loop acts idle was) (state_of_loop acts idle became) request
+  stays_alone acts idle was became met came call mishaps result quiet fares = record {
     stays = quiet.stays;
     brings = λ is before after told_before told_after.
-        subst (λ (log : Log). GrowsByServings log after request) (same_Some (log_in old) before told_before)
-        (subst (λ (log : Log). GrowsByServings (log_in old) log request) (same_Some (log_in new) after told_after)
-        (subst (λ (s : LoggedState). GrowsByServings (log_in s) (log_in new) request) (quiet.nothing is)
-        (fares_at_brings call mishaps met new result fares)));
+        subst (λ (log : Log). GrowsByServings log after request) (same_Some (log_in was.server) before told_before)
+        (subst (λ (log : Log). GrowsByServings (log_in was.server) log request) (same_Some (log_in became.server) after told_after)
+        (subst (λ (s : LoggedState). GrowsByServings (log_in s) (log_in became.server) request) (quiet.nothing is)
+        (fares_after_brings came call mishaps met became.server result fares)));
   }

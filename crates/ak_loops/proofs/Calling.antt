@@ -1,17 +1,16 @@
 -- A call of the wire is one that a wire may make.
 use Rattle.std.specs.Prelude.{◌≡◌, ◌≤◌, ℕ, ℤ, Bool, true, List, Result, Ok, Err}
 use Rattle.std.specs.Result.{IsErrOf}
-use Rattle.std.proofs.Common.{refl, sym, ap, subst, ◌∙◌, inl, inr, arith}
+use Rattle.std.proofs.Common.{refl, sym, ap, subst, ◌∙◌, arith}
 use Rattle.ak_faults.proofs.Healths.{goes_nowhere}
 use Rattle.ak_io.specs.Arrivals.{IsClockMoment}
 use Rattle.ak_loops.proofs.Alone.{stays_alone}
 use Rattle.ak_loops.proofs.Carrying.{both_grow}
-use Rattle.ak_loops.proofs.Kept.{keeps_given}
 use Rattle.ak_loops.proofs.Losing.{not_lost}
-use Rattle.ak_loops.specs.Betweens.{ComesBetween, StaysIdle}
+use Rattle.ak_loops.specs.Betweens.{ActEnd, Acting}
 use Rattle.ak_loops.specs.Entries.{LoggedState, log_in}
 use Rattle.ak_call_counts.specs.CallCounts.{counts_after, faults_after}
-use Rattle.ak_loops.specs.LoopWires.{Fares, FaresAt, health_over, state_over}
+use Rattle.ak_loops.specs.LoopWires.{Delivers, Fares, FaresAfter, LoopInside, health_over, inside_with, state_of_loop}
 use Rattle.ak_loops.specs.Mishaps.{is_lost, servings}
 use Rattle.ak_call_counts.specs.declared.call_counts.CallCounts.{CallCounts}
 use Rattle.ak_loops.specs.declared.mishaps.Mishap.{Mishap}
@@ -43,13 +42,13 @@ not_unread : (result : Result Reply WireEnd) → result ≡ Err ends.Memory → 
 not_unread result ended is = grind (arith, ended, is)
 
 module _ (call : ℕ) (mishaps : List Mishap) (old new : LoggedState) (request : Request) (now : ℤ) (result : Result Reply WireEnd) where
-  lost_at : FaresAt call mishaps old new request now result → IsErrOf result ends.Failed → is_lost call mishaps ≡ true
-  lost_at (inl fares) is = failed_lost (is_lost call mishaps) (servings call mishaps) old new request now result fares is
-  lost_at (inr ended) is = absurd (not_failed result ended.0 is)
+  lost_at : (came : ActEnd) → FaresAfter came call mishaps old new request now result → IsErrOf result ends.Failed → is_lost call mishaps ≡ true
+  lost_at (Ok done) fares is = failed_lost (is_lost call mishaps) (servings call mishaps) old new request now result fares is
+  lost_at (Err end) fares is = absurd (not_failed result fares.0 is)
 
-  unread_at : FaresAt call mishaps old new request now result → IsErrOf result ends.BadReply → ⊥
-  unread_at (inl fares) is = never_unread (is_lost call mishaps) (servings call mishaps) old new request now result fares is
-  unread_at (inr ended) is = not_unread result ended.0 is
+  unread_at : (came : ActEnd) → FaresAfter came call mishaps old new request now result → IsErrOf result ends.BadReply → ⊥
+  unread_at (Ok done) fares is = never_unread (is_lost call mishaps) (servings call mishaps) old new request now result fares is
+  unread_at (Err end) fares is = not_unread result fares.0 is
 
 same_faults : (before : ℕ) (result : Result Reply WireEnd) → (IsErrOf result ends.Failed → ⊥) → faults_after before result ≡ before
 same_faults before (Ok reply) never = refl
@@ -62,18 +61,23 @@ rose_if_failed : (c : CallCounts) (mishaps : List Mishap) (request : Request) (r
 rose_if_failed c mishaps request result is =
     subst (λ (r : Result Reply WireEnd). faults_after c.faults (Err ends.Failed) ≤ faults_after c.faults r) (sym is) (omega arith)
 
--- a call before which this came, and whose request fared so, is one of a wire once it is counted
-module _ (c : CallCounts) (mishaps : List Mishap) (was became : Bool) (old met new : LoggedState) (request : Request) (now : ℤ) (result : Result Reply WireEnd)
-    (clock : IsClockMoment now) (before : ComesBetween request.session.0 old met) (quiet : StaysIdle was became old met)
-    (fares : FaresAt c.calls mishaps met new request now result) where
+-- a call that was delivered so is one of a wire once it is counted
+module _ {B : Type 0} (acts : Acting B) (idle : B → Bool) (c : CallCounts) (mishaps : List Mishap) (was became : B) (old new : LoggedState) (request : Request)
+    (now : ℤ) (result : Result Reply WireEnd) (clock : IsClockMoment now) (it : Delivers acts idle c.calls mishaps was became old new request now result) where
+  abbrev before : LoopInside B
+  before = inside_with old was now mishaps c
+
+  abbrev after : CallCounts → List Mishap → ℤ → LoopInside B
+  after counts kept moment = inside_with new became moment kept counts
+
   called_by : c.faults ≤ (counts_after c request result).faults
-      → Called (health_over c mishaps) (health_over (counts_after c request result) mishaps) (state_over old c now was)
-      (state_over new (counts_after c request result) now became) request result
+      → Called (health_over c mishaps) (health_over (counts_after c request result) mishaps) (state_of_loop acts idle before)
+      (state_of_loop acts idle (after (counts_after c request result) mishaps now)) request result
   called_by later =
-      let lost : IsErrOf result ends.Failed → is_lost c.calls mishaps ≡ true = lost_at c.calls mishaps met new request now result fares in
-      let unread : IsErrOf result ends.BadReply → ⊥ = unread_at c.calls mishaps met new request now result fares in
+      let lost : IsErrOf result ends.Failed → is_lost c.calls mishaps ≡ true = lost_at c.calls mishaps it.met new request now result it.came it.fares in
+      let unread : IsErrOf result ends.BadReply → ⊥ = unread_at c.calls mishaps it.met new request now result it.came it.fares in
       record {
-        carries = (log_in new, refl, both_grow c.calls mishaps old met new request now result clock before fares);
+        carries = (log_in new, refl, both_grow it.came c.calls mishaps old it.met new request now result clock it.before it.fares);
         lost = record {
           goes = record {
             later = later;
@@ -91,20 +95,21 @@ module _ (c : CallCounts) (mishaps : List Mishap) (was became : Bool) (old met n
         silence = refl;
         said = refl;
         calls = refl;
-        alone = stays_alone request now clock c.calls mishaps was became old met new c (counts_after c request result) result quiet fares;
-        made_with = keeps_given c.calls mishaps was became old met new request now result quiet fares;
+        alone = stays_alone request now clock acts idle before (after (counts_after c request result) mishaps now) it.met it.came c.calls mishaps result it.quiet it.fares;
+        does = record { delivers = it; rest = refl };
       }
 
   -- the same, from what delivers it to what counts it
-  pub called_from : (mid after : CallCounts) (kept : List Mishap) (moment : ℤ) → mid ≡ c → after ≡ counts_after mid request result → mid.faults ≤ after.faults
+  pub called_from : (mid last : CallCounts) (kept : List Mishap) (moment : ℤ) → mid ≡ c → last ≡ counts_after mid request result → mid.faults ≤ last.faults
       → kept ≡ mishaps → moment ≡ now
-      → Called (health_over c mishaps) (health_over after kept) (state_over old c now was) (state_over new after moment became) request result
-  called_from mid after kept moment same is later stays at =
-      let counts : after ≡ counts_after c request result = is ∙ ap (λ (x : CallCounts). counts_after x request result) same in
+      → Called (health_over c mishaps) (health_over last kept) (state_of_loop acts idle before) (state_of_loop acts idle (after last kept moment)) request result
+  called_from mid last kept moment same is later stays at =
+      let counts : last ≡ counts_after c request result = is ∙ ap (λ (x : CallCounts). counts_after x request result) same in
       let rises : c.faults ≤ (counts_after c request result).faults =
       subst (λ (x : CallCounts). x.faults ≤ (counts_after c request result).faults) same
       (subst (λ (x : CallCounts). mid.faults ≤ x.faults) counts later) in
-      subst (λ (t : ℤ). Called (health_over c mishaps) (health_over after kept) (state_over old c now was) (state_over new after t became) request result) (sym at)
-      (subst (λ (x : CallCounts). Called (health_over c mishaps) (health_over x kept) (state_over old c now was) (state_over new x now became) request result) (sym counts)
-      (subst (λ (m : List Mishap). Called (health_over c mishaps) (health_over (counts_after c request result) m) (state_over old c now was) (state_over new (counts_after c request result) now became) request result) (sym stays)
+      subst (λ (t : ℤ). Called (health_over c mishaps) (health_over last kept) (state_of_loop acts idle before) (state_of_loop acts idle (after last kept t)) request result) (sym at)
+      (subst (λ (x : CallCounts). Called (health_over c mishaps) (health_over x kept) (state_of_loop acts idle before) (state_of_loop acts idle (after x kept now)) request result) (sym counts)
+      (subst (λ (m : List Mishap). Called (health_over c mishaps) (health_over (counts_after c request result) m) (state_of_loop acts idle before)
+      (state_of_loop acts idle (after (counts_after c request result) m now)) request result) (sym stays)
       (called_by rises)))

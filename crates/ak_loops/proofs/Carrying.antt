@@ -5,10 +5,10 @@ use Rattle.std.proofs.Common.{refl, sym, ap, subst, ◌∙◌, inl, inr, append_
 use Rattle.std.proofs.lemmas.List.{append-nil}
 use Rattle.ak_io.specs.Arrivals.{IsClockMoment}
 use Rattle.ak_loops.proofs.Logging.{events_append}
-use Rattle.ak_loops.specs.Betweens.{ComesBetween, MayComeBetween}
+use Rattle.ak_loops.specs.Betweens.{ActEnd, ComesBetween, MayComeBetween}
 use Rattle.ak_loops.specs.Entries.{LoggedState, entry_of, events_in, log_in, log_with, server_opened, setback_of}
 use Rattle.ak_loops.specs.LoggedServers.{IsServed}
-use Rattle.ak_loops.specs.LoopWires.{Fares, FaresAt, ServesInARow, ServesUpTo}
+use Rattle.ak_loops.specs.LoopWires.{Fares, FaresAfter, ServesInARow, ServesUpTo}
 use Rattle.ak_loops.specs.Mishaps.{is_lost, servings}
 use Rattle.ak_loops.specs.declared.logs.Logged.TheVariants as logged
 use Rattle.ak_loops.specs.declared.mishaps.Mishap.{Mishap}
@@ -133,16 +133,17 @@ fares_grows lost times old new request now (Err ends.Failed) clock fares = up_to
 fares_grows lost times old new request now (Err ends.BadReply) clock fares = absurd fares
 fares_grows lost times old new request now (Err ends.Memory) clock fares = up_to_grows fares.0 old new request now ends.Memory clock fares.2
 
-fares_at_grows : (call : ℕ) (mishaps : List Mishap) (old new : LoggedState) (request : Request) (now : ℤ) (result : Result Reply WireEnd) → IsClockMoment now
-    → FaresAt call mishaps old new request now result → Grown (log_in old) (log_in new) request result
-fares_at_grows call mishaps old new request now result clock (inl fares) =
+fares_after_grows : (came : ActEnd) (call : ℕ) (mishaps : List Mishap) (old new : LoggedState) (request : Request) (now : ℤ) (result : Result Reply WireEnd)
+    → IsClockMoment now → FaresAfter came call mishaps old new request now result → Grown (log_in old) (log_in new) request result
+fares_after_grows (Ok done) call mishaps old new request now result clock fares =
     fares_grows (is_lost call mishaps) (servings call mishaps) old new request now result clock fares
-fares_at_grows call mishaps old new request now result clock (inr ended) =
-    subst (λ (r : Result Reply WireEnd). Grown (log_in old) (log_in new) request r) (sym ended.0)
-    (up_to_grows 0 old new request now ends.Memory clock ended.1)
+fares_after_grows (Err end) call mishaps old new request now result clock fares =
+    subst (λ (r : Result Reply WireEnd). Grown (log_in old) (log_in new) request r) (sym fares.0)
+    (up_to_grows 0 old new request now ends.Memory clock fares.1)
 
-pub both_grow : (call : ℕ) (mishaps : List Mishap) (old met new : LoggedState) (request : Request) (now : ℤ) (result : Result Reply WireEnd) → IsClockMoment now
-    → ComesBetween request.session.0 old met → FaresAt call mishaps met new request now result → Grown (log_in old) (log_in new) request result
-both_grow call mishaps old met new request now result clock before fares =
+pub both_grow : (came : ActEnd) (call : ℕ) (mishaps : List Mishap) (old met new : LoggedState) (request : Request) (now : ℤ) (result : Result Reply WireEnd)
+    → IsClockMoment now → ComesBetween request.session.0 old met → FaresAfter came call mishaps met new request now result
+    → Grown (log_in old) (log_in new) request result
+both_grow came call mishaps old met new request now result clock before fares =
     grows_on (log_in old) (log_in met) (log_in new) request (Err ends.Memory) result (before_grows old met request ends.Memory before)
-    (fares_at_grows call mishaps met new request now result clock fares)
+    (fares_after_grows came call mishaps met new request now result clock fares)

@@ -26,6 +26,7 @@ comes_nothing session s = record {
   growth = [];
   grown = ap (log_with s.host s.opening) (sym (append-nil (events_in s.host s.entries)));
   may = tt;
+  line = refl;
 }
 
 pub comes_view : (session : ℕ) (old new : LoggedState) → Adds old new logged.Viewed → ComesBetween session old new
@@ -33,6 +34,7 @@ comes_view session old new adds = record {
   growth = View old.host ∷ [];
   grown = ap log_in adds ∙ ap (log_with old.host old.opening) (events_append old.host old.entries (entry_of old.line logged.Viewed ∷ []));
   may = (tt, tt);
+  line = ap (λ (s : LoggedState). s.line) adds;
 }
 
 pub comes_request : (session : ℕ) (old new : LoggedState) (request : Request) (now : ℤ) (reply : Reply) → IsClockMoment now
@@ -42,6 +44,7 @@ comes_request session old new request now reply clock past is = record {
   grown = ap log_in is.adds
       ∙ ap (log_with old.host old.opening) (events_append old.host old.entries (entry_of old.line (logged.Served request now is.trouble) ∷ []));
   may = ((clock, past), tt);
+  line = ap (λ (s : LoggedState). s.line) is.adds;
 }
 
 -- ---- one thing after the other
@@ -87,7 +90,13 @@ comes_further session old met new one two = record {
   may = all_append (MayComeBetween (log_in old).events session) one.growth two.growth one.may
       (all_before (log_in old).events one.growth session one.may two.growth
       (subst (λ (log : Log). AllByRecursion (MayComeBetween log.events session) two.growth) one.grown two.may));
+  line = two.line ∙ one.line;
 }
+
+-- what came with another line that was set for it, once the line is set back
+pub comes_lined : (session line : ℕ) (old met : LoggedState) → ComesBetween session (record old { line = line }) met
+    → ComesBetween session old (record met { line = old.line })
+comes_lined session line old met comes = record { growth = comes.growth; grown = comes.grown; may = comes.may; line = refl }
 
 -- ---- openings
 own_account : (host : List ℕ) (opening : Opening) → server_opened host opening host ≡ Some (account_opened opening)

@@ -1,11 +1,11 @@
 -- A request that is served twice in a row, and one whose reply is lost.
 use Rattle.std.specs.Prelude.{◌≡◌, ◌||◌, Bool, true, false, ℕ, ℤ, List, Result, Ok, Err, IfOk}
-use Rattle.std.proofs.Common.{refl, inl, inr, subst, arith}
+use Rattle.std.proofs.Common.{refl, subst, arith}
 use Rattle.ak_base.specs.declared.errors.Memory.{Memory}
-use Rattle.ak_loops.specs.Betweens.{ComesBetween, StaysIdle}
+use Rattle.ak_loops.specs.Betweens.{ActEnd, Acting, ComesBetween, StaysIdle}
 use Rattle.ak_loops.specs.Entries.{LoggedState}
 use Rattle.ak_loops.specs.LoggedServers.{IsServed}
-use Rattle.ak_loops.specs.LoopWires.{Acting, Delivers, Fares, ServesInARow, ServesUpTo, times_of}
+use Rattle.ak_loops.specs.LoopWires.{Delivers, Fares, FaresAfter, ServesInARow, ServesUpTo, times_of}
 use Rattle.ak_loops.specs.Mishaps.{is_lost, servings}
 use Rattle.ak_loops.specs.declared.mishaps.Mishap.{Mishap}
 use Rattle.ak_messages.specs.declared.replies.Reply.{Reply}
@@ -26,18 +26,23 @@ reply_lost old new request now reply false loses true none is row = (is, (reply,
 reply_lost old new request now reply false loses false none is row = (is, (reply, row))
 
 module _ {B : Type 0} (acts : Acting B) (idle : B → Bool) (call : ℕ) (mishaps : List Mishap) (was became : B) (old met : LoggedState) (request : Request) (now : ℤ)
-    (acted : acts call request.session.0 was became old met) (before : ComesBetween request.session.0 old met)
+    (came : ActEnd) (acted : acts call request.session.0 was became old met came) (before : ComesBetween request.session.0 old met)
     (quiet : StaysIdle (idle was) (idle became) old met) where
-  pub delivered : (new : LoggedState) (result : Result Reply WireEnd) (lost : Bool) (times : ℕ) → lost ≡ is_lost call mishaps → times ≡ servings call mishaps
-      → Fares lost times met new request now result → Delivers acts idle call mishaps was became old new request now result
-  delivered new result lost times lost_so times_so fares = record {
-    met = met;
-    acted = acted;
-    before = before;
-    quiet = quiet;
-    fares = inl (subst (λ (b : Bool). Fares b (servings call mishaps) met new request now result) lost_so
-        (subst (λ (n : ℕ). Fares lost n met new request now result) times_so fares));
-  }
+  delivers : (new : LoggedState) (result : Result Reply WireEnd) → FaresAfter came call mishaps met new request now result
+      → Delivers acts idle call mishaps was became old new request now result
+  delivers new result fares = record { met = met; came = came; acted = acted; before = before; quiet = quiet; fares = fares }
 
-  pub not_delivered : Delivers acts idle call mishaps was became old met request now (Err ends.Memory)
-  not_delivered = record { met = met; acted = acted; before = before; quiet = quiet; fares = inr (refl, refl) }
+module _ {B : Type 0} (acts : Acting B) (idle : B → Bool) (call : ℕ) (mishaps : List Mishap) (was became : B) (old met : LoggedState) (request : Request) (now : ℤ) where
+  pub delivered : (done : Unit {0}) → acts call request.session.0 was became old met (Ok done) → ComesBetween request.session.0 old met
+      → StaysIdle (idle was) (idle became) old met → (new : LoggedState) (result : Result Reply WireEnd) (lost : Bool) (times : ℕ)
+      → lost ≡ is_lost call mishaps → times ≡ servings call mishaps → Fares lost times met new request now result
+      → Delivers acts idle call mishaps was became old new request now result
+  delivered done acted before quiet new result lost times lost_so times_so fares =
+      delivers acts idle call mishaps was became old met request now (Ok done) acted before quiet new result
+      (subst (λ (b : Bool). Fares b (servings call mishaps) met new request now result) lost_so
+      (subst (λ (n : ℕ). Fares lost n met new request now result) times_so fares))
+
+  pub not_delivered : (end : Memory) → acts call request.session.0 was became old met (Err end) → ComesBetween request.session.0 old met
+      → StaysIdle (idle was) (idle became) old met → Delivers acts idle call mishaps was became old met request now (Err ends.Memory)
+  not_delivered end acted before quiet =
+      delivers acts idle call mishaps was became old met request now (Err end) acted before quiet met (Err ends.Memory) (refl, refl)

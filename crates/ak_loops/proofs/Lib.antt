@@ -1,10 +1,9 @@
 mod Alone
 mod Calling
-mod Carrying
+pub mod Carrying
 mod Failing
-mod Growing
+pub mod Growing
 mod InARow
-mod Kept
 pub mod Logging
 mod Losing
 mod Served

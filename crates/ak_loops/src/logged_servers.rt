@@ -160,6 +160,13 @@ impl LoggedServer {
         self.entries.as_slice()
     }
 
+    /// The line of the entries to come. It takes no memory.
+    pub fn line(&self) -> u64
+        ensures { result ≡ self.now.line }
+    {
+        self.line
+    }
+
     /// Sets the line of the entries to come. It takes no memory.
     pub fn at_line(&mut self, line: u64)
         ensures { self.new ≡ record self.old { line = line } }

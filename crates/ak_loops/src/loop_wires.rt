@@ -23,11 +23,9 @@ pub struct LoopWire<B> {
 }
 
 impl<B: Between> LoopWire<B> {
-    ghost use Rattle.std.specs.Prelude.{◌≡◌, ℤ, List};
-    ghost use Rattle.ak_loops.specs.Entries.{LoggedState, log_in};
+    ghost use Rattle.std.specs.Prelude.{◌≡◌};
     ghost use Rattle.ak_call_counts.specs.CallCounts.{no_calls};
-    ghost use Rattle.ak_loops.specs.LoopWires.{Delivers, IsServedBy, given_with};
-    ghost use Rattle.ak_protocol.specs.Logs.{Event, with_growth};
+    ghost use Rattle.ak_loops.specs.LoopWires.{Delivers};
 
     /// A wire to this server, whose clock stays at this moment, in milliseconds.
     pub fn new(server: LoggedServer, moment: i64, mishaps: List<Mishap>, between: B) -> LoopWire<B>
@@ -58,11 +56,6 @@ impl<B: Between> LoopWire<B> {
     pub fn into_parts(self) -> (LoggedServer, B)
         ensures server { result.0 ≡ self.server }
         ensures between { result.1 ≡ self.between }
-
-        // Whoever made the wire with a server knows from what the wire keeps and from the log what was added there.
-        ensures kept { (old : LoggedState) (moment : ℤ) (growth : List Event)
-            → given_with self.moment self.server ≡ given_with moment old
-            → log_in self.server ≡ with_growth (log_in old) growth → IsServedBy moment growth old result.0 }
     {
         (self.server, self.between)
     }
@@ -97,12 +90,13 @@ impl<B: Between> End for LoopWire<B> {
 }
 
 impl<B: Between> Wire for LoopWire<B> {
-    ghost use Rattle.std.specs.Prelude.{◌≡◌};
-    ghost use Rattle.ak_call_counts.specs.CallCounts.{counts_after};
-    ghost use Rattle.ak_loops.specs.LoopWires.{Delivers, health_over, state_over};
+    ghost use Rattle.ak_loops.specs.LoopWires.{health_over, inside_with, loop_kind, state_of_loop};
     ghost use Rattle.ak_wires.specs.Wires.{Called};
 
-    ghost state = { λ wire. state_over wire.server wire.counts wire.moment (B.idle wire.between) };
+    ghost kind = { loop_kind B.acts B.idle };
+
+    ghost state = { λ wire. state_of_loop B.acts B.idle
+        (inside_with wire.server wire.between wire.moment wire.mishaps wire.counts) };
 
     fn bad(&self) -> u64 {
         0
@@ -120,14 +114,11 @@ impl<B: Between> Wire for LoopWire<B> {
     fn call(&mut self, request: &Request) -> Result<Reply, WireEnd>
         ensures called { Called (health_over self.old.counts self.old.mishaps)
             (health_over self.new.counts self.new.mishaps)
-            (state_over self.old.server self.old.counts self.old.moment (B.idle self.old.between))
-            (state_over self.new.server self.new.counts self.new.moment (B.idle self.new.between))
+            (state_of_loop B.acts B.idle
+            (inside_with self.old.server self.old.between self.old.moment self.old.mishaps self.old.counts))
+            (state_of_loop B.acts B.idle
+            (inside_with self.new.server self.new.between self.new.moment self.new.mishaps self.new.counts))
             request.now result }
-        ensures delivers { Delivers B.acts B.idle self.old.counts.calls self.old.mishaps self.old.between self.new.between
-            self.old.server self.new.server request.now self.old.moment result }
-        ensures counts { self.new.counts ≡ counts_after self.old.counts request.now result }
-        ensures moment { self.new.moment ≡ self.old.moment }
-        ensures mishaps { self.new.mishaps ≡ self.old.mishaps }
     {
         let answer = self.deliver(request);
         self.counts.count(request, &answer);

@@ -1,5 +1,5 @@
 -- What came of a collection that was made of a seed: the day of work on a device, its sync, and what the server holds then.
-use Rattle.std.specs.Prelude.{◌≡◌, ◌≢◌, ℕ, ℤ, pos, true, List, [], ◌∷◌, Some}
+use Rattle.std.specs.Prelude.{◌≡◌, ◌≢◌, ℕ, ℤ, pos, List, [], ◌∷◌, Some}
 use Rattle.ak_call_counts.specs.CallCounts.{no_calls}
 use Rattle.ak_client.specs.Syncs.{IsSyncEnded}
 use Rattle.ak_client.specs.declared.outcomes.Outcome.TheVariants as outcomes
@@ -9,9 +9,11 @@ use Rattle.ak_exchange.specs.declared.envelopes.Ids.{Ids}
 use Rattle.ak_faults.specs.Causes.{Health}
 use Rattle.ak_keep.specs.Collections.{Collection}
 use Rattle.ak_keep.specs.Keepers.{Keeping}
-use Rattle.ak_loops.specs.Entries.{LoggedState, collection_in, log_in}
+use Rattle.ak_loops.specs.Betweens.{always_idle, does_nothing}
+use Rattle.ak_loops.specs.Entries.{LoggedState, collection_in}
 use Rattle.ak_loops.specs.LoggedServers.{begins_with}
-use Rattle.ak_loops.specs.LoopWires.{health_over, state_over}
+use Rattle.ak_loops.specs.LoopWires.{LoopInside, health_over, inside_with, state_of_loop}
+use Rattle.ak_loops.specs.declared.betweens.NothingBetween.{NothingBetween}
 use Rattle.ak_makes.specs.Days.{DoesDay}
 use Rattle.ak_made_collections.specs.MadeCollections.{IsMade}
 use Rattle.ak_makes.specs.MadeServers.{AreCountsOn, make_host}
@@ -20,7 +22,6 @@ use Rattle.ak_merge.specs.Commits.{IsCopyOf}
 use Rattle.ak_openings.specs.declared.whole_collections.Opening.{Opening}
 use Rattle.ak_server_copies.specs.Copies.{IsViewed}
 use Rattle.ak_undo.specs.declared.steps.Step.{Step}
-use Rattle.ak_wires.specs.Wires.{WireState}
 
 -- when the device syncs, by the clocks of both sides, in milliseconds
 abbrev pub sync_moment : ℤ
@@ -32,14 +33,16 @@ pub record IsSynced (was now : Keeping) (old new : LoggedState) (calls : ℕ) (o
   pub host : ids.host.digits ≡ make_host
   pub session : ids.session.0 ≡ 1
   -- it went as a sync goes, whatever keeper and wire it is over, and ended for the reason that the replies and the clock gave
+  pub between : NothingBetween
   pub health : Health
-  pub wire : WireState
-  pub ended : IsSyncEnded ids was now (health_over no_calls []) health (state_over old no_calls sync_moment true) wire
+  pub end : LoopInside NothingBetween
+  pub ended : IsSyncEnded ids was now (health_over no_calls []) health
+      (state_of_loop does_nothing always_idle (inside_with old between sync_moment [] no_calls)) (state_of_loop does_nothing always_idle end)
       (Some (sync_moment ∷ [])) outcome
   -- no request was lost
   pub unlost : outcome ≢ outcomes.Lost
-  pub log : wire.log ≡ Some (log_in new)
-  pub calls_are : wire.calls ≡ calls
+  pub server : new ≡ end.server
+  pub calls_are : calls ≡ end.counts.calls
 
 -- what was measured of the collection of a seed, of so many notes
 pub record IsMeasured (seed size : ℕ) (m : Measured) : Type 0 where

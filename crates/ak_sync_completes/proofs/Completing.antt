@@ -46,6 +46,7 @@ use Rattle.ak_sync_completes.proofs.Undisturbed.{granted_last, quiet_or_out}
 use Rattle.ak_sync_completes.specs.Completing.{AreJoinable, EndsWell, IsSyncOver, IsUnhindered, RanOutOfMemory, SyncEnds}
 use Rattle.ak_wires.specs.Forms.{is_moment}
 use Rattle.ak_wires.specs.declared.wires.MetaSaid.{MetaSaid}
+use Rattle.ak_wires.specs.Wires.{WireKind}
 
 -- ---- the two sides
 module _ (c s : Collection) (joinable : AreJoinable c s) (lawful : IsCommitted s) (linked : AreLinked c s) where
@@ -66,7 +67,7 @@ module _ (c s : Collection) (joinable : AreJoinable c s) (lawful : IsCommitted s
       counted all graves pulled pushed most one two three = omega (arith, most, one, two, three)
 
 -- ---- how it ends
-module _ (ids : Ids) (c : Collection) (account : AccountState) (before after : SyncEnds) (outcome : Outcome)
+module _ {kind : WireKind} (ids : Ids) (c : Collection) (account : AccountState) (before after : SyncEnds kind) (outcome : Outcome)
     (it : IsUnhindered ids c account before after)
     (ended : IsSyncEnded ids before.keeping after.keeping before.health after.health before.wire after.wire before.moments outcome) where
   abbrev asker_of : Asker
@@ -245,7 +246,7 @@ module _ (ids : Ids) (c : Collection) (account : AccountState) (before after : S
   ends_by_fault = by_outcome outcome refl
 
 -- a keeper's fault and a lost request come only of a count that rose
-module _ (ids : Ids) (c : Collection) (account : AccountState) (before after : SyncEnds) (outcome : Outcome)
+module _ {kind : WireKind} (ids : Ids) (c : Collection) (account : AccountState) (before after : SyncEnds kind) (outcome : Outcome)
     (it : IsUnhindered ids c account before after) (sync : IsSyncOver ids before after outcome) where
   pub completes_lossy : EndsWell it.growth outcome ⊎ (outcome ≡ outcomes.Lost)
   completes_lossy = by (ends_by_fault ids c account before after outcome it sync.ended)

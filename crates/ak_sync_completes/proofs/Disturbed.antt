@@ -66,7 +66,7 @@ use Rattle.ak_sync_completes.proofs.Sides.{sides_may_sync}
 use Rattle.ak_sync_completes.specs.Causes.{IsSyncTold}
 use Rattle.ak_sync_completes.specs.Completing.{SyncEnds}
 use Rattle.ak_wires.specs.Forms.{is_meta_in_range, is_moment, meta_told, verdict_in}
-use Rattle.ak_wires.specs.Wires.{Carries}
+use Rattle.ak_wires.specs.Wires.{WireKind, Carries}
 use Rattle.ak_wires.specs.declared.wires.MetaSaid.{MetaSaid}
 use Rattle.ak_wires.specs.declared.wires.WireEnd.{WireEnd}
 use Rattle.ak_wires.specs.declared.wires.WireEnd.TheVariants as ends
@@ -157,7 +157,7 @@ record IsAskedLast (who : Asker) (c s : Collection) (account : AccountState) (la
   pub asks : request.ask ≡ last.ask
   pub grows : Grows {E = WireEnd} mid new request last.answer
 
-module _ (ids : Ids) (c : Collection) (account : AccountState) (before after : SyncEnds) (outcome : Outcome)
+module _ {kind : WireKind} (ids : Ids) (c : Collection) (account : AccountState) (before after : SyncEnds kind) (outcome : Outcome)
     (it : IsSyncTold ids c account before after outcome) where
   abbrev own : IsSync ids before.keeping after.keeping before.health after.health before.wire after.wire outcome
   own = it.ended.sync

@@ -38,7 +38,7 @@ use Rattle.ak_protocol.specs.Serving.{Setback, Undisturbed, KeeperFault, OutOfMe
 use Rattle.ak_sync_completes.proofs.Serving.{Answer, all_own, same_growth, reply_at_place, served_alone, servings_are_of}
 use Rattle.ak_sync_completes.specs.Completing.{IsMetaNear, have_nothing_to_sync}
 use Rattle.ak_wires.specs.Forms.{is_meta_in_range, meta_told}
-use Rattle.ak_wires.specs.Wires.{IsServing, WireState}
+use Rattle.ak_wires.specs.Wires.{WireKind, IsServing, WireState}
 use Rattle.ak_wires.specs.declared.wires.MetaSaid.{MetaSaid}
 
 -- ---- the meta
@@ -102,9 +102,9 @@ held_at_meta ids account old mine reply servings r =
         all_front (IsServing (meta_of ids)) r.before (Asked (meta_of ids) r.now r.setback ∷ r.after)
         (subst (AllByRecursion (IsServing (meta_of ids))) (sym r.place) servings)
 
-module _ (ids : Ids) (account : AccountState) (old now : Log) (growth : List Event) (opening : old.opening ids.host.digits ≡ Some account)
+module _ {kind : WireKind} (ids : Ids) (account : AccountState) (old now : Log) (growth : List Event) (opening : old.opening ids.host.digits ≡ Some account)
     (grown : now ≡ with_growth old growth) (at : ℤ) (near : AllByRecursion (IsMetaNear at) growth)
-    (h0 h1 : Health) (w0 w1 : WireState) (alone : w0.alone ≡ true) (told_old : w0.log ≡ Some old) (told_now : w1.log ≡ Some now) where
+    (h0 h1 : Health) (w0 w1 : WireState kind) (alone : w0.alone ≡ true) (told_old : w0.log ≡ Some old) (told_now : w1.log ≡ Some now) where
   abbrev committed : Collection
   committed = (world_at (asker ids) account old).state.committed
 

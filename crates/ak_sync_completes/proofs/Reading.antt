@@ -42,7 +42,7 @@ use Rattle.ak_sync_completes.proofs.Metas.{held_at_meta}
 use Rattle.ak_sync_completes.proofs.Serving.{Answer, IsServedAlone, TriedLast, grows_by, served_alone, tried_last}
 use Rattle.ak_wires.specs.Forms.{is_meta_in_range, is_moment, meta_told}
 use Rattle.ak_wires.specs.Tries.{Tried}
-use Rattle.ak_wires.specs.Wires.{Carries, WireState}
+use Rattle.ak_wires.specs.Wires.{WireKind, Carries, WireState}
 use Rattle.ak_wires.specs.declared.asks.Unanswered.TheVariants as unanswered
 use Rattle.ak_wires.specs.declared.wires.WireEnd.{WireEnd}
 use Rattle.ak_wires.specs.declared.wires.WireEnd.TheVariants as ends
@@ -83,9 +83,9 @@ module _ (who : Asker) (c s : Collection) (account : AccountState) where
       (subst (λ (key : ℕ). IsUnderWay request.host.digits key (plan who c s) s account (with_growth old grows.growth)) (sym keys.1) kept))
 
   -- requests of the plan that are tried leave it under way
-  pub on_after : (done list after : List Request) (answers : List Answer) (h0 h1 : Health) (w0 w1 : WireState) (old : Log) → done ++ (list ++ after) ≡ plan who c s
+  pub on_after : {kind : WireKind} (done list after : List Request) (answers : List Answer) (h0 h1 : Health) (w0 w1 : WireState kind) (old : Log) → done ++ (list ++ after) ≡ plan who c s
       → AreTried list answers h0 h1 w0 w1 → w0.log ≡ Some old → IsOn old → (mid : Log) × (w1.log ≡ Some mid) × IsOn mid
-  on_after done [] after [] h0 h1 w0 w1 old place tried told on = (old, ap (λ (w : WireState). w.log) tried.1 ∙ told, on)
+  on_after {kind} done [] after [] h0 h1 w0 w1 old place tried told on = (old, ap (λ (w : WireState kind). w.log) tried.1 ∙ told, on)
   on_after done [] after (answer ∷ answers) h0 h1 w0 w1 old place tried told on = absurd tried
   on_after done (request ∷ more) after [] h0 h1 w0 w1 old place tried told on = absurd tried
   on_after done (request ∷ more) after (answer ∷ answers) h0 h1 w0 w1 old place tried told on =
@@ -168,21 +168,21 @@ module _ (who : Asker) (c s : Collection) (may : MaySync c s) (account : Account
 
 -- ---- what was answered last
 -- an answer that could not be read was counted
-pub last_is_counted : (list : List Request) (answers : List Answer) (answer : Answer) (h0 h1 : Health) (w0 w1 : WireState)
+pub last_is_counted : {kind : WireKind} (list : List Request) (answers : List Answer) (answer : Answer) (h0 h1 : Health) (w0 w1 : WireState kind)
     → TriedLast list answers answer h0 h1 w0 w1 → HasCauseOf ends.BadReply w0.reading w1.reading answer
 last_is_counted list answers answer h0 h1 w0 w1 last =
     cause_after (tried_reads last.front answers h0 last.health w0 last.wire last.earlier) last.tried.unread
 
-module _ (ids : Ids) (c : Collection) (account : AccountState) (old now : Log) (unused : IsUnused ids.host.digits ids.session.0 account old)
+module _ {kind : WireKind} (ids : Ids) (c : Collection) (account : AccountState) (old now : Log) (unused : IsUnused ids.host.digits ids.session.0 account old)
     (lawful : IsCommitted (world_at (asker ids) account old).state.committed) (may : MaySync c (world_at (asker ids) account old).state.committed)
-    (h0 h1 : Health) (w0 w1 : WireState) (alone : w0.alone ≡ true) (told_old : w0.log ≡ Some old) (told_now : w1.log ≡ Some now)
+    (h0 h1 : Health) (w0 w1 : WireState kind) (alone : w0.alone ≡ true) (told_old : w0.log ≡ Some old) (told_now : w1.log ≡ Some now)
     (committed : (it : Collection) → commits_of ids.session.0 (world_at (asker ids) account now).commits
     ≡ record { key = ids.session.0; before = (world_at (asker ids) account old).state.committed; after = it } ∷ [] → is_moment it.head.moment ≡ true) where
   abbrev s : Collection
   s = (world_at (asker ids) account old).state.committed
 
   -- the requests before it left the sync under way
-  on_before : (front : List Request) (before : List TriedAsk) (h : Health) (w : WireState) → AllGranted before → AreTried front (answers_in before) h0 h w0 w
+  on_before : (front : List Request) (before : List TriedAsk) (h : Health) (w : WireState kind) → AllGranted before → AreTried front (answers_in before) h0 h w0 w
       → (more : List Request) (request : Request) (after : List Request) → front ≡ meta_of ids ∷ more → more ++ request ∷ after ≡ plan (asker ids) c s
       → (mid : Log) × (w.log ≡ Some mid) × IsOn (asker ids) c s account mid
   on_before front before h w granted tried more request after is place =
@@ -210,7 +210,7 @@ module _ (ids : Ids) (c : Collection) (account : AccountState) (old now : Log) (
 
         formed_meta : (answers : List Answer) → AreTried [] answers h0 last.health w0 last.wire → last.request ≡ meta_of ids → is_in_form last.request.ask reply.give ≡ true
         formed_meta [] tried is =
-            let told : last.wire.log ≡ Some old = ap (λ (w : WireState). w.log) tried.1 ∙ told_old in
+            let told : last.wire.log ≡ Some old = ap (λ (w : WireState kind). w.log) tried.1 ∙ told_old in
             let here = served_alone last.health h1 last.wire w1 (meta_of ids) (Ok reply) old (subst (λ (r : Request). Tried last.health h1 last.wire w1 r (Ok reply)) is tried_so) only told in
             ap (λ (r : Request). is_in_form r.ask reply.give) is ∙ meta_formed ids c account old unused lawful here.0 reply here.2 ok
         formed_meta (answer ∷ answers) tried is = absurd tried

@@ -18,6 +18,7 @@ use Rattle.ak_sync_completes.proofs.Completing.{ends_by_fault}
 use Rattle.ak_sync_completes.specs.Completing.{EndsWell, IsUnhindered}
 use Rattle.ak_sync_completes.specs.Runs.{RunEndsWell, ends_of}
 use Rattle.ak_sync_runs.specs.SyncRuns.{EndsPrinting, EndsSync, EndsSyncOn, HasStatusCause, SyncOutside, TellsOutcome, ids_of}
+use Rattle.ak_wires.specs.Wires.{WireKind}
 
 -- chance gives the word that it told
 pub word_told : (word other : ℕ) (words : List ℕ) (new : Option (List ℕ)) → GivesNext (Some (word ∷ words)) new other → other ≡ word
@@ -58,7 +59,7 @@ module _ (growth : List Event) (status : ℕ) (old new : Option (List ℕ)) (wri
   told_by_fault outcome (inr (inl lost)) (inl (text, is, ends)) = inr ((printed text (outcome_status outcome) ends).0 ∙ ap outcome_status lost)
   told_by_fault outcome (inr (inr kept)) (inl (text, is, ends)) = absurd (keeps ((printed text (outcome_status outcome) ends).0 ∙ ap outcome_status kept))
 
-module _ (spares : Bool) (host : HostKey) (c : Collection) (account : AccountState) (status : ℕ) (before after : SyncOutside)
+module _ {kind : WireKind} (spares : Bool) (host : HostKey) (c : Collection) (account : AccountState) (status : ℕ) (before after : SyncOutside kind)
     (keeper_before keeper_now out_before out_now : Health) (old new : Option (List ℕ)) (word : ℕ) (words : List ℕ)
     (ends : EndsSync spares host status before after old new) (out : HasStatusCause 5 out_before out_now status)
     (keeper : HasStatusCause 6 keeper_before keeper_now status) (chance : before.words ≡ Some (word ∷ words))

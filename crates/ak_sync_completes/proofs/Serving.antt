@@ -16,7 +16,7 @@ use Rattle.ak_protocol.specs.Serving.{Undisturbed, served}
 use Rattle.ak_protocol.specs.Sessions.{AreUndisturbed}
 use Rattle.ak_protocol.specs.Syncs.{world_of}
 use Rattle.ak_wires.specs.Tries.{Tried}
-use Rattle.ak_wires.specs.Wires.{Carries, GrowsByServings, IsServing, WireState}
+use Rattle.ak_wires.specs.Wires.{WireKind, Carries, GrowsByServings, IsServing, WireState}
 use Rattle.ak_wires.specs.declared.wires.WireEnd.{WireEnd}
 
 abbrev pub Answer : Type 0
@@ -73,7 +73,7 @@ grows_by old now request answer it = record { growth = it.growth; grown = it.gro
 pub same_growth : (old now : Log) (one other : List Event) → now ≡ with_growth old one → now ≡ with_growth old other → one ≡ other
 same_growth old now one other is so = append_cancel_left old.events one other (ap (λ (log : Log). log.events) (sym is ∙ so))
 
-pub served_alone : (h0 h1 : Health) (w0 w1 : WireState) (request : Request) (answer : Answer) (old : Log) → Tried h0 h1 w0 w1 request answer → w0.alone ≡ true
+pub served_alone : {kind : WireKind} (h0 h1 : Health) (w0 w1 : WireState kind) (request : Request) (answer : Answer) (old : Log) → Tried h0 h1 w0 w1 request answer → w0.alone ≡ true
     → w0.log ≡ Some old → (now : Log) × (w1.log ≡ Some now) × IsServedAlone old now request answer
 served_alone h0 h1 w0 w1 request answer old tried alone is =
     let carried : (now : Log) × (w1.log ≡ Some now) × Grows old now request answer =
@@ -126,13 +126,13 @@ pub record CameInOrder (host : List ℕ) (list : List Request) (old now : Log) :
   pub order : AllByRecursion IsQuiet growth → AreUndisturbed list growth
 
 -- requests that were each answered came one after the other
-pub came_in_order : (host : List ℕ) (list : List Request) (answers : List Answer) (h0 h1 : Health) (w0 w1 : WireState) (old : Log) → AreTried list answers h0 h1 w0 w1
+pub came_in_order : {kind : WireKind} (host : List ℕ) (list : List Request) (answers : List Answer) (h0 h1 : Health) (w0 w1 : WireState kind) (old : Log) → AreTried list answers h0 h1 w0 w1
     → AllByRecursion (λ (request : Request). request.host.digits ≡ host) list → AllByRecursion IsReply answers → w0.alone ≡ true → w0.log ≡ Some old
     → (now : Log) × (w1.log ≡ Some now) × (w1.alone ≡ true) × CameInOrder host list old now
-came_in_order host [] [] h0 h1 w0 w1 old tried own replies alone is = (
+came_in_order {kind} host [] [] h0 h1 w0 w1 old tried own replies alone is = (
   old,
-  ap (λ (w : WireState). w.log) tried.1 ∙ is,
-  ap (λ (w : WireState). w.alone) tried.1 ∙ alone,
+  ap (λ (w : WireState kind). w.log) tried.1 ∙ is,
+  ap (λ (w : WireState kind). w.alone) tried.1 ∙ alone,
   record {
     growth = [];
     grown = ap (λ (events : List Event). record old { events = events }) (sym (append-nil old.events));
@@ -167,20 +167,20 @@ came_in_order host (request ∷ more) (answer ∷ answers) h0 h1 w0 w1 old tried
 
 -- ---- the last request
 -- a list of requests that was tried, by what was tried last
-pub record TriedLast (list : List Request) (answers : List Answer) (last : Answer) (h0 h1 : Health) (w0 w1 : WireState) : Type 0 where
+pub record TriedLast {kind : WireKind} (list : List Request) (answers : List Answer) (last : Answer) (h0 h1 : Health) (w0 w1 : WireState kind) : Type 0 where
   pub front : List Request
   pub request : Request
   pub parts : front ++ request ∷ [] ≡ list
   pub health : Health
-  pub wire : WireState
+  pub wire : WireState kind
   pub earlier : AreTried front answers h0 health w0 wire
   pub tried : Tried health h1 wire w1 request last
 
-pub tried_last : (list : List Request) (answers : List Answer) (last : Answer) (h0 h1 : Health) (w0 w1 : WireState) → AreTried list (answers ++ last ∷ []) h0 h1 w0 w1
+pub tried_last : {kind : WireKind} (list : List Request) (answers : List Answer) (last : Answer) (h0 h1 : Health) (w0 w1 : WireState kind) → AreTried list (answers ++ last ∷ []) h0 h1 w0 w1
     → TriedLast list answers last h0 h1 w0 w1
 tried_last [] [] last h0 h1 w0 w1 tried = absurd tried
 tried_last [] (answer ∷ answers) last h0 h1 w0 w1 tried = absurd tried
-tried_last (request ∷ []) [] last h0 h1 w0 w1 tried = record {
+tried_last {kind} (request ∷ []) [] last h0 h1 w0 w1 tried = record {
   front = [];
   request = request;
   parts = refl;
@@ -188,7 +188,7 @@ tried_last (request ∷ []) [] last h0 h1 w0 w1 tried = record {
   wire = w0;
   earlier = (refl, refl);
   tried = subst (λ (h : Health). Tried h0 h w0 w1 request last) (sym tried.3.0)
-      (subst (λ (w : WireState). Tried h0 tried.0 w0 w request last) (sym tried.3.1) tried.2);
+      (subst (λ (w : WireState kind). Tried h0 tried.0 w0 w request last) (sym tried.3.1) tried.2);
 }
 tried_last (request ∷ next ∷ more) [] last h0 h1 w0 w1 tried = absurd tried.3
 tried_last (request ∷ more) (answer ∷ answers) last h0 h1 w0 w1 tried =

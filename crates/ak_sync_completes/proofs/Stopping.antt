@@ -34,7 +34,7 @@ use Rattle.ak_session.specs.Plans.{requests_from}
 use Rattle.ak_sync_completes.proofs.Metas.{one_of}
 use Rattle.ak_sync_completes.proofs.Serving.{Answer, reply_at_place}
 use Rattle.ak_wires.specs.Forms.{is_meta_in_range, meta_told}
-use Rattle.ak_wires.specs.Wires.{Carries, WireState}
+use Rattle.ak_wires.specs.Wires.{WireKind, Carries, WireState}
 use Rattle.ak_wires.specs.declared.wires.MetaSaid.{MetaSaid}
 
 -- ---- what is no such end
@@ -81,7 +81,7 @@ meta_goes account ids now Undisturbed reply said is told =
 meta_goes account ids now KeeperFault reply said is told = absurd (none-some said (subst (λ (r : Reply). told_by (Ok r) ≡ Some said) (sym is) told))
 meta_goes account ids now OutOfMemory reply said is told = absurd (none-some said (subst (λ (r : Reply). told_by (Ok r) ≡ Some said) (sym is) told))
 
-module _ (ids : Ids) (old : Log) (h0 h1 : Health) (w0 w1 : WireState) (told_old : w0.log ≡ Some old) where
+module _ {kind : WireKind} (ids : Ids) (old : Log) (h0 h1 : Health) (w0 w1 : WireState kind) (told_old : w0.log ≡ Some old) where
   said_goes : (answer : Answer) (more : List Request) (answers : List Answer) → AreTried (meta_of ids ∷ more) (answer ∷ answers) h0 h1 w0 w1
       → (said : MetaSaid) → told_by answer ≡ Some said → said.cont ≡ true
   said_goes (Err end) more answers tried said told = absurd (none-some said told)

@@ -30,7 +30,7 @@ use Rattle.ak_sync_completes.proofs.Asking.{IsAskedOf, first_and_others, granted
 use Rattle.ak_sync_completes.proofs.Granting.{granted_again}
 use Rattle.ak_sync_completes.proofs.Serving.{Answer, CameInOrder, IsQuiet, IsServedAlone, TriedLast, all_own, came_in_order, quiet_servings, reply_at_place, same_growth, served_alone, servings_are_of, tried_last}
 use Rattle.ak_sync_completes.specs.Completing.{HasNoKeeperFault, RanOutOfMemory}
-use Rattle.ak_wires.specs.Wires.{IsServing, WireState}
+use Rattle.ak_wires.specs.Wires.{WireKind, IsServing, WireState}
 
 -- ---- setbacks
 -- if the server's keeper never failed, nothing came in between, or memory ran out
@@ -50,9 +50,9 @@ quiet_or_out (Asked request now Undisturbed ∷ events) all = by (quiet_or_out e
     by (inr out) = inr (inr out)
 
 -- ---- a request that was not granted
-module _ (ids : Ids) (account : AccountState) (old now : Log) (growth : List Event) (opening : old.opening ids.host.digits ≡ Some account)
+module _ {kind : WireKind} (ids : Ids) (account : AccountState) (old now : Log) (growth : List Event) (opening : old.opening ids.host.digits ≡ Some account)
     (grown : now ≡ with_growth old growth) (quiet : AllByRecursion IsQuiet growth)
-    (h0 h1 : Health) (w0 w1 : WireState) (alone : w0.alone ≡ true) (told_old : w0.log ≡ Some old) (told_now : w1.log ≡ Some now) where
+    (h0 h1 : Health) (w0 w1 : WireState kind) (alone : w0.alone ≡ true) (told_old : w0.log ≡ Some old) (told_now : w1.log ≡ Some now) where
   abbrev who : Asker
   who = asker ids
 

@@ -10,11 +10,12 @@ use Rattle.ak_protocol.specs.Accounts.{AccountState}
 use Rattle.ak_protocol.specs.Commits.{EachNewer, HasFreshSchema}
 use Rattle.ak_protocol.specs.Logs.{Log}
 use Rattle.ak_sync_completes.specs.Completing.{SyncEnds}
+use Rattle.ak_wires.specs.Wires.{WireKind}
 
 -- a sync of a device's c, which its keeper tells, ended so. It might begin over the log that its wire told: an account has its host key and is
 -- lawful, nothing but metas has its session key so far, and the device is linked. No upload meanwhile gave just the device's schema moment. Others
 -- may use the server too
-pub record IsSyncTold (ids : Ids) (c : Collection) (account : AccountState) (before after : SyncEnds) (outcome : Outcome) : Type 0 where
+pub record IsSyncTold {kind : WireKind} (ids : Ids) (c : Collection) (account : AccountState) (before after : SyncEnds kind) (outcome : Outcome) : Type 0 where
   pub old : Log
   pub now : Log
   pub told : before.wire.log ≡ Some old

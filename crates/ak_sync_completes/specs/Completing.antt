@@ -25,23 +25,23 @@ use Rattle.ak_protocol.specs.Serving.{KeeperFault, OutOfMemory}
 use Rattle.ak_session.specs.Requests.{is_meta}
 use Rattle.ak_session.specs.Sessions.{HaveRoom}
 use Rattle.ak_session.specs.Slices.{wanted_in_chunks}
-use Rattle.ak_wires.specs.Wires.{WireState}
+use Rattle.ak_wires.specs.Wires.{WireKind, WireState}
 
 -- ---- a sync and its ends to the outside
 -- what is known of a sync's keeper, its wire and its clock
-pub record SyncEnds : Type 0 where
+pub record SyncEnds (kind : WireKind) : Type 0 where
   -- what the keeper holds, and how many of its calls failed
   pub keeping : Keeping
   pub keeper : Health
   -- how many calls of the wire failed, and what else is known of it
   pub health : Health
-  pub wire : WireState
+  pub wire : WireState kind
   -- the moments that the clock has still to give
   pub moments : Option (List ℤ)
 
 -- what is promised of a sync that went from the one to the other and ended so: what it did and why it ended; and that a keeper's fault, and a
 -- lost request, come only if the keeper, or the wire, counted faults
-pub record IsSyncOver (ids : Ids) (before after : SyncEnds) (outcome : Outcome) : Type 0 where
+pub record IsSyncOver {kind : WireKind} (ids : Ids) (before after : SyncEnds kind) (outcome : Outcome) : Type 0 where
   pub ended : IsSyncEnded ids before.keeping after.keeping before.health after.health before.wire after.wire before.moments outcome
   pub kept : HasOutcomeCause outcomes.Keep before.keeper after.keeper outcome
   pub lost : HasOutcomeCause outcomes.Lost before.health after.health outcome
@@ -70,8 +70,8 @@ pub record AreJoinable (c s : Collection) : Type 0 where
   pub pushed : length (wanted_in_chunks Unsent c.rows) < 10_000_000
 
 -- a sync with a device's c may begin over a wire that nothing else uses and that tells its log, which is this one after it. The keeper holds c
-pub record MayBeginAlone (ids : Ids) (c : Collection) (account : AccountState) (old now : Log) (keeping : Keeping)
-    (w0 w1 : WireState) : Type 0 where
+pub record MayBeginAlone {kind : WireKind} (ids : Ids) (c : Collection) (account : AccountState) (old now : Log) (keeping : Keeping)
+    (w0 w1 : WireState kind) : Type 0 where
   pub alone : w0.alone ≡ true
   pub holds : keeping ≡ holding c
   pub told : w0.log ≡ Some old
@@ -90,7 +90,7 @@ HasNoKeeperFault (Asked request now setback) = setback ≢ KeeperFault
 
 -- nothing stops a sync of the device's c: it may begin and nothing else comes to the server, the two collections may be joined, the clocks agree, no
 -- keeper fails, and each answer can be read
-pub record IsUnhindered (ids : Ids) (c : Collection) (account : AccountState) (before after : SyncEnds) : Type 0 where
+pub record IsUnhindered {kind : WireKind} (ids : Ids) (c : Collection) (account : AccountState) (before after : SyncEnds kind) : Type 0 where
   pub old : Log
   pub now : Log
   pub begins : MayBeginAlone ids c account old now before.keeping before.wire after.wire

@@ -5,9 +5,10 @@ use Rattle.ak_faults.specs.Causes.{Health}
 use Rattle.ak_protocol.specs.Logs.{Event}
 use Rattle.ak_sync_completes.specs.Completing.{RanOutOfMemory, SyncEnds}
 use Rattle.ak_sync_runs.specs.SyncRuns.{SyncOutside}
+use Rattle.ak_wires.specs.Wires.{WireKind}
 
 -- what is known of the ends of a run's sync, with how many calls of its keeper failed
-abbrev pub ends_of : Health → SyncOutside → SyncEnds
+abbrev pub ends_of : {kind : WireKind} → Health → SyncOutside kind → SyncEnds kind
 ends_of keeper it = record { keeping = it.keeping; keeper = keeper; health = it.health; wire = it.wire; moments = it.moments }
 
 -- `finished` is printed, and the status is 0; or memory ran out: it is 8, or 13 if that was at the server, to which these came

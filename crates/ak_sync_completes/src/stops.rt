@@ -11,11 +11,13 @@ ghost use Rattle.ak_keep.specs.Keepers.{Keeping};
 ghost use Rattle.ak_protocol.specs.Logs.{Log};
 ghost use Rattle.ak_wires.specs.Wires.{WireState};
 
+use ak_wires::Wire;
+
 /// Over a wire that tells its log a sync of a collection that the keeper tells never ends as stopped, whatever its host key
 /// is and whatever else comes to the server: each meta that is granted lets the sync go on.
-pub fn syncs_are_never_stopped()
+pub fn syncs_are_never_stopped<W: Wire>()
     ensures { (ids : Ids) (old : Log) (c : Collection) (before left : Keeping)
-        → (health_before health_now : Health) (wire_before wire_now : WireState) (moments : Option (List ℤ)) (outcome : Outcome)
+        → (health_before health_now : Health) (wire_before wire_now : WireState W.kind) (moments : Option (List ℤ)) (outcome : Outcome)
         → wire_before.log ≡ Some old → before ≡ holding c
         → IsSyncEnded ids before left health_before health_now wire_before wire_now moments outcome
         → outcome ≢ outcomes.Stopped }

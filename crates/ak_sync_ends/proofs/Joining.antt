@@ -14,9 +14,9 @@ use Rattle.ak_merge.specs.Exchanges.{AreExchanged}
 use Rattle.ak_protocol.specs.Accounts.{AccountState}
 use Rattle.ak_protocol.specs.Logs.{Log}
 use Rattle.ak_sync_ends.specs.Alone.{BeginsAlone, LeavesTheJoin}
-use Rattle.ak_wires.specs.Wires.{WireState}
+use Rattle.ak_wires.specs.Wires.{WireKind, WireState}
 
-module _ (ids : Ids) (c : Collection) (account : AccountState) (old now : Log) (before left : Keeping) (h0 h1 : Health) (w0 w1 : WireState) (outcome : Outcome)
+module _ {kind : WireKind} (ids : Ids) (c : Collection) (account : AccountState) (old now : Log) (before left : Keeping) (h0 h1 : Health) (w0 w1 : WireState kind) (outcome : Outcome)
     (begins : BeginsAlone ids c account old now before w0 w1) (sync : IsSync ids before left h0 h1 w0 w1 outcome) where
   synced : Synced (asker ids) sync.moment (asks_in sync.tries) c account old now left outcome
   synced =

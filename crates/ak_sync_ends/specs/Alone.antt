@@ -10,12 +10,12 @@ use Rattle.ak_merge.specs.Exchanges.{AreExchanged}
 use Rattle.ak_protocol.specs.Accounts.{AccountState}
 use Rattle.ak_protocol.specs.Commits.{EachNewer, HasFreshSchema}
 use Rattle.ak_protocol.specs.Logs.{Log, World}
-use Rattle.ak_wires.specs.Wires.{WireState}
+use Rattle.ak_wires.specs.Wires.{WireKind, WireState}
 
 -- a sync with a device's c may begin over a wire that nothing else uses and that tells its log, which is this one after it; what is
 -- committed meanwhile leaves the schema moment, or gives one that is not the device's
-pub record BeginsAlone (ids : Ids) (c : Collection) (account : AccountState) (old now : Log) (before : Keeping)
-    (w0 w1 : WireState) : Type 0 where
+pub record BeginsAlone {kind : WireKind} (ids : Ids) (c : Collection) (account : AccountState) (old now : Log) (before : Keeping)
+    (w0 w1 : WireState kind) : Type 0 where
   pub alone : w0.alone ≡ true
   pub holds : before ≡ holding c
   pub told : w0.log ≡ Some old

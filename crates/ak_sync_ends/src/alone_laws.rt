@@ -13,15 +13,17 @@ ghost use Rattle.ak_protocol.specs.Logs.{Log};
 ghost use Rattle.ak_sync_ends.specs.Alone.{BeginsAlone, LeavesTheJoin};
 ghost use Rattle.ak_wires.specs.Wires.{WireState};
 
+use ak_wires::Wire;
+
 /// If nothing else comes to the server, a sync that reports that it is finished leaves both sides with the join of what
 /// they held before it. One that ended before its finish leaves what is committed.
-pub fn syncs_alone_join()
+pub fn syncs_alone_join<W: Wire>()
     ensures finished { (ids : Ids) (c : Collection) (account : AccountState) (old now : Log) (before left : Keeping)
-        → (h0 h1 : Health) (w0 w1 : WireState) → BeginsAlone ids c account old now before w0 w1
+        → (h0 h1 : Health) (w0 w1 : WireState W.kind) → BeginsAlone ids c account old now before w0 w1
         → IsSync ids before left h0 h1 w0 w1 outcomes.Finished
         → LeavesTheJoin c (world_at (asker ids) account old) (world_at (asker ids) account now) left }
     ensures early { (ids : Ids) (c : Collection) (account : AccountState) (old now : Log) (before left : Keeping)
-        → (h0 h1 : Health) (w0 w1 : WireState) (outcome : Outcome) → BeginsAlone ids c account old now before w0 w1
+        → (h0 h1 : Health) (w0 w1 : WireState W.kind) (outcome : Outcome) → BeginsAlone ids c account old now before w0 w1
         → IsSync ids before left h0 h1 w0 w1 outcome → ends_before_finish outcome ≡ true
         → (world_at (asker ids) account now).state.committed ≡ (world_at (asker ids) account old).state.committed }
 {}

@@ -11,6 +11,7 @@ use Rattle.ak_faults.specs.Causes.{Health}
 use Rattle.ak_keep.specs.Keepers.{Keeping}
 use Rattle.ak_outcomes.specs.OutcomeTexts.{has_fixed_text, outcome_text, outcome_status}
 use Rattle.ak_sync_runs.specs.SyncRuns.{AgreesNext, CommitsNextOnce, EndsPrinting, EndsSync, EndsSyncOn, FinishesNext, HasRunOutEarly, HasStatusCause, IsSyncRun, RunsOutNextEarly, SyncOutside, TellsOutcome, ids_of, is_early_status, is_sync_status}
+use Rattle.ak_wires.specs.Wires.{WireKind}
 
 -- the line of a sync that is finished
 abbrev pub finished_line : List ℕ
@@ -21,7 +22,7 @@ abbrev pub unchanged_line : List ℕ
 unchanged_line = codes "no changes" ++ 10 ∷ []
 
 -- over a keeper that holds a collection, a run of a sync is how it ends
-pub ran : (spares : Bool) (host : HostKey) (status : ℕ) (before after : SyncOutside) (old new : Option (List ℕ))
+pub ran : {kind : WireKind} (spares : Bool) (host : HostKey) (status : ℕ) (before after : SyncOutside kind) (old new : Option (List ℕ))
     → true ≡ before.keeping.headed.current → IsSyncRun spares host status before after old new
     → EndsSync spares host status before after old new
 ran spares host status before after old new held run =
@@ -88,7 +89,7 @@ unchanged_by outcome old (inl (text, is, inr (status, part))) = absurd (search (
 unchanged_by outcome old (inr (made, (status, nothing))) = absurd (search (status, rules))
 
 -- a run that finished
-run_finished : (spares : Bool) (host : HostKey) (before after : SyncOutside) (old : List ℕ)
+run_finished : {kind : WireKind} (spares : Bool) (host : HostKey) (before after : SyncOutside kind) (old : List ℕ)
     → IsSyncRun spares host 0 before after (Some old) (Some (old ++ finished_line)) → FinishesNext host before after
 run_finished spares host before after old run =
     let finished : run.outcome ≡ outcomes.Finished = finished_by run.outcome old run.told in (
@@ -107,7 +108,7 @@ run_finished spares host before after old run =
     )
 
 -- a sync that ended so, by whether a collection was held
-finished_on : (spares held : Bool) (host : HostKey) (before after : SyncOutside) (old : List ℕ)
+finished_on : {kind : WireKind} (spares held : Bool) (host : HostKey) (before after : SyncOutside kind) (old : List ℕ)
     → EndsSyncOn spares held host 0 before after (Some old) (Some (old ++ finished_line)) → FinishesNext host before after
 finished_on spares true host before after old (inl run) = run_finished spares host before after old run
 finished_on spares true host before after old (inr (same, (status, nothing))) = absurd (search (status, rules))
@@ -115,12 +116,12 @@ finished_on spares false host before after old (same, inl (status, written)) = a
 finished_on spares false host before after old (same, inr (status, part)) = absurd (search (status, rules))
 
 -- what `finished` tells
-pub printed_finish : (spares : Bool) (host : HostKey) (before after : SyncOutside) (old : List ℕ)
+pub printed_finish : {kind : WireKind} (spares : Bool) (host : HostKey) (before after : SyncOutside kind) (old : List ℕ)
     → EndsSync spares host 0 before after (Some old) (Some (old ++ (codes "finished" ++ 10 ∷ []))) → FinishesNext host before after
 printed_finish spares host before after old ends = finished_on spares before.keeping.headed.current host before after old ends
 
 -- a run that found nothing to sync
-run_agreed : (spares : Bool) (host : HostKey) (before after : SyncOutside) (old : List ℕ)
+run_agreed : {kind : WireKind} (spares : Bool) (host : HostKey) (before after : SyncOutside kind) (old : List ℕ)
     → IsSyncRun spares host 0 before after (Some old) (Some (old ++ unchanged_line)) → AgreesNext host before after
 run_agreed spares host before after old run =
     let unchanged : run.outcome ≡ outcomes.NoChanges = unchanged_by run.outcome old run.told in (
@@ -137,7 +138,7 @@ run_agreed spares host before after old run =
     )
 
 -- a sync that ended so, by whether a collection was held
-agreed_on : (spares held : Bool) (host : HostKey) (before after : SyncOutside) (old : List ℕ)
+agreed_on : {kind : WireKind} (spares held : Bool) (host : HostKey) (before after : SyncOutside kind) (old : List ℕ)
     → EndsSyncOn spares held host 0 before after (Some old) (Some (old ++ unchanged_line)) → AgreesNext host before after
 agreed_on spares true host before after old (inl run) = run_agreed spares host before after old run
 agreed_on spares true host before after old (inr (same, (status, nothing))) = absurd (search (status, rules))
@@ -145,7 +146,7 @@ agreed_on spares false host before after old (same, inl (status, written)) = abs
 agreed_on spares false host before after old (same, inr (status, part)) = absurd (search (status, rules))
 
 -- what `no changes` tells
-pub printed_agreement : (spares : Bool) (host : HostKey) (before after : SyncOutside) (old : List ℕ)
+pub printed_agreement : {kind : WireKind} (spares : Bool) (host : HostKey) (before after : SyncOutside kind) (old : List ℕ)
     → EndsSync spares host 0 before after (Some old) (Some (old ++ (codes "no changes" ++ 10 ∷ []))) → AgreesNext host before after
 printed_agreement spares host before after old ends = agreed_on spares before.keeping.headed.current host before after old ends
 
@@ -177,19 +178,19 @@ status_of_told outcome status old new (inl (text, is, inr (same, part))) no_writ
 status_of_told outcome status old new (inr (made, (same, nothing))) no_write no_memory = absurd (no_memory same)
 
 -- by whether a collection was held
-kept_on : (spares held : Bool) (host : HostKey) (status : ℕ) (before after : SyncOutside) (old new : Option (List ℕ))
+kept_on : {kind : WireKind} (spares held : Bool) (host : HostKey) (status : ℕ) (before after : SyncOutside kind) (old new : Option (List ℕ))
     → EndsSyncOn spares held host status before after old new → status ≢ 0 → status ≢ 5 → status ≢ 8 → status ≢ 11
     → after.keeping ≡ before.keeping
 kept_on spares true host status before after old new (inl run) done no_write no_memory sanity =
     kept_by run.outcome status before.keeping after.keeping before.moments after.moments
     (status_of_told run.outcome status old new run.told no_write no_memory) done sanity run.device
-kept_on spares true host status before after old new (inr (same, ends)) done no_write no_memory sanity =
-    ap (λ (s : SyncOutside). s.keeping) same
-kept_on spares false host status before after old new (same, ends) done no_write no_memory sanity =
-    ap (λ (s : SyncOutside). s.keeping) same
+kept_on {kind} spares true host status before after old new (inr (same, ends)) done no_write no_memory sanity =
+    ap (λ (s : SyncOutside kind). s.keeping) same
+kept_on {kind} spares false host status before after old new (same, ends) done no_write no_memory sanity =
+    ap (λ (s : SyncOutside kind). s.keeping) same
 
 -- what other statuses tell
-pub other_status : (spares : Bool) (host : HostKey) (status : ℕ) (before after : SyncOutside) (old new : Option (List ℕ))
+pub other_status : {kind : WireKind} (spares : Bool) (host : HostKey) (status : ℕ) (before after : SyncOutside kind) (old new : Option (List ℕ))
     → EndsSync spares host status before after old new → status ≢ 0 → status ≢ 5 → status ≢ 8 → status ≢ 11
     → after.keeping ≡ before.keeping
 other_status spares host status before after old new ends =
@@ -226,16 +227,16 @@ kept_at_eight outcome before left moments to_come old new (inr (made, untold)) k
     kept_untold outcome before left moments to_come made kept
 
 -- by whether a collection was held
-untold_on : (spares held : Bool) (host : HostKey) (before after : SyncOutside) (old new : Option (List ℕ))
+untold_on : {kind : WireKind} (spares held : Bool) (host : HostKey) (before after : SyncOutside kind) (old new : Option (List ℕ))
     → EndsSyncOn spares held host 8 before after old new
     → (after.keeping ≡ before.keeping) ⊎ HasRaised 1 before.keeping after.keeping before.moments after.moments
 untold_on spares true host before after old new (inl run) =
     kept_at_eight run.outcome before.keeping after.keeping before.moments after.moments old new run.told run.device
-untold_on spares true host before after old new (inr (same, ends)) = inl (ap (λ (s : SyncOutside). s.keeping) same)
-untold_on spares false host before after old new (same, ends) = inl (ap (λ (s : SyncOutside). s.keeping) same)
+untold_on {kind} spares true host before after old new (inr (same, ends)) = inl (ap (λ (s : SyncOutside kind). s.keeping) same)
+untold_on {kind} spares false host before after old new (same, ends) = inl (ap (λ (s : SyncOutside kind). s.keeping) same)
 
 -- what status 8 tells
-pub untold_end : (spares : Bool) (host : HostKey) (before after : SyncOutside) (old new : Option (List ℕ)) → EndsSync spares host 8 before after old new
+pub untold_end : {kind : WireKind} (spares : Bool) (host : HostKey) (before after : SyncOutside kind) (old new : Option (List ℕ)) → EndsSync spares host 8 before after old new
     → (after.keeping ≡ before.keeping) ⊎ HasRaised 1 before.keeping after.keeping before.moments after.moments
 untold_end spares host before after old new ends = untold_on spares before.keeping.headed.current host before after old new ends
 
@@ -276,7 +277,7 @@ has_text outcomes.Keep made = absurd (search (made, rules))
 has_text outcomes.Memory made = inl refl
 
 -- a run with status 8 over a keeper that spares memory
-run_out_early : (host : HostKey) (before after : SyncOutside) (old new : Option (List ℕ)) → (run : IsSyncRun true host 8 before after old new)
+run_out_early : {kind : WireKind} (host : HostKey) (before after : SyncOutside kind) (old new : Option (List ℕ)) → (run : IsSyncRun true host 8 before after old new)
     → HasRunOutEarly (ids_of host run.word) before after
 run_out_early host before after old new run = by run.told
   where
@@ -294,14 +295,14 @@ run_out_early host before after old new run = by run.told
     by (inr (made, untold)) = either made (has_text run.outcome made)
 
 -- by whether a collection was held
-out_on : (held : Bool) (host : HostKey) (before after : SyncOutside) (old new : Option (List ℕ))
+out_on : {kind : WireKind} (held : Bool) (host : HostKey) (before after : SyncOutside kind) (old new : Option (List ℕ))
     → EndsSyncOn true held host 8 before after old new → RunsOutNextEarly host before after
 out_on true host before after old new (inl run) = inr (run.word, run.drawn, run_out_early host before after old new run)
 out_on true host before after old new (inr (same, ends)) = inl same
 out_on false host before after old new (same, ends) = inl same
 
 -- what status 8 tells over a keeper that spares memory
-pub out_early : (host : HostKey) (before after : SyncOutside) (old new : Option (List ℕ)) → EndsSync true host 8 before after old new
+pub out_early : {kind : WireKind} (host : HostKey) (before after : SyncOutside kind) (old new : Option (List ℕ)) → EndsSync true host 8 before after old new
     → RunsOutNextEarly host before after
 out_early host before after old new ends = out_on before.keeping.headed.current host before after old new ends
 
@@ -312,15 +313,15 @@ kept_unchanged outcome before left moments to_come unchanged kept =
     subst (λ o. KeepsDevice 1 before left moments to_come o) unchanged kept
 
 -- by whether a collection was held
-unchanged_on : (spares held : Bool) (host : HostKey) (before after : SyncOutside) (old : List ℕ)
+unchanged_on : {kind : WireKind} (spares held : Bool) (host : HostKey) (before after : SyncOutside kind) (old : List ℕ)
     → EndsSyncOn spares held host 0 before after (Some old) (Some (old ++ unchanged_line)) → after.keeping ≡ before.keeping
 unchanged_on spares true host before after old (inl run) =
     kept_unchanged run.outcome before.keeping after.keeping before.moments after.moments (unchanged_by run.outcome old run.told) run.device
-unchanged_on spares true host before after old (inr (same, ends)) = ap (λ (s : SyncOutside). s.keeping) same
-unchanged_on spares false host before after old (same, ends) = ap (λ (s : SyncOutside). s.keeping) same
+unchanged_on {kind} spares true host before after old (inr (same, ends)) = ap (λ (s : SyncOutside kind). s.keeping) same
+unchanged_on {kind} spares false host before after old (same, ends) = ap (λ (s : SyncOutside kind). s.keeping) same
 
 -- what `no changes` tells
-pub printed_no_changes : (spares : Bool) (host : HostKey) (before after : SyncOutside) (old : List ℕ)
+pub printed_no_changes : {kind : WireKind} (spares : Bool) (host : HostKey) (before after : SyncOutside kind) (old : List ℕ)
     → EndsSync spares host 0 before after (Some old) (Some (old ++ (codes "no changes" ++ 10 ∷ []))) → after.keeping ≡ before.keeping
 printed_no_changes spares host before after old ends = unchanged_on spares before.keeping.headed.current host before after old ends
 
@@ -352,7 +353,7 @@ early_told outcome status old new told early =
     early_by outcome (sym (ap is_early_status (status_of_told outcome status old new told no_write no_memory)) ∙ early)
 
 -- by whether a collection was held
-once_on : (spares held : Bool) (host : HostKey) (status : ℕ) (before after : SyncOutside) (old new : Option (List ℕ))
+once_on : {kind : WireKind} (spares held : Bool) (host : HostKey) (status : ℕ) (before after : SyncOutside kind) (old new : Option (List ℕ))
     → EndsSyncOn spares held host status before after old new → CommitsNextOnce host status before after
 once_on spares true host status before after old new (inl run) = inr (
   run.word,
@@ -369,7 +370,7 @@ once_on spares true host status before after old new (inr (same, ends)) = inl sa
 once_on spares false host status before after old new (same, ends) = inl same
 
 -- what any end tells
-pub any_end : (spares : Bool) (host : HostKey) (status : ℕ) (before after : SyncOutside) (old new : Option (List ℕ))
+pub any_end : {kind : WireKind} (spares : Bool) (host : HostKey) (status : ℕ) (before after : SyncOutside kind) (old new : Option (List ℕ))
     → EndsSync spares host status before after old new → CommitsNextOnce host status before after
 any_end spares host status before after old new ends = once_on spares before.keeping.headed.current host status before after old new ends
 

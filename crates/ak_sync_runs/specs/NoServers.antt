@@ -1,14 +1,14 @@
 -- A wire that leads to no server.
-use Rattle.std.specs.Prelude.{ℕ, false, true, [], None}
+use Rattle.std.specs.Prelude.{ℕ, false, true, None}
 use Rattle.ak_faults.specs.Causes.{Health}
-use Rattle.ak_wires.specs.Wires.{WireState}
+use Rattle.ak_wires.specs.Wires.{WireState, plain_kind}
 
 -- each of its calls failed
 abbrev pub all_failed : ℕ → Health
 all_failed calls = record { faults = calls; calm = false }
 
 -- no server's log is told, no answer came that could not be read, and all calls failed, in a row. Nobody else uses it
-abbrev pub all_silent : ℕ → WireState
+abbrev pub all_silent : ℕ → WireState plain_kind
 all_silent calls = record {
   log = None;
   reading = record { faults = 0; calm = true };
@@ -16,5 +16,5 @@ all_silent calls = record {
   said = None;
   calls = calls;
   alone = true;
-  made_with = [];
+  inside = tt;
 }

@@ -20,7 +20,7 @@ use Rattle.ak_outcomes.specs.OutcomeTexts.{has_fixed_text, outcome_text, outcome
 use Rattle.ak_protocol.specs.Accounts.{AccountState}
 use Rattle.ak_protocol.specs.Commits.{EachNewer, HasFreshSchema}
 use Rattle.ak_protocol.specs.Logs.{Event, Log, commits_of, with_growth}
-use Rattle.ak_wires.specs.Wires.{WireState}
+use Rattle.ak_wires.specs.Wires.{WireKind, WireState}
 
 -- ---- what is printed
 -- the text is written as a line, and the status is this one; or a front of the line is, and it is 5
@@ -59,15 +59,15 @@ pub record HasStatusCause (code : ℕ) (before now : Health) (status : ℕ) : Ty
 
 -- ---- the run
 -- what is known of what a sync is given: its keeper, its wire, and the moments and words of chance to come
-pub record SyncOutside : Type 0 where
+pub record SyncOutside (kind : WireKind) : Type 0 where
   pub keeping : Keeping
   pub health : Health
-  pub wire : WireState
+  pub wire : WireState kind
   pub moments : Option (List ℤ)
   pub words : Option (List ℕ)
 
 -- the same, by its parts
-abbrev pub sync_outside : Keeping → Health → WireState → Option (List ℤ) → Option (List ℕ) → SyncOutside
+abbrev pub sync_outside : {kind : WireKind} → Keeping → Health → WireState kind → Option (List ℤ) → Option (List ℕ) → SyncOutside kind
 sync_outside keeping health wire moments words =
     record { keeping = keeping; health = health; wire = wire; moments = moments; words = words }
 
@@ -77,7 +77,7 @@ ids_of host word = record { host = host; session = record { 0 = word } }
 
 -- one sync ran, over a keeper that spares memory or not, in a session whose key is the next word of chance, and its outcome was told.
 -- Whatever the status, device and server are as that outcome leaves them
-pub record IsSyncRun (spares : Bool) (host : HostKey) (status : ℕ) (before after : SyncOutside) (old new : Option (List ℕ)) : Type 0 where
+pub record IsSyncRun {kind : WireKind} (spares : Bool) (host : HostKey) (status : ℕ) (before after : SyncOutside kind) (old new : Option (List ℕ)) : Type 0 where
   pub word : ℕ
   pub outcome : Outcome
   pub drawn : GivesNext before.words after.words word
@@ -92,14 +92,14 @@ pub record IsSyncRun (spares : Bool) (host : HostKey) (status : ℕ) (before aft
 
 -- the same, by whether a collection is held. If none is, `no collection` is printed, and the status is 3. Memory may run out before
 -- anything is asked
-abbrev pub EndsSyncOn : Bool → Bool → HostKey → ℕ → SyncOutside → SyncOutside → Option (List ℕ) → Option (List ℕ) → Type 0
+abbrev pub EndsSyncOn : {kind : WireKind} → Bool → Bool → HostKey → ℕ → SyncOutside kind → SyncOutside kind → Option (List ℕ) → Option (List ℕ) → Type 0
 EndsSyncOn spares true host status before after old new =
     IsSyncRun spares host status before after old new ⊎ (after ≡ before) × EndsUntold status old new
 EndsSyncOn spares false host status before after old new =
     (after ≡ before) × EndsPrinting (codes "no collection") 3 status old new
 
 -- how `sync` ends for the account of this host key, over a keeper that spares memory or not
-abbrev pub EndsSync : Bool → HostKey → ℕ → SyncOutside → SyncOutside → Option (List ℕ) → Option (List ℕ) → Type 0
+abbrev pub EndsSync : {kind : WireKind} → Bool → HostKey → ℕ → SyncOutside kind → SyncOutside kind → Option (List ℕ) → Option (List ℕ) → Type 0
 EndsSync spares host status before after old new =
     EndsSyncOn spares before.keeping.headed.current host status before after old new
 
@@ -107,7 +107,7 @@ EndsSync spares host status before after old new =
 -- where the keeper told a collection with which this sync could begin, and the wire a log, and no upload in between gave just the device's
 -- schema moment: the session committed once. Device and commit hold the join of what both held. If nothing else used
 -- the wire, that was over what was committed before the sync, and is what is committed after it
-abbrev pub HasFinished : Ids → SyncOutside → SyncOutside → Type 0
+abbrev pub HasFinished : {kind : WireKind} → Ids → SyncOutside kind → SyncOutside kind → Type 0
 HasFinished ids before after = let who = asker ids in (c : Collection) (account : AccountState) (log : Log)
     → before.keeping ≡ holding c → before.wire.log ≡ Some log → MayBegin who c account log
     → (now : Log) × (after.wire.log ≡ Some now)
@@ -117,13 +117,13 @@ HasFinished ids before after = let who = asker ids in (c : Collection) (account 
     × (it.after ≡ (world_at who account now).state.committed)))
 
 -- a sync of the session whose key was the next word of chance has finished
-abbrev pub FinishesNext : HostKey → SyncOutside → SyncOutside → Type 0
+abbrev pub FinishesNext : {kind : WireKind} → HostKey → SyncOutside kind → SyncOutside kind → Type 0
 FinishesNext host before after =
     (word : ℕ) × GivesNext before.words after.words word × HasFinished (ids_of host word) before after
 
 -- ---- what `no changes` means
 -- under the same premises: the device holds the content of what was committed when its meta was answered
-abbrev pub HasAgreed : Ids → SyncOutside → SyncOutside → Type 0
+abbrev pub HasAgreed : {kind : WireKind} → Ids → SyncOutside kind → SyncOutside kind → Type 0
 HasAgreed ids before after = let who = asker ids in (c : Collection) (account : AccountState) (log : Log)
     → before.keeping ≡ holding c → before.wire.log ≡ Some log → MayBegin who c account log
     → (now : Log) × (after.wire.log ≡ Some now)
@@ -132,7 +132,7 @@ HasAgreed ids before after = let who = asker ids in (c : Collection) (account : 
     × (base : Collection) × IsCommittedIn who account log growth base × SameContent (content_of c) (content_of base))
 
 -- a sync of the session whose key was the next word of chance has agreed
-abbrev pub AgreesNext : HostKey → SyncOutside → SyncOutside → Type 0
+abbrev pub AgreesNext : {kind : WireKind} → HostKey → SyncOutside kind → SyncOutside kind → Type 0
 AgreesNext host before after =
     (word : ℕ) × GivesNext before.words after.words word × HasAgreed (ids_of host word) before after
 
@@ -140,7 +140,7 @@ AgreesNext host before after =
 -- under the same premises, however the sync ended: the session committed at most once, the join of the device and what was committed when its
 -- meta was answered; so it is in any later log in which nothing but metas and what this sync asked has its key. It committed nothing where
 -- its status tells an end before its finish
-abbrev pub CommitsOnce : Ids → ℕ → SyncOutside → SyncOutside → Type 0
+abbrev pub CommitsOnce : {kind : WireKind} → Ids → ℕ → SyncOutside kind → SyncOutside kind → Type 0
 CommitsOnce ids status before after = let who = asker ids in (c : Collection) (account : AccountState) (log : Log)
     → before.keeping ≡ holding c → before.wire.log ≡ Some log → MayBegin who c account log
     → (now : Log) × (after.wire.log ≡ Some now)
@@ -150,14 +150,14 @@ CommitsOnce ids status before after = let who = asker ids in (c : Collection) (a
     × (is_early_status status ≡ true → commits_of who.session.0 (world_at who account now).commits ≡ []))
 
 -- the same of the session whose key was the next word of chance; or nothing was asked
-abbrev pub CommitsNextOnce : HostKey → ℕ → SyncOutside → SyncOutside → Type 0
+abbrev pub CommitsNextOnce : {kind : WireKind} → HostKey → ℕ → SyncOutside kind → SyncOutside kind → Type 0
 CommitsNextOnce host status before after = (after ≡ before)
     ⊎ ((word : ℕ) × GivesNext before.words after.words word × CommitsOnce (ids_of host word) status before after)
 
 -- ---- what status 8 means
 -- over a keeper that spares memory: the sync ran out of memory before it asked its finish, or in the last call of its wire, which answered so;
 -- or it ended for another reason, whose text has to be made, and memory ran out for the text
-abbrev pub HasRunOutEarly : Ids → SyncOutside → SyncOutside → Type 0
+abbrev pub HasRunOutEarly : {kind : WireKind} → Ids → SyncOutside kind → SyncOutside kind → Type 0
 HasRunOutEarly ids before after = (outcome : Outcome)
     × (sparing : IsSyncSparing true ids before.keeping after.keeping before.health after.health before.wire after.wire
     before.moments outcome)
@@ -165,6 +165,6 @@ HasRunOutEarly ids before after = (outcome : Outcome)
     ⊎ ((text : List ℕ) × (outcome_text outcome ≡ Some text) × (has_fixed_text outcome ≡ false)))
 
 -- a sync of the session whose key was the next word of chance ended so; or nothing was asked
-abbrev pub RunsOutNextEarly : HostKey → SyncOutside → SyncOutside → Type 0
+abbrev pub RunsOutNextEarly : {kind : WireKind} → HostKey → SyncOutside kind → SyncOutside kind → Type 0
 RunsOutNextEarly host before after = (after ≡ before)
     ⊎ ((word : ℕ) × GivesNext before.words after.words word × HasRunOutEarly (ids_of host word) before after)

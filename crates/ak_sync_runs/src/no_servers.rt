@@ -33,8 +33,10 @@ impl End for NoServer {
 impl Wire for NoServer {
     ghost use Rattle.std.specs.Prelude.{◌≡◌, Err};
     ghost use Rattle.ak_sync_runs.specs.NoServers.{all_failed, all_silent};
-    ghost use Rattle.ak_wires.specs.Wires.{Called, more};
+    ghost use Rattle.ak_wires.specs.Wires.{Called, more, plain_kind};
     ghost use Rattle.ak_wires.specs.declared.wires.WireEnd.TheVariants as ends;
+
+    ghost kind = { plain_kind };
 
     ghost state = { λ wire. all_silent wire.calls };
 

@@ -4,18 +4,20 @@ ghost use Rattle.ak_base.specs.declared.keys.HostKey.{HostKey};
 ghost use Rattle.ak_client.specs.Syncs.{HasRaised};
 ghost use Rattle.ak_sync_runs.specs.SyncRuns.{AgreesNext, CommitsNextOnce, EndsSync, FinishesNext, RunsOutNextEarly, SyncOutside};
 
+use ak_wires::Wire;
+
 /// If `finished` is what was printed, and the status is 0, then the device holds the join of what it and the server held, and so
 /// does what the server committed for this sync, once.
-pub fn a_printed_finish_joins()
-    ensures { (spares : Bool) (host : HostKey) (before after : SyncOutside) (old : List ℕ)
+pub fn a_printed_finish_joins<W: Wire>()
+    ensures { (spares : Bool) (host : HostKey) (before after : SyncOutside W.kind) (old : List ℕ)
         → EndsSync spares host 0 before after (Some old) (Some (old ++ (codes "finished" ++ 10 ∷ [])))
         → FinishesNext host before after }
 {}
 
 /// If `no changes` is what was printed, and the status is 0, then the device holds the content of what the server had committed when it
 /// was asked: nothing was to be sent or fetched.
-pub fn a_printed_no_changes_agrees()
-    ensures { (spares : Bool) (host : HostKey) (before after : SyncOutside) (old : List ℕ)
+pub fn a_printed_no_changes_agrees<W: Wire>()
+    ensures { (spares : Bool) (host : HostKey) (before after : SyncOutside W.kind) (old : List ℕ)
         → EndsSync spares host 0 before after (Some old) (Some (old ++ (codes "no changes" ++ 10 ∷ [])))
         → AgreesNext host before after }
 {}
@@ -23,28 +25,28 @@ pub fn a_printed_no_changes_agrees()
 /// The device is as it was if `no changes` is what was printed and the status is 0, or if the status is none of 0, 5, 8 and 11. With 8 it
 /// is as it was too, or only its two moments have risen, after a bad sanity check; with 11 they have risen. Besides 0, only 5 may follow
 /// a finished sync: the output failed in its line.
-pub fn other_ends_keep_the_device()
-    ensures unchanged { (spares : Bool) (host : HostKey) (before after : SyncOutside) (old : List ℕ)
+pub fn other_ends_keep_the_device<W: Wire>()
+    ensures unchanged { (spares : Bool) (host : HostKey) (before after : SyncOutside W.kind) (old : List ℕ)
         → EndsSync spares host 0 before after (Some old) (Some (old ++ (codes "no changes" ++ 10 ∷ [])))
         → after.keeping ≡ before.keeping }
-    ensures unfinished { (spares : Bool) (host : HostKey) (status : ℕ) (before after : SyncOutside) (old new : Option (List ℕ))
+    ensures unfinished { (spares : Bool) (host : HostKey) (status : ℕ) (before after : SyncOutside W.kind) (old new : Option (List ℕ))
         → EndsSync spares host status before after old new → status ≢ 0 → status ≢ 5 → status ≢ 8 → status ≢ 11
         → after.keeping ≡ before.keeping }
-    ensures untold { (spares : Bool) (host : HostKey) (before after : SyncOutside) (old new : Option (List ℕ))
+    ensures untold { (spares : Bool) (host : HostKey) (before after : SyncOutside W.kind) (old new : Option (List ℕ))
         → EndsSync spares host 8 before after old new
         → (after.keeping ≡ before.keeping) ⊎ HasRaised 1 before.keeping after.keeping before.moments after.moments }
 {}
 
 /// Whatever was printed, and whatever the status: the server committed at most once for this sync, the join of what both held, and so it
 /// stays if what the sync asked comes again later. A lost reply to a finish is one such end.
-pub fn a_sync_commits_once()
-    ensures { (spares : Bool) (host : HostKey) (status : ℕ) (before after : SyncOutside) (old new : Option (List ℕ))
+pub fn a_sync_commits_once<W: Wire>()
+    ensures { (spares : Bool) (host : HostKey) (status : ℕ) (before after : SyncOutside W.kind) (old new : Option (List ℕ))
         → EndsSync spares host status before after old new → CommitsNextOnce host status before after }
 {}
 
 /// With status 8, over a keeper that spares memory: nothing was asked; or memory ran out before the finish was asked, or in the last call
 /// of the wire; or the sync ended for a reason whose text has a number, a word or a fault in it, and memory ran out for the text.
-pub fn memory_runs_out_early()
-    ensures { (host : HostKey) (before after : SyncOutside) (old new : Option (List ℕ))
+pub fn memory_runs_out_early<W: Wire>()
+    ensures { (host : HostKey) (before after : SyncOutside W.kind) (old new : Option (List ℕ))
         → EndsSync true host 8 before after old new → RunsOutNextEarly host before after }
 {}

@@ -44,7 +44,7 @@ use Rattle.ak_transfer_laws.specs.Completing.{IsLeftAlone, committed_before}
 use Rattle.ak_transfers.specs.Forms.{MayBeHeld, uploaded_in, whole_in}
 use Rattle.ak_transfers.specs.declared.asks.UploadMoments.{UploadMoments}
 use Rattle.ak_wires.specs.Tries.{Tried}
-use Rattle.ak_wires.specs.Wires.{IsServing, WireState}
+use Rattle.ak_wires.specs.Wires.{WireKind, IsServing, WireState}
 
 -- ---- a request that is next after a meta
 module _ (w : World) (meta request : Request) (begins : is_meta meta.ask ≡ true) (key : meta.session.0 ≡ request.session.0) (step : request.step ≡ 1)
@@ -91,8 +91,8 @@ module _ (w : World) (meta request : Request) (begins : is_meta meta.ask ≡ tru
       (subst (λ (reply : Reply). reply.status ≡ 200) (sym (reply_again there request first now more later all.1)) (granted_next first events quiet))
 
 -- ---- the request of a session that is left alone
-module _ (ids : Ids) (c : Collection) (account : AccountState) (before after : SyncEnds) (it : IsLeftAlone ids c account before after)
-    (h : Health) (w : WireState) (told : Reply) (ok : told.status ≡ 200) (meta : Tried before.health h before.wire w (meta_of ids) (Ok told))
+module _ {kind : WireKind} (ids : Ids) (c : Collection) (account : AccountState) (before after : SyncEnds kind) (it : IsLeftAlone ids c account before after)
+    (h : Health) (w : WireState kind) (told : Reply) (ok : told.status ≡ 200) (meta : Tried before.health h before.wire w (meta_of ids) (Ok told))
     (ask : Ask) (later : is_meta ask ≡ false) (reply : Reply)
     (tried : Tried h after.health w after.wire (request_at (asker ids) (committed_before ids account it.old).head.moment 1 ask) (Ok reply)) where
   abbrev held : Collection

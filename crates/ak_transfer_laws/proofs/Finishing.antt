@@ -35,6 +35,7 @@ use Rattle.ak_wires.specs.declared.asks.Unanswered.{Unanswered}
 use Rattle.ak_wires.specs.declared.asks.Unanswered.TheVariants as unanswered
 use Rattle.ak_wires.specs.declared.wires.MetaSaid.{MetaSaid}
 use Rattle.ak_wires.specs.declared.wires.WireEnd.TheVariants as ends
+use Rattle.ak_wires.specs.Wires.{WireKind}
 
 -- ---- answers by their form
 refused_as : {T : Type 0} (part : Give → Option T) (reply : Reply) → reply.status ≢ 200
@@ -55,7 +56,7 @@ err_same : {T : Type 0} (one other : Unanswered) → ◌≡◌ {A = Result T Una
 err_same one other is = grind (arith, is)
 
 -- ---- how a transfer ends
-module _ {T : Type 0} (errand : Errand T) (ids : Ids) (c : Collection) (account : AccountState) (before after : SyncEnds) (outcome : Outcome)
+module _ {kind : WireKind} {T : Type 0} (errand : Errand T) (ids : Ids) (c : Collection) (account : AccountState) (before after : SyncEnds kind) (outcome : Outcome)
     (it : IsLeftAlone ids c account before after) (asked : List Ask)
     (transfer : IsTransfer errand ids asked (record { line = record { health = before.health; wire = before.wire }; moments = before.moments })
     (record { line = record { health = after.health; wire = after.wire }; moments = after.moments }) outcome) where
@@ -66,10 +67,10 @@ module _ {T : Type 0} (errand : Errand T) (ids : Ids) (c : Collection) (account 
   abbrev pub Ends : Type 0
   Ends = EndsWell it.growth outcome ⊎ ((outcome ≡ outcomes.Lost) ⊎ (outcome ≡ outcomes.Keep))
 
-  abbrev met : Line
+  abbrev met : Line kind
   met = transfer.met
 
-  abbrev now : Line
+  abbrev now : Line kind
   now = record { health = after.health; wire = after.wire }
 
   abbrev answer : Answer
@@ -81,7 +82,7 @@ module _ {T : Type 0} (errand : Errand T) (ids : Ids) (c : Collection) (account 
   -- ---- the meta
   asked_nothing : AsksNothing asked met now → AreTried (meta_of ids ∷ []) (answer ∷ []) before.health after.health before.wire after.wire
   asked_nothing nothing =
-      (met.health, met.wire, transfer.meta.tried, (ap (λ (line : Line). line.health) nothing.same, ap (λ (line : Line). line.wire) nothing.same))
+      (met.health, met.wire, transfer.meta.tried, (ap (λ (line : Line kind). line.health) nothing.same, ap (λ (line : Line kind). line.wire) nothing.same))
 
   -- why it was not granted
   unmet : (why : Unanswered) → transfer.answer ≡ Err why → Comes held it.at it.growth answer → outcome ≡ outcome_at (wire_stop why) → Ends

@@ -31,6 +31,7 @@ use Rattle.ak_transfer_laws.specs.Completing.{IsLeftAlone, committed_before}
 use Rattle.ak_wires.specs.Forms.{meta_in, meta_told}
 use Rattle.ak_wires.specs.declared.wires.MetaSaid.{MetaSaid}
 use Rattle.ak_wires.specs.declared.wires.WireEnd.TheVariants as ends
+use Rattle.ak_wires.specs.Wires.{WireKind}
 
 -- ---- where memory ran out
 out_there : (xs ys : List Event) (request : Request) (now : ℤ) → RanOutOfMemory (xs ++ Asked request now OutOfMemory ∷ ys)
@@ -77,7 +78,7 @@ Comes s at growth answer = (answer ≡ Err ends.Failed) ⊎ (answer ≡ Err ends
     ⊎ ((reply : Reply) × (answer ≡ Ok reply) × (reply.status ≢ 200) × RanOutOfMemory growth)
     ⊎ ((reply : Reply) × (said : MetaSaid) × (answer ≡ Ok reply) × (reply.status ≡ 200) × (meta_in reply.give ≡ Some said) × Says s at said)
 
-module _ (ids : Ids) (c : Collection) (account : AccountState) (before after : SyncEnds) (it : IsLeftAlone ids c account before after) where
+module _ {kind : WireKind} (ids : Ids) (c : Collection) (account : AccountState) (before after : SyncEnds kind) (it : IsLeftAlone ids c account before after) where
   abbrev pub held : Collection
   held = committed_before ids account it.old
 

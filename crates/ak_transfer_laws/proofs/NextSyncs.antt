@@ -19,9 +19,10 @@ use Rattle.ak_transfer_laws.proofs.Reasons.{copies_stop, schemas_stop}
 use Rattle.ak_transfer_laws.proofs.Syncing.{syncs_end}
 use Rattle.ak_transfer_laws.specs.Completing.{EndsWith, IsLeftAlone, committed_before}
 use Rattle.ak_transfers.specs.Transfers.{Downloaded, HoldsUpload, Uploaded}
+use Rattle.ak_wires.specs.Wires.{WireKind}
 
 -- a device that holds a copy of what is committed
-module _ (ids : Ids) (d : Collection) (account : AccountState) (before after : SyncEnds) (outcome : Outcome) (it : IsLeftAlone ids d account before after)
+module _ {kind : WireKind} (ids : Ids) (d : Collection) (account : AccountState) (before after : SyncEnds kind) (outcome : Outcome) (it : IsLeftAlone ids d account before after)
     (over : IsSyncOver ids before after outcome) where
   pub copies_end : IsCopyOf (committed_before ids account it.old) d → EndsWith outcomes.NoChanges it.growth outcome ⊎ (outcome ≡ outcomes.Lost)
   copies_end copy =
@@ -34,16 +35,16 @@ module _ (ids : Ids) (d : Collection) (account : AccountState) (before after : S
       syncs_end ids d account before after outcome it over (stops.FullSchema d.head.schema (committed_before ids account it.old).head.schema)
       (λ said says. schemas_stop (committed_before ids account it.old) d it.at said differ says)
 
-pub after_upload : (who : Asker) (asked : List Ask) (sent : Collection) (account : AccountState) (was now : Log) (left : Keeping)
-    → (up : Uploaded who asked sent account was now left outcomes.Finished) → (ids : Ids) (before after : SyncEnds) (outcome : Outcome)
+pub after_upload : {kind : WireKind} (who : Asker) (asked : List Ask) (sent : Collection) (account : AccountState) (was now : Log) (left : Keeping)
+    → (up : Uploaded who asked sent account was now left outcomes.Finished) → (ids : Ids) (before after : SyncEnds kind) (outcome : Outcome)
     → (it : IsLeftAlone ids (up.finished refl).device account before after) → committed_before ids account it.old ≡ (up.finished refl).committed.after
     → IsSyncOver ids before after outcome → EndsWith outcomes.NoChanges it.growth outcome ⊎ (outcome ≡ outcomes.Lost)
 after_upload who asked sent account was now left up ids before after outcome it same over =
     let done = up.finished refl in
     copies_end ids done.device account before after outcome it over (subst (λ (s : Collection). IsCopyOf s done.device) (sym same) done.copy)
 
-pub after_download : (who : Asker) (asked : List Ask) (account : AccountState) (was now : Log) (left : Keeping)
-    → (down : Downloaded who asked account was now left outcomes.Finished) → (ids : Ids) (before after : SyncEnds) (outcome : Outcome)
+pub after_download : {kind : WireKind} (who : Asker) (asked : List Ask) (account : AccountState) (was now : Log) (left : Keeping)
+    → (down : Downloaded who asked account was now left outcomes.Finished) → (ids : Ids) (before after : SyncEnds kind) (outcome : Outcome)
     → (it : IsLeftAlone ids (down.finished refl).device account before after) → committed_before ids account it.old ≡ (down.finished refl).base
     → IsSyncOver ids before after outcome → EndsWith outcomes.NoChanges it.growth outcome ⊎ (outcome ≡ outcomes.Lost)
 after_download who asked account was now left down ids before after outcome it same over =
@@ -51,7 +52,7 @@ after_download who asked account was now left down ids before after outcome it s
     copies_end ids done.device account before after outcome it over (subst (λ (s : Collection). IsCopyOf s done.device) (sym same) done.copy)
 
 -- the schema moment of an upload is past the one that was committed before
-pub elsewhere : (ids : Ids) (c sent base : Collection) (account : AccountState) (before after : SyncEnds) (outcome : Outcome)
+pub elsewhere : {kind : WireKind} (ids : Ids) (c sent base : Collection) (account : AccountState) (before after : SyncEnds kind) (outcome : Outcome)
     → (it : IsLeftAlone ids c account before after) → HoldsUpload sent base (committed_before ids account it.old) → c.head.schema ≤ℤ base.head.schema
     → IsSyncOver ids before after outcome
     → EndsWith (outcomes.FullSchema c.head.schema (committed_before ids account it.old).head.schema) it.growth outcome ⊎ (outcome ≡ outcomes.Lost)

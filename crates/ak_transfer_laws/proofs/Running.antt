@@ -34,6 +34,7 @@ use Rattle.ak_transfer_runs.specs.TransferRuns.{Downloads, EndsDownload, EndsTra
 use Rattle.ak_transfers.specs.Forms.{MayBeHeld}
 use Rattle.ak_transfers.specs.Transfers.{AsksUpload, DownloadEnds, IsTransfer, StopsUpload, UploadEnds, download_errand, upload_errand}
 use Rattle.ak_transfers.specs.declared.asks.UploadMoments.{UploadMoments}
+use Rattle.ak_wires.specs.Wires.{WireKind}
 
 -- well, or because a request was lost, or the device's keeper failed
 abbrev Ends : List Event → Outcome → Type 0
@@ -46,7 +47,7 @@ ends_short : (growth : List Event) (outcome : Outcome) → outcome ≡ outcomes.
 ends_short growth outcome is = inl (subst (EndsWell growth) (sym is) tt)
 
 -- ---- an upload
-module _ (spares : Bool) (ids : Ids) (c : Collection) (account : AccountState) (before after : SyncEnds) (outcome : Outcome) (it : IsLeftAlone ids c account before after)
+module _ {kind : WireKind} (spares : Bool) (ids : Ids) (c : Collection) (account : AccountState) (before after : SyncEnds kind) (outcome : Outcome) (it : IsLeftAlone ids c account before after)
     (asked : List Ask) (transfer : IsTransfer (upload_errand spares before.keeping after.keeping) ids asked
     (record { line = record { health = before.health; wire = before.wire }; moments = before.moments })
     (record { line = record { health = after.health; wire = after.wire }; moments = after.moments }) outcome)
@@ -81,7 +82,7 @@ module _ (spares : Bool) (ids : Ids) (c : Collection) (account : AccountState) (
       (formed.0, formed.1, ended ask formed.0))
 
 -- ---- a download
-module _ (ids : Ids) (c : Collection) (account : AccountState) (before after : SyncEnds) (outcome : Outcome) (it : IsLeftAlone ids c account before after)
+module _ {kind : WireKind} (ids : Ids) (c : Collection) (account : AccountState) (before after : SyncEnds kind) (outcome : Outcome) (it : IsLeftAlone ids c account before after)
     (asked : List Ask) (transfer : IsTransfer (download_errand before.keeping after.keeping) ids asked
     (record { line = record { health = before.health; wire = before.wire }; moments = before.moments })
     (record { line = record { health = after.health; wire = after.wire }; moments = after.moments }) outcome) where
@@ -101,10 +102,10 @@ module _ (ids : Ids) (c : Collection) (account : AccountState) (before after : S
       (formed.0, formed.1, λ ends_so. came ask formed.0 ends_so formed.2))
 
 -- ---- the commands
-module _ (host : HostKey) (c : Collection) (account : AccountState) (status : ℕ) (before after : SyncOutside) (old new : Option (List ℕ))
+module _ {kind : WireKind} (host : HostKey) (c : Collection) (account : AccountState) (status : ℕ) (before after : SyncOutside kind) (old new : Option (List ℕ))
     (it : RunsAlone host c account status before after) where
   -- by what such a transfer ends with
-  run_ends : (Does : Transfer) → ((outcome : Outcome) → Does (ids_of host it.word) before after outcome → Ends it.session.growth outcome)
+  run_ends : (Does : Transfer kind) → ((outcome : Outcome) → Does (ids_of host it.word) before after outcome → Ends it.session.growth outcome)
       → EndsTransferOn before.keeping.headed.current Does host status before after old new → RunEndsWell it.session.growth status old new ⊎ (status ≡ 7)
   run_ends Does ends_so ends =
       by (subst (λ (b : Bool). EndsTransferOn b Does host status before after old new) (ap (λ (k : Keeping). k.headed.current) it.session.holds) ends)

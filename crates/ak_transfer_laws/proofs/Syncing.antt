@@ -37,6 +37,7 @@ use Rattle.ak_wires.specs.Forms.{meta_in}
 use Rattle.ak_wires.specs.declared.asks.Unanswered.TheVariants as unanswered
 use Rattle.ak_wires.specs.declared.wires.MetaSaid.{MetaSaid}
 use Rattle.ak_wires.specs.declared.wires.WireEnd.TheVariants as ends
+use Rattle.ak_wires.specs.Wires.{WireKind}
 
 -- ---- answers
 failed_read : ◌≡◌ {A = Answer} (Err ends.Failed) (Err ends.BadReply) → ⊥
@@ -49,7 +50,7 @@ memory_read is = grind (arith, is)
 ungiven : (reply : Reply) → reply.status ≢ 200 → told_by (Ok reply) ≡ None
 ungiven reply other = ap (λ (b : Bool). if b then meta_in reply.give else None) (not_granted reply other)
 
-module _ (ids : Ids) (c : Collection) (account : AccountState) (before after : SyncEnds) (outcome : Outcome) (it : IsLeftAlone ids c account before after)
+module _ {kind : WireKind} (ids : Ids) (c : Collection) (account : AccountState) (before after : SyncEnds kind) (outcome : Outcome) (it : IsLeftAlone ids c account before after)
     (over : IsSyncOver ids before after outcome) (stop : Stop)
     (stops_so : (said : MetaSaid) → Says (committed_before ids account it.old) it.at said → device_stop said (held_by c) ≡ Some stop) where
   abbrev own : IsSync ids before.keeping after.keeping before.health after.health before.wire after.wire outcome

@@ -18,11 +18,12 @@ use Rattle.ak_sync_completes.specs.Completing.{HasNoKeeperFault, IsMetaNear, Ran
 use Rattle.ak_sync_completes.specs.Runs.{ends_of}
 use Rattle.ak_sync_runs.specs.SyncRuns.{HasStatusCause, SyncOutside, ids_of}
 use Rattle.ak_transfers.specs.Transfers.{MayTransfer}
+use Rattle.ak_wires.specs.Wires.{WireKind}
 
 -- ---- when nothing stops it
 -- a session of a device, whose keeper holds c, over a wire that nothing else uses and that tells its log, which is this one after it. Its host key is a
 -- lawful account's and its key unused, the clocks agree, no keeper fails, and each answer can be read
-pub record IsLeftAlone (ids : Ids) (c : Collection) (account : AccountState) (before after : SyncEnds) : Type 0 where
+pub record IsLeftAlone {kind : WireKind} (ids : Ids) (c : Collection) (account : AccountState) (before after : SyncEnds kind) : Type 0 where
   pub old : Log
   pub now : Log
   pub alone : before.wire.alone ≡ true
@@ -57,7 +58,7 @@ pub record HaveMomentsLeft (c s : Collection) : Type 0 where
   pub their_schema : s.head.schema <ℤ last_moment
 
 -- a command ran such a session and ended with this status. Chance told its key, the output did not fail, and each status of a failed end has its cause
-pub record RunsAlone (host : HostKey) (c : Collection) (account : AccountState) (status : ℕ) (before after : SyncOutside) : Type 0 where
+pub record RunsAlone {kind : WireKind} (host : HostKey) (c : Collection) (account : AccountState) (status : ℕ) (before after : SyncOutside kind) : Type 0 where
   -- how many calls of the keeper and of the output failed before it and after it
   pub keeper_before : Health
   pub keeper_now : Health

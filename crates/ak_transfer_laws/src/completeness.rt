@@ -11,18 +11,20 @@ ghost use Rattle.ak_sync_runs.specs.SyncRuns.{SyncOutside, ids_of};
 ghost use Rattle.ak_transfer_laws.specs.Completing.{HaveMomentsLeft, RunsAlone, committed_before};
 ghost use Rattle.ak_transfer_runs.specs.TransferRuns.{EndsDownload, EndsUpload};
 
+use ak_wires::Wire;
+
 /// If nothing stops it, the device's collection is sound and no moment of either side is the last one, the command `upload` prints
 /// `finished` and ends with 0; or memory ran out: it ends with 8, or with 13 where the server's did. If calls of its wire fail, it may
 /// end with 7 besides. Whatever the schema moments are, and whether the device is linked, makes no difference.
-pub fn uploads_complete()
+pub fn uploads_complete<W: Wire>()
     ensures faultless { (spares : Bool) (host : HostKey) (c : Collection) (account : AccountState) (status : ℕ)
-        → (before after : SyncOutside) (old new : Option (List ℕ))
+        → (before after : SyncOutside W.kind) (old new : Option (List ℕ))
         → (it : RunsAlone host c account status before after) → IsSound (row_under c)
         → HaveMomentsLeft c (committed_before (ids_of host it.word) account it.session.old)
         → EndsUpload spares host status before after old new → (Rose before.health after.health → ⊥)
         → RunEndsWell it.session.growth status old new }
     ensures lossy { (spares : Bool) (host : HostKey) (c : Collection) (account : AccountState) (status : ℕ)
-        → (before after : SyncOutside) (old new : Option (List ℕ))
+        → (before after : SyncOutside W.kind) (old new : Option (List ℕ))
         → (it : RunsAlone host c account status before after) → IsSound (row_under c)
         → HaveMomentsLeft c (committed_before (ids_of host it.word) account it.session.old)
         → EndsUpload spares host status before after old new
@@ -30,13 +32,13 @@ pub fn uploads_complete()
 {}
 
 /// The same of the command `download`, whatever the device's collection and the moments are.
-pub fn downloads_complete()
+pub fn downloads_complete<W: Wire>()
     ensures faultless { (host : HostKey) (c : Collection) (account : AccountState) (status : ℕ)
-        → (before after : SyncOutside) (old new : Option (List ℕ))
+        → (before after : SyncOutside W.kind) (old new : Option (List ℕ))
         → (it : RunsAlone host c account status before after) → EndsDownload host status before after old new
         → (Rose before.health after.health → ⊥) → RunEndsWell it.session.growth status old new }
     ensures lossy { (host : HostKey) (c : Collection) (account : AccountState) (status : ℕ)
-        → (before after : SyncOutside) (old new : Option (List ℕ))
+        → (before after : SyncOutside W.kind) (old new : Option (List ℕ))
         → (it : RunsAlone host c account status before after) → EndsDownload host status before after old new
         → RunEndsWell it.session.growth status old new ⊎ (status ≡ 7) }
 {}

@@ -17,27 +17,29 @@ ghost use Rattle.ak_sync_completes.specs.Completing.{IsSyncOver, SyncEnds};
 ghost use Rattle.ak_transfer_laws.specs.Completing.{EndsWith, IsLeftAlone, committed_before};
 ghost use Rattle.ak_transfers.specs.Transfers.{Downloaded, HoldsUpload, MayTransfer, Uploaded};
 
+use ak_wires::Wire;
+
 /// A device that holds a copy of what is committed, as after an upload and a download, has nothing to sync: a sync that nothing stops says
 /// that there are no changes, or memory ran out. If calls of its wire fail, its meta may be lost besides.
-pub fn copies_have_nothing_to_sync()
-    ensures faultless { (ids : Ids) (c : Collection) (account : AccountState) (before after : SyncEnds) (outcome : Outcome)
+pub fn copies_have_nothing_to_sync<W: Wire>()
+    ensures faultless { (ids : Ids) (c : Collection) (account : AccountState) (before after : SyncEnds W.kind) (outcome : Outcome)
         → (it : IsLeftAlone ids c account before after) → IsCopyOf (committed_before ids account it.old) c
         → IsSyncOver ids before after outcome → (Rose before.health after.health → ⊥)
         → EndsWith outcomes.NoChanges it.growth outcome }
-    ensures lossy { (ids : Ids) (c : Collection) (account : AccountState) (before after : SyncEnds) (outcome : Outcome)
+    ensures lossy { (ids : Ids) (c : Collection) (account : AccountState) (before after : SyncEnds W.kind) (outcome : Outcome)
         → (it : IsLeftAlone ids c account before after) → IsCopyOf (committed_before ids account it.old) c
         → IsSyncOver ids before after outcome → EndsWith outcomes.NoChanges it.growth outcome ⊎ (outcome ≡ outcomes.Lost) }
 {}
 
 /// A device whose schema moment is not the server's, as after an upload elsewhere, needs the whole collection: a sync that nothing stops
 /// says so, with both moments, or memory ran out. If calls of its wire fail, its meta may be lost besides.
-pub fn other_schemas_need_a_whole()
-    ensures faultless { (ids : Ids) (c : Collection) (account : AccountState) (before after : SyncEnds) (outcome : Outcome)
+pub fn other_schemas_need_a_whole<W: Wire>()
+    ensures faultless { (ids : Ids) (c : Collection) (account : AccountState) (before after : SyncEnds W.kind) (outcome : Outcome)
         → (it : IsLeftAlone ids c account before after)
         → c.head.schema ≢ (committed_before ids account it.old).head.schema → IsSyncOver ids before after outcome
         → (Rose before.health after.health → ⊥)
         → EndsWith (outcomes.FullSchema c.head.schema (committed_before ids account it.old).head.schema) it.growth outcome }
-    ensures lossy { (ids : Ids) (c : Collection) (account : AccountState) (before after : SyncEnds) (outcome : Outcome)
+    ensures lossy { (ids : Ids) (c : Collection) (account : AccountState) (before after : SyncEnds W.kind) (outcome : Outcome)
         → (it : IsLeftAlone ids c account before after)
         → c.head.schema ≢ (committed_before ids account it.old).head.schema → IsSyncOver ids before after outcome
         → EndsWith (outcomes.FullSchema c.head.schema (committed_before ids account it.old).head.schema) it.growth outcome
@@ -46,20 +48,20 @@ pub fn other_schemas_need_a_whole()
 
 /// So a device that uploaded or downloaded has nothing to sync, as long as nothing else is committed. A device elsewhere needs the whole
 /// collection after an upload, if its schema moment was at most the one that was committed before.
-pub fn syncs_after_transfers_say_why()
+pub fn syncs_after_transfers_say_why<W: Wire>()
     ensures upload { (who : Asker) (asked : List Ask) (sent : Collection) (account : AccountState) (was now : Log) (left : Keeping)
         → (up : Uploaded who asked sent account was now left outcomes.Finished)
-        → (ids : Ids) (before after : SyncEnds) (outcome : Outcome)
+        → (ids : Ids) (before after : SyncEnds W.kind) (outcome : Outcome)
         → (it : IsLeftAlone ids (up.finished refl).device account before after)
         → committed_before ids account it.old ≡ (up.finished refl).committed.after → IsSyncOver ids before after outcome
         → EndsWith outcomes.NoChanges it.growth outcome ⊎ (outcome ≡ outcomes.Lost) }
     ensures download { (who : Asker) (asked : List Ask) (account : AccountState) (was now : Log) (left : Keeping)
         → (down : Downloaded who asked account was now left outcomes.Finished)
-        → (ids : Ids) (before after : SyncEnds) (outcome : Outcome)
+        → (ids : Ids) (before after : SyncEnds W.kind) (outcome : Outcome)
         → (it : IsLeftAlone ids (down.finished refl).device account before after)
         → committed_before ids account it.old ≡ (down.finished refl).base → IsSyncOver ids before after outcome
         → EndsWith outcomes.NoChanges it.growth outcome ⊎ (outcome ≡ outcomes.Lost) }
-    ensures elsewhere { (ids : Ids) (c sent base : Collection) (account : AccountState) (before after : SyncEnds) (outcome : Outcome)
+    ensures elsewhere { (ids : Ids) (c sent base : Collection) (account : AccountState) (before after : SyncEnds W.kind) (outcome : Outcome)
         → (it : IsLeftAlone ids c account before after) → HoldsUpload sent base (committed_before ids account it.old)
         → c.head.schema ≤ℤ base.head.schema → IsSyncOver ids before after outcome
         → EndsWith (outcomes.FullSchema c.head.schema (committed_before ids account it.old).head.schema) it.growth outcome

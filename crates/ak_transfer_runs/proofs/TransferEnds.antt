@@ -9,9 +9,10 @@ use Rattle.ak_outcomes.specs.OutcomeTexts.{has_fixed_text, outcome_status}
 use Rattle.ak_sync_runs.specs.SyncRuns.{EndsPrinting, SyncOutside, TellsOutcome}
 use Rattle.ak_transfer_runs.specs.TransferRuns.{CommitsNothing, CommitsUploadOnce, Downloads, EndsDownload, EndsTransferOn, EndsUpload, HasDownloaded, HasUploaded, IsTransferRun, OfNext, Transfer, Uploads, is_download_status, is_upload_status}
 use Rattle.ak_transfers.specs.Transfers.{StaysUnlessFinished, may_end_download, may_end_upload}
+use Rattle.ak_wires.specs.Wires.{WireKind}
 
 -- over a keeper that holds a collection, a run of a transfer is how it ends
-pub ran : (Does : Transfer) (host : HostKey) (status : ℕ) (before after : SyncOutside) (old new : Option (List ℕ))
+pub ran : {kind : WireKind} (Does : Transfer kind) (host : HostKey) (status : ℕ) (before after : SyncOutside kind) (old new : Option (List ℕ))
     → true ≡ before.keeping.headed.current → IsTransferRun Does host status before after old new
     → EndsTransferOn before.keeping.headed.current Does host status before after old new
 ran Does host status before after old new held run =
@@ -96,7 +97,7 @@ finished_by outcome old new may (inr (made, (status, nothing))) = absurd (search
 
 -- ---- ends, by whether a collection was held
 -- with status 0 a transfer ran
-done_on : (held : Bool) (Does : Transfer) (host : HostKey) (before after : SyncOutside) (old new : Option (List ℕ))
+done_on : {kind : WireKind} (held : Bool) (Does : Transfer kind) (host : HostKey) (before after : SyncOutside kind) (old new : Option (List ℕ))
     → EndsTransferOn held Does host 0 before after old new → IsTransferRun Does host 0 before after old new
 done_on true Does host before after old new (inl run) = run
 done_on true Does host before after old new (inr (same, (status, nothing))) = absurd (search (status, rules))
@@ -104,28 +105,28 @@ done_on false Does host before after old new (same, inl (status, written)) = abs
 done_on false Does host before after old new (same, inr (status, part)) = absurd (search (status, rules))
 
 -- with any status a transfer ran, or nothing was asked
-any_on : (held : Bool) (Does : Transfer) (host : HostKey) (status : ℕ) (before after : SyncOutside) (old new : Option (List ℕ))
+any_on : {kind : WireKind} (held : Bool) (Does : Transfer kind) (host : HostKey) (status : ℕ) (before after : SyncOutside kind) (old new : Option (List ℕ))
     → EndsTransferOn held Does host status before after old new → (after ≡ before) ⊎ IsTransferRun Does host status before after old new
 any_on true Does host status before after old new (inl run) = inr run
 any_on true Does host status before after old new (inr (same, ends)) = inl same
 any_on false Does host status before after old new (same, ends) = inl same
 
 -- with a status other than 0 and 5 the device is as it was
-kept_by_run : (Does : Transfer) (host : HostKey) (status : ℕ) (before after : SyncOutside) (old new : Option (List ℕ))
+kept_by_run : {kind : WireKind} (Does : Transfer kind) (host : HostKey) (status : ℕ) (before after : SyncOutside kind) (old new : Option (List ℕ))
     → status ≢ 0 → status ≢ 5 → (after ≡ before) ⊎ IsTransferRun Does host status before after old new → after.keeping ≡ before.keeping
-kept_by_run Does host status before after old new done no_write (inl same) = ap (λ (s : SyncOutside). s.keeping) same
+kept_by_run {kind} Does host status before after old new done no_write (inl same) = ap (λ (s : SyncOutside kind). s.keeping) same
 kept_by_run Does host status before after old new done no_write (inr run) =
     kept_if run.outcome before.keeping after.keeping (unfinished_by run.outcome status old new run.told done no_write)
     (finished_or_kept run.outcome before.keeping after.keeping run.device)
 
-pub kept : (Does : Transfer) (host : HostKey) (status : ℕ) (before after : SyncOutside) (old new : Option (List ℕ))
+pub kept : {kind : WireKind} (Does : Transfer kind) (host : HostKey) (status : ℕ) (before after : SyncOutside kind) (old new : Option (List ℕ))
     → EndsTransferOn before.keeping.headed.current Does host status before after old new → status ≢ 0 → status ≢ 5
     → after.keeping ≡ before.keeping
 kept Does host status before after old new ends done no_write =
     kept_by_run Does host status before after old new done no_write (any_on before.keeping.headed.current Does host status before after old new ends)
 
 -- ---- what a finished transfer leaves
-uploaded : (spares : Bool) (host : HostKey) (status : ℕ) (before after : SyncOutside) (old new : Option (List ℕ))
+uploaded : {kind : WireKind} (spares : Bool) (host : HostKey) (status : ℕ) (before after : SyncOutside kind) (old new : Option (List ℕ))
     → (run : IsTransferRun (Uploads spares) host status before after old new) → run.outcome ≡ outcomes.Finished
     → OfNext HasUploaded host before after
 uploaded spares host status before after old new run finished = (
@@ -136,7 +137,7 @@ uploaded spares host status before after old new run finished = (
       (now, grown, ((upload c account holds may).base, (upload c account holds may).finished finished)),
 )
 
-downloaded : (host : HostKey) (status : ℕ) (before after : SyncOutside) (old new : Option (List ℕ))
+downloaded : {kind : WireKind} (host : HostKey) (status : ℕ) (before after : SyncOutside kind) (old new : Option (List ℕ))
     → (run : IsTransferRun Downloads host status before after old new) → run.outcome ≡ outcomes.Finished
     → OfNext HasDownloaded host before after
 downloaded host status before after old new run finished = (
@@ -147,65 +148,65 @@ downloaded host status before after old new run finished = (
 )
 
 -- with status 0
-upload_of_run : (spares : Bool) (host : HostKey) (before after : SyncOutside) (old new : Option (List ℕ))
+upload_of_run : {kind : WireKind} (spares : Bool) (host : HostKey) (before after : SyncOutside kind) (old new : Option (List ℕ))
     → IsTransferRun (Uploads spares) host 0 before after old new → OfNext HasUploaded host before after
 upload_of_run spares host before after old new run =
     uploaded spares host 0 before after old new run (finished_by run.outcome old new run.does.1 run.told)
 
-download_of_run : (host : HostKey) (before after : SyncOutside) (old new : Option (List ℕ))
+download_of_run : {kind : WireKind} (host : HostKey) (before after : SyncOutside kind) (old new : Option (List ℕ))
     → IsTransferRun Downloads host 0 before after old new → OfNext HasDownloaded host before after
 download_of_run host before after old new run =
     downloaded host 0 before after old new run (finished_by run.outcome old new (as_upload run.outcome run.does.1) run.told)
 
-pub printed_upload : (spares : Bool) (host : HostKey) (before after : SyncOutside) (old new : Option (List ℕ))
+pub printed_upload : {kind : WireKind} (spares : Bool) (host : HostKey) (before after : SyncOutside kind) (old new : Option (List ℕ))
     → EndsUpload spares host 0 before after old new → OfNext HasUploaded host before after
 printed_upload spares host before after old new ends =
     upload_of_run spares host before after old new (done_on before.keeping.headed.current (Uploads spares) host before after old new ends)
 
-pub printed_download : (host : HostKey) (before after : SyncOutside) (old new : Option (List ℕ))
+pub printed_download : {kind : WireKind} (host : HostKey) (before after : SyncOutside kind) (old new : Option (List ℕ))
     → EndsDownload host 0 before after old new → OfNext HasDownloaded host before after
 printed_download host before after old new ends =
     download_of_run host before after old new (done_on before.keeping.headed.current Downloads host before after old new ends)
 
 -- with status 5 it is one of the two
-upload_either : (spares : Bool) (host : HostKey) (before after : SyncOutside) (old new : Option (List ℕ))
+upload_either : {kind : WireKind} (spares : Bool) (host : HostKey) (before after : SyncOutside kind) (old new : Option (List ℕ))
     → (run : IsTransferRun (Uploads spares) host 5 before after old new) → (run.outcome ≡ outcomes.Finished) ⊎ (after.keeping ≡ before.keeping)
     → (after.keeping ≡ before.keeping) ⊎ OfNext HasUploaded host before after
 upload_either spares host before after old new run (inl finished) = inr (uploaded spares host 5 before after old new run finished)
 upload_either spares host before after old new run (inr same) = inl same
 
-upload_by_run : (spares : Bool) (host : HostKey) (before after : SyncOutside) (old new : Option (List ℕ))
+upload_by_run : {kind : WireKind} (spares : Bool) (host : HostKey) (before after : SyncOutside kind) (old new : Option (List ℕ))
     → (after ≡ before) ⊎ IsTransferRun (Uploads spares) host 5 before after old new
     → (after.keeping ≡ before.keeping) ⊎ OfNext HasUploaded host before after
-upload_by_run spares host before after old new (inl same) = inl (ap (λ (s : SyncOutside). s.keeping) same)
+upload_by_run {kind} spares host before after old new (inl same) = inl (ap (λ (s : SyncOutside kind). s.keeping) same)
 upload_by_run spares host before after old new (inr run) =
     upload_either spares host before after old new run (finished_or_kept run.outcome before.keeping after.keeping run.device)
 
-pub unprinted_upload : (spares : Bool) (host : HostKey) (before after : SyncOutside) (old new : Option (List ℕ))
+pub unprinted_upload : {kind : WireKind} (spares : Bool) (host : HostKey) (before after : SyncOutside kind) (old new : Option (List ℕ))
     → EndsUpload spares host 5 before after old new → (after.keeping ≡ before.keeping) ⊎ OfNext HasUploaded host before after
 unprinted_upload spares host before after old new ends =
     upload_by_run spares host before after old new (any_on before.keeping.headed.current (Uploads spares) host 5 before after old new ends)
 
-download_either : (host : HostKey) (before after : SyncOutside) (old new : Option (List ℕ))
+download_either : {kind : WireKind} (host : HostKey) (before after : SyncOutside kind) (old new : Option (List ℕ))
     → (run : IsTransferRun Downloads host 5 before after old new) → (run.outcome ≡ outcomes.Finished) ⊎ (after.keeping ≡ before.keeping)
     → (after.keeping ≡ before.keeping) ⊎ OfNext HasDownloaded host before after
 download_either host before after old new run (inl finished) = inr (downloaded host 5 before after old new run finished)
 download_either host before after old new run (inr same) = inl same
 
-download_by_run : (host : HostKey) (before after : SyncOutside) (old new : Option (List ℕ))
+download_by_run : {kind : WireKind} (host : HostKey) (before after : SyncOutside kind) (old new : Option (List ℕ))
     → (after ≡ before) ⊎ IsTransferRun Downloads host 5 before after old new
     → (after.keeping ≡ before.keeping) ⊎ OfNext HasDownloaded host before after
-download_by_run host before after old new (inl same) = inl (ap (λ (s : SyncOutside). s.keeping) same)
+download_by_run {kind} host before after old new (inl same) = inl (ap (λ (s : SyncOutside kind). s.keeping) same)
 download_by_run host before after old new (inr run) =
     download_either host before after old new run (finished_or_kept run.outcome before.keeping after.keeping run.device)
 
-pub unprinted_download : (host : HostKey) (before after : SyncOutside) (old new : Option (List ℕ))
+pub unprinted_download : {kind : WireKind} (host : HostKey) (before after : SyncOutside kind) (old new : Option (List ℕ))
     → EndsDownload host 5 before after old new → (after.keeping ≡ before.keeping) ⊎ OfNext HasDownloaded host before after
 unprinted_download host before after old new ends =
     download_by_run host before after old new (any_on before.keeping.headed.current Downloads host 5 before after old new ends)
 
 -- ---- what is committed
-once_by_run : (spares : Bool) (host : HostKey) (status : ℕ) (before after : SyncOutside) (old new : Option (List ℕ))
+once_by_run : {kind : WireKind} (spares : Bool) (host : HostKey) (status : ℕ) (before after : SyncOutside kind) (old new : Option (List ℕ))
     → (after ≡ before) ⊎ IsTransferRun (Uploads spares) host status before after old new
     → (after ≡ before) ⊎ OfNext CommitsUploadOnce host before after
 once_by_run spares host status before after old new (inl same) = inl same
@@ -217,12 +218,12 @@ once_by_run spares host status before after old new (inr run) = inr (
       (now, grown, ((upload c account holds may).base, run.does.0.asked, (upload c account holds may).once)),
 )
 
-pub once : (spares : Bool) (host : HostKey) (status : ℕ) (before after : SyncOutside) (old new : Option (List ℕ))
+pub once : {kind : WireKind} (spares : Bool) (host : HostKey) (status : ℕ) (before after : SyncOutside kind) (old new : Option (List ℕ))
     → EndsUpload spares host status before after old new → (after ≡ before) ⊎ OfNext CommitsUploadOnce host before after
 once spares host status before after old new ends =
     once_by_run spares host status before after old new (any_on before.keeping.headed.current (Uploads spares) host status before after old new ends)
 
-never_by_run : (host : HostKey) (status : ℕ) (before after : SyncOutside) (old new : Option (List ℕ))
+never_by_run : {kind : WireKind} (host : HostKey) (status : ℕ) (before after : SyncOutside kind) (old new : Option (List ℕ))
     → (after ≡ before) ⊎ IsTransferRun Downloads host status before after old new
     → (after ≡ before) ⊎ OfNext CommitsNothing host before after
 never_by_run host status before after old new (inl same) = inl same
@@ -234,7 +235,7 @@ never_by_run host status before after old new (inr run) = inr (
       (now, grown, ((download c account holds may).base, run.does.0.asked, (download c account holds may).never)),
 )
 
-pub never : (host : HostKey) (status : ℕ) (before after : SyncOutside) (old new : Option (List ℕ))
+pub never : {kind : WireKind} (host : HostKey) (status : ℕ) (before after : SyncOutside kind) (old new : Option (List ℕ))
     → EndsDownload host status before after old new → (after ≡ before) ⊎ OfNext CommitsNothing host before after
 never host status before after old new ends =
     never_by_run host status before after old new (any_on before.keeping.headed.current Downloads host status before after old new ends)

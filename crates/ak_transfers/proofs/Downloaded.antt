@@ -50,6 +50,7 @@ use Rattle.ak_wires.specs.declared.asks.Unanswered.TheVariants as unanswered
 use Rattle.ak_wires.specs.declared.wires.MetaSaid.{MetaSaid}
 use Rattle.ak_wires.specs.declared.wires.WireEnd.{WireEnd}
 use Rattle.ak_wires.specs.declared.wires.WireEnd.TheVariants as ends
+use Rattle.ak_wires.specs.Wires.{WireKind}
 
 -- ---- the rows of a collection, put in place again
 abbrev listed : Rows → List Row
@@ -238,7 +239,7 @@ module _ (ids : Ids) (c : Collection) (account : AccountState) (old mid now : Lo
   }
 
 -- ---- a download
-module _ (ids : Ids) (before left : Keeping) (was now : TransferOutside) (outcome : Outcome) (asked : List Ask)
+module _ {kind : WireKind} (ids : Ids) (before left : Keeping) (was now : TransferOutside kind) (outcome : Outcome) (asked : List Ask)
     (it : IsTransfer (download_errand before left) ids asked was now outcome) where
   abbrev device_of : Asker
   device_of = asker ids
@@ -258,7 +259,7 @@ module _ (ids : Ids) (before left : Keeping) (was now : TransferOutside) (outcom
     nothing : AsksNothing asked it.met now.line → (outcome ≡ outcomes.Finished → ⊥) → LeavesIt old
     nothing none never = (
       met.0,
-      ap (λ (line : Line). line.wire.log) none.same ∙ met.1,
+      ap (λ (line : Line kind). line.wire.log) none.same ∙ met.1,
       λ c account holds may.
           unasked device_of c account old met.0 left outcome asked none.none met.2.growth
           (grew_once device_of account old met.0 (meta_of ids) it.meta.answer met.2) (met_here account may).unused never,

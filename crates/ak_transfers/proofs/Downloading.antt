@@ -24,8 +24,9 @@ use Rattle.ak_transfers.specs.Transfers.{DownloadEnds, IsTransfer, TransferEnds,
 use Rattle.ak_wires.specs.Tries.{Answered}
 use Rattle.ak_wires.specs.declared.asks.Unanswered.{Unanswered}
 use Rattle.ak_wires.specs.declared.wires.MetaSaid.{MetaSaid}
+use Rattle.ak_wires.specs.Wires.{WireKind}
 
-module _ (ids : Ids) (before left : Keeping) (was mid : TransferOutside) (line : Line) (said : MetaSaid) (greets : GreetsFirst ids was mid (Ok said))
+module _ {kind : WireKind} (ids : Ids) (before left : Keeping) (was mid : TransferOutside kind) (line : Line kind) (said : MetaSaid) (greets : GreetsFirst ids was mid (Ok said))
     (answer : Result Whole Unanswered)
     (heard : Answered mid.line.health line.health mid.line.wire line.wire (request_at (asker ids) said.moment 1 asks.Download) whole_in answer) where
   abbrev Ends : Outcome → Type 0

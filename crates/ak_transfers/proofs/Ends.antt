@@ -26,7 +26,7 @@ use Rattle.ak_transfers.specs.Transfers.{AsksNothing, AsksOnce, Continues, Downl
 use Rattle.ak_transfers.specs.declared.asks.UploadMoments.{UploadMoments}
 use Rattle.ak_wires.specs.Forms.{meta_in}
 use Rattle.ak_wires.specs.Tries.{Tried, granted_in, in_form, silence_tried}
-use Rattle.ak_wires.specs.Wires.{more, said_after, said_of}
+use Rattle.ak_wires.specs.Wires.{WireKind, more, said_after, said_of}
 use Rattle.ak_wires.specs.declared.asks.Unanswered.{Unanswered}
 use Rattle.ak_wires.specs.declared.asks.Unanswered.TheVariants as unanswered
 use Rattle.ak_wires.specs.declared.wires.MetaSaid.{MetaSaid}
@@ -93,9 +93,9 @@ module _ {T : Type 0} (part : Give → Option T) where
 
 -- ---- the last request
 -- how the last request was tried, once the wire was called up to then
-record Last (was now : Line) : Type 0 where
+record Last {kind : WireKind} (was now : Line kind) : Type 0 where
   request : Request
-  before : Line
+  before : Line kind
   answer : Result Reply WireEnd
   tried : Tried before.health now.health before.wire now.wire request answer
   goes : GoesOn was.health before.health
@@ -110,7 +110,7 @@ is_silent (outcomes.Refused status word seen) = false
 is_silent outcome = true
 
 -- such an outcome, or one of the last request
-abbrev Shows : Line → Line → Outcome → Type 0
+abbrev Shows : {kind : WireKind} → Line kind → Line kind → Outcome → Type 0
 Shows was now outcome = (is_silent outcome ≡ true)
     ⊎ ((last : Last was now) × (why : Unanswered) × NotGranted last.answer why × (outcome ≡ outcome_at (wire_stop why)))
 
@@ -132,12 +132,12 @@ more_later a b c later rose = grind (arith, later, rose)
 once : (a b : ℕ) → more 3 a ≤ b → one_more a ≤ b
 once a b rose = grind (arith, rose)
 
-record IsLost (was now : Line) : Type 0 where
+record IsLost {kind : WireKind} (was now : Line kind) : Type 0 where
   rose : more 3 was.health.faults ≤ now.health.faults
   never : was.health.calm ≡ true → ⊥
   silent : (now.wire.silence ≡ 3) ⊎ (now.wire.silence ≡ more 3 was.wire.silence)
 
-lost_last : (was now : Line) (last : Last was now) → last.answer ≡ Err ends.Failed → IsLost was now
+lost_last : {kind : WireKind} (was now : Line kind) (last : Last was now) → last.answer ≡ Err ends.Failed → IsLost was now
 lost_last was now last is = record {
   rose = more_later was.health.faults last.before.health.faults now.health.faults last.goes.later (last.tried.lost is);
   never = λ calm. last.tried.unfailed (last.goes.calm calm) is;
@@ -157,9 +157,9 @@ failed_if answer unanswered.BadReply is so = absurd (true_false is refl)
 failed_if answer (unanswered.Refused status word seen) is so = absurd (true_false is refl)
 failed_if answer unanswered.Memory is so = absurd (true_false is refl)
 
-lost : {was now : Line} {outcome : Outcome} → outcome ≡ outcomes.Lost → Shows was now outcome → IsLost was now
-lost {was} {now} {outcome} is (inl silent) = absurd (true_false silent (ap is_silent is))
-lost {was} {now} {outcome} is (inr (last, why, not, ended)) =
+lost : {kind : WireKind} {was now : Line kind} {outcome : Outcome} → outcome ≡ outcomes.Lost → Shows was now outcome → IsLost was now
+lost {kind} {was} {now} {outcome} is (inl silent) = absurd (true_false silent (ap is_silent is))
+lost {kind} {was} {now} {outcome} is (inr (last, why, not, ended)) =
     lost_last was now last (failed_if last.answer why (ap is_lost (sym ended ∙ is)) not)
 
 -- what the last reply said
@@ -176,10 +176,10 @@ refused_if answer unanswered.Lost status word seen is so = absurd is
 refused_if answer unanswered.BadReply status word seen is so = absurd is
 refused_if answer unanswered.Memory status word seen is so = absurd is
 
-refused : {was now : Line} {outcome : Outcome} (status : ℕ) (word : Word) (seen : ℤ) → outcome ≡ outcomes.Refused status word seen → Shows was now outcome
+refused : {kind : WireKind} {was now : Line kind} {outcome : Outcome} (status : ℕ) (word : Word) (seen : ℤ) → outcome ≡ outcomes.Refused status word seen → Shows was now outcome
     → (it : Said) × (now.wire.said ≡ Some it) × (it.status ≡ status) × (it.word ≡ word) × (it.seen ≡ seen) × (status ≢ 200)
-refused {was} {now} {outcome} status word seen is (inl silent) = absurd (true_false silent (ap is_silent is))
-refused {was} {now} {outcome} status word seen is (inr (last, why, not, ended)) =
+refused {kind} {was} {now} {outcome} status word seen is (inl silent) = absurd (true_false silent (ap is_silent is))
+refused {kind} {was} {now} {outcome} status word seen is (inr (last, why, not, ended)) =
     let refuses : Refuses (outcome_at (wire_stop why)) status word seen =
     subst (λ (o : Outcome). Refuses o status word seen) (sym is ∙ ended) (refl, refl, refl) in
     let it = refused_if last.answer why status word seen refuses not in (
@@ -198,10 +198,10 @@ unread_if answer unanswered.Lost is so = absurd (true_false is refl)
 unread_if answer (unanswered.Refused status word seen) is so = absurd (true_false is refl)
 unread_if answer unanswered.Memory is so = absurd (true_false is refl)
 
-unread : {was now : Line} {outcome : Outcome} → outcome ≡ outcomes.BadReply → Shows was now outcome
+unread : {kind : WireKind} {was now : Line kind} {outcome : Outcome} → outcome ≡ outcomes.BadReply → Shows was now outcome
     → Rose was.wire.reading now.wire.reading ⊎ ((it : Said) × (now.wire.said ≡ Some it) × (it.status ≡ 200))
-unread {was} {now} {outcome} is (inl silent) = absurd (true_false silent (ap is_silent is))
-unread {was} {now} {outcome} is (inr (last, why, not, ended)) = by (unread_if last.answer why (ap is_bad (sym ended ∙ is)) not)
+unread {kind} {was} {now} {outcome} is (inl silent) = absurd (true_false silent (ap is_silent is))
+unread {kind} {was} {now} {outcome} is (inr (last, why, not, ended)) = by (unread_if last.answer why (ap is_bad (sym ended ∙ is)) not)
   where
     by : (last.answer ≡ Err ends.BadReply) ⊎ ((reply : Reply) × (last.answer ≡ Ok reply) × (reply.status ≡ 200))
         → Rose was.wire.reading now.wire.reading ⊎ ((it : Said) × (now.wire.said ≡ Some it) × (it.status ≡ 200))
@@ -226,14 +226,14 @@ clock_silent said second stop = by (not said.cont) (are_far_apart second said.ts
     by false true is = is_so (stops.ClockOff second said.ts) refl is
     by false false is = absurd (none-some stop is)
 
-module _ {T : Type 0} (errand : Errand T) (ids : Ids) (asked : List Ask) (was now : TransferOutside) (outcome : Outcome)
+module _ {kind : WireKind} {T : Type 0} (errand : Errand T) (ids : Ids) (asked : List Ask) (was now : TransferOutside kind) (outcome : Outcome)
     (it : IsTransfer errand ids asked was now outcome) where
   -- the counts of the wire go on
   goes_from : GoesOn was.line.health it.met.health → GoesOn was.line.wire.reading it.met.wire.reading
-      → (line : Line) → now.line ≡ line → (GoesOn it.met.health line.health × GoesOn it.met.wire.reading line.wire.reading)
+      → (line : Line kind) → now.line ≡ line → (GoesOn it.met.health line.health × GoesOn it.met.wire.reading line.wire.reading)
       → GoesOn was.line.health now.line.health × GoesOn was.line.wire.reading now.line.wire.reading
   goes_from one two line is later =
-      subst (λ (l : Line). GoesOn was.line.health l.health × GoesOn was.line.wire.reading l.wire.reading) (sym is)
+      subst (λ (l : Line kind). GoesOn was.line.health l.health × GoesOn was.line.wire.reading l.wire.reading) (sym is)
       (goes_further one later.0, goes_further two later.1)
 
   still : AsksNothing asked it.met now.line → GoesOn was.line.health now.line.health × GoesOn was.line.wire.reading now.line.wire.reading
@@ -263,7 +263,7 @@ module _ {T : Type 0} (errand : Errand T) (ids : Ids) (asked : List Ask) (was no
       request = meta_of ids;
       before = was.line;
       answer = it.meta.answer;
-      tried = subst (λ (line : Line). Tried was.line.health line.health was.line.wire line.wire (meta_of ids) it.meta.answer) (sym none.same) it.meta.tried;
+      tried = subst (λ (line : Line kind). Tried was.line.health line.health was.line.wire line.wire (meta_of ids) it.meta.answer) (sym none.same) it.meta.tried;
       goes = goes_nowhere was.line.health;
       reads = goes_nowhere was.line.wire.reading;
       silent = inr refl;
@@ -330,7 +330,7 @@ module _ {T : Type 0} (errand : Errand T) (ids : Ids) (asked : List Ask) (was no
     }
 
 -- ---- how a transfer may end
-module _ {T : Type 0} (may : Outcome → Bool) (errand : Errand T) (ids : Ids) (asked : List Ask) (was now : TransferOutside) (outcome : Outcome)
+module _ {kind : WireKind} {T : Type 0} (may : Outcome → Bool) (errand : Errand T) (ids : Ids) (asked : List Ask) (was now : TransferOutside kind) (outcome : Outcome)
     (it : IsTransfer errand ids asked was now outcome) (unasked : (why : Unanswered) → may (outcome_at (wire_stop why)) ≡ true)
     (stopped : may outcomes.Stopped ≡ true) (clocks : (device server : ℤ) → may (outcomes.ClockOff device server) ≡ true)
     (stops_so : (o : Outcome) → errand.stops o → may o ≡ true) (ends_so : (ask : Ask) (given : T) (o : Outcome) → errand.ends ask given o → may o ≡ true) where
@@ -379,7 +379,7 @@ module _ (spares : Bool) (before left : Keeping) where
       ends_so ask told outcome (inr (inl is)) = inl (ap is_silent is)
       ends_so ask told outcome (inr (inr (is, spared))) = inl (ap is_silent is)
 
-  pub upload_may : (ids : Ids) (asked : List Ask) (was now : TransferOutside) (outcome : Outcome) → IsTransfer (upload_errand spares before left) ids asked was now outcome
+  pub upload_may : {kind : WireKind} (ids : Ids) (asked : List Ask) (was now : TransferOutside kind) (outcome : Outcome) → IsTransfer (upload_errand spares before left) ids asked was now outcome
       → may_end_upload outcome ≡ true
   upload_may ids asked was now outcome it =
       may_end may_end_upload (upload_errand spares before left) ids asked was now outcome it unasked refl (λ device server. refl) stops_so ends_so
@@ -411,7 +411,7 @@ module _ (before left : Keeping) where
       ends_so ask whole outcome (inr (inr (inl is))) = inl (ap is_silent is)
       ends_so ask whole outcome (inr (inr (inr is))) = inl (ap is_silent is)
 
-  pub download_may : (ids : Ids) (asked : List Ask) (was now : TransferOutside) (outcome : Outcome) → IsTransfer (download_errand before left) ids asked was now outcome
+  pub download_may : {kind : WireKind} (ids : Ids) (asked : List Ask) (was now : TransferOutside kind) (outcome : Outcome) → IsTransfer (download_errand before left) ids asked was now outcome
       → may_end_download outcome ≡ true
   download_may ids asked was now outcome it =
       may_end may_end_download (download_errand before left) ids asked was now outcome it unasked refl (λ device server. refl) (λ o is. absurd is) ends_so

@@ -18,6 +18,7 @@ use Rattle.ak_wires.specs.Tries.{Answered}
 use Rattle.ak_wires.specs.declared.asks.Unanswered.{Unanswered}
 use Rattle.ak_wires.specs.declared.asks.Unanswered.TheVariants as unanswered
 use Rattle.ak_wires.specs.declared.wires.MetaSaid.{MetaSaid}
+use Rattle.ak_wires.specs.Wires.{WireKind}
 
 same_stop : {T : Type 0} (one other : Stop) → (let stopped : Result T Stop = Err one in stopped ≡ Err other) → one ≡ other
 same_stop one other is = grind (arith, is)
@@ -37,7 +38,7 @@ passed_by None is = refl
 passed_by (Some stop) is = grind (arith, is)
 
 -- ---- the greeting
-module _ (ids : Ids) (was now : TransferOutside) where
+module _ {kind : WireKind} (ids : Ids) (was now : TransferOutside kind) where
   abbrev Heard : Result MetaSaid Unanswered → Type 0
   Heard answer = Answered was.line.health now.line.health was.line.wire now.line.wire (meta_of ids) meta_in answer
 
@@ -61,7 +62,7 @@ module _ (ids : Ids) (was now : TransferOutside) where
 
 -- ---- what follows
 -- a greeting that stops ends the transfer
-pub unmet : {T : Type 0} (errand : Errand T) (ids : Ids) (was now : TransferOutside) (stop : Stop) → GreetsFirst ids was now (Err stop)
+pub unmet : {kind : WireKind} {T : Type 0} (errand : Errand T) (ids : Ids) (was now : TransferOutside kind) (stop : Stop) → GreetsFirst ids was now (Err stop)
     → IsTransfer errand ids [] was now (outcome_at stop)
 unmet errand ids was now stop greets = record {
   answer = greets.answer;
@@ -80,10 +81,10 @@ unmet errand ids was now stop greets = record {
     by (Ok said) (at, given, is) = (at, given, goes said (clock_stop said (second_of at)) is)
 
 -- one that lets it go on leads to what it asks then
-pub met_on : {T : Type 0} (errand : Errand T) (ids : Ids) (was mid : TransferOutside) (line : Line) (said : MetaSaid) (asked : List Ask) (outcome : Outcome)
+pub met_on : {kind : WireKind} {T : Type 0} (errand : Errand T) (ids : Ids) (was mid : TransferOutside kind) (line : Line kind) (said : MetaSaid) (asked : List Ask) (outcome : Outcome)
     → GreetsFirst ids was mid (Ok said) → MayAsk errand ids said.moment asked mid.line line outcome
     → IsTransfer errand ids asked was (record { line = line; moments = mid.moments }) outcome
-met_on {T} errand ids was mid line said asked outcome greets may = record {
+met_on {kind} {T} errand ids was mid line said asked outcome greets may = record {
   answer = greets.answer;
   met = mid.line;
   meta = greets.heard;
@@ -117,7 +118,7 @@ clock_unkept said second stop = by (not said.cont) (are_far_apart second said.ts
     by false true is = is_so (stops.ClockOff second said.ts) refl is
     by false false is = absurd (err_ok stop said is)
 
-pub stop_unkept : (ids : Ids) (was now : TransferOutside) (stop : Stop) → GreetsFirst ids was now (Err stop) → is_keep stop ≡ false
+pub stop_unkept : {kind : WireKind} (ids : Ids) (was now : TransferOutside kind) (stop : Stop) → GreetsFirst ids was now (Err stop) → is_keep stop ≡ false
 stop_unkept ids was now stop greets = by greets.answer greets.comes
   where
     by : (answer : Result MetaSaid Unanswered) → GreetsBy answer was.moments now.moments (Err stop) → is_keep stop ≡ false

@@ -29,7 +29,7 @@ use Rattle.ak_session.specs.Requests.{is_meta}
 use Rattle.ak_transfers.specs.Transfers.{Grew}
 use Rattle.ak_wires.specs.Forms.{meta_in}
 use Rattle.ak_wires.specs.Tries.{Answered}
-use Rattle.ak_wires.specs.Wires.{Carries, WireState}
+use Rattle.ak_wires.specs.Wires.{WireKind, Carries, WireState}
 use Rattle.ak_wires.specs.declared.asks.Unanswered.{Unanswered}
 use Rattle.ak_wires.specs.declared.wires.MetaSaid.{MetaSaid}
 use Rattle.ak_wires.specs.declared.wires.WireEnd.{WireEnd}
@@ -119,7 +119,7 @@ pub record Met (ids : Ids) (account : AccountState) (old mid : Log) (answer : Re
   pub unused : IsUnused ids.host.digits ids.session.0 account mid
   pub over : IfOk answer (λ (said : MetaSaid). (s : Collection) × IsMetOver (asker ids) account old mid s × IsMetBy said s)
 
-pub met_by : (ids : Ids) (account : AccountState) (old mid : Log) (before after : Health) (was is : WireState) (answer : Result MetaSaid Unanswered)
+pub met_by : {kind : WireKind} (ids : Ids) (account : AccountState) (old mid : Log) (before after : Health) (was is : WireState kind) (answer : Result MetaSaid Unanswered)
     → IsUnused ids.host.digits ids.session.0 account old → was.log ≡ Some old → is.log ≡ Some mid
     → Answered before after was is (meta_of ids) meta_in answer → Met ids account old mid answer
 met_by ids account old mid before after was is answer unused told tells call =

@@ -34,6 +34,7 @@ use Rattle.ak_transfers.specs.UploadParts.{Sends, SendsOnce, prepared, uploaded_
 use Rattle.ak_transfers.specs.declared.asks.UploadMoments.{UploadMoments}
 use Rattle.ak_wires.specs.Forms.{is_moment}
 use Rattle.ak_wires.specs.declared.asks.Unanswered.{Unanswered}
+use Rattle.ak_wires.specs.Wires.{WireKind}
 
 -- ---- the moments that are told
 same_if : (b : Bool) (own told : UploadMoments) → (if b then Some own else None) ≡ Some told → (own ≡ told) × (b ≡ true)
@@ -92,15 +93,15 @@ err_ok stop told is = grind (arith, is)
 same_told : (one other : UploadMoments) → (let going : Result UploadMoments Stop = Ok one in going ≡ Ok other) → one ≡ other
 same_told one other is = grind (arith, is)
 
-module _ (spares : Bool) (ids : Ids) (moment : ℤ) (before left : Keeping) (was : Line) where
-  abbrev Asks : Line → Outcome → Type 0
+module _ {kind : WireKind} (spares : Bool) (ids : Ids) (moment : ℤ) (before left : Keeping) (was : Line kind) where
+  abbrev Asks : Line kind → Outcome → Type 0
   Asks now outcome = (asked : List Ask) × MayAsk (upload_errand spares before left) ids moment asked was now outcome
 
   -- the keeper refused before it was asked
   pub not_asked : (fault : KeepFault) → Asks was (outcome_at (keep_stop fault))
   not_asked fault = ([], inl (record { none = refl; same = refl }, by_fault before fault))
 
-  module _ (now : Line) (sound : WhereTold before (λ h. first_fault h.rows ≡ None)) (mid : Keeping) where
+  module _ (now : Line kind) (sound : WhereTold before (λ h. first_fault h.rows ≡ None)) (mid : Keeping) where
     asks_once : (result : Result UploadMoments Stop) (sends : SendsOnce ids moment (marked_here before) mid was now result) (outcome : Outcome)
         → ((why : Unanswered) → sends.answer ≡ Err why → outcome ≡ outcome_at (wire_stop why))
         → ((told : UploadMoments) → sends.answer ≡ Ok told → UploadEnds spares before left (asks.Upload sends.whole) told outcome)
@@ -130,7 +131,7 @@ module _ (spares : Bool) (ids : Ids) (moment : ℤ) (before left : Keeping) (was
     -- it was not granted
     pub stopped : (stop : Stop) → Sends ids moment (marked_here before) mid was now (Err stop) → Asks now (outcome_at stop)
     stopped stop (inl (same, (fault, is))) =
-        subst (λ (line : Line). Asks line (outcome_at stop)) (sym same)
+        subst (λ (line : Line kind). Asks line (outcome_at stop)) (sym same)
         (subst (λ (s : Stop). Asks was (outcome_at s)) (sym is) (not_asked fault))
     stopped stop (inr sends) =
         asks_once (Err stop) sends (outcome_at stop)

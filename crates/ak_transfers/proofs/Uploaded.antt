@@ -49,6 +49,7 @@ use Rattle.ak_wires.specs.Forms.{is_moment}
 use Rattle.ak_wires.specs.Tries.{Answered}
 use Rattle.ak_wires.specs.declared.asks.Unanswered.{Unanswered}
 use Rattle.ak_wires.specs.declared.wires.MetaSaid.{MetaSaid}
+use Rattle.ak_wires.specs.Wires.{WireKind}
 
 -- ---- what is committed
 each_place : (P : Request → Type 0) (before : List Request) (request : Request) (after : List Request)
@@ -126,9 +127,9 @@ unkept outcome is finished = unfinished outcome stops.Keep is finished
 unmade : (outcome : Outcome) → outcome ≡ outcomes.Memory → outcome ≡ outcomes.Finished → ⊥
 unmade outcome is finished = unfinished outcome stops.Memory is finished
 
-module _ (ids : Ids) (c : Collection) (account : AccountState) (old mid now : Log) (before left : Keeping) (outcome : Outcome)
+module _ {kind : WireKind} (ids : Ids) (c : Collection) (account : AccountState) (old mid now : Log) (before left : Keeping) (outcome : Outcome)
     (holds : before ≡ holding c) (named : AreNamed (row_under c)) (s : Collection) (over : IsMetOver (asker ids) account old mid s)
-    (spares : Bool) (was is : Line) (whole : Whole) (whole_is : whole ≡ whole_to_send c) (answer : Result UploadMoments Unanswered)
+    (spares : Bool) (was is : Line kind) (whole : Whole) (whole_is : whole ≡ whole_to_send c) (answer : Result UploadMoments Unanswered)
     (heard : Answered was.health is.health was.wire is.wire (request_at (asker ids) s.head.moment 1 (asks.Upload whole)) uploaded_in answer)
     (ends : TransferEnds (upload_errand spares before left) (asks.Upload whole) answer outcome)
     (told_mid : was.wire.log ≡ Some mid) (told_now : is.wire.log ≡ Some now)
@@ -234,7 +235,7 @@ named_by c before holds named =
     let known : IsNamedRightly (holding c) = subst IsNamedRightly holds named in
     λ name row at. named-get c.rows name row known.current at
 
-module _ (spares : Bool) (ids : Ids) (before left : Keeping) (was now : TransferOutside) (outcome : Outcome) (asked : List Ask)
+module _ {kind : WireKind} (spares : Bool) (ids : Ids) (before left : Keeping) (was now : TransferOutside kind) (outcome : Outcome) (asked : List Ask)
     (it : IsTransfer (upload_errand spares before left) ids asked was now outcome) (named : IsNamedRightly before) where
   abbrev device_of : Asker
   device_of = asker ids
@@ -254,7 +255,7 @@ module _ (spares : Bool) (ids : Ids) (before left : Keeping) (was now : Transfer
     nothing : AsksNothing asked it.met now.line → (outcome ≡ outcomes.Finished → ⊥) → LeavesIt old
     nothing none never = (
       met.0,
-      ap (λ (line : Line). line.wire.log) none.same ∙ met.1,
+      ap (λ (line : Line kind). line.wire.log) none.same ∙ met.1,
       λ c account holds may.
           unasked device_of c account old met.0 left outcome asked none.none met.2.growth
           (grew_once device_of account old met.0 (meta_of ids) it.meta.answer met.2) (met_here account may).unused never,

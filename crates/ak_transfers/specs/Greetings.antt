@@ -9,18 +9,18 @@ use Rattle.ak_io.specs.Arrivals.{GivesNext}
 use Rattle.ak_merge.specs.Edits.{second_of}
 use Rattle.ak_wires.specs.Forms.{meta_in}
 use Rattle.ak_wires.specs.Tries.{Answered}
-use Rattle.ak_wires.specs.Wires.{WireState}
+use Rattle.ak_wires.specs.Wires.{WireKind, WireState}
 use Rattle.ak_wires.specs.declared.asks.Unanswered.{Unanswered}
 use Rattle.ak_wires.specs.declared.wires.MetaSaid.{MetaSaid}
 
 -- what is known of a wire: how many of its calls failed, and its state
-pub record Line : Type 0 where
+pub record Line (kind : WireKind) : Type 0 where
   pub health : Health
-  pub wire : WireState
+  pub wire : WireState kind
 
 -- what is known of the wire and of the clock of a transfer: the clock's are the moments that it has still to give
-pub record TransferOutside : Type 0 where
-  pub line : Line
+pub record TransferOutside (kind : WireKind) : Type 0 where
+  pub line : Line kind
   pub moments : Option (List ℤ)
 
 -- a meta lets a transfer go on, unless there is a reason to stop
@@ -36,7 +36,7 @@ GreetsBy (Ok said) before now result =
     (at : ℤ) × GivesNext before now at × (result ≡ met_or said (clock_stop said (second_of at)))
 
 -- a greeting asked its meta, and came to this
-pub record GreetsFirst (ids : Ids) (was now : TransferOutside) (result : Result MetaSaid Stop) : Type 0 where
+pub record GreetsFirst {kind : WireKind} (ids : Ids) (was now : TransferOutside kind) (result : Result MetaSaid Stop) : Type 0 where
   pub answer : Result MetaSaid Unanswered
   pub heard : Answered was.line.health now.line.health was.line.wire now.line.wire (meta_of ids) meta_in answer
   pub comes : GreetsBy answer was.moments now.moments result

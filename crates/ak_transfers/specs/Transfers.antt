@@ -45,6 +45,7 @@ use Rattle.ak_wires.specs.Forms.{meta_in}
 use Rattle.ak_wires.specs.Tries.{Answered}
 use Rattle.ak_wires.specs.declared.asks.Unanswered.{Unanswered}
 use Rattle.ak_wires.specs.declared.wires.MetaSaid.{MetaSaid}
+use Rattle.ak_wires.specs.Wires.{WireKind}
 
 -- ---- over any keeper and wire
 -- what a transfer may ask once its meta and the clocks let it go on, and how it ends then
@@ -58,7 +59,7 @@ pub record Errand (T : Type 0) : Type 1 where
   pub ends : Ask → T → Outcome → Type 0
 
 -- nothing more was asked of the wire
-pub record AsksNothing (asked : List Ask) (was now : Line) : Type 0 where
+pub record AsksNothing {kind : WireKind} (asked : List Ask) (was now : Line kind) : Type 0 where
   pub none : asked ≡ []
   pub same : now ≡ was
 
@@ -68,7 +69,7 @@ TransferEnds errand ask (Err why) outcome = outcome ≡ outcome_at (wire_stop wh
 TransferEnds errand ask (Ok given) outcome = errand.ends ask given outcome
 
 -- one request more was asked, over this moment: it was tried at most 3 times, again only after a call that got no answer
-pub record AsksOnce {T : Type 0} (errand : Errand T) (ids : Ids) (moment : ℤ) (asked : List Ask) (was now : Line)
+pub record AsksOnce {kind : WireKind} {T : Type 0} (errand : Errand T) (ids : Ids) (moment : ℤ) (asked : List Ask) (was now : Line kind)
     (outcome : Outcome) : Type 0 where
   pub ask : Ask
   pub may : errand.asks ask
@@ -78,28 +79,28 @@ pub record AsksOnce {T : Type 0} (errand : Errand T) (ids : Ids) (moment : ℤ) 
   pub ends : TransferEnds errand ask answer outcome
 
 -- what follows once a meta that said this and the clocks let it go on: nothing more is asked, or once
-abbrev pub MayAsk : {T : Type 0} → Errand T → Ids → ℤ → List Ask → Line → Line → Outcome → Type 0
+abbrev pub MayAsk : {kind : WireKind} {T : Type 0} → Errand T → Ids → ℤ → List Ask → Line kind → Line kind → Outcome → Type 0
 MayAsk errand ids moment asked was now outcome =
     (AsksNothing asked was now × errand.stops outcome) ⊎ AsksOnce errand ids moment asked was now outcome
 
 -- what follows a meta that said this, by whether the server and the clocks give a reason to stop
-abbrev pub Continues : {T : Type 0} → Errand T → Ids → MetaSaid → Option Stop → List Ask → Line → Line → Outcome → Type 0
+abbrev pub Continues : {kind : WireKind} {T : Type 0} → Errand T → Ids → MetaSaid → Option Stop → List Ask → Line kind → Line kind → Outcome → Type 0
 Continues errand ids said (Some stop) asked was now outcome = AsksNothing asked was now × (outcome ≡ outcome_at stop)
 Continues errand ids said None asked was now outcome = MayAsk errand ids said.moment asked was now outcome
 
 -- what follows a meta by what it was answered. One that was not granted ends it for that reason, and takes no moment of the clock. One that was
 -- granted takes the next
-abbrev pub Follows : {T : Type 0} → Errand T → Ids → Result MetaSaid Unanswered → List Ask → TransferOutside → TransferOutside → Outcome → Type 0
+abbrev pub Follows : {kind : WireKind} {T : Type 0} → Errand T → Ids → Result MetaSaid Unanswered → List Ask → TransferOutside kind → TransferOutside kind → Outcome → Type 0
 Follows errand ids (Err why) asked was now outcome =
     AsksNothing asked was.line now.line × (now.moments ≡ was.moments) × (outcome ≡ outcome_at (wire_stop why))
 Follows errand ids (Ok said) asked was now outcome = (at : ℤ) × GivesNext was.moments now.moments at
     × Continues errand ids said (clock_stop said (second_of at)) asked was.line now.line outcome
 
 -- a transfer, which asked these after its meta
-pub record IsTransfer {T : Type 0} (errand : Errand T) (ids : Ids) (asked : List Ask) (was now : TransferOutside)
+pub record IsTransfer {kind : WireKind} {T : Type 0} (errand : Errand T) (ids : Ids) (asked : List Ask) (was now : TransferOutside kind)
     (outcome : Outcome) : Type 0 where
   pub answer : Result MetaSaid Unanswered
-  pub met : Line
+  pub met : Line kind
   pub meta : Answered was.line.health met.health was.line.wire met.wire (meta_of ids) meta_in answer
   pub follows : Follows errand ids answer asked (record was { line = met }) now outcome
 
@@ -205,7 +206,7 @@ UploadsTold ids asked before left told_before told_now outcome = (old : Log) →
     → MayTransfer (asker ids) account old → Uploaded (asker ids) asked c account old now left outcome)
 
 -- an upload: what it asks and how it ends, over any keeper and wire; and what that makes of what they tell
-pub record IsUpload (spares : Bool) (ids : Ids) (before left : Keeping) (was now : TransferOutside) (outcome : Outcome) : Type 0 where
+pub record IsUpload {kind : WireKind} (spares : Bool) (ids : Ids) (before left : Keeping) (was now : TransferOutside kind) (outcome : Outcome) : Type 0 where
   pub asked : List Ask
   pub transfer : IsTransfer (upload_errand spares before left) ids asked was now outcome
   pub told : UploadsTold ids asked before left was.line.wire.log now.line.wire.log outcome
@@ -278,7 +279,7 @@ DownloadsTold ids asked before left told_before told_now outcome = (old : Log) �
     → MayTransfer (asker ids) account old → Downloaded (asker ids) asked account old now left outcome)
 
 -- a download: what it asks and how it ends, over any keeper and wire; and what that makes of what they tell
-pub record IsDownload (ids : Ids) (before left : Keeping) (was now : TransferOutside) (outcome : Outcome) : Type 0 where
+pub record IsDownload {kind : WireKind} (ids : Ids) (before left : Keeping) (was now : TransferOutside kind) (outcome : Outcome) : Type 0 where
   pub asked : List Ask
   pub transfer : IsTransfer (download_errand before left) ids asked was now outcome
   pub told : DownloadsTold ids asked before left was.line.wire.log now.line.wire.log outcome

@@ -25,6 +25,7 @@ use Rattle.ak_transfers.specs.Greetings.{Line}
 use Rattle.ak_transfers.specs.declared.asks.UploadMoments.{UploadMoments}
 use Rattle.ak_wires.specs.Tries.{Answered}
 use Rattle.ak_wires.specs.declared.asks.Unanswered.{Unanswered}
+use Rattle.ak_wires.specs.Wires.{WireKind}
 
 -- all rows that are held, by table and id
 abbrev pub all_rows : Rows → List Row
@@ -87,7 +88,7 @@ wired (Ok given) = Ok given
 wired (Err why) = Err (wire_stop why)
 
 -- an upload was asked, with the device's collection without its graves; what it leaves, but for the moments, was put in place before
-pub record SendsOnce (ids : Ids) (moment : ℤ) (before left : Keeping) (was now : Line) (result : Result UploadMoments Stop) : Type 0 where
+pub record SendsOnce {kind : WireKind} (ids : Ids) (moment : ℤ) (before left : Keeping) (was now : Line kind) (result : Result UploadMoments Stop) : Type 0 where
   pub whole : Whole
   pub sent : WhereHeld before (λ c. whole ≡ whole_to_send c)
   pub put : left ≡ prepared whole before
@@ -96,7 +97,7 @@ pub record SendsOnce (ids : Ids) (moment : ℤ) (before left : Keeping) (was now
   pub came : result ≡ wired answer
 
 -- the keeper refused before it was asked, or it was asked
-abbrev pub Sends : Ids → ℤ → Keeping → Keeping → Line → Line → Result UploadMoments Stop → Type 0
+abbrev pub Sends : {kind : WireKind} → Ids → ℤ → Keeping → Keeping → Line kind → Line kind → Result UploadMoments Stop → Type 0
 Sends ids moment before left was now result =
     ((now ≡ was) × IsErrAnd result (λ (stop : Stop). (fault : KeepFault) × (stop ≡ keep_stop fault)))
     ⊎ SendsOnce ids moment before left was now result

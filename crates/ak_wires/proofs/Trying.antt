@@ -9,7 +9,7 @@ use Rattle.ak_messages.specs.declared.requests.Request.{Request}
 use Rattle.ak_protocol.specs.Logs.{Event, Log, Grows, IsGrowth, IsReplyIn, with_growth}
 use Rattle.ak_protocol.proofs.Syncs.{all_append, tries_are_one_growth, tries_reply}
 use Rattle.ak_wires.specs.Tries.{AreCalls, Tried, is_failed, silence_tried}
-use Rattle.ak_wires.specs.Wires.{WireState, Called, BringsServings, Carries, GrowsByServings, IsServing, StaysAlone, more, said_after, silence_after}
+use Rattle.ak_wires.specs.Wires.{WireKind, WireState, Called, BringsServings, Carries, GrowsByServings, IsServing, StaysAlone, more, said_after, silence_after}
 use Rattle.ak_wires.specs.declared.wires.WireEnd.{WireEnd}
 use Rattle.ak_wires.specs.declared.wires.WireEnd.TheVariants as ends
 
@@ -70,7 +70,7 @@ brings_on None mid new request result carries one two = λ before now is told. a
 brings_on (Some old) mid new request result carries one two = λ before now is told.
     served_on before carries.0 now request (one before carries.0 is carries.1) (two carries.0 now carries.1 told)
 
-alone_on : (old mid new : WireState) (request : Request) (result : Result Reply WireEnd) → Carries old.log mid.log request result
+alone_on : {kind : WireKind} (old mid new : WireState kind) (request : Request) (result : Result Reply WireEnd) → Carries old.log mid.log request result
     → StaysAlone old mid request → StaysAlone mid new request → StaysAlone old new request
 alone_on old mid new request result carries one two = record {
   stays = two.stays ∙ one.stays;
@@ -78,12 +78,11 @@ alone_on old mid new request result carries one two = record {
 }
 
 -- ---- this many tries, each but the last one of which failed
-pub record TriedBy (n : ℕ) (before now : Health) (old new : WireState) (request : Request) (result : Result Reply WireEnd) : Type 0 where
+pub record TriedBy {kind : WireKind} (n : ℕ) (before now : Health) (old new : WireState kind) (request : Request) (result : Result Reply WireEnd) : Type 0 where
   pub each : AreCalls n before now old new request result
   pub carries : Carries old.log new.log request result
   pub calls : new.calls ≡ more n old.calls
   pub alone : StaysAlone old new request
-  pub made_with : new.made_with ≡ old.made_with
   pub lost : IsErrOf result ends.Failed → more n before.faults ≤ now.faults
   pub goes : GoesOn before now
   pub unfailed : before.calm ≡ true → IsErrOf result ends.Failed → ⊥
@@ -97,14 +96,13 @@ silence_once before (Err ends.BadReply) = refl
 silence_once before (Err ends.Memory) = refl
 silence_once before (Ok reply) = refl
 
-tried_once : (before now : Health) (old new : WireState) (request : Request) (result : Result Reply WireEnd)
+tried_once : {kind : WireKind} (before now : Health) (old new : WireState kind) (request : Request) (result : Result Reply WireEnd)
     → Called before now old new request result → TriedBy 1 before now old new request result
 tried_once before now old new request result call = record {
   each = call;
   carries = call.carries;
   calls = call.calls;
   alone = call.alone;
-  made_with = call.made_with;
   lost = call.lost.failed;
   goes = call.lost.goes;
   unfailed = call.lost.unfailed;
@@ -121,14 +119,13 @@ silence_again n before (Err ends.Memory) = refl
 silence_again n before (Ok reply) = refl
 
 -- a failed call, and then one try or more
-tried_after : (n : ℕ) (before between now : Health) (old mid new : WireState) (request : Request) (result : Result Reply WireEnd)
+tried_after : {kind : WireKind} (n : ℕ) (before between now : Health) (old mid new : WireState kind) (request : Request) (result : Result Reply WireEnd)
     → Called before between old mid request (Err ends.Failed) → TriedBy (suc n) between now mid new request result
     → TriedBy (suc (suc n)) before now old new request result
 tried_after n before between now old mid new request result call again = record {
   each = (between, mid, call, again.each);
   carries = carries_on old.log mid.log new.log request result call.carries again.carries;
   alone = alone_on old mid new request (Err ends.Failed) call.carries call.alone again.alone;
-  made_with = again.made_with ∙ call.made_with;
   calls = again.calls ∙ ap (more (suc n)) call.calls ∙ more_more (suc n) old.calls;
   lost = λ is. rose_more (suc n) before.faults between.faults now.faults (call.lost.failed refl) (again.lost is);
   goes = goes_further call.lost.goes again.goes;
@@ -143,7 +140,7 @@ tried_after n before between now old mid new request result call again = record 
 }
 
 -- the same of a call whose result is known to be a failure
-tried_again : (n : ℕ) (before between now : Health) (old mid new : WireState) (request : Request) (first result : Result Reply WireEnd)
+tried_again : {kind : WireKind} (n : ℕ) (before between now : Health) (old mid new : WireState kind) (request : Request) (first result : Result Reply WireEnd)
     → is_failed first ≡ true → Called before between old mid request first → TriedBy (suc n) between now mid new request result
     → TriedBy (suc (suc n)) before now old new request result
 tried_again n before between now old mid new request first result is call again =
@@ -159,7 +156,7 @@ third_silence n before (Err ends.Memory) third = refl
 third_silence n before (Ok reply) third = refl
 
 -- at most three tries, and only the third may have failed
-tries : (n : ℕ) (before now : Health) (old new : WireState) (request : Request) (result : Result Reply WireEnd)
+tries : {kind : WireKind} (n : ℕ) (before now : Health) (old new : WireState kind) (request : Request) (result : Result Reply WireEnd)
     → n ≤ 3 → (is_failed result ≡ true → n ≡ 3) → TriedBy n before now old new request result
     → Tried before now old new request result
 tries n before now old new request result most third by = record {
@@ -176,26 +173,25 @@ tries n before now old new request result most third by = record {
   said = by.said;
   calls = by.calls;
   alone = by.alone;
-  made_with = by.made_with;
 }
 
 not_both : (r : Result Reply WireEnd) (n : ℕ) → is_failed r ≡ false → is_failed r ≡ true → n ≡ 3
 not_both r n never failed = absurd (grind (arith, never, failed))
 
 module _ (request : Request) where
-  pub first_try : (h0 h1 : Health) (s0 s1 : WireState) (first : Result Reply WireEnd)
+  pub first_try : {kind : WireKind} (h0 h1 : Health) (s0 s1 : WireState kind) (first : Result Reply WireEnd)
       → Called h0 h1 s0 s1 request first → is_failed first ≡ false → Tried h0 h1 s0 s1 request first
   first_try h0 h1 s0 s1 first one answered =
       tries 1 h0 h1 s0 s1 request first (omega arith) (not_both first 1 answered) (tried_once h0 h1 s0 s1 request first one)
 
-  pub second_try : (h0 h1 h2 : Health) (s0 s1 s2 : WireState) (first second : Result Reply WireEnd)
+  pub second_try : {kind : WireKind} (h0 h1 h2 : Health) (s0 s1 s2 : WireState kind) (first second : Result Reply WireEnd)
       → Called h0 h1 s0 s1 request first → is_failed first ≡ true → Called h1 h2 s1 s2 request second → is_failed second ≡ false
       → Tried h0 h2 s0 s2 request second
   second_try h0 h1 h2 s0 s1 s2 first second one failed two answered =
       tries 2 h0 h2 s0 s2 request second (omega arith) (not_both second 2 answered)
       (tried_again 0 h0 h1 h2 s0 s1 s2 request first second failed one (tried_once h1 h2 s1 s2 request second two))
 
-  pub third_try : (h0 h1 h2 h3 : Health) (s0 s1 s2 s3 : WireState) (first second third : Result Reply WireEnd)
+  pub third_try : {kind : WireKind} (h0 h1 h2 h3 : Health) (s0 s1 s2 s3 : WireState kind) (first second third : Result Reply WireEnd)
       → Called h0 h1 s0 s1 request first → is_failed first ≡ true → Called h1 h2 s1 s2 request second → is_failed second ≡ true
       → Called h2 h3 s2 s3 request third → Tried h0 h3 s0 s3 request third
   third_try h0 h1 h2 h3 s0 s1 s2 s3 first second third one failed two again three =

@@ -1,6 +1,6 @@
 -- What is known of a wire, and what one call makes of it.
 use Rattle.std.specs.List.{AllByRecursion}
-use Rattle.std.specs.Prelude.{◌≡◌, ℕ, ℤ, ◌+◌, ◌-◌, ◌^◌, ◌==◌, min, if◌then◌else◌, Bool, true, List, Option, Some, None, Result, Ok, Err}
+use Rattle.std.specs.Prelude.{◌≡◌, ℕ, ◌+◌, ◌-◌, ◌^◌, ◌==◌, min, if◌then◌else◌, Bool, true, List, Option, Some, None, Result, Ok, Err, ⊤}
 use Rattle.ak_faults.specs.Causes.{Health, HasCauseOf}
 use Rattle.ak_messages.specs.declared.replies.Reply.{Reply}
 use Rattle.ak_messages.specs.declared.replies.SanityReply.{SanityReply}
@@ -14,8 +14,17 @@ use Rattle.ak_wires.specs.declared.wires.Said.{Said}
 use Rattle.ak_wires.specs.declared.wires.WireEnd.{WireEnd}
 use Rattle.ak_wires.specs.declared.wires.WireEnd.TheVariants as ends
 
+-- a kind of wires: what stands inside of one, and what a call with a request, answered so, makes of that
+pub record WireKind : Type 1 where
+  pub Inside : Type 0
+  pub does : Inside → Inside → Request → Result Reply WireEnd → Type 0
+
+-- the kind of a wire of which no more is told: nothing stands inside
+abbrev pub plain_kind : WireKind
+plain_kind = record { Inside = Unit {0}; does = λ old new request result. ⊤ }
+
 -- what is known of a wire, but for how many of its calls failed, which its health tells
-pub record WireState : Type 0 where
+pub record WireState (kind : WireKind) : Type 0 where
   -- the log of the server that it leads to, if it tells it
   pub log : Option Log
   -- how many answers could not be read, and whether it is known that all can be
@@ -28,8 +37,8 @@ pub record WireState : Type 0 where
   pub calls : ℕ
   -- whether it is known that while a call is under way nothing comes to the server but its request
   pub alone : Bool
-  -- numbers that whoever made the wire gave it: they stay
-  pub made_with : List ℤ
+  -- what stands inside of it
+  pub inside : kind.Inside
 
 -- a count once it rose so many times. At the last `u64` it stays
 abbrev pub more : ℕ → ℕ → ℕ
@@ -58,7 +67,7 @@ BringsServings told_before told_now request = (old new : Log) → told_before �
     → GrowsByServings old new request
 
 -- whether nothing else comes to the server does not change. If so, the log grows by servings of this request alone
-pub record StaysAlone (old new : WireState) (request : Request) : Type 0 where
+pub record StaysAlone {kind : WireKind} (old new : WireState kind) (request : Request) : Type 0 where
   pub stays : new.alone ≡ old.alone
   pub brings : old.alone ≡ true → BringsServings old.log new.log request
 
@@ -96,7 +105,7 @@ silence_after before (Err ends.Memory) = 0
 silence_after before (Ok reply) = 0
 
 -- what a call of a wire with a request makes of it, from one health to the next
-pub record Called (before now : Health) (old new : WireState) (request : Request) (result : Result Reply WireEnd) : Type 0 where
+pub record Called {kind : WireKind} (before now : Health) (old new : WireState kind) (request : Request) (result : Result Reply WireEnd) : Type 0 where
   pub carries : Carries old.log new.log request result
   -- it fails only if its count of faults rose in the call, and has a bad reply only if its count of bad answers did
   pub lost : HasCauseOf ends.Failed before now result
@@ -105,4 +114,5 @@ pub record Called (before now : Health) (old new : WireState) (request : Request
   pub said : new.said ≡ said_after request result
   pub calls : new.calls ≡ more 1 old.calls
   pub alone : StaysAlone old new request
-  pub made_with : new.made_with ≡ old.made_with
+  -- of what stands inside it makes what a call of this kind of wires does
+  pub does : kind.does old.inside new.inside request result

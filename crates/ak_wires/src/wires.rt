@@ -1,5 +1,5 @@
 ghost use Rattle.std.specs.Prelude.{◌≡◌};
-ghost use Rattle.ak_wires.specs.Wires.{WireState, Called};
+ghost use Rattle.ak_wires.specs.Wires.{WireKind, WireState, Called};
 
 use ak_base::SessionKey;
 use ak_io::End;
@@ -11,8 +11,11 @@ use ak_messages::{Reply, Request, SanityReply, Word};
 /// and what this session asked before, any number of times. The request itself may come not at all, or several times.
 /// Of a wire that is known to be alone nothing else comes.
 pub trait Wire: End {
-    /// What is known of it: the log of the server, if it tells it, and its counts, always.
-    ghost state: { Self → WireState };
+    /// Its kind: what stands inside of it, and what a call makes of that.
+    ghost kind: { WireKind };
+
+    /// What is known of it: the log of the server, if it tells it, and its counts and its inside, always.
+    ghost state: { Self → WireState kind };
 
     /// How many answers could not be read. At the last `u64` it stays. It takes no memory.
     fn bad(&self) -> u64

@@ -55,7 +55,10 @@ impl<I: Interceptor> End for InterceptedWire<I> {
 }
 
 impl<I: Interceptor> Wire for InterceptedWire<I> {
+    ghost use Rattle.ak_wires.specs.Wires.{plain_kind};
     ghost use Rattle.cases_syncs.specs.Intercepted.{state_over};
+
+    ghost kind = { plain_kind };
 
     ghost state = { λ wire. state_over wire.counts };
 

@@ -14,8 +14,9 @@ run_at-lab-requires-clause-there c = (
 pub returns-in-Ok-clause-ends : goal.returns-in-Ok-clause-ends
 returns-in-Ok-clause-ends c =
     let is = subst (λ (devices : List Device). IsPlaceOf c.args.name.now devices c.in-Some.place) c.as_slice.ensures.value c.in-Some.ensures in
-    session_printed c.args.kind c.args.name.now (state_of c.args.lab) (state_of c.run_at-lab.result.0) c.in-Ok.outcome c.print_outcome-came.result c.print_outcome-came.ensures
-    (ends_session c.args.kind c.args.name.now (state_of c.args.lab) (state_of c.run_at-lab.result.0) c.in-Some.place c.in-Ok.outcome is
+    session_printed c.args.kind c.args.name.now (state_of c.args.lab) (state_of c.run_at-lab.result.0) c.in-Ok.ran.crossed c.in-Ok.ran.outcome c.print_outcome-came.result
+    c.print_outcome-came.ensures
+    (ends_session c.args.kind c.args.name.now (state_of c.args.lab) (state_of c.run_at-lab.result.0) c.in-Some.place c.in-Ok.ran.crossed c.in-Ok.ran.outcome is
     (rw c.in-Ok.is at c.run_at-lab.ensures.ok))
 
 pub returns-in_default-clause-ends : goal.returns-in_default-clause-ends

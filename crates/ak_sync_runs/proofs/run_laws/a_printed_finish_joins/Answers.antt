@@ -2,4 +2,4 @@ use Rattle.ak_sync_runs.proofs.Telling.{printed_finish}
 use Rattle.ak_sync_runs.proofs.run_laws.a_printed_finish_joins.Goals as goal
 
 pub returns : goal.returns
-returns c = printed_finish
+returns g c = printed_finish

@@ -2,4 +2,4 @@ use Rattle.ak_sync_runs.proofs.Telling.{out_early}
 use Rattle.ak_sync_runs.proofs.run_laws.memory_runs_out_early.Goals as goal
 
 pub returns : goal.returns
-returns c = out_early
+returns g c = out_early

@@ -7,7 +7,7 @@ use Rattle.ak_transfer_laws.specs.Completing.{committed_before}
 use Rattle.ak_transfer_laws.proofs.next_syncs.copies_have_nothing_to_sync.Goals as goal
 
 pub returns : goal.returns
-returns c = record {
+returns g c = record {
   faultless = λ ids d account before after outcome it copy over calm. syncs_end_faultless ids d account before after outcome it over stops.NoChanges
       (λ said says. copies_stop (committed_before ids account it.old) d it.at said (lawful ids d account before after it) copy says) calm;
   lossy = λ ids d account before after outcome it copy over. copies_end ids d account before after outcome it over copy;

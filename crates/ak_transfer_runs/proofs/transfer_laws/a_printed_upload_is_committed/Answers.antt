@@ -2,4 +2,4 @@ use Rattle.ak_transfer_runs.proofs.TransferEnds.{printed_upload}
 use Rattle.ak_transfer_runs.proofs.transfer_laws.a_printed_upload_is_committed.Goals as goal
 
 pub returns : goal.returns
-returns c = printed_upload
+returns g c = printed_upload

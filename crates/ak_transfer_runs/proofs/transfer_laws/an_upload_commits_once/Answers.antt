@@ -2,4 +2,4 @@ use Rattle.ak_transfer_runs.proofs.TransferEnds.{once}
 use Rattle.ak_transfer_runs.proofs.transfer_laws.an_upload_commits_once.Goals as goal
 
 pub returns : goal.returns
-returns c = once
+returns g c = once

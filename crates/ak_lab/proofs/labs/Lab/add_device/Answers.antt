@@ -1,6 +1,6 @@
 use Rattle.std.proofs.Common.{◌≡◌, ◌<◌, [], ◌∷◌, ◌++◌, List, None, length, codes, refl, ap, subst, ◌∙◌, inl, arith}
 use Rattle.ak_lab.proofs.Coming.{device_unmade, stopped_at_once}
-use Rattle.ak_lab.proofs.Placing.{placed}
+use Rattle.ak_lab_devices.proofs.Placing.{placed}
 use Rattle.ak_lab.specs.LabStates.{LabState}
 use Rattle.ak_lab_devices.specs.Devices.{IsPlaceOf, device_of}
 use Rattle.ak_lab_devices.specs.declared.devices.Device.{Device}
@@ -22,6 +22,7 @@ returns-clause-ends c =
         room = subst (λ (devices : List Device). length devices < 16) c.as_slice-2.ensures.value (omega (arith, c.if-as_slice-ge-DEVICE_LIMIT.false));
         is = made.1;
         read = c.new_device.ensures.viewed;
+        calm = c.new_device.ensures.calm;
         left = ap (λ (devices : List Device). let t : LabState = record {
           clock = c.args.self.now.clock;
           server = c.new_device.new.server;

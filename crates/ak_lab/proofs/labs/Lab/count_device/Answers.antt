@@ -1,6 +1,6 @@
 use Rattle.std.proofs.Common.{[], ◌∷◌, List, ℕ, ap, subst}
 use Rattle.ak_lab.proofs.Coming.{one_printed, same_devices}
-use Rattle.ak_lab.proofs.Placing.{back_there, read_there}
+use Rattle.ak_lab_devices.proofs.Placing.{back_there, read_there}
 use Rattle.ak_lab.specs.LabStates.{state_of}
 use Rattle.ak_lab_devices.specs.Devices.{IsPlaceOf}
 use Rattle.ak_lab_devices.specs.declared.devices.Device.{Device}

@@ -8,5 +8,5 @@ pub returns-in-Ok-clause-ends : goal.returns-in-Ok-clause-ends
 returns-in-Ok-clause-ends c =
     let counted = c.in-Ok.ensures.counted in
     one_printed (lines.Count sides.Server) _ _ c.in-Ok.text c.one_line.result c.one_line.ensures.ok c.one_line.ensures.err
-    (counted.0, (counted.1, c.counted_of_server.ensures.viewed, refl), ap (λ (text : List ℕ). text ∷ []) counted.2)
+    (counted.0, (counted.1, record { viewed = c.counted_of_server.ensures.viewed; calm = c.counted_of_server.ensures.calm; left = refl }), ap (λ (text : List ℕ). text ∷ []) counted.2)
     (c.counted_of_server.ensures.viewed, refl)

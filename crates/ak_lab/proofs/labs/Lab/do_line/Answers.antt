@@ -2,8 +2,8 @@ use Rattle.std.proofs.Common.{List, ap, subst, sym}
 use Rattle.ak_io.specs.Arrivals.{IsClockMoment}
 use Rattle.ak_lab.proofs.Coming.{do_stopped}
 use Rattle.ak_lab.proofs.Desks.{do_printed, do_there, ready_there, there_in_time, unsaid}
-use Rattle.ak_lab.proofs.InTime.{lab_in_time, shifted}
-use Rattle.ak_lab.proofs.Placing.{read_there}
+use Rattle.ak_lab_devices.proofs.InTime.{lab_in_time, shifted}
+use Rattle.ak_lab_devices.proofs.Placing.{read_there}
 use Rattle.ak_lab.specs.LabStates.{state_of}
 use Rattle.ak_lab_devices.specs.Devices.{IsPlaceOf}
 use Rattle.ak_lab_devices.specs.declared.devices.Device.{Device}

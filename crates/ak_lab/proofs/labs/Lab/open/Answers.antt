@@ -1,6 +1,7 @@
 use Rattle.std.proofs.Common.{List, pos, ap, arith, sym, subst, ◌∙◌}
 use Rattle.ak_io.specs.Arrivals.{IsClockMoment}
-use Rattle.ak_lab.proofs.Openings.{lab_opened, opened_ready, opening_is_checked, opening_is_committed, opening_is_distinct}
+use Rattle.ak_lab.proofs.Openings.{lab_opened, opened_ready}
+use Rattle.ak_lab_wires.proofs.Openings.{opening_is_checked, opening_is_committed, opening_is_distinct}
 use Rattle.ak_lab.specs.LabStates.{IsReady, LabState}
 use Rattle.ak_lab_devices.specs.declared.devices.Device.{Device}
 use Rattle.ak_lab.proofs.labs.Lab.open.Goals as goal

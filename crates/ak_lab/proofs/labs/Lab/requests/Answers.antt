@@ -1,6 +1,6 @@
 use Rattle.std.proofs.Common.{[], ◌∷◌, List, ℕ, refl, ap, subst, ◌∙◌}
 use Rattle.ak_lab.proofs.Coming.{one_printed}
-use Rattle.ak_lab.proofs.Placing.{read_there}
+use Rattle.ak_lab_devices.proofs.Placing.{read_there}
 use Rattle.ak_lab_devices.specs.Devices.{IsPlaceOf}
 use Rattle.ak_lab_devices.specs.declared.devices.Device.{Device}
 use Rattle.ak_lab_lines.specs.LabTexts.{requests_text}

@@ -1,7 +1,7 @@
 use Rattle.std.proofs.Common.{List, ap, subst}
 use Rattle.ak_lab.proofs.Coming.{review_stopped}
 use Rattle.ak_lab.proofs.Desks.{ready_there, review_there, there_in_time}
-use Rattle.ak_lab.proofs.InTime.{lab_in_time, shifted}
+use Rattle.ak_lab_devices.proofs.InTime.{lab_in_time, shifted}
 use Rattle.ak_lab.specs.LabStates.{state_of}
 use Rattle.ak_lab_devices.specs.Devices.{IsPlaceOf}
 use Rattle.ak_lab_devices.specs.declared.devices.Device.{Device}

@@ -1,8 +1,8 @@
 use Rattle.std.proofs.Common.{List, codes, refl, sym, ap, subst, ◌∙◌, inr, w64, SFits, rules}
 use Rattle.std.proofs.lemmas.Int.{to_z-of_z}
 use Rattle.ak_lab.proofs.Coming.{stopped_at_once}
-use Rattle.ak_lab.proofs.InTime.{still_in_time}
-use Rattle.ak_lab.proofs.Placing.{placed, read_there}
+use Rattle.ak_lab_devices.proofs.InTime.{still_in_time}
+use Rattle.ak_lab_devices.proofs.Placing.{placed, read_there}
 use Rattle.ak_lab.specs.LabStates.{LabState}
 use Rattle.ak_lab_devices.specs.Devices.{IsPlaceOf, are_in_time}
 use Rattle.ak_lab_devices.specs.declared.devices.Device.{Device}

@@ -1,0 +1,130 @@
+-- A sync that ended as lost met three planned losses in a row.
+use Rattle.std.specs.Prelude.{◌≡◌, ℕ, ℤ, Bool, true, List, [], ◌∷◌, ◌++◌, Result, Ok, Err}
+use Rattle.std.proofs.Common.{refl, sym, ap, subst, ◌∙◌, append_assoc, append-nil, arith}
+use Rattle.ak_client.specs.Syncs.{meta_tried}
+use Rattle.ak_client.specs.declared.outcomes.Outcome.TheVariants as outcomes
+use Rattle.ak_exchange.specs.Asked.{TriedAsk, answers_in}
+use Rattle.ak_exchange.specs.Grants.{EndsUnanswered}
+use Rattle.ak_faults.specs.Causes.{one_more}
+use Rattle.ak_lab.specs.LabStates.{LabState}
+use Rattle.ak_lab.specs.LabSyncs.{EndsSync}
+use Rattle.ak_lab_joins.specs.LabMishaps.{LosesThree}
+use Rattle.ak_lab_wires.specs.CrossedSyncs.{CrossesAt, crosses_nothing}
+use Rattle.ak_lab_wires.specs.LabSessions.{ComeInCalls, sent_by}
+use Rattle.ak_loops.specs.Betweens.{ActEnd, Acting}
+use Rattle.ak_loops.specs.Entries.{LoggedState}
+use Rattle.ak_loops.specs.LoopWires.{FaresAfter}
+use Rattle.ak_loops.specs.Mishaps.{is_lost}
+use Rattle.ak_loops.specs.declared.mishaps.Mishap.{Mishap}
+use Rattle.ak_messages.specs.declared.replies.Reply.{Reply}
+use Rattle.ak_messages.specs.declared.requests.Request.{Request}
+use Rattle.ak_wires.specs.Tries.{AreCallsOf, MadeCall, calls_of}
+use Rattle.ak_wires.specs.declared.asks.Unanswered.TheVariants as unanswered
+use Rattle.ak_wires.specs.declared.wires.WireEnd.{WireEnd}
+use Rattle.ak_wires.specs.declared.wires.WireEnd.TheVariants as ends
+
+-- ---- the last three calls
+-- these calls end with three of one request, which got no answer
+abbrev pub lost_call : Request → MadeCall
+lost_call request = record { request = request; answer = Err ends.Failed }
+
+pub record EndLost (calls : List MadeCall) : Type 0 where
+  pub earlier : List MadeCall
+  pub request : Request
+  pub parts : calls ≡ earlier ++ lost_call request ∷ lost_call request ∷ lost_call request ∷ []
+
+-- three tries of a request that got no answer
+three : (tries : ℕ) (request : Request) → tries ≡ 3 → calls_of tries request (Err ends.Failed) ≡ lost_call request ∷ lost_call request ∷ lost_call request ∷ []
+three tries request is = ap (λ (n : ℕ). calls_of n request (Err ends.Failed)) is
+
+head_is : {A : Type 0} (a b : A) (xs ys : List A) → a ∷ xs ≡ b ∷ ys → a ≡ b
+head_is {A} a b xs ys is = ap first is
+  where
+    first : List A → A
+    first [] = a
+    first (x ∷ l) = x
+
+tail_is : {A : Type 0} (a b : A) (xs ys : List A) → a ∷ xs ≡ b ∷ ys → xs ≡ ys
+tail_is {A} a b xs ys is = ap others is
+  where
+    others : List A → List A
+    others [] = []
+    others (x ∷ l) = l
+
+-- nothing was asked after the last answer
+none_later : (requests : List Request) (calls : List MadeCall) → AreCallsOf requests [] calls → calls ≡ []
+none_later [] calls are = are
+none_later (request ∷ requests) calls are = absurd are
+
+-- what was answered last got no answer
+last_lost : (requests : List Request) (answers : List (Result Reply WireEnd)) (calls : List MadeCall) (before : List (Result Reply WireEnd)) → answers ≡ before ++ Err ends.Failed ∷ []
+    → AreCallsOf requests answers calls → EndLost calls
+last_lost [] [] calls [] is are = absurd (grind (arith, is))
+last_lost [] [] calls (one ∷ before) is are = absurd (grind (arith, is))
+last_lost [] (answer ∷ answers) calls before is are = absurd are
+last_lost (request ∷ requests) [] calls before is are = absurd are
+last_lost (request ∷ requests) (answer ∷ []) calls [] is are =
+    let failed : answer ≡ Err ends.Failed = head_is answer (Err ends.Failed) [] [] is in
+    let times : are.0 ≡ 3 = are.2.third failed in
+    record {
+      earlier = [];
+      request = request;
+      parts = are.3 ∙ ap (λ (l : List MadeCall). calls_of are.0 request answer ++ l) (none_later requests are.1 are.4)
+          ∙ append-nil (calls_of are.0 request answer) ∙ ap (calls_of are.0 request) failed ∙ three are.0 request times;
+    }
+last_lost (request ∷ requests) (answer ∷ next ∷ answers) calls [] is are = absurd (grind (arith, is))
+last_lost (request ∷ requests) (answer ∷ answers) calls (one ∷ before) is are =
+    let rest = last_lost requests answers are.1 before (tail_is answer one answers (before ++ Err ends.Failed ∷ []) is) are.4 in
+    record {
+      earlier = calls_of are.0 request answer ++ rest.earlier;
+      request = rest.request;
+      parts = are.3 ∙ ap (λ (l : List MadeCall). calls_of are.0 request answer ++ l) rest.parts
+          ∙ sym (append_assoc (calls_of are.0 request answer) rest.earlier (lost_call rest.request ∷ lost_call rest.request ∷ lost_call rest.request ∷ []));
+    }
+
+-- ---- what they met
+module _ {X : Type 0} (acts : Acting X) (idle : X → Bool) (mishaps : List Mishap) (at : ℤ) where
+  -- a call that got no answer was to be lost
+  was_lost : (came : ActEnd) (number : ℕ) (old new : LoggedState) (request : Request) → FaresAfter came number mishaps old new request at (Err ends.Failed)
+      → is_lost number mishaps ≡ true
+  was_lost (Ok done) number old new request fares = fares.0
+  was_lost (Err end) number old new request fares = absurd (let is = fares.0 in grind (arith, is))
+
+  three_lost : (earlier : List MadeCall) (request : Request) (number : ℕ) (x y : X) (a b : LoggedState)
+      → ComeInCalls acts idle mishaps at number (earlier ++ lost_call request ∷ lost_call request ∷ lost_call request ∷ []) x y a b
+      → (n : ℕ) × LosesThree n mishaps
+  three_lost [] request number x y a b come =
+      let one = come.2 in
+      let two = come.3.2 in
+      let last = come.3.3.2 in (
+        number,
+        record {
+          first = was_lost one.came number one.met come.1 request one.fares;
+          second = was_lost two.came (one_more number) two.met come.3.1 request two.fares;
+          third = was_lost last.came (one_more (one_more number)) last.met come.3.3.1 request last.fares;
+        },
+      )
+  three_lost (it ∷ earlier) request number x y a b come = three_lost earlier request (one_more number) come.0 y come.1 b come.3
+
+-- the answers, up to the last one that was tried
+last_answer : (tries before : List TriedAsk) (it : TriedAsk) → tries ≡ before ++ it ∷ [] → answers_in tries ≡ answers_in before ++ it.answer ∷ []
+last_answer tries before it is = ap answers_in is ∙ of_both before
+  where
+    of_both : (l : List TriedAsk) → answers_in (l ++ it ∷ []) ≡ answers_in l ++ it.answer ∷ []
+    of_both [] = refl
+    of_both (one ∷ l) = ap (λ (answers : List (Result Reply WireEnd)). one.answer ∷ answers) (of_both l)
+
+pub lost_met_three : (name : List ℕ) (s t : LabState) (crossed : List (List ℕ)) (ended : EndsSync name s t crossed outcomes.Lost)
+    → (number : ℕ) × LosesThree number ended.runs.d.mishaps
+lost_met_three name s t crossed ended =
+    let ran = ended.runs.session in
+    let sync = ran.ended.sync in
+    -- the last that was tried, what was tried before it, and that it got no answer
+    let why : EndsUnanswered (meta_tried sync.meta ∷ sync.tries) unanswered.Lost = sync.ends in
+    let answers : List (Result Reply WireEnd) = sync.meta ∷ answers_in sync.tries in
+    let is : answers ≡ answers_in why.1.0 ++ Err ends.Failed ∷ [] =
+    last_answer (meta_tried sync.meta ∷ sync.tries) why.1.0 why.0 why.1.1
+    ∙ ap (λ (answer : Result Reply WireEnd). answers_in why.1.0 ++ answer ∷ []) why.2 in
+    let lost = last_lost (sent_by ran.ids sync.moment sync.tries) answers ran.calls (answers_in why.1.0) is ran.asked in
+    three_lost CrossesAt crosses_nothing ended.runs.d.mishaps s.clock lost.earlier lost.request 0 ended.runs.was ended.runs.became s.server t.server
+    (subst (λ (calls : List MadeCall). ComeInCalls CrossesAt crosses_nothing ended.runs.d.mishaps s.clock 0 calls ended.runs.was ended.runs.became s.server t.server) lost.parts ran.come)

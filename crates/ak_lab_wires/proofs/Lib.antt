@@ -1,0 +1,11 @@
+pub mod Alone
+pub mod Between
+mod Crossing
+pub mod Keeping
+pub mod Kept
+pub mod Named
+pub mod Openings
+pub mod Running
+pub mod Serving
+pub mod Transferring
+mod Turning

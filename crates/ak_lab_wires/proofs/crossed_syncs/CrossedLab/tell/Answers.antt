@@ -1,0 +1,8 @@
+use Rattle.std.proofs.Common.{refl}
+use Rattle.ak_lab_wires.proofs.Crossing.{told_so}
+use Rattle.ak_lab_wires.specs.CrossedSyncs.{cross_state}
+use Rattle.ak_lab_wires.proofs.crossed_syncs.CrossedLab.tell.Goals as goal
+
+pub returns-in-Ok : goal.returns-in-Ok
+returns-in-Ok c =
+    told_so c.args.name.now c.args.outcome.now (cross_state c.args.self.now) _ c.in-Ok.line c.push.result c.in-Ok.ensures c.push.ensures.ok c.push.ensures.err refl
