@@ -55,7 +55,7 @@ REFUSALS = ("long input", "long line", "not text", "bad line", "no device <name>
             "in use: deck <n>", "in use: type <n>", "fields <n>, wanted <n>", "default kept", "stamp end", "id end", *("row fault %d at <n>" % n for n in range(1, 5)),
             *("template fault %d at <n>" % n for n in range(1, 5)), "no field <name>", "no filter <name>", "not answerable: queue <n>", "schema change not allowed",
             "bad map at <n>", "nothing to undo", "not filtered: <n>", "bad plan: <n>")
-NO_LOSS = "no message of a lab is lost, and nobody syncs in between"
+NO_LOSS = "no line of these scripts loses a message, and nobody syncs in between"
 UNREACHED = {
     "sync full needed: sequence": "it takes 2,147,483,645 syncs", "sync sanity failed: note <n> without type": "a deleted note type changes the schema",
     "sync sanity failed: counts": "the two sides of a lab are linked",

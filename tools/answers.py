@@ -17,9 +17,9 @@ def status_told(answers, status, on=None):
 
 
 def pattern_of(text):
-    """A pattern that what is printed matches: `<..>` stands for anything."""
-    parts = re.split(r"<[^<>]*>", text)
-    return "(.*)".join(re.escape(part) for part in parts)
+    """A pattern that what is printed matches: `<status>` stands for a number or itself, any other `<..>` for anything."""
+    parts = re.split(r"(<[^<>]*>)", text)
+    return "".join(re.escape(part) if place % 2 == 0 else r"(\d+|<status>)" if part == "<status>" else "(.*)" for place, part in enumerate(parts))
 
 
 def text_told(answers, printed):

@@ -133,8 +133,10 @@ class Answers(unittest.TestCase):
 
     def test_the_most_telling_text_is_found(self):
         for printed, text in (("bad line", "bad line"), ("note 5 cards 6 7", "note <id> cards <ids>"), ("note 5 without card", "note <id> without card"), ("card 5", "card <id>"),
-                              ("search fault 5 at 0", "search fault 5 at <place>"), ("no such deck 7", "no such <table> <id>"), ("no device x", "no device <name>"), ("line 3: bad line", "line <n>: <text>")):
+                              ("search fault 5 at 0", "search fault 5 at <place>"), ("no such deck 7", "no such <table> <id>"), ("no device x", "no device <name>"), ("line 3: bad line", "line <n>: <text>"),
+                              ("409 no session", "<status> <word>"), ("sync A: refused 409 base", "sync <device>: <end>"), ("no request 7", "no request <n>")):
             self.assertEqual(text, answers.text_told(self.told, printed)["text"])
+        self.assertIsNone(answers.text_told(self.told, "nothing of all this"))
 
 
 class Made(unittest.TestCase):
