@@ -37,6 +37,7 @@ short (lines.Disturb name call what) s = refl
 short (lines.Cross name call other) s = refl
 short (lines.Replay name call from count) s = refl
 short (lines.Resend from count) s = inl refl
+short (lines.Break side) s = refl
 short (lines.Transfer direction name) s = inl refl
 short (lines.Show sides.Server what) s = as_it_was s
 short (lines.Show (sides.Device name) what) s = refl

@@ -61,5 +61,5 @@ counted kept counts (Err end) held is = tt
 
 -- a new device, with a copy
 pub made_new : (name : List ℕ) (held : WithMark Holding) (steps : List Step) (c : Collection) → held ≡ kept_of (as_downloaded c) → steps ≡ []
-    → (let d : Device = record { name = name; collection = held; undo = steps; shift = pos 0; done = 0; calls = 0; mishaps = []; planned = [] } in d) ≡ new_device name c
+    → (let d : Device = record { name = name; collection = held; undo = steps; shift = pos 0; done = 0; calls = 0; fails = []; mishaps = []; planned = [] } in d) ≡ new_device name c
 made_new name held steps c same none = rw (same, none) refl

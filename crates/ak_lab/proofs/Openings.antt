@@ -7,7 +7,7 @@ use Rattle.ak_loops.specs.LoggedServers.{begins_with}
 use Rattle.ak_openings.specs.declared.whole_collections.Opening.{Opening}
 
 abbrev opened_with : LoggedState → LabState
-opened_with server = record { clock = pos 1_700_000_000_000; server = server; sessions = 0; devices = [] }
+opened_with server = record { clock = pos 1_700_000_000_000; server = server; sessions = 0; fails = []; devices = [] }
 
 pub lab_opened : (host : List ℕ) (made : Opening) (server : LoggedState) → server ≡ begins_with host made → host ≡ lab_host → opened_with server ≡ opened_lab made
 lab_opened host made server begins same = ap opened_with begins ∙ ap (λ (host : List ℕ). opened_with (begins_with host made)) same

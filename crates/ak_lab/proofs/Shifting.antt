@@ -7,8 +7,9 @@ use Rattle.ak_lab.specs.LabSyncs.{RunsAt}
 use Rattle.ak_lab_devices.proofs.Placing.{put_back}
 use Rattle.ak_lab_devices.specs.Devices.{are_in_time, is_clock_moment}
 use Rattle.ak_lab_devices.specs.declared.devices.Device.{Device}
-use Rattle.ak_lab_wires.proofs.Kept.{Face, StaysLab, crosses_calm, faces, session_calm, session_lab}
-use Rattle.ak_lab_wires.specs.CrossedSyncs.{CrossState, CrossesAt, cross_state, crosses_nothing}
+use Rattle.ak_faults.specs.Calls.{names_none}
+use Rattle.ak_lab_wires.proofs.Kept.{Face, StaysLab, faces, session_lab}
+use Rattle.ak_lab_wires.specs.CrossedSyncs.{CrossState, cross_state}
 use Rattle.ak_lab_wires.specs.declared.lab_sessions.SessionKind.{SessionKind}
 
 abbrev shifts : List Device → List ℤ
@@ -62,7 +63,7 @@ still_within devices then place stand_in same within =
 -- ---- the lab after a session
 module _ (kind : SessionKind) (place : ℕ) (s t : LabState) (crossed : List (List ℕ)) (outcome : Outcome) (runs : RunsAt kind place s t crossed outcome) where
   stays : StaysLab (cross_state runs.was.lab) (cross_state runs.became.lab)
-  stays = session_lab kind _ _ _ _ _ runs.made runs.was runs.became s.server t.server outcome runs.session
+  stays = session_lab kind _ _ _ _ _ runs.made runs.was runs.became _ _ outcome runs.session
 
   pub faces_then : faces runs.became.lab.devices.items ≡ faces (slice_set s.devices place runs.begins.stand_in)
   faces_then = stays.faces ∙ ap (λ (x : CrossState). faces x.devices) runs.begins.lab
@@ -80,5 +81,5 @@ module _ (kind : SessionKind) (place : ℕ) (s t : LabState) (crossed : List (Li
   ready_after same ready = record {
     clocks = ap (λ (x : LabState). are_in_time x.clock x.devices) runs.left
         ∙ same_in_time s.clock (slice_set runs.became.lab.devices.items place runs.made) s.devices (shifts_then same) ∙ ready.clocks;
-    calm = session_calm CrossesAt crosses_nothing crosses_calm kind _ _ _ _ _ runs.made runs.was runs.became s.server t.server outcome runs.session ready.calm;
+    calm = ap names_none runs.rests;
   }

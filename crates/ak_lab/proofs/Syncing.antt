@@ -6,7 +6,7 @@ use Rattle.ak_lab.proofs.Coming.{stopped_at_once}
 use Rattle.ak_lab.proofs.Shifting.{ready_after}
 use Rattle.ak_lab.specs.LabStates.{IsReady, LabState}
 use Rattle.ak_lab.specs.LabStops.{IsStopBy, PrintsOutcome}
-use Rattle.ak_lab.specs.LabSyncs.{EndsLabSession, RunsAt, mishaps_for, planned_for, session_line, without_plan_for}
+use Rattle.ak_lab.specs.LabSyncs.{EndsLabSession, RunsAt, mishaps_for, planned_for, server_met, session_line, with_fails, without_plan_for}
 use Rattle.ak_lab.specs.LineStops.{CameOut}
 use Rattle.ak_lab.specs.declared.lab_stops.LabStop.{LabStop}
 use Rattle.ak_lab.specs.declared.lab_stops.LabStop.TheVariants as stops
@@ -17,7 +17,7 @@ use Rattle.ak_lab_lines.specs.declared.lab_lines.Direction.{Direction}
 use Rattle.ak_lab_lines.specs.declared.lab_lines.LabLine.TheVariants as lines
 use Rattle.ak_lab_wires.proofs.Alone.{lab_stays}
 use Rattle.ak_lab_wires.specs.CrossedSyncs.{CrossState, CrossesAt, cross_state, crosses_nothing}
-use Rattle.ak_lab_wires.specs.LabSessions.{IsSessionOver}
+use Rattle.ak_lab_wires.specs.LabSessions.{IsSessionOver, fails_after}
 use Rattle.ak_lab_wires.specs.declared.crossed_syncs.Crossings.{Crossings}
 use Rattle.ak_lab_wires.specs.declared.lab_sessions.SessionKind.{SessionKind}
 use Rattle.ak_lab_wires.specs.declared.lab_sessions.SessionKind.TheVariants as kinds
@@ -25,9 +25,9 @@ use Rattle.ak_loops.specs.Entries.{LoggedState}
 use Rattle.ak_loops.specs.declared.mishaps.Mishap.{Mishap}
 
 -- the lab after a session of the device at a place
-abbrev pub synced_at : ℕ → Device → LoggedState → Crossings → LabState → LabState
-synced_at place made server became s =
-    record s { server = server; sessions = became.lab.sessions; devices = slice_set became.lab.devices.items place made }
+abbrev pub synced_at : ℕ → Device → LoggedState → Crossings → List ℕ → LabState → LabState
+synced_at place made server became fails s =
+    record s { server = server; sessions = became.lab.sessions; fails = fails; devices = slice_set became.lab.devices.items place made }
 
 -- the lab in which others sync meanwhile, field by field
 pub cross_begins : (s : LabState) (x : CrossState) (place : ℕ) (stand_in : Device) → x.clock ≡ s.clock → x.sessions ≡ one_more s.sessions
@@ -44,16 +44,17 @@ cross_begins s x place stand_in clock sessions devices printed =
       printed = l;
     } in y) printed
 
--- a session over a wire that was made with the server, and with what others do between its calls
+-- a session over a wire that was made with the server, and with what others do between its calls. The calls of the server's keeper that are to fail
+-- were set before it, and none is set after it
 pub runs_there : (kind : SessionKind) (place key : ℕ) (s t : LabState) (d taken made stand_in : Device) (at : ℤ) (moments : List ℤ) (mishaps : List Mishap) (was became : Crossings)
-    (old new : LoggedState) (crossed : List (List ℕ)) (outcome : Outcome) → slice_get s.devices place ≡ Some d → stand_in.name ≡ [] → stand_in.shift ≡ d.shift
+    (old new rested : LoggedState) (fails : List ℕ) (crossed : List (List ℕ)) (outcome : Outcome) → slice_get s.devices place ≡ Some d → stand_in.name ≡ [] → stand_in.shift ≡ d.shift
     → was.acts ≡ planned_for kind d
     → cross_state was.lab ≡ (let x : CrossState = record { clock = s.clock; sessions = one_more s.sessions; devices = slice_set s.devices place stand_in; printed = [] } in x)
-    → key ≡ one_more s.sessions → at ≡ s.clock → moments ≡ (s.clock +ℤ d.shift) ∷ [] → mishaps ≡ mishaps_for kind d → taken ≡ without_plan_for kind d → old ≡ s.server
+    → key ≡ one_more s.sessions → at ≡ s.clock → moments ≡ (s.clock +ℤ d.shift) ∷ [] → mishaps ≡ mishaps_for kind d → taken ≡ without_plan_for kind d → old ≡ server_met kind s
     → IsSessionOver CrossesAt crosses_nothing kind key at moments mishaps taken made was became old new outcome
-    → t ≡ synced_at place made new became s → crossed ≡ became.lab.printed → RunsAt kind place s t crossed outcome
-runs_there kind place key s t d taken made stand_in at moments mishaps was became old new crossed outcome there nameless shift acts lab next clock gives mishaps_are taken_is server ran left told =
-    let handed : new ≡ t.server = sym (ap (λ (x : LabState). x.server) left) in
+    → rested ≡ with_fails [] new → fails ≡ fails_after kind s.fails → t ≡ synced_at place made rested became fails s → crossed ≡ became.lab.printed → RunsAt kind place s t crossed outcome
+runs_there kind place key s t d taken made stand_in at moments mishaps was became old new rested fails crossed outcome there nameless shift acts lab next clock gives mishaps_are taken_is server ran rests fails_are left told =
+    let handed : t.server ≡ with_fails [] new = ap (λ (x : LabState). x.server) left ∙ rests in
     record {
       d = d;
       made = made;
@@ -61,9 +62,13 @@ runs_there kind place key s t d taken made stand_in at moments mishaps was becam
       was = was;
       became = became;
       begins = record { stand_in = stand_in; nameless = nameless; shift = shift; acts = acts; lab = lab };
-      session = subst (λ (x : LoggedState). IsSessionOver CrossesAt crosses_nothing kind (one_more s.sessions) s.clock ((s.clock +ℤ d.shift) ∷ []) (mishaps_for kind d) (without_plan_for kind d) made was became s.server x outcome) handed
+      fails_left = new.fails;
+      session = subst (λ (x : LoggedState). IsSessionOver CrossesAt crosses_nothing kind (one_more s.sessions) s.clock ((s.clock +ℤ d.shift) ∷ []) (mishaps_for kind d) (without_plan_for kind d) made was became (server_met kind s) x outcome)
+          (sym (ap (with_fails new.fails) handed))
           (rw (next, clock, gives, mishaps_are, taken_is, server) at ran);
-      left = left ∙ ap (λ (x : LoggedState). synced_at place made x became s) handed;
+      rests = ap (λ (x : LoggedState). x.fails) handed;
+      left = left ∙ ap (λ (x : LoggedState). synced_at place made x became fails s) (sym (ap (λ (x : LabState). x.server) left))
+          ∙ ap (λ (l : List ℕ). synced_at place made t.server became l s) fails_are;
       told = told;
     }
 
@@ -93,7 +98,7 @@ uncrossed direction name s t crossed outcome ends =
     let runs = ends.runs in
     runs.told
     ∙ ap (λ (x : CrossState). x.printed)
-    ((lab_stays (kinds.Transfer direction) _ _ _ _ _ runs.made runs.was runs.became s.server t.server outcome runs.session runs.begins.acts).1 ∙ runs.begins.lab)
+    ((lab_stays (kinds.Transfer direction) _ _ _ _ _ runs.made runs.was runs.became _ _ outcome runs.session runs.begins.acts).1 ∙ runs.begins.lab)
 
 -- the outcome is printed, if memory suffices for it
 pub session_printed : (kind : SessionKind) (name : List ℕ) (s t : LabState) (crossed : List (List ℕ)) (outcome : Outcome) (result : Result (List (List ℕ)) LabStop)

@@ -1,4 +1,4 @@
--- What lines plan for the next sync of a device, and requests of the log that are sent again.
+-- What lines plan for the next sync of a device or of the server, and requests of the log that are sent again.
 use Rattle.std.specs.Prelude.{◌≡◌, ℕ, ℤ, List, [], ◌∷◌, ◌++◌, Some, map, Result, Ok, Err}
 use Rattle.ak_base.specs.declared.errors.Memory.{Memory}
 use Rattle.ak_io.specs.Arrivals.{IsClockMoment}
@@ -7,6 +7,8 @@ use Rattle.ak_lab_devices.specs.Devices.{device_of}
 use Rattle.ak_lab_devices.specs.declared.devices.Device.{Device}
 use Rattle.ak_lab_devices.specs.declared.plans.Act.{Act}
 use Rattle.ak_lab_lines.specs.LabTexts.{no_request_text, reply_text}
+use Rattle.ak_lab_lines.specs.declared.lab_lines.Side.{Side}
+use Rattle.ak_lab_lines.specs.declared.lab_lines.Side.TheVariants as sides
 use Rattle.ak_lab_wires.specs.Servings.{AreServed, HasRequests, ServesFront, first_lacking, named_from, requests_in}
 use Rattle.ak_loops.specs.Betweens.{ActEnd}
 use Rattle.ak_loops.specs.Entries.{LoggedState}
@@ -24,11 +26,24 @@ with_mishap call what d = record d { mishaps = d.mishaps ++ record { call = call
 abbrev pub with_act : ℕ → ℕ → Act → Device → Device
 with_act call line act d = record d { planned = d.planned ++ record { call = call; line = line; act = act } ∷ [] }
 
+-- the first call of a keeper, counted from 0
+abbrev pub first_call : List ℕ
+first_call = 0 ∷ []
+
+-- a device whose keeper's first call in the next sync is to fail
+abbrev pub with_break : Device → Device
+with_break d = record d { fails = first_call }
+
 -- this is planned for the device of a name
 pub record Plans (name : List ℕ) (change : Device → Device) (s t : LabState) : Type 0 where
   pub d : Device
   pub found : device_of name s.devices ≡ Some d
   pub left : t ≡ with_changed (change d) s
+
+-- the first call of a side's keeper in the next sync is to fail: of the server's, in the next sync of any device
+abbrev pub PlansBreak : Side → LabState → LabState → Type 0
+PlansBreak sides.Server s t = t ≡ record s { fails = first_call }
+PlansBreak (sides.Device name) s t = Plans name with_break s t
 
 -- ---- requests of the log
 -- there are not so many requests from a number on: the first one that the log lacks is told

@@ -8,24 +8,28 @@ use Rattle.ak_loops.specs.Entries.{LoggedState, health_in}
 use Rattle.ak_loops.specs.LoggedServers.{begins_with}
 use Rattle.ak_openings.specs.declared.whole_collections.Opening.{Opening}
 
--- a lab: its clock in milliseconds, its server with all that came to it, how many sessions began, and its devices in the order of their lines
+-- a lab: its clock in milliseconds, its server with all that came to it, how many sessions began, the calls of the server's keeper that are to
+-- fail in the next sync, and its devices in the order of their lines
 pub record LabState : Type 0 where
   pub clock : ℤ
   pub server : LoggedState
   pub sessions : ℕ
+  pub fails : List ℕ
   pub devices : List Device
 
 -- the state of the program's lab
 abbrev pub state_of : Lab → LabState
 state_of lab =
-    record { clock = lab.clock; server = lab.server; sessions = lab.sessions; devices = lab.devices.items }
+    record { clock = lab.clock; server = lab.server; sessions = lab.sessions; fails = lab.fails; devices = lab.devices.items }
 
--- the lab before its first line: the server has the opening collection and nothing came to it, and there is no device
+-- the lab before its first line: the server has the opening collection and nothing came to it, no call of its keeper is to fail, and there is
+-- no device
 abbrev pub opened_lab : Opening → LabState
 opened_lab opening = record {
   clock = pos 1_700_000_000_000;
   server = begins_with lab_host opening;
   sessions = 0;
+  fails = [];
   devices = [];
 }
 

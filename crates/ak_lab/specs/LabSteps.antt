@@ -6,7 +6,7 @@ use Rattle.ak_edit.specs.declared.desk_faults.DeskFault.{DeskFault}
 use Rattle.ak_keep.specs.Collections.{Collection}
 use Rattle.ak_lab_devices.specs.Devices.{are_in_time, device_of, is_clock_moment, new_device}
 use Rattle.ak_lab.specs.LabDesks.{EndsDo, EndsReview}
-use Rattle.ak_lab.specs.LabPlans.{LacksRequest, Plans, Resends, ResendsSome, with_act, with_mishap}
+use Rattle.ak_lab.specs.LabPlans.{LacksRequest, Plans, PlansBreak, Resends, ResendsSome, with_act, with_mishap}
 use Rattle.ak_lab.specs.LabStates.{LabState, with_changed}
 use Rattle.ak_lab.specs.LabSyncs.{EndsSync, EndsTransfer}
 use Rattle.ak_lab_devices.specs.declared.devices.Device.{Device}
@@ -84,6 +84,7 @@ Accepts (lines.Cross name call other) s t printed = (o : Device) × (device_of o
 Accepts (lines.Replay name call from count) s t printed = HasRequests from count s.server
     × Plans name (with_act call s.server.line (acts.Replay from count)) s t × (printed ≡ [])
 Accepts (lines.Resend from count) s t printed = Resends from count s t printed
+Accepts (lines.Break side) s t printed = PlansBreak side s t × (printed ≡ [])
 Accepts (lines.Transfer direction name) s t printed =
     (outcome : Outcome) × (text : List ℕ) × EndsTransfer direction name s t outcome × (outcome_text outcome ≡ Some text)
     × (printed ≡ ending_text (direction_word direction) name text ∷ [])
@@ -139,6 +140,7 @@ RefusesWith (lines.Cross name call other) s t why = NoDevice name s t why
 RefusesWith (lines.Replay name call from count) s t why = NoDevice name s t why
     ⊎ (d : Device) × (device_of name s.devices ≡ Some d) × LacksRequest from count s t why
 RefusesWith (lines.Resend from count) s t why = LacksRequest from count s t why
+RefusesWith (lines.Break side) s t why = NoSide side s t why
 RefusesWith (lines.Transfer direction name) s t why = NoDevice name s t why
 RefusesWith (lines.Show side what) s t why = NoSide side s t why
 RefusesWith (lines.Count side) s t why = NoSide side s t why
@@ -172,6 +174,7 @@ RunsShort (lines.Disturb name call what) s t = t ≡ s
 RunsShort (lines.Cross name call other) s t = t ≡ s
 RunsShort (lines.Replay name call from count) s t = t ≡ s
 RunsShort (lines.Resend from count) s t = (t ≡ s) ⊎ ResendsSome from count s t
+RunsShort (lines.Break side) s t = t ≡ s
 RunsShort (lines.Transfer direction name) s t = (t ≡ s) ⊎ (outcome : Outcome) × EndsTransfer direction name s t outcome
 RunsShort (lines.Show side what) s t = OnlyLooks side s t
 RunsShort (lines.Count side) s t = OnlyLooks side s t

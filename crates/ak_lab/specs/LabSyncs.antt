@@ -12,10 +12,11 @@ use Rattle.ak_lab_lines.specs.declared.lab_lines.Direction.{Direction}
 use Rattle.ak_lab_lines.specs.declared.lab_lines.LabLine.{LabLine}
 use Rattle.ak_lab_lines.specs.declared.lab_lines.LabLine.TheVariants as lines
 use Rattle.ak_lab_wires.specs.CrossedSyncs.{CrossesAt, cross_state, crosses_nothing}
-use Rattle.ak_lab_wires.specs.LabSessions.{IsSessionOver}
+use Rattle.ak_lab_wires.specs.LabSessions.{IsSessionOver, fails_after, fails_in}
 use Rattle.ak_lab_wires.specs.declared.crossed_syncs.Crossings.{Crossings}
 use Rattle.ak_lab_wires.specs.declared.lab_sessions.SessionKind.{SessionKind}
 use Rattle.ak_lab_wires.specs.declared.lab_sessions.SessionKind.TheVariants as kinds
+use Rattle.ak_loops.specs.Entries.{LoggedState}
 use Rattle.ak_loops.specs.declared.mishaps.Mishap.{Mishap}
 
 -- ---- a kind of session
@@ -45,6 +46,14 @@ abbrev pub without_plan_for : SessionKind → Device → Device
 without_plan_for kinds.Sync d = with_plan [] [] d
 without_plan_for (kinds.Transfer direction) d = d
 
+-- a server of whose keeper these calls are to fail
+abbrev pub with_fails : List ℕ → LoggedState → LoggedState
+with_fails calls server = record server { fails = calls }
+
+-- the server that a session meets: in a sync the calls of its keeper are to fail that are planned for it
+abbrev pub server_met : SessionKind → LabState → LoggedState
+server_met kind s = with_fails (fails_in kind s.fails) s.server
+
 -- ---- a session of the lab
 -- what it takes is made: the clock of its device stands at this moment, and what stands in for this has no name and its clock
 pub record IsPreparedAt (at shift : ℤ) (it : Prepared) : Type 0 where
@@ -72,7 +81,7 @@ pub record CrossesFor (kind : SessionKind) (place : ℕ) (d : Device) (s : LabSt
   }
 
 -- the device at this place had a session of this kind, the next one, and others that crossed it printed these lines. The server's clock and the device's
--- stood still meanwhile
+-- stood still meanwhile. Calls of the server's keeper that are still to fail then are forgotten
 pub record RunsAt (kind : SessionKind) (place : ℕ) (s t : LabState) (crossed : List (List ℕ)) (outcome : Outcome) : Type 0 where
   pub d : Device
   pub made : Device
@@ -80,11 +89,14 @@ pub record RunsAt (kind : SessionKind) (place : ℕ) (s t : LabState) (crossed :
   pub was : Crossings
   pub became : Crossings
   pub begins : CrossesFor kind place d s was
+  pub fails_left : List ℕ
   pub session : IsSessionOver CrossesAt crosses_nothing kind (one_more s.sessions) s.clock ((s.clock +ℤ d.shift) ∷ []) (mishaps_for kind d)
-      (without_plan_for kind d) made was became s.server t.server outcome
+      (without_plan_for kind d) made was became (server_met kind s) (with_fails fails_left t.server) outcome
+  pub rests : t.server.fails ≡ []
   pub left : t ≡ record s {
     server = t.server;
     sessions = became.lab.sessions;
+    fails = fails_after kind s.fails;
     devices = slice_set became.lab.devices.items place made;
   }
   pub told : crossed ≡ became.lab.printed

@@ -110,6 +110,10 @@ pub(crate) fn obey(lab: Lab, said: LabLine) -> (Lab, Result<List<Text>, LabStop>
             let came = lab.resend(Again { from, count });
             (lab, came)
         }
+        LabLine::Break(side) => {
+            let came = lab.plan_break(&side);
+            (lab, came)
+        }
         LabLine::Show { side, what } => {
             let came = lab.show(&side, what);
             (lab, came)
@@ -342,6 +346,7 @@ fn new_device(alloc: Global, name: Text, server: &mut LoggedServer) -> Result<De
         shift: 0,
         done: 0,
         calls: 0,
+        fails: List::new(alloc),
         mishaps: List::new(alloc),
         planned: List::new(alloc),
     })

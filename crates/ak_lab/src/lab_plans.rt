@@ -1,12 +1,13 @@
-// What lines plan for the next sync of a device, and requests of the log that are sent again.
+// What lines plan for the next sync of a device or of the server, and requests of the log that are sent again.
 ghost use Rattle.std.specs.Prelude.{◌≡◌, ◌++◌, ◌∷◌, [], IfErr, IfOk, OnErr, OnOk};
 ghost use Rattle.ak_io.specs.Arrivals.{IsClockMoment};
-ghost use Rattle.ak_lab.specs.LabPlans.{AnswersEach, AnswersOne, with_act, with_mishap};
+ghost use Rattle.ak_lab.specs.LabPlans.{AnswersEach, AnswersOne, first_call, with_act, with_break, with_mishap};
 ghost use Rattle.ak_lab.specs.LabStates.{IsReady, state_of};
 ghost use Rattle.ak_lab.specs.LineStops.{CameOut};
 ghost use Rattle.ak_lab_lines.specs.LabTexts.{reply_text};
 ghost use Rattle.ak_lab_lines.specs.Written.{IsLabNumber};
 ghost use Rattle.ak_lab_lines.specs.declared.lab_lines.LabLine.TheVariants as lines;
+ghost use Rattle.ak_lab_lines.specs.declared.lab_lines.Side.TheVariants as sides;
 ghost use Rattle.ak_lab.specs.LabStops.{LacksStop};
 ghost use Rattle.ak_lab_wires.specs.Servings.{HasRequests, ServesFront, named_from, requests_in};
 ghost use Rattle.ak_loops.specs.Betweens.{ActEnd};
@@ -15,7 +16,7 @@ use crate::lab_stops::{LabStop, no_device, no_request};
 use crate::labs::Lab;
 use ak_base::{List, Memory, Text};
 use ak_lab_devices::{Act, Device, Planned, place_of};
-use ak_lab_lines::write_status;
+use ak_lab_lines::{Side, write_status};
 use ak_lab_wires::requests_named;
 use ak_loops::{LoggedServer, Mishap};
 use ak_messages::{Reply, Request};
@@ -109,6 +110,48 @@ impl Lab {
         }
     }
 
+    /// `break <side>`
+    pub(crate) fn plan_break(&mut self, side: &Side) -> Result<List<Text>, LabStop>
+        requires ready { IsReady (state_of self.old) }
+        ensures ends { CameOut (lines.Break side.now) (state_of self.old) (state_of self.new) result }
+        ensures ready { IsReady (state_of self.new) }
+    {
+        match side {
+            Side::Server => self.break_server(),
+            Side::Device(name) => self.break_device(name),
+        }
+    }
+
+    /// `break server`
+    fn break_server(&mut self) -> Result<List<Text>, LabStop>
+        requires ready { IsReady (state_of self.old) }
+        ensures ends { CameOut (lines.Break sides.Server) (state_of self.old) (state_of self.new) result }
+        ensures ready { IsReady (state_of self.new) }
+    {
+        match first_call(self.alloc) {
+            Ok(fails) => {
+                self.fails = fails;
+                Ok(List::new(self.alloc))
+            }
+            Err(Memory) => Err(LabStop::Memory),
+        }
+    }
+
+    /// `break <device>`
+    fn break_device(&mut self, name: &Text) -> Result<List<Text>, LabStop>
+        requires ready { IsReady (state_of self.old) }
+        ensures ends { CameOut (lines.Break (sides.Device name.now)) (state_of self.old) (state_of self.new) result }
+        ensures ready { IsReady (state_of self.new) }
+    {
+        let Some(place) = place_of(self.devices.as_slice(), name) else {
+            return Err(no_device(self.alloc, name));
+        };
+        match set_break(self.alloc, &mut self.devices[place]) {
+            Ok(()) => Ok(List::new(self.alloc)),
+            Err(Memory) => Err(LabStop::Memory),
+        }
+    }
+
     /// `resend <from> <count>`
     pub(crate) fn resend(&mut self, again: Again) -> Result<List<Text>, LabStop>
         requires ready { IsReady (state_of self.old) }
@@ -147,6 +190,29 @@ fn add_act(device: &mut Device, planned: Planned) -> Result<(), Memory>
     ensures err { OnErr result (device.new ≡ device.old) }
 {
     device.planned.push(planned)
+}
+
+/// Plans for a device that the first call of its keeper fails.
+fn set_break(alloc: Global, device: &mut Device) -> Result<(), Memory>
+    ensures ok { OnOk result (device.new ≡ with_break device.old) }
+    ensures err { OnErr result (device.new ≡ device.old) }
+{
+    match first_call(alloc) {
+        Ok(fails) => {
+            device.fails = fails;
+            Ok(())
+        }
+        Err(end) => Err(end),
+    }
+}
+
+/// The first call of a keeper, alone.
+fn first_call(alloc: Global) -> Result<List<u64>, Memory>
+    ensures { IfOk result (λ calls. calls ≡ first_call) }
+{
+    let mut calls = List::new(alloc);
+    calls.push(0)?;
+    Ok(calls)
 }
 
 /// Copies of requests of the server's log. It is refused if the log lacks one of them.

@@ -6,6 +6,7 @@ ghost use Rattle.ak_lab.specs.LabStops.{PrintsOutcome};
 ghost use Rattle.ak_lab.specs.LabSyncs.{IsPreparedAt, IsPreparedThere, RunsAt, mishaps_for, planned_for, session_line, session_word, without_plan_for};
 ghost use Rattle.ak_lab.specs.LineStops.{CameOut};
 ghost use Rattle.ak_lab_devices.specs.Devices.{IsPlaceOf};
+ghost use Rattle.ak_lab_wires.specs.LabSessions.{fails_after, fails_in};
 
 use crate::lab_stops::{LabStop, no_device};
 use crate::labs::Lab;
@@ -100,8 +101,9 @@ fn run_prepared(lab: Lab, kind: SessionKind, place: usize, prepared: Prepared) -
     let Lab {
         alloc,
         clock,
-        server,
+        mut server,
         sessions,
+        mut fails,
         mut devices,
     } = lab;
     let Prepared {
@@ -111,6 +113,8 @@ fn run_prepared(lab: Lab, kind: SessionKind, place: usize, prepared: Prepared) -
     let key = sessions.saturating_add(1);
     let mut device = mem::replace(&mut devices[place], stand_in);
     let (mishaps, acts) = plan_for(alloc, kind, &mut device);
+    let failing = fails_for(alloc, kind, &mut fails);
+    server.fail_at(failing);
     let between = Crossings {
         lab: CrossedLab {
             alloc,
@@ -127,7 +131,9 @@ fn run_prepared(lab: Lab, kind: SessionKind, place: usize, prepared: Prepared) -
         key,
         clock: device_clock,
     };
-    let (server, between, outcome) = run_over(&mut device, wire, turn);
+    let (mut server, between, outcome) = run_over(&mut device, wire, turn);
+    // A call that the session did not reach fails in no later one, and in no view.
+    server.fail_at(List::new(alloc));
     let Crossings { lab, .. } = between;
     let CrossedLab {
         sessions,
@@ -141,6 +147,7 @@ fn run_prepared(lab: Lab, kind: SessionKind, place: usize, prepared: Prepared) -
         clock,
         server,
         sessions,
+        fails,
         devices,
     };
     let ran = Ran {
@@ -159,6 +166,17 @@ fn plan_for(alloc: Global, kind: SessionKind, device: &mut Device) -> (List<Mish
     match kind {
         SessionKind::Sync => take_plan(alloc, device, List::new(alloc)),
         SessionKind::Transfer(_) => (List::new(alloc), List::new(alloc)),
+    }
+}
+
+/// Takes the calls of the server's keeper that are to fail in a session of this kind: in a sync all that are planned, in the others none.
+fn fails_for(alloc: Global, kind: SessionKind, planned: &mut List<u64>) -> List<u64>
+    ensures fails { result ≡ fails_in kind planned.old }
+    ensures left { planned.new ≡ fails_after kind planned.old }
+{
+    match kind {
+        SessionKind::Sync => mem::replace(planned, List::new(alloc)),
+        SessionKind::Transfer(_) => List::new(alloc),
     }
 }
 

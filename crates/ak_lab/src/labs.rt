@@ -3,7 +3,7 @@ ghost use Rattle.ak_lab.specs.LabStates.{IsReady, at_line, opened_lab, state_of}
 ghost use Rattle.ak_lab.specs.LabRuns.{IsLabOpening};
 ghost use Rattle.ak_openings.specs.declared.whole_collections.Opening.{Opening};
 
-use ak_base::{Memory, Text};
+use ak_base::{List, Memory, Text};
 use ak_lab_devices::Device;
 use ak_lab_wires::lab_key;
 use ak_loops::{Log, LoggedServer};
@@ -22,6 +22,8 @@ pub(crate) struct Lab {
     pub(crate) server: LoggedServer,
     /// How many syncs, uploads and downloads began. At the last `u64` it stays.
     pub(crate) sessions: u64,
+    /// The calls of the server's keeper that fail in the next sync, counted from 0 over that whole line.
+    pub(crate) fails: List<u64>,
     pub(crate) devices: Vec<Device>,
 }
 
@@ -39,6 +41,7 @@ impl Lab {
             clock: OPENING_MOMENT,
             server,
             sessions: 0,
+            fails: List::new(alloc),
             devices: Vec::new(alloc),
         })
     }

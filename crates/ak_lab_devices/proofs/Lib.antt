@@ -1,3 +1,4 @@
+mod Failing
 pub mod Held
 pub mod InTime
 pub mod Places

@@ -20,8 +20,8 @@ keeping_of d = all_known d.collection
 abbrev pub as_downloaded : Collection → Collection
 as_downloaded c = record c { head = record c.head { last_sync = c.head.moment } }
 
--- a new device with a copy of the server's collection. Its clock is the lab's, there is nothing to undo, nothing was answered or asked yet, and
--- nothing is planned
+-- a new device with a copy of the server's collection. Its clock is the lab's, there is nothing to undo, nothing was answered or asked yet, no
+-- call of its keeper is to fail, and nothing is planned
 abbrev pub new_device : List ℕ → Collection → Device
 new_device name c = record {
   name = name;
@@ -30,6 +30,7 @@ new_device name c = record {
   shift = pos 0;
   done = 0;
   calls = 0;
+  fails = [];
   mishaps = [];
   planned = [];
 }

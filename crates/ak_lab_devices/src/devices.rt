@@ -20,6 +20,8 @@ pub struct Device {
     pub done: u64,
     /// How many calls its last sync made. At the last `u64` it stays.
     pub calls: u64,
+    /// The calls of its keeper that fail in its next sync, counted from 0.
+    pub fails: List<u64>,
     /// What happens to the messages of its next sync.
     pub mishaps: List<Mishap>,
     /// What lines planned before the calls of its next sync, in the order of the lines.

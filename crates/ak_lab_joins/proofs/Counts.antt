@@ -28,7 +28,7 @@ session_count : (kind : SessionKind) (name : List ℕ) (s t : LabState) (crossed
 session_count kind name s t crossed outcome ends =
     let runs = ends.runs in
     let stays : StaysLab (cross_state runs.was.lab) (cross_state runs.became.lab) =
-    session_lab kind _ _ _ _ _ runs.made runs.was runs.became s.server t.server outcome runs.session in
+    session_lab kind _ _ _ _ _ runs.made runs.was runs.became _ _ outcome runs.session in
     by (one_more s.sessions) (cross_state runs.was.lab).sessions (cross_state runs.became.lab).sessions t.sessions
     (ap (λ (x : CrossState). x.sessions) runs.begins.lab) stays.later (ap (λ (x : LabState). x.sessions) runs.left)
   where
@@ -56,6 +56,8 @@ said_room (lines.Disturb name call what) s t printed (plans, none) room = same_r
 said_room (lines.Cross name call other) s t printed (o, found, plans, none) room = same_room s t (ap (λ (x : LabState). x.sessions) plans.left) room
 said_room (lines.Replay name call from count) s t printed (has, plans, none) room = same_room s t (ap (λ (x : LabState). x.sessions) plans.left) room
 said_room (lines.Resend from count) s t printed resends room = same_room s t (ap (λ (x : LabState). x.sessions) resends.left) room
+said_room (lines.Break sides.Server) s t printed (left, none) room = same_room s t (ap (λ (x : LabState). x.sessions) left) room
+said_room (lines.Break (sides.Device name)) s t printed (plans, none) room = same_room s t (ap (λ (x : LabState). x.sessions) plans.left) room
 said_room (lines.Transfer direction name) s t printed (outcome, text, ends, told, is) room = session_room (kinds.Transfer direction) name s t [] outcome ends room
 said_room (lines.Show sides.Server what) s t printed (c, holds, is) room = same_room s t (ap (λ (x : LabState). x.sessions) holds.1.left) room
 said_room (lines.Show (sides.Device name) what) s t printed (c, holds, is) room = same_room s t (ap (λ (x : LabState). x.sessions) holds.0) room
@@ -101,6 +103,8 @@ said_count (lines.Disturb name call what) s t printed (plans, none) alone = same
 said_count (lines.Cross name call other) s t printed (o, found, plans, none) alone = same_count s t (ap (λ (x : LabState). x.sessions) plans.left)
 said_count (lines.Replay name call from count) s t printed (has, plans, none) alone = same_count s t (ap (λ (x : LabState). x.sessions) plans.left)
 said_count (lines.Resend from count) s t printed resends alone = same_count s t (ap (λ (x : LabState). x.sessions) resends.left)
+said_count (lines.Break sides.Server) s t printed (left, none) alone = same_count s t (ap (λ (x : LabState). x.sessions) left)
+said_count (lines.Break (sides.Device name)) s t printed (plans, none) alone = same_count s t (ap (λ (x : LabState). x.sessions) plans.left)
 said_count (lines.Transfer direction name) s t printed (outcome, text, ends, told, is) alone =
     subst (λ (n : ℕ). n ≤ s.sessions + 1)
     (sym (ap (λ (x : LabState). x.sessions) (transfer_alone direction name s t outcome ends).left)) (one_at_most s.sessions)

@@ -3,13 +3,12 @@
 use Rattle.std.specs.Prelude.{◌≡◌, ◌≢◌, ◌⊎◌, ℕ, zero, suc, ℤ, ◌≤ℤ◌, ◌<ℤ◌, Bool, true, false, List, [], ◌∷◌, ◌++◌, length, Option, Some}
 use Rattle.std.proofs.Common.{refl, sym, ap, subst, ◌∙◌, inl, inr, arith}
 use Rattle.std.proofs.lemmas.Int.{ints}
-use Rattle.std.proofs.lemmas.Option.{same_Some}
 use Rattle.ak_base.specs.Limits.{last_moment}
 use Rattle.ak_base.specs.declared.heads.Head.{Head}
 use Rattle.ak_call_counts.specs.CallCounts.{no_calls}
 use Rattle.ak_client.proofs.Growing.{linked_grown}
 use Rattle.ak_client.specs.Outcomes.{is_told_by_meta}
-use Rattle.ak_client.specs.Syncs.{EndsAt, EndsBecause, HasRaised, IsFairEnd, KeepsDevice, MayBegin, Synced, Syncs, meta_tried, told_by, world_at}
+use Rattle.ak_client.specs.Syncs.{EndsAt, EndsBecause, HasRaised, IsFairEnd, KeepsDevice, MayBegin, Synced, meta_tried, told_by, world_at}
 use Rattle.ak_client.specs.declared.outcomes.Outcome.{Outcome}
 use Rattle.ak_client.specs.declared.outcomes.Outcome.TheVariants as outcomes
 use Rattle.ak_device.specs.Devices.{advanced_moment, moments_raised}
@@ -22,10 +21,13 @@ use Rattle.ak_keep.specs.Collections.{Collection}
 use Rattle.ak_keep.specs.Keepers.{Keeping, changed}
 use Rattle.ak_lab_devices.specs.Devices.{keeping_of}
 use Rattle.ak_lab_devices.specs.declared.devices.Device.{Device}
+use Rattle.ak_lab_joins.proofs.Crossed as crossed
+use Rattle.ak_lab_joins.proofs.Crossed.{finishes_crossed_fresh}
 use Rattle.ak_lab_joins.proofs.Greeted.{schema_told}
 use Rattle.ak_lab_joins.proofs.Level.{finishes_fresh, schema_led}
 use Rattle.ak_lab_joins.proofs.Metas.{one_schema}
 use Rattle.ak_lab_joins.proofs.Synced.{held_once, kept_is, known_is, nothing_to_undo, raised_past, single_of}
+use Rattle.ak_lab_joins.specs.LabCrossings.{IsCrossedFresh}
 use Rattle.ak_lab_joins.specs.LabJoins.{IsFinish, IsLinkedDevice, ends_at_check, world_in}
 use Rattle.ak_lab_keepers.specs.RestingKeepers.{Holds, kept_of}
 use Rattle.ak_lab_wires.specs.LabSessions.{IsSessionOver, lab_host}
@@ -110,21 +112,15 @@ module _ {X : Type 0} (acts : Acting X) (idle : X → Bool) (account : AccountSt
   fresh : EachNewer (HasFreshSchema own.c) before after
   fresh newer is = finishes_fresh own.c newer (finishes_here newer is)
 
-  may : MayBegin (asker session.ids) own.c account (log_in old)
-  may = record {
-    unused = unused_here;
-    lawful = subst (λ (h : List ℕ). IsLawfulAccount (world_in h account old).state) same_host lawful;
-    linked = subst (λ (h : List ℕ). AreLinked own.c (world_in h account old).state.committed) same_host own.links.linked;
-  }
-
   -- what the client promises
+  fresh_over : IsCrossedFresh d (world_in lab_host account old) (world_in lab_host account new)
+  fresh_over = finishes_crossed_fresh d (world_in lab_host account old) (world_in lab_host account new) finishes
+
+  may : MayBegin (asker session.ids) own.c account (log_in old)
+  may = crossed.may acts idle account key at device_at mishaps d.mishaps d.planned d made was became old new outcome session unused lawful own fresh_over
+
   synced : Synced (asker session.ids) session.ended.sync.moment (asks_in session.ended.sync.tries) own.c account (log_in old) (log_in new) (keeping_of made) outcome
-  synced =
-      let it = session.ended.sync.told (log_in old) refl in
-      let now : it.0 ≡ log_in new = same_Some it.0 (log_in new) (sym it.1 ∙ log_now) in
-      let syncs : Syncs session.ids session.ended.sync.moment (asks_in session.ended.sync.tries) (keeping_of d) (keeping_of made) (log_in old) (log_in new) outcome =
-      subst (λ (log : Log). Syncs session.ids session.ended.sync.moment (asks_in session.ended.sync.tries) (keeping_of d) (keeping_of made) (log_in old) log outcome) now it.2 in
-      syncs own.c account known may fresh
+  synced = crossed.synced acts idle account key at device_at mishaps d.mishaps d.planned d made was became old new outcome session unused lawful own fresh_over
 
   -- ---- the server's schema moment
   schema_stays : after.state.committed.head.schema ≡ before.state.committed.head.schema

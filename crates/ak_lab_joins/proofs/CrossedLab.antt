@@ -14,21 +14,23 @@ use Rattle.ak_exchange.specs.Asked.{answers_in, asker, asks_in}
 use Rattle.ak_faults.specs.Causes.{one_more}
 use Rattle.ak_keep.specs.Collections.{Collection}
 use Rattle.ak_lab.specs.LabStates.{LabState}
-use Rattle.ak_lab.specs.LabSyncs.{EndsLabSession, EndsSync, mishaps_for}
+use Rattle.ak_lab.specs.LabSyncs.{EndsLabSession, EndsSync, mishaps_for, server_met, with_fails}
 use Rattle.ak_lab_devices.specs.Devices.{device_of, with_plan}
 use Rattle.ak_lab_devices.specs.declared.devices.Device.{Device}
 use Rattle.ak_lab_joins.proofs.CrossedDevice.{crossed_device_linked, crossed_device_schema}
-use Rattle.ak_lab_joins.proofs.Crossings.{AreKept, IsLinkedOver, Stays, base_in, session_stays}
+use Rattle.ak_lab_joins.proofs.Crossers.{calls_leave}
+use Rattle.ak_lab_joins.proofs.Crossings.{AreKept, IsLinkedOver, Stays, base_in, fails_apart, kept_with, level_with, session_stays}
 use Rattle.ak_lab_joins.proofs.Keys.{AreOwnCalls, own_calls}
 use Rattle.ak_lab_joins.proofs.Level.{IsLevel, schema_now}
 use Rattle.ak_lab_joins.proofs.Names.{has_place, place_found, put_back_names, put_or_old}
 use Rattle.ak_lab_joins.proofs.NoUploads.{none_came, only_finishes}
 use Rattle.ak_lab_joins.proofs.Synced.{holds_is, held_once, next_over}
+use Rattle.ak_lab_joins.specs.EachCrossed.{HoldsOfEachCrossed}
+use Rattle.ak_lab_joins.specs.LabCrossings.{CrossedLeavesJoin}
 use Rattle.ak_lab_joins.specs.LabJoins.{AreUnlike, DeviceHolds, HasNoUpload, HasOrderedSchemas, HasSession, IsFinish, IsLevelFresh, IsLinkedDevice, IsLinkedLab, IsLinkedServer, committed_of, device_names, lab_world}
 use Rattle.ak_lab_keepers.specs.RestingKeepers.{Holds}
-use Rattle.ak_lab_wires.proofs.Kept.{faces}
 use Rattle.ak_lab_wires.specs.CrossedSyncs.{CrossState, CrossesAt, cross_state, crosses_nothing}
-use Rattle.ak_lab_wires.specs.LabSessions.{lab_host}
+use Rattle.ak_lab_wires.specs.LabSessions.{fails_in, lab_host}
 use Rattle.ak_lab_wires.specs.declared.lab_sessions.SessionKind.{SessionKind}
 use Rattle.ak_lab_wires.specs.declared.lab_sessions.SessionKind.TheVariants as kinds
 use Rattle.ak_loops.specs.Entries.{LoggedState, log_in}
@@ -49,26 +51,30 @@ module _ (account : AccountState) (ordered : Bool) (kind : SessionKind) (name : 
   abbrev begins : CrossState
   begins = begun kind name s t crossed outcome ends
 
-  pub calls_stay : AreOwnCalls (one_more s.sessions) ends.runs.session.calls → Stays account ordered ends.place begins (cross_state ends.runs.became.lab) s.server t.server
-  calls_stay own =
-      subst (λ (x : CrossState). Stays account ordered ends.place x (cross_state ends.runs.became.lab) s.server t.server) ends.runs.begins.lab
-      (session_stays account ordered ends.place (one_more s.sessions) s.clock (mishaps_for kind ends.runs.d) ends.runs.session.calls ends.runs.was ends.runs.became
-      s.server t.server own ends.runs.session.come (begins_past (cross_state ends.runs.was.lab) ends.runs.begins.lab))
+  -- its own session has begun then
+  pub begun_past : one_more s.sessions ≤ ends.runs.was.lab.sessions
+  begun_past = no_more (one_more s.sessions) ends.runs.was.lab.sessions (ap (λ (x : CrossState). x.sessions) ends.runs.begins.lab)
     where
       no_more : (a b : ℕ) → b ≡ a → a ≤ b
       no_more a b is = omega (arith, is)
 
-      begins_past : (x : CrossState) → x ≡ begins → one_more s.sessions ≤ x.sessions
-      begins_past x is = no_more (one_more s.sessions) x.sessions (ap (λ (y : CrossState). y.sessions) is)
+  pub calls_stay : AreOwnCalls (one_more s.sessions) ends.runs.session.calls → Stays account ordered ends.place begins (cross_state ends.runs.became.lab) s.server t.server
+  calls_stay own =
+      subst (λ (x : CrossState). Stays account ordered ends.place x (cross_state ends.runs.became.lab) s.server t.server) ends.runs.begins.lab
+      (fails_apart account ordered ends.place (cross_state ends.runs.was.lab) (cross_state ends.runs.became.lab) s.server t.server (fails_in kind s.fails) ends.runs.fails_left
+      (session_stays account ordered ends.place (one_more s.sessions) s.clock (mishaps_for kind ends.runs.d) 0 ends.runs.session.calls ends.runs.was ends.runs.became
+      (server_met kind s) (with_fails ends.runs.fails_left t.server) own ends.runs.session.come begun_past))
 
 -- ---- a sync
 module _ (account : AccountState) (ordered : Bool) (name : List ℕ) (s t : LabState) (crossed : List (List ℕ)) (outcome : Outcome)
     (ends : EndsSync name s t crossed outcome) where
-  pub stays : Stays account ordered ends.place (begun kinds.Sync name s t crossed outcome ends) (cross_state ends.runs.became.lab) s.server t.server
-  stays =
+  own_asked : AreOwnCalls (one_more s.sessions) ends.runs.session.calls
+  own_asked =
       let sync = ends.runs.session.ended.sync in
-      calls_stay account ordered kinds.Sync name s t crossed outcome ends
-      (own_calls (one_more s.sessions) ends.runs.session.ids sync.moment sync.tries (sync.meta ∷ answers_in sync.tries) ends.runs.session.calls ends.runs.session.of.session sync.rows ends.runs.session.asked)
+      own_calls (one_more s.sessions) ends.runs.session.ids sync.moment sync.tries (sync.meta ∷ answers_in sync.tries) ends.runs.session.calls ends.runs.session.of.session sync.rows ends.runs.session.asked
+
+  pub stays : Stays account ordered ends.place (begun kinds.Sync name s t crossed outcome ends) (cross_state ends.runs.became.lab) s.server t.server
+  stays = calls_stay account ordered kinds.Sync name s t crossed outcome ends own_asked
 
   -- what came, at moments of a clock
   grown_timely : HasGrown (log_in s.server) (state_of_loop CrossesAt crosses_nothing ends.runs.session.end).log
@@ -76,7 +82,7 @@ module _ (account : AccountState) (ordered : Bool) (name : List ℕ) (s t : LabS
       let sync = ends.runs.session.ended.sync in
       tried_grows (meta_of ends.runs.session.ids ∷ requests_from (asker ends.runs.session.ids) sync.moment 1 (asks_in sync.tries)) (sync.meta ∷ answers_in sync.tries)
       (health_over no_calls ends.runs.d.mishaps) ends.runs.session.health
-      (state_of_loop CrossesAt crosses_nothing (inside_with s.server ends.runs.was s.clock ends.runs.d.mishaps no_calls)) (state_of_loop CrossesAt crosses_nothing ends.runs.session.end)
+      (state_of_loop CrossesAt crosses_nothing (inside_with (server_met kinds.Sync s) ends.runs.was s.clock ends.runs.d.mishaps no_calls)) (state_of_loop CrossesAt crosses_nothing ends.runs.session.end)
       (log_in s.server) sync.tried refl
 
   pub sync_timely : (growth : List Event) → log_in t.server ≡ with_growth (log_in s.server) growth → AllByRecursion IsTimely growth
@@ -149,6 +155,17 @@ module _ (account : AccountState) (ordered : Bool) (name : List ℕ) (s t : LabS
       by at d other (inl (same, is)) = absurd (other same)
       by at d other (inr (differs, there)) = there_over at d there
 
+  -- ---- those that cross it
+  pub crossers_leave : HoldsOfEachCrossed (CrossedLeavesJoin account) kinds.Sync name s t crossed outcome ends
+  crossers_leave =
+      calls_leave account ordered ends.place key ends.runs.d.mishaps s.clock 0 ends.runs.session.calls ends.runs.was ends.runs.became (server_met kinds.Sync s)
+      (with_fails ends.runs.fails_left t.server) (own_asked account ordered name s t crossed outcome ends) ends.runs.session.come
+      (begun_past account ordered kinds.Sync name s t crossed outcome ends)
+      (level_with account ordered ends.place s.server t.server (fails_in kinds.Sync s.fails) ends.runs.fails_left level)
+      (subst (λ (x : CrossState). AreKept account ordered ends.place x (server_met kinds.Sync s)) (sym ends.runs.begins.lab)
+      (kept_with account ordered ends.place (begun kinds.Sync name s t crossed outcome ends) s.server (fails_in kinds.Sync s.fails) begun_kept))
+
+  -- ---- the lab after
   kept : AreKept account ordered ends.place (cross_state ends.runs.became.lab) t.server
   kept = stays_here.kept level begun_kept
 
@@ -172,13 +189,13 @@ module _ (account : AccountState) (ordered : Bool) (name : List ℕ) (s t : LabS
   made_linked : IsLinkedDevice (base_in account t.server) ends.runs.made
   made_linked =
       crossed_device_linked CrossesAt crosses_nothing account key s.clock (s.clock +ℤ ends.runs.d.shift) ends.runs.d.mishaps (with_plan [] [] ends.runs.d) ends.runs.made ends.runs.was ends.runs.became
-      s.server t.server outcome ends.runs.session (linked.server.unused key below_next) linked.server.lawful fresh.0 taken_linked fresh.1
+      (server_met kinds.Sync s) (with_fails ends.runs.fails_left t.server) outcome ends.runs.session (linked.server.unused key below_next) linked.server.lawful fresh.0 taken_linked fresh.1
 
   made_schema : (x : Collection) → Holds ends.runs.made.collection x
       → (x.head.schema ≡ own.linked.c.head.schema) ⊎ ((base_in account s.server).head.schema <ℤ x.head.schema)
   made_schema x holds =
       crossed_device_schema CrossesAt crosses_nothing account key s.clock (s.clock +ℤ ends.runs.d.shift) ends.runs.d.mishaps (with_plan [] [] ends.runs.d) ends.runs.made ends.runs.was ends.runs.became
-      s.server t.server outcome ends.runs.session (linked.server.unused key below_next) linked.server.lawful fresh.0 taken_linked fresh.1 x holds
+      (server_met kinds.Sync s) (with_fails ends.runs.fails_left t.server) outcome ends.runs.session (linked.server.unused key below_next) linked.server.lawful fresh.0 taken_linked fresh.1 x holds
 
   made_over : IsLinkedOver ordered (base_in account t.server) ends.runs.made
   made_over = record {
@@ -238,13 +255,16 @@ module _ (account : AccountState) (ordered : Bool) (name : List ℕ) (s t : LabS
           subst (λ (x : Collection). (committed_of account t).head.schema ≤ℤ x.head.schema) (sym (held_once d it.linked.c c it.linked.holds holds)) (it.order asked)
 
 -- ---- with the order, and without it
+never : false ≡ true → ⊥
+never is = grind (arith, is)
+
 module _ (account : AccountState) (name : List ℕ) (s t : LabState) (crossed : List (List ℕ)) (outcome : Outcome) (linked : IsLinkedLab account s)
     (room : HasSession s) (ends : EndsSync name s t crossed outcome) (fresh : IsLevelFresh account s t) where
   pub any_crossed_linked : IsLinkedLab account t
   any_crossed_linked = crossed_linked account false name s t crossed outcome linked room ends fresh (λ asked. absurd (never asked))
-    where
-      never : false ≡ true → ⊥
-      never is = grind (arith, is)
+
+  pub any_crossers_leave : HoldsOfEachCrossed (CrossedLeavesJoin account) kinds.Sync name s t crossed outcome ends
+  any_crossers_leave = crossers_leave account false name s t crossed outcome linked room ends fresh (λ asked. absurd (never asked))
 
   pub any_crossed_ordered : HasOrderedSchemas account s → HasOrderedSchemas account t
   any_crossed_ordered order = crossed_ordered account true name s t crossed outcome linked room ends fresh (λ asked. order.devices) refl

@@ -6,16 +6,20 @@ use Rattle.std.proofs.lemmas.Int.{ints}
 use Rattle.ak_base.specs.Limits.{last_moment}
 use Rattle.ak_client.specs.declared.outcomes.Outcome.{Outcome}
 use Rattle.ak_keep.specs.Collections.{Collection}
+use Rattle.ak_lab.specs.LabSyncs.{with_fails}
 use Rattle.ak_lab_devices.specs.Devices.{with_plan}
 use Rattle.ak_lab_devices.specs.Plans.{crossings_of}
 use Rattle.ak_lab_devices.specs.declared.devices.Device.{Device}
 use Rattle.ak_lab_devices.specs.declared.plans.Act.{Act}
 use Rattle.ak_lab_devices.specs.declared.plans.Act.TheVariants as acts
+use Rattle.ak_lab_joins.proofs.Crossed.{finishes_crossed_fresh, leaves_join}
 use Rattle.ak_lab_joins.proofs.CrossedDevice.{crossed_device_linked, crossed_device_schema}
 use Rattle.ak_lab_joins.proofs.Keys.{AreOwnCalls, IsOwnRequest, again_under, served_under, session_under}
 use Rattle.ak_lab_joins.proofs.Level.{GrowsUnder, IsLevel, device_now, further_under, level_first, level_rest, nothing_under, schema_now, server_now, wider_under}
 use Rattle.ak_lab_joins.proofs.Names.{put_or_old}
+use Rattle.ak_lab_joins.proofs.Servers.{fails_set, fails_unset}
 use Rattle.ak_lab_joins.proofs.Synced.{held_once, holds_is}
+use Rattle.ak_lab_joins.specs.LabCrossings.{CrossedLeavesJoin, LeavesJoin, asked_by}
 use Rattle.ak_lab_joins.specs.LabJoins.{HasNoUpload, IsFinish, IsLinkedDevice, IsLinkedServer, world_in}
 use Rattle.ak_lab_lines.specs.LabTexts.{sync_text}
 use Rattle.ak_lab_keepers.specs.RestingKeepers.{Holds}
@@ -30,6 +34,7 @@ use Rattle.ak_lab_wires.specs.declared.crossed_syncs.Crossings.{Crossings}
 use Rattle.ak_loops.specs.Betweens.{ActEnd}
 use Rattle.ak_loops.specs.Entries.{LoggedState, log_in}
 use Rattle.ak_loops.specs.declared.mishaps.Mishap.{Mishap}
+use Rattle.ak_messages.specs.declared.requests.Request.{Request}
 use Rattle.ak_protocol.specs.Accounts.{AccountState}
 use Rattle.ak_protocol.specs.Commits.{EachNewer}
 use Rattle.ak_protocol.specs.Logs.{Log}
@@ -57,7 +62,7 @@ one_past n = omega arith
 one_over : (n : ℕ) → n ≤ n + 1
 one_over n = omega arith
 
-past_later : (key a b : ℕ) → key ≤ a → a ≤ b → key ≤ b
+pub past_later : (key a b : ℕ) → key ≤ a → a ≤ b → key ≤ b
 past_later key a b low high = omega (arith, low, high)
 
 -- ---- a device
@@ -88,10 +93,10 @@ module _ (account : AccountState) (ordered : Bool) (place : ℕ) where
   abbrev pub StaysPast : ℕ → CrossState → CrossState → LoggedState → LoggedState → Type 0
   StaysPast key was now old new = key ≤ was.sessions → Stays was now old new
 
-  stays_same : (x : CrossState) (s : LoggedState) → Stays x x s s
+  pub stays_same : (x : CrossState) (s : LoggedState) → Stays x x s s
   stays_same x s = record { lab = same_lab x; grows = nothing_under x.sessions s; kept = λ level is. is }
 
-  stays_further : (x y z : CrossState) (a b c : LoggedState) → Stays x y a b → Stays y z b c → Stays x z a c
+  pub stays_further : (x y z : CrossState) (a b c : LoggedState) → Stays x y a b → Stays y z b c → Stays x z a c
   stays_further x y z a b c one two =
       let first : GrowsUnder z.sessions a b = wider_under y.sessions z.sessions a b two.lab.later one.grows in
       record {
@@ -101,16 +106,40 @@ module _ (account : AccountState) (ordered : Bool) (place : ℕ) where
             (one.kept (level_first account z.sessions z.sessions a b c first two.grows level) is);
       }
 
-  keeps_past : (key : ℕ) → KeepsOn (StaysPast key)
+  pub keeps_past : (key : ℕ) → KeepsOn (StaysPast key)
   keeps_past key = record {
     same = λ x s past. stays_same x s;
     further = λ x y z a b c one two past. stays_further x y z a b c (one past) (two (past_later key x.sessions y.sessions past (one past).lab.later));
   }
 
   -- nothing happened
-  stays_as : (was now : CrossState) (old new : LoggedState) → now ≡ was → new ≡ old → Stays was now old new
+  pub stays_as : (was now : CrossState) (old new : LoggedState) → now ≡ was → new ≡ old → Stays was now old new
   stays_as was now old new is same =
       subst (λ (x : CrossState). Stays was x old new) (sym is) (subst (λ (s : LoggedState). Stays was was old s) (sym same) (stays_same was old))
+
+  -- which calls of the server's keeper are to fail is no part of it
+  pub kept_with : (x : CrossState) (met : LoggedState) (calls : List ℕ) → AreKept x met → AreKept x (with_fails calls met)
+  kept_with x met calls is =
+      record { server = fails_set lab_host account x.sessions met calls is.server; early = is.early; nameless = is.nameless; devices = is.devices }
+
+  pub level_with : (old new : LoggedState) (before after : List ℕ) → IsLevel account old new → IsLevel account (with_fails before old) (with_fails after new)
+  level_with old new before after level = record { finishes = level.finishes; timely = level.timely }
+
+  pub fails_apart : (was now : CrossState) (old new : LoggedState) (before after : List ℕ) → Stays was now (with_fails before old) (with_fails after new) → Stays was now old new
+  fails_apart was now old new before after stays = record {
+    lab = stays.lab;
+    grows = record {
+      host = stays.grows.host;
+      growth = stays.grows.growth;
+      grown = stays.grows.grown;
+      unused = stays.grows.unused;
+      uploads = stays.grows.uploads;
+    };
+    kept = λ level is. kept_apart (stays.kept (level_with old new before after level) (kept_with was old before is));
+  }
+    where
+      kept_apart : AreKept now (with_fails after new) → AreKept now new
+      kept_apart is = record { server = fails_unset lab_host account now.sessions new after is.server; early = is.early; nameless = is.nameless; devices = is.devices }
 
   -- ---- something came, and the devices are as they were
   over_now : (few more : ℕ) (old new : LoggedState) → few ≤ more → GrowsUnder more old new → IsLevel account old new → IsLinkedServer lab_host account few old → (d : Device)
@@ -124,7 +153,7 @@ module _ (account : AccountState) (ordered : Bool) (place : ℕ) where
             (subst (λ (schema : ℤ). schema ≤ℤ it.linked.c.head.schema) (sym (schema_now account few more old new most grows level)) (it.order asked));
       }
 
-  stays_grown : (x : CrossState) (old new : LoggedState) → GrowsUnder x.sessions old new → Stays x x old new
+  pub stays_grown : (x : CrossState) (old new : LoggedState) → GrowsUnder x.sessions old new → Stays x x old new
   stays_grown x old new grows = record {
     lab = same_lab x;
     grows = grows;
@@ -224,6 +253,18 @@ module _ (account : AccountState) (ordered : Bool) (place : ℕ) where
               stays_low (base_in account new).head.schema (base_in account old).head.schema made_linked.c.head.schema own.linked.c.head.schema schema_same (own.order asked) same
           by asked (inr past) = rises (base_in account new).head.schema (base_in account old).head.schema made_linked.c.head.schema schema_same past
 
+      -- it leaves what a sync leaves
+      pub crossed_leaves : CrossedLeavesJoin account name line session was now old new came it
+      crossed_leaves =
+          let sync = it.sync.sync in
+          let ran = sync.session in
+          let moment : ℤ = ran.ended.sync.moment in
+          let asked : List Request = asked_by ran.ids moment ran.ended.sync.tries in
+          subst (λ (log : Log). LeavesJoin account next_key (was.clock +ℤ it.d.shift) it.d made moment asked (log_in old) log it.outcome) (sym reached_log)
+          (leaves_join ReplaysAt replays_nothing account next_key was.clock (was.clock +ℤ it.d.shift) it.d.mishaps [] (crossings_of it.d.planned) it.d made
+          sync.replays sync.replays_left (with_line line old) sync.reached it.outcome ran (is.server.unused next_key (one_past was.sessions)) is.server.lawful own.linked
+          (finishes_crossed_fresh it.d (world_in lab_host account (with_line line old)) (world_in lab_host account sync.reached) finishes_reached))
+
       synced_kept : AreKept synced_lab new
       synced_kept = record {
         server = server_now account was.sessions next_key old new (one_over was.sessions) crossed_grows level is.server;
@@ -266,7 +307,7 @@ module _ (account : AccountState) (ordered : Bool) (place : ℕ) where
     crossed_stays = told_stays it.synced it.outcome came it.told (subst (λ (x : CrossState). Stays was x old new) (sym it.sync.left) synced_stays)
 
   -- ---- what lines planned
-  act_stays : (act : Act) (line session : ℕ) (was now : CrossState) (old new : LoggedState) (came : ActEnd) → ActsBy act line session was now old new came → Stays was now old new
+  pub act_stays : (act : Act) (line session : ℕ) (was now : CrossState) (old new : LoggedState) (came : ActEnd) → ActsBy act line session was now old new came → Stays was now old new
   act_stays (acts.Cross name) line session was now old new came (inl nothing) = stays_as was now old new nothing.0 nothing.1.0
   act_stays (acts.Cross name) line session was now old new came (inr it) = crossed_stays name line session was now old new came it
   act_stays (acts.Replay from count) line session was now old new came it =
@@ -283,10 +324,10 @@ module _ (account : AccountState) (ordered : Bool) (place : ℕ) where
         turns_keep (StaysPast key) (keeps_past key) (ActsOnce session) (λ one p q c d end acted past. act_stays one.act one.line session p q c d end acted)
         (due call x.acts) (cross_state x.lab) (cross_state y.lab) a b came it.1
 
-    pub session_stays : (at : ℤ) (mishaps : List Mishap) (calls : List MadeCall) (was became : Crossings) (old new : LoggedState) → AreOwnCalls key calls
-        → ComeInCalls CrossesAt crosses_nothing mishaps at 0 calls was became old new → key ≤ (cross_state was.lab).sessions
+    pub session_stays : (at : ℤ) (mishaps : List Mishap) (number : ℕ) (calls : List MadeCall) (was became : Crossings) (old new : LoggedState) → AreOwnCalls key calls
+        → ComeInCalls CrossesAt crosses_nothing mishaps at number calls was became old new → key ≤ (cross_state was.lab).sessions
         → Stays (cross_state was.lab) (cross_state became.lab) old new
-    session_stays at mishaps calls was became old new own come past =
+    session_stays at mishaps number calls was became old new own come past =
         calls_keep StaysFor
         (record {
           same = λ x s now. stays_same (cross_state x.lab) s;
@@ -294,4 +335,4 @@ module _ (account : AccountState) (ordered : Bool) (place : ℕ) where
         })
         (IsOwnRequest key) at
         (λ x a b request reply own served now. stays_grown (cross_state x.lab) a b (served_under (cross_state x.lab).sessions key at now a b request reply own served))
-        CrossesAt crosses_nothing crosses_stay mishaps 0 calls was became old new own come past
+        CrossesAt crosses_nothing crosses_stay mishaps number calls was became old new own come past

@@ -24,7 +24,7 @@ use Rattle.ak_lab_joins.specs.LabJoins.{Agrees, AllGoFresh, CommitsOnceIn, Finis
 use Rattle.ak_lab.specs.LabRuns.{AllGo, IsLabOpening}
 use Rattle.ak_lab.specs.LabStates.{LabState, at_line, opened_lab}
 use Rattle.ak_lab_wires.specs.LabSessions.{lab_host}
-use Rattle.ak_lab.specs.LabSyncs.{EndsSync}
+use Rattle.ak_lab.specs.LabSyncs.{EndsSync, server_met, with_fails}
 use Rattle.ak_lab_wires.specs.declared.lab_sessions.SessionKind.{SessionKind}
 use Rattle.ak_lab_wires.specs.declared.lab_sessions.SessionKind.TheVariants as kinds
 use Rattle.ak_lab_devices.proofs.Places.{found_has_name}
@@ -59,7 +59,7 @@ module _ (account : AccountState) (name : List ℕ) (s t : LabState) (outcome : 
   abbrev own : IsLinkedDevice (base_of account s) ends.d
   own = linked.devices name ends.d ends.found
 
-  abbrev server_here : IsLinkedServer ends.session.ids.host.digits account s.sessions s.server
+  abbrev server_here : IsLinkedServer ends.session.ids.host.digits account s.sessions (server_met kinds.Sync s)
   server_here = law_lines.server_here account name s t outcome linked room ends enough
 
   abbrev device_here : IsLinkedDevice (world_in ends.session.ids.host.digits account s.server).state.committed ends.d
@@ -89,6 +89,7 @@ module _ (account : AccountState) (name : List ℕ) (s t : LabState) (outcome : 
   keeps_others = record {
     clock = ap (λ (x : LabState). x.clock) ends.left;
     sessions = ap (λ (x : LabState). x.sessions) ends.left;
+    breaks = ap (λ (x : LabState). x.fails) ends.left;
     others = λ other differ. ap (λ (x : LabState). device_of other x.devices) ends.left
         ∙ others_found ends.made s.devices other (λ is. differ (sym is ∙ own_name));
     d = ends.d;
@@ -106,14 +107,14 @@ module _ (account : AccountState) (name : List ℕ) (s t : LabState) (outcome : 
   committed_so =
       by_number ends.session.ids.session.0 (one_more s.sessions) own.c (world_in lab_host account s.server) (world_in lab_host account t.server) ends.session.of.session
       (subst Committed same_host
-      (synced.committed account s.sessions s.clock (s.clock +ℤ ends.d.shift) ends.d ends.made s.server t.server outcome room ends.session enough
+      (synced.committed account s.sessions s.clock (s.clock +ℤ ends.d.shift) ends.d ends.made (server_met kinds.Sync s) (with_fails ends.fails_left t.server) outcome room ends.session enough
       server_here device_here))
 
   -- ---- not finished
   kept : ends_before_finish outcome ≡ true → KeepsCommitted (world_in lab_host account s.server) (world_in lab_host account t.server)
   kept early =
       let stays = subst (λ (h : List ℕ). StaysQuiet (world_in h account s.server) (world_in h account t.server)) same_host
-      (synced.early_quiet account s.sessions s.clock (s.clock +ℤ ends.d.shift) ends.d ends.made s.server t.server outcome room ends.session enough
+      (synced.early_quiet account s.sessions s.clock (s.clock +ℤ ends.d.shift) ends.d ends.made (server_met kinds.Sync s) (with_fails ends.fails_left t.server) outcome room ends.session enough
       server_here device_here early) in
       (stays.committed, stays.commits)
 
@@ -133,7 +134,7 @@ module _ (account : AccountState) (name : List ℕ) (s t : LabState) (outcome : 
   still_commits other outcomes.Lost is = committed_so
   still_commits other outcomes.BadReply is = committed_so
   still_commits other outcomes.TooManyChunks is = kept (ap ends_before_finish is)
-  still_commits other outcomes.Keep is = absurd (ends.session.unfailed is)
+  still_commits other outcomes.Keep is = committed_so
   still_commits other outcomes.Memory is = absurd (enough is)
 
   pub keeps_sides : HasFreshCheck account name s t outcome → outcome ≢ outcomes.Finished → KeepsSides account name s t outcome
@@ -142,7 +143,7 @@ module _ (account : AccountState) (name : List ℕ) (s t : LabState) (outcome : 
     held = was_held;
     device = λ d found. subst (λ (x : Device). StillHolds (s.clock +ℤ x.shift) own.c outcome x) (same_Some ends.made d (sym now_found ∙ found))
         (subst (λ (m : ℤ). StillHolds (s.clock +ℤ m) own.c outcome ends.made) (sym own_shift)
-        (synced.still_holds account s.sessions s.clock (s.clock +ℤ ends.d.shift) ends.d ends.made s.server t.server outcome room ends.session enough
+        (synced.still_holds account s.sessions s.clock (s.clock +ℤ ends.d.shift) ends.d ends.made (server_met kinds.Sync s) (with_fails ends.fails_left t.server) outcome room ends.session enough
         server_here device_here (law_lines.check_here account name s t outcome linked room ends enough fresh) other));
     server = still_commits other outcome refl;
     linked = lab_now fresh;
@@ -155,7 +156,7 @@ module _ (account : AccountState) (name : List ℕ) (s t : LabState) (outcome : 
     c = own.c;
     held = was_held;
     same = subst (λ (h : List ℕ). SameContent (content_of own.c) (content_of (world_in h account s.server).state.committed)) same_host
-        (synced.agreed_now account s.sessions s.clock (s.clock +ℤ ends.d.shift) ends.d ends.made s.server t.server outcome room ends.session enough
+        (synced.agreed_now account s.sessions s.clock (s.clock +ℤ ends.d.shift) ends.d ends.made (server_met kinds.Sync s) (with_fails ends.fails_left t.server) outcome room ends.session enough
         server_here device_here is);
   }
 
@@ -170,7 +171,7 @@ module _ (account : AccountState) (name : List ℕ) (s t : LabState) (outcome : 
   pub finishes : outcome ≡ outcomes.Finished → Finishes account name s t
   finishes is =
       let now = lab_now (good is) in
-      let it = synced.finished_now account s.sessions s.clock (s.clock +ℤ ends.d.shift) ends.d ends.made s.server t.server outcome room ends.session enough
+      let it = synced.finished_now account s.sessions s.clock (s.clock +ℤ ends.d.shift) ends.d ends.made (server_met kinds.Sync s) (with_fails ends.fails_left t.server) outcome room ends.session enough
       server_here device_here is in
       let exchanged : AreExchanged own.c (base_of account s) it.device (base_of account t) =
       subst (λ (h : List ℕ). AreExchanged own.c (world_in h account s.server).state.committed it.device (world_in h account t.server).state.committed) same_host it.exchanged in
@@ -232,6 +233,7 @@ unfoldable pub lines_aside_others : (kind : SessionKind) (number : ℕ) (name : 
 lines_aside_others kind number name s t it = record {
   clock = it.clock;
   sessions = it.sessions;
+  breaks = it.breaks;
   others = it.others;
   d = it.d;
   made = it.made;

@@ -6,13 +6,15 @@ use Rattle.ak_desk_lines.specs.LineSteps.{LinksWith}
 use Rattle.ak_exchange.specs.Phases.{holding}
 use Rattle.ak_keep.specs.Collections.{Collection}
 use Rattle.ak_lab.specs.LabStates.{LabState, with_changed}
-use Rattle.ak_lab_wires.specs.LabSessions.{lab_host}
+use Rattle.ak_lab.specs.LabSyncs.{server_met}
+use Rattle.ak_lab_wires.specs.LabSessions.{fails_in, lab_host}
 use Rattle.ak_lab_wires.specs.declared.lab_sessions.SessionKind.{SessionKind}
 use Rattle.ak_lab_devices.proofs.Places.{found_has_name}
 use Rattle.ak_lab_devices.specs.Devices.{device_of, keeping_of}
 use Rattle.ak_lab_devices.specs.declared.devices.Device.{Device}
 use Rattle.ak_lab_joins.proofs.Alone.{EndsAlone}
 use Rattle.ak_lab_joins.proofs.Devices.{changed_found}
+use Rattle.ak_lab_joins.proofs.Servers.{fails_set}
 use Rattle.ak_lab_joins.proofs.Synced.{holds_is, kept_is}
 use Rattle.ak_lab_joins.specs.LabJoins.{DeviceHolds, IsLinkedDevice, IsLinkedLab, IsLinkedServer, committed_of, world_in}
 use Rattle.ak_protocol.specs.Accounts.{AccountState}
@@ -42,17 +44,16 @@ module _ (kind : SessionKind) (account : AccountState) (name : List ℕ) (s t : 
   own = linked.devices name ends.d ends.found
 
   -- the server and a device, by that host key
-  pub server_here : IsLinkedServer host account s.sessions s.server
-  server_here = subst (λ (h : List ℕ). IsLinkedServer h account s.sessions s.server) same_host linked.server
+  pub server_here : IsLinkedServer host account s.sessions (server_met kind s)
+  server_here =
+      fails_set host account s.sessions s.server (fails_in kind s.fails)
+      (subst (λ (h : List ℕ). IsLinkedServer h account s.sessions s.server) same_host linked.server)
 
   pub linked_here : (d : Device) → IsLinkedDevice (committed_of account s) d → IsLinkedDevice (world_in host account s.server).state.committed d
   linked_here d it = subst (λ (h : List ℕ). IsLinkedDevice (world_in h account s.server).state.committed d) same_host it
 
   pub base_here : (world_in host account s.server).state.committed ≡ committed_of account s
   base_here = ap (λ (h : List ℕ). (world_in h account s.server).state.committed) (sym same_host)
-
-  pub base_left : (world_in host account t.server).state.committed ≡ committed_of account t
-  base_left = ap (λ (h : List ℕ). (world_in h account t.server).state.committed) (sym same_host)
 
   -- the device of the session
   abbrev pub device_here : IsLinkedDevice (world_in host account s.server).state.committed ends.d

@@ -10,8 +10,9 @@ use Rattle.ak_lab_devices.specs.declared.devices.Device.{Device}
 use Rattle.ak_lab_devices.specs.declared.plans.Act.{Act}
 use Rattle.ak_lab_devices.specs.declared.plans.Act.TheVariants as acts
 use Rattle.ak_lab_joins.proofs.Level.{GrowsUnder, further_under, nothing_under}
-use Rattle.ak_lab_joins.proofs.NoUploads.{IsNoUpload, asked_no_upload, past_uploads_none}
+use Rattle.ak_lab_joins.proofs.NoUploads.{asked_no_upload, past_uploads_none}
 use Rattle.ak_lab_joins.proofs.Resent.{GrowsAgain, all_metas, grows_again}
+use Rattle.ak_lab_joins.proofs.SchemasStay.{IsNoUpload}
 use Rattle.ak_lab_joins.specs.LabJoins.{HasNoUpload}
 use Rattle.ak_lab_wires.proofs.Between.{crossed_key, named_asked}
 use Rattle.ak_lab_wires.proofs.Keeping.{KeepsOn, all_served_keep, calls_keep, turns_keep}

@@ -128,7 +128,8 @@ lab_session_grows : (kind : SessionKind) (name : List ℕ) (s t : LabState) (cro
     → LogGrows s.server t.server
 lab_session_grows kind name s t crossed outcome ended =
     let runs = ended.runs in
-    session_grows CrossesAt crosses_nothing crosses_grow kind _ _ _ _ _ runs.made runs.was runs.became s.server t.server outcome runs.session
+    let grows = session_grows CrossesAt crosses_nothing crosses_grow kind _ _ _ _ _ runs.made runs.was runs.became _ _ outcome runs.session in
+    record { growth = grows.growth; grown = grows.grown }
 
 -- ---- a line
 same_server : (s t : LabState) → t.server ≡ s.server → LogGrows s.server t.server
@@ -153,6 +154,8 @@ said_grows (lines.Cross name call other) s t printed (o, found, plan, none) = sa
 said_grows (lines.Replay name call from count) s t printed (has, plan, none) = same_server s t (ap (λ (x : LabState). x.server) plan.left)
 said_grows (lines.Resend from count) s t printed resends =
     all_grow (named_from from count (requests_in s.server.entries)) resends.replies s.clock s.server t.server resends.serves
+said_grows (lines.Break sides.Server) s t printed (left, none) = same_server s t (ap (λ (x : LabState). x.server) left)
+said_grows (lines.Break (sides.Device name)) s t printed (plan, none) = same_server s t (ap (λ (x : LabState). x.server) plan.left)
 said_grows (lines.Transfer direction name) s t printed (outcome, text, ended, told, is) = lab_session_grows (kinds.Transfer direction) name s t [] outcome ended
 said_grows (lines.Show side what) s t printed (c, holds, is) = looked_grows side s t c holds
 said_grows (lines.Count side) s t printed (c, holds, is) = looked_grows side s t c holds

@@ -1,13 +1,15 @@
 mod Alone
+mod Breaks
+mod BreaksPlanned
 mod Counts
 mod Crossed
 mod CrossedDevice
 mod CrossedLab
+mod Crossers
 mod Crossings
 mod Devices
 mod Edits
 mod Ends
-mod Faultless
 mod Greeted
 mod Here
 mod Keys
@@ -23,6 +25,7 @@ mod Plain
 mod Prints
 mod Resent
 mod Reviews
+mod SchemasStay
 mod ScriptTransfers
 mod Servers
 mod Synced
@@ -30,5 +33,6 @@ mod Syncs
 mod Transferred
 mod Transfers
 mod Unfailed
+mod Unlike
 mod Unloaded
 mod Worlds

@@ -24,16 +24,16 @@ use Rattle.ak_lab_joins.proofs.Edits.{finished_so, reviews_are_admitted, reviews
 use Rattle.ak_lab_joins.proofs.Here as here
 use Rattle.ak_lab_joins.proofs.Here.{changed_holds, here_holds}
 use Rattle.ak_lab_joins.proofs.Names.{added_unlike, changed_unlike}
-use Rattle.ak_lab_joins.proofs.Servers.{committed_is, opened_server, viewed_grows, viewed_server, views_stay_quiet}
+use Rattle.ak_lab_joins.proofs.Servers.{committed_is, fails_unset, opened_server, viewed_grows, viewed_server, views_stay_quiet}
 use Rattle.ak_lab_joins.proofs.Synced as synced
 use Rattle.ak_lab_joins.proofs.Synced.{device_linked, known_is, linked_device}
 use Rattle.ak_lab_joins.proofs.Transfers.{download_keeps_schema, transfer_linked}
-use Rattle.ak_lab.specs.LabPlans.{Plans, with_act, with_mishap}
+use Rattle.ak_lab.specs.LabPlans.{Plans, PlansBreak, with_act, with_break, with_mishap}
 use Rattle.ak_lab.specs.LabDesks.{EndsDo, EndsReview, desk_of, turn_of}
 use Rattle.ak_lab_joins.specs.LabJoins.{AllGoFresh, HasFreshCheck, HasFreshDevice, HasOtherSchema, HasSession, IsAloneFresh, IsLevelFresh, IsLinkedDevice, IsLinkedLab, IsLinkedServer, TakesFreshSchema, TakesFreshSchemas, world_in}
 use Rattle.ak_lab.specs.LabRuns.{IsLabOpening}
-use Rattle.ak_lab.specs.LabSyncs.{EndsSync}
 use Rattle.ak_lab.specs.LabStates.{LabState, at_line, opened_lab, with_changed}
+use Rattle.ak_lab.specs.LabSyncs.{EndsSync, server_met, with_fails}
 use Rattle.ak_lab_wires.specs.LabSessions.{lab_host}
 use Rattle.ak_lab.specs.LabSteps.{Accepts, AddsDevice, Shifts, SideHolds, plan_of}
 use Rattle.ak_lab.specs.LineOutcomes.{Accepted, EndsAs, Says}
@@ -161,6 +161,13 @@ disturbed base call what d it = record { c = it.c; holds = it.holds; named = it.
 acted : (base : Collection) (call line : ℕ) (act : Act) (d : Device) → IsLinkedDevice base d → IsLinkedDevice base (with_act call line act d)
 acted base call line act d it = record { c = it.c; holds = it.holds; named = it.named; links = it.links; suits = it.suits }
 
+broken : (base : Collection) (d : Device) → IsLinkedDevice base d → IsLinkedDevice base (with_break d)
+broken base d it = record { c = it.c; holds = it.holds; named = it.named; links = it.links; suits = it.suits }
+
+break_planned : (account : AccountState) (side : Side) (s t : LabState) → IsLinkedLab account s → PlansBreak side s t → IsLinkedLab account t
+break_planned account sides.Server s t linked left = subst (IsLinkedLab account) (sym left) (record { server = linked.server; names = linked.names; devices = linked.devices })
+break_planned account (sides.Device name) s t linked plans = planned account name with_break s t linked plans (broken (base_of account s))
+
 -- ---- new reviews, and lines of the desk
 reviewed : (account : AccountState) (name : List ℕ) (card ease : ℤ) (count : ℕ) (s t : LabState) → IsLinkedLab account s
     → EndsReview name (plan_of card ease count) s t (Ok tt) → IsLinkedLab account t
@@ -206,7 +213,7 @@ module _ (account : AccountState) (name : List ℕ) (s t : LabState) (outcome : 
   abbrev pub same_host : lab_host ≡ ends.session.ids.host.digits
   same_host = here.same_host kinds.Sync account name s t outcome linked ends
 
-  pub server_here : IsLinkedServer ends.session.ids.host.digits account s.sessions s.server
+  pub server_here : IsLinkedServer ends.session.ids.host.digits account s.sessions (server_met kinds.Sync s)
   server_here = here.server_here kinds.Sync account name s t outcome linked ends
 
   abbrev pub device_here : IsLinkedDevice (world_in ends.session.ids.host.digits account s.server).state.committed ends.d
@@ -215,27 +222,28 @@ module _ (account : AccountState) (name : List ℕ) (s t : LabState) (outcome : 
   server_left : IsLinkedServer lab_host account (one_more s.sessions) t.server
   server_left =
       subst (λ (h : List ℕ). IsLinkedServer h account (one_more s.sessions) t.server) (sym same_host)
-      (synced.server_now account s.sessions s.clock (s.clock +ℤ ends.d.shift) ends.d ends.made s.server t.server outcome room ends.session enough server_here device_here)
+      (fails_unset ends.session.ids.host.digits account (one_more s.sessions) t.server ends.fails_left
+      (synced.server_now account s.sessions s.clock (s.clock +ℤ ends.d.shift) ends.d ends.made (server_met kinds.Sync s) (with_fails ends.fails_left t.server) outcome room ends.session enough server_here device_here))
 
   -- the schema moment of a device whose sanity check was bad is not the server's
-  other_here : HasOtherSchema account name s t → synced.HasOther account s.sessions s.clock (s.clock +ℤ ends.d.shift) ends.d ends.made s.server t.server outcome room ends.session enough server_here device_here
+  other_here : HasOtherSchema account name s t → synced.HasOther account s.sessions s.clock (s.clock +ℤ ends.d.shift) ends.d ends.made (server_met kinds.Sync s) (with_fails ends.fails_left t.server) outcome room ends.session enough server_here device_here
   other_here other left kept is =
       other left (here.left_holds kinds.Sync account name s t outcome linked ends left (known_is ends.made left kept))
       (is ∙ ap (λ (base : Collection). base.head.schema) (here.base_here kinds.Sync account name s t outcome linked ends))
 
   pub check_here : HasFreshCheck account name s t outcome
-      → synced.HasOtherAt account s.sessions s.clock (s.clock +ℤ ends.d.shift) ends.d ends.made s.server t.server outcome room ends.session enough server_here device_here outcome
+      → synced.HasOtherAt account s.sessions s.clock (s.clock +ℤ ends.d.shift) ends.d ends.made (server_met kinds.Sync s) (with_fails ends.fails_left t.server) outcome room ends.session enough server_here device_here outcome
   check_here fresh bad = other_here (fresh bad)
 
   made_left : HasFreshCheck account name s t outcome → IsLinkedDevice (world_in lab_host account t.server).state.committed ends.made
   made_left fresh =
       subst (λ (h : List ℕ). IsLinkedDevice (world_in h account t.server).state.committed ends.made) (sym same_host)
-      (synced.device_now account s.sessions s.clock (s.clock +ℤ ends.d.shift) ends.d ends.made s.server t.server outcome room ends.session enough server_here device_here (check_here fresh))
+      (synced.device_now account s.sessions s.clock (s.clock +ℤ ends.d.shift) ends.d ends.made (server_met kinds.Sync s) (with_fails ends.fails_left t.server) outcome room ends.session enough server_here device_here (check_here fresh))
 
   other_left : (e : Device) → IsLinkedDevice (base_of account s) e → IsLinkedDevice (world_in lab_host account t.server).state.committed e
   other_left e it =
       subst (λ (h : List ℕ). IsLinkedDevice (world_in h account t.server).state.committed e) (sym same_host)
-      (synced.others_now account s.sessions s.clock (s.clock +ℤ ends.d.shift) ends.d ends.made s.server t.server outcome room ends.session enough server_here device_here
+      (synced.others_now account s.sessions s.clock (s.clock +ℤ ends.d.shift) ends.d ends.made (server_met kinds.Sync s) (with_fails ends.fails_left t.server) outcome room ends.session enough server_here device_here
       e (here.linked_here kinds.Sync account name s t outcome linked ends e it))
 
   pub sync_linked : HasFreshCheck account name s t outcome → IsLinkedLab account t
@@ -274,6 +282,7 @@ said_linked steps account (lines.Cross name call other) s t printed linked room 
 said_linked steps account (lines.Replay name call from count) s t printed linked room (has, plans, none) fresh =
     planned account name (with_act call s.server.line (acts.Replay from count)) s t linked plans (acted (base_of account s) call s.server.line (acts.Replay from count))
 said_linked steps account (lines.Resend from count) s t printed linked room resends fresh = resent_linked account from count s t printed linked resends fresh
+said_linked steps account (lines.Break side) s t printed linked room (plans, none) fresh = break_planned account side s t linked plans
 said_linked steps account (lines.Transfer directions.Upload name) s t printed linked room (outcome, text, ends, told, is) fresh =
     transfer_linked account directions.Upload name s t outcome linked room (transfer_alone directions.Upload name s t outcome ends) fresh
 said_linked steps account (lines.Transfer directions.Download name) s t printed linked room (outcome, text, ends, told, is) fresh =

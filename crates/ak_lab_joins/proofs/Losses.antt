@@ -1,5 +1,5 @@
--- A sync that ended as lost met three planned losses in a row.
-use Rattle.std.specs.Prelude.{◌≡◌, ℕ, ℤ, Bool, true, List, [], ◌∷◌, ◌++◌, Result, Ok, Err}
+-- A sync that ended as lost met three planned losses in a row: of the tries of one request.
+use Rattle.std.specs.Prelude.{◌≡◌, ◌≤◌, ◌-◌, ◌^◌, ℕ, suc, ℤ, Bool, true, List, [], ◌∷◌, ◌++◌, length, Result, Ok, Err}
 use Rattle.std.proofs.Common.{refl, sym, ap, subst, ◌∙◌, append_assoc, append-nil, arith}
 use Rattle.ak_client.specs.Syncs.{meta_tried}
 use Rattle.ak_client.specs.declared.outcomes.Outcome.TheVariants as outcomes
@@ -7,10 +7,14 @@ use Rattle.ak_exchange.specs.Asked.{TriedAsk, answers_in}
 use Rattle.ak_exchange.specs.Grants.{EndsUnanswered}
 use Rattle.ak_faults.specs.Causes.{one_more}
 use Rattle.ak_lab.specs.LabStates.{LabState}
-use Rattle.ak_lab.specs.LabSyncs.{EndsSync}
-use Rattle.ak_lab_joins.specs.LabMishaps.{LosesThree}
-use Rattle.ak_lab_wires.specs.CrossedSyncs.{CrossesAt, crosses_nothing}
-use Rattle.ak_lab_wires.specs.LabSessions.{ComeInCalls, sent_by}
+use Rattle.ak_lab.specs.LabSyncs.{EndsSync, server_met, with_fails}
+use Rattle.ak_lab_devices.specs.declared.devices.Device.{Device}
+use Rattle.ak_lab_joins.specs.LabMishaps.{EndsInLosses, LosesThree, lost_call}
+use Rattle.ak_lab_wires.specs.CrossedSyncs.{CrossesAt, SyncsCrossed, crosses_nothing}
+use Rattle.ak_lab_wires.specs.LabSessions.{ComeInCalls, IsSessionOver, sent_by}
+use Rattle.ak_lab_wires.specs.Replaying.{ReplaysAt, replays_nothing}
+use Rattle.ak_lab_wires.specs.Servings.{with_line}
+use Rattle.ak_lab_wires.specs.declared.lab_sessions.SessionKind.TheVariants as kinds
 use Rattle.ak_loops.specs.Betweens.{ActEnd, Acting}
 use Rattle.ak_loops.specs.Entries.{LoggedState}
 use Rattle.ak_loops.specs.LoopWires.{FaresAfter}
@@ -19,16 +23,14 @@ use Rattle.ak_loops.specs.declared.mishaps.Mishap.{Mishap}
 use Rattle.ak_messages.specs.declared.replies.Reply.{Reply}
 use Rattle.ak_messages.specs.declared.requests.Request.{Request}
 use Rattle.ak_wires.specs.Tries.{AreCallsOf, MadeCall, calls_of}
+use Rattle.ak_wires.specs.Wires.{more}
 use Rattle.ak_wires.specs.declared.asks.Unanswered.TheVariants as unanswered
 use Rattle.ak_wires.specs.declared.wires.WireEnd.{WireEnd}
 use Rattle.ak_wires.specs.declared.wires.WireEnd.TheVariants as ends
 
 -- ---- the last three calls
 -- these calls end with three of one request, which got no answer
-abbrev pub lost_call : Request → MadeCall
-lost_call request = record { request = request; answer = Err ends.Failed }
-
-pub record EndLost (calls : List MadeCall) : Type 0 where
+record EndLost (calls : List MadeCall) : Type 0 where
   pub earlier : List MadeCall
   pub request : Request
   pub parts : calls ≡ earlier ++ lost_call request ∷ lost_call request ∷ lost_call request ∷ []
@@ -82,6 +84,17 @@ last_lost (request ∷ requests) (answer ∷ answers) calls (one ∷ before) is 
           ∙ sym (append_assoc (calls_of are.0 request answer) rest.earlier (lost_call rest.request ∷ lost_call rest.request ∷ lost_call rest.request ∷ []));
     }
 
+-- ---- counts
+-- the number of a call stays at the last `u64`
+none_more : (number : ℕ) → number ≤ 2 ^ 64 - 1 → number ≡ more 0 number
+none_more number small = grind (arith, small)
+
+one_later : (times number : ℕ) → more times (one_more number) ≡ more (suc times) number
+one_later times number = grind arith
+
+stays_small : (number : ℕ) → one_more number ≤ 2 ^ 64 - 1
+stays_small number = grind arith
+
 -- ---- what they met
 module _ {X : Type 0} (acts : Acting X) (idle : X → Bool) (mishaps : List Mishap) (at : ℤ) where
   -- a call that got no answer was to be lost
@@ -90,21 +103,21 @@ module _ {X : Type 0} (acts : Acting X) (idle : X → Bool) (mishaps : List Mish
   was_lost (Ok done) number old new request fares = fares.0
   was_lost (Err end) number old new request fares = absurd (let is = fares.0 in grind (arith, is))
 
-  three_lost : (earlier : List MadeCall) (request : Request) (number : ℕ) (x y : X) (a b : LoggedState)
+  three_lost : (earlier : List MadeCall) (request : Request) (number : ℕ) (x y : X) (a b : LoggedState) → number ≤ 2 ^ 64 - 1
       → ComeInCalls acts idle mishaps at number (earlier ++ lost_call request ∷ lost_call request ∷ lost_call request ∷ []) x y a b
-      → (n : ℕ) × LosesThree n mishaps
-  three_lost [] request number x y a b come =
+      → LosesThree (more (length earlier) number) mishaps
+  three_lost [] request number x y a b small come =
       let one = come.2 in
       let two = come.3.2 in
-      let last = come.3.3.2 in (
-        number,
-        record {
-          first = was_lost one.came number one.met come.1 request one.fares;
-          second = was_lost two.came (one_more number) two.met come.3.1 request two.fares;
-          third = was_lost last.came (one_more (one_more number)) last.met come.3.3.1 request last.fares;
-        },
-      )
-  three_lost (it ∷ earlier) request number x y a b come = three_lost earlier request (one_more number) come.0 y come.1 b come.3
+      let last = come.3.3.2 in
+      subst (λ (n : ℕ). LosesThree n mishaps) (none_more number small) (record {
+        first = was_lost one.came number one.met come.1 request one.fares;
+        second = was_lost two.came (one_more number) two.met come.3.1 request two.fares;
+        third = was_lost last.came (one_more (one_more number)) last.met come.3.3.1 request last.fares;
+      })
+  three_lost (it ∷ earlier) request number x y a b small come =
+      subst (λ (n : ℕ). LosesThree n mishaps) (one_later (length earlier) number)
+      (three_lost earlier request (one_more number) come.0 y come.1 b (stays_small number) come.3)
 
 -- the answers, up to the last one that was tried
 last_answer : (tries before : List TriedAsk) (it : TriedAsk) → tries ≡ before ++ it ∷ [] → answers_in tries ≡ answers_in before ++ it.answer ∷ []
@@ -114,10 +127,10 @@ last_answer tries before it is = ap answers_in is ∙ of_both before
     of_both [] = refl
     of_both (one ∷ l) = ap (λ (answers : List (Result Reply WireEnd)). one.answer ∷ answers) (of_both l)
 
-pub lost_met_three : (name : List ℕ) (s t : LabState) (crossed : List (List ℕ)) (ended : EndsSync name s t crossed outcomes.Lost)
-    → (number : ℕ) × LosesThree number ended.runs.d.mishaps
-lost_met_three name s t crossed ended =
-    let ran = ended.runs.session in
+-- ---- a sync
+session_met_three : {X : Type 0} (acts : Acting X) (idle : X → Bool) (key : ℕ) (at : ℤ) (moments : List ℤ) (mishaps : List Mishap) (d made : Device) (was became : X)
+    (old new : LoggedState) (ran : IsSessionOver acts idle kinds.Sync key at moments mishaps d made was became old new outcomes.Lost) → EndsInLosses ran.calls mishaps
+session_met_three acts idle key at moments mishaps d made was became old new ran =
     let sync = ran.ended.sync in
     -- the last that was tried, what was tried before it, and that it got no answer
     let why : EndsUnanswered (meta_tried sync.meta ∷ sync.tries) unanswered.Lost = sync.ends in
@@ -125,6 +138,25 @@ lost_met_three name s t crossed ended =
     let is : answers ≡ answers_in why.1.0 ++ Err ends.Failed ∷ [] =
     last_answer (meta_tried sync.meta ∷ sync.tries) why.1.0 why.0 why.1.1
     ∙ ap (λ (answer : Result Reply WireEnd). answers_in why.1.0 ++ answer ∷ []) why.2 in
-    let lost = last_lost (sent_by ran.ids sync.moment sync.tries) answers ran.calls (answers_in why.1.0) is ran.asked in
-    three_lost CrossesAt crosses_nothing ended.runs.d.mishaps s.clock lost.earlier lost.request 0 ended.runs.was ended.runs.became s.server t.server
-    (subst (λ (calls : List MadeCall). ComeInCalls CrossesAt crosses_nothing ended.runs.d.mishaps s.clock 0 calls ended.runs.was ended.runs.became s.server t.server) lost.parts ran.come)
+    let found = last_lost (sent_by ran.ids sync.moment sync.tries) answers ran.calls (answers_in why.1.0) is ran.asked in
+    record {
+      earlier = found.earlier;
+      request = found.request;
+      tries = found.parts;
+      lost = three_lost acts idle mishaps at found.earlier found.request 0 was became old new none_called
+          (subst (λ (calls : List MadeCall). ComeInCalls acts idle mishaps at 0 calls was became old new) found.parts ran.come);
+    }
+  where
+    none_called : 0 ≤ 2 ^ 64 - 1
+    none_called = grind arith
+
+pub lost_met_three : (name : List ℕ) (s t : LabState) (crossed : List (List ℕ)) (ended : EndsSync name s t crossed outcomes.Lost)
+    → EndsInLosses ended.runs.session.calls ended.runs.d.mishaps
+lost_met_three name s t crossed ended =
+    session_met_three CrossesAt crosses_nothing _ s.clock _ ended.runs.d.mishaps _ ended.runs.made ended.runs.was ended.runs.became (server_met kinds.Sync s)
+    (with_fails ended.runs.fails_left t.server) ended.runs.session
+
+pub crossed_met_three : (line key : ℕ) (at : ℤ) (moments : List ℤ) (d made : Device) (old new : LoggedState)
+    → (sync : SyncsCrossed line key at moments d made old new outcomes.Lost) → EndsInLosses sync.session.calls d.mishaps
+crossed_met_three line key at moments d made old new sync =
+    session_met_three ReplaysAt replays_nothing key at moments d.mishaps _ made sync.replays sync.replays_left (with_line line old) sync.reached sync.session

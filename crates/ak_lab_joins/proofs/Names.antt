@@ -20,7 +20,7 @@ differs a b differ = by (same_name a b) refl
     by false is = refl
 
 -- what holds of all names holds of each device's
-at_place : (P : List ℕ → Type 0) (devices : List Device) (place : ℕ) (d : Device) → AllByRecursion P (device_names devices) → slice_get devices place ≡ Some d → P d.name
+pub at_place : (P : List ℕ → Type 0) (devices : List Device) (place : ℕ) (d : Device) → AllByRecursion P (device_names devices) → slice_get devices place ≡ Some d → P d.name
 at_place P [] zero d all at = absurd (none-some d at)
 at_place P [] (suc place) d all at = absurd (none-some d at)
 at_place P (first ∷ others) zero d all at = subst (λ (x : Device). P x.name) (same_Some first d at) all.0
@@ -143,3 +143,17 @@ put_back_names (one ∷ more) (first ∷ others) zero stand_in d made same at ow
 put_back_names (one ∷ more) (first ∷ others) (suc place) stand_in d made same at own =
     ap (λ (n : List ℕ). n ∷ device_names (slice_set more place made)) (ap first_name same)
     ∙ ap (λ (names : List (List ℕ)). first.name ∷ names) (put_back_names more others place stand_in d made (ap rest_of same) at own)
+
+-- it stands at its place then
+abbrev later_names : List (List ℕ) → List (List ℕ)
+later_names [] = []
+later_names (name ∷ names) = names
+
+pub put_there : (left devices : List Device) (place : ℕ) (made d : Device) → device_names (slice_set left place made) ≡ device_names devices
+    → slice_get devices place ≡ Some d → slice_get (slice_set left place made) place ≡ Some made
+put_there left [] zero made d same at = absurd (none-some d at)
+put_there left [] (suc place) made d same at = absurd (none-some d at)
+put_there [] (first ∷ others) zero made d same at = absurd (never_longer (length (device_names others)) (ap length same))
+put_there [] (first ∷ others) (suc place) made d same at = absurd (never_longer (length (device_names others)) (ap length same))
+put_there (one ∷ more) (first ∷ others) zero made d same at = refl
+put_there (one ∷ more) (first ∷ others) (suc place) made d same at = put_there more others place made d (ap later_names same) at

@@ -1,6 +1,6 @@
 -- Where nothing was uploaded, each commit is the finish of a sync: so requests that are sent again leave the server's schema moment.
 use Rattle.std.specs.List.{AllByRecursion}
-use Rattle.std.specs.Prelude.{◌≡◌, ◌≢◌, ◌⊎◌, ℕ, ℤ, Bool, true, false, if◌then◌else◌, List, [], ◌∷◌, ◌++◌, ⊤}
+use Rattle.std.specs.Prelude.{◌≡◌, ◌≢◌, ◌⊎◌, ℕ, ℤ, Bool, true, false, if◌then◌else◌, List, [], ◌∷◌, ◌++◌}
 use Rattle.std.proofs.Common.{refl, sym, ap, subst, ◌∙◌, inl, inr, append_assoc}
 use Rattle.std.proofs.lemmas.List.{append_cancel_right}
 use Rattle.ak_io.specs.Arrivals.{IsClockMoment}
@@ -8,6 +8,7 @@ use Rattle.ak_lab.specs.LabPlans.{Resends}
 use Rattle.ak_lab.specs.LabStates.{LabState}
 use Rattle.ak_lab_joins.proofs.Level.{finishes_fresh, schema_led}
 use Rattle.ak_lab_joins.proofs.Resent.{GrowsAgain, IsRepeat, resent_grows}
+use Rattle.ak_lab_joins.proofs.SchemasStay.{IsNoUpload}
 use Rattle.ak_lab_joins.proofs.Worlds.{world_grown}
 use Rattle.ak_lab_joins.specs.LabJoins.{HasFreshCommits, HasNoUpload, IsFinish, IsLinkedLab, lab_world, world_in}
 use Rattle.ak_lab_wires.specs.LabSessions.{lab_host}
@@ -32,11 +33,6 @@ use Rattle.ak_protocol.specs.Serving.{Setback, served}
 use Rattle.ak_protocol.specs.Syncs.{world_of}
 use Rattle.ak_session.specs.Asks.{all_brought, asks_of}
 use Rattle.ak_session.specs.Requests.{asked_method}
-
--- an event is no upload
-abbrev pub IsNoUpload : Event → Type 0
-IsNoUpload (View host) = ⊤
-IsNoUpload (Asked request now setback) = asked_method request.ask ≢ methods.Upload
 
 -- ---- what comes again
 pub past_uploads_none : (host : List ℕ) (entries : List Entry) → AllByRecursion (λ (r : Request). asked_method r.ask ≢ methods.Upload) (requests_in entries)

@@ -1,6 +1,6 @@
 -- As long as nothing is uploaded in a lab, the schema moment of each device is at least the server's, and each new one is fresh.
 use Rattle.std.specs.List.{AllByRecursion}
-use Rattle.std.specs.Prelude.{◌≡◌, ◌≢◌, ◌⊎◌, ℕ, ℤ, ◌+◌, ◌<◌, ◌≤ℤ◌, ◌<ℤ◌, ◌+ℤ◌, Bool, true, false, if◌then◌else◌, List, [], ◌∷◌, ◌++◌, Some, Result, Ok}
+use Rattle.std.specs.Prelude.{◌≡◌, ◌≢◌, ◌⊎◌, ℕ, ℤ, ◌+◌, ◌≤ℤ◌, ◌<ℤ◌, ◌+ℤ◌, Bool, true, false, if◌then◌else◌, List, [], ◌∷◌, ◌++◌, Some, Result, Ok}
 use Rattle.std.proofs.Common.{refl, sym, ap, subst, ◌∙◌, inl, inr, arith}
 use Rattle.std.proofs.lemmas.Int.{ints}
 use Rattle.std.proofs.lemmas.Option.{none-some, same_Some}
@@ -20,11 +20,12 @@ use Rattle.ak_io.specs.declared.lines.Line.{Line}
 use Rattle.ak_keep.specs.Collections.{Collection, Holding}
 use Rattle.ak_keep.specs.Keepers.{Keeping, WhereHeld, changed}
 use Rattle.ak_keep.specs.Marks.{WithMark}
-use Rattle.ak_lab.specs.LabPlans.{Plans, Resends, with_act, with_mishap}
+use Rattle.ak_lab.specs.LabPlans.{Plans, Resends, with_act, with_break, with_mishap}
 use Rattle.ak_lab_wires.specs.declared.lab_sessions.SessionKind.TheVariants as kinds
 use Rattle.ak_lab.specs.LabDesks.{EndsDo, EndsReview, desk_of, turn_of}
 use Rattle.ak_lab.specs.LabRuns.{AllGo, IsLabOpening}
 use Rattle.ak_lab.specs.LabStates.{LabState, at_line, opened_lab}
+use Rattle.ak_lab.specs.LabSyncs.{server_met, with_fails}
 use Rattle.ak_lab_wires.specs.LabSessions.{lab_host}
 use Rattle.ak_lab.specs.LabSteps.{Accepts, AddsDevice, SideHolds, plan_of}
 use Rattle.ak_lab.specs.LineOutcomes.{Accepted, EndsAs}
@@ -275,7 +276,7 @@ module _ (account : AccountState) (name : List ℕ) (s t : LabState) (outcome : 
   over_by : (o : Outcome) → outcome ≡ o → KeepsDevice 1 (keeping_of ends.d) (keeping_of ends.made) (Some ((s.clock +ℤ ends.d.shift) ∷ [])) ends.session.to_come o
       → (now : Collection) → Holds ends.made.collection now → IsOver o now
   over_by outcomes.Finished is keeps now holds =
-      let it = synced.finished_now account s.sessions s.clock (s.clock +ℤ ends.d.shift) ends.d ends.made s.server t.server outcome room ends.session enough
+      let it = synced.finished_now account s.sessions s.clock (s.clock +ℤ ends.d.shift) ends.d ends.made (server_met kinds.Sync s) (with_fails ends.fails_left t.server) outcome room ends.session enough
       (law_lines.server_here account name s t outcome linked room ends enough) (law_lines.device_here account name s t outcome linked room ends enough) is in
       stays_over outcomes.Finished refl it.device it.kept it.schema now holds
   over_by (outcomes.BadRow fault) is keeps now holds = raised_over (outcomes.BadRow fault) keeps now holds
@@ -307,7 +308,7 @@ module _ (account : AccountState) (name : List ℕ) (s t : LabState) (outcome : 
   same_schema : (committed_of account t).head.schema ≡ base_synced.head.schema
   same_schema =
       subst (λ (h : List ℕ). (world_in h account t.server).state.committed.head.schema ≡ (world_in h account s.server).state.committed.head.schema) ends.session.of.host
-      (synced.schema_stays account s.sessions s.clock (s.clock +ℤ ends.d.shift) ends.d ends.made s.server t.server outcome room ends.session enough
+      (synced.schema_stays account s.sessions s.clock (s.clock +ℤ ends.d.shift) ends.d ends.made (server_met kinds.Sync s) (with_fails ends.fails_left t.server) outcome room ends.session enough
       (law_lines.server_here account name s t outcome linked room ends enough) (law_lines.device_here account name s t outcome linked room ends enough))
 
   pub sync_ordered : HasOrderedSchemas account t
@@ -442,6 +443,10 @@ said_ordered steps account (lines.Replay name call from count) s t printed linke
 said_ordered steps account (lines.Resend from count) s t printed linked room ordered (inl (plans, plain)) resends = absurd plain
 said_ordered steps account (lines.Resend from count) s t printed linked room ordered (inr (none, quiet)) resends =
     (resent_fresh account from count s t printed linked none resends, resent_ordered account from count s t printed linked ordered none resends)
+said_ordered steps account (lines.Break sides.Server) s t printed linked room ordered why (left, none) =
+    (tt, subst (HasOrderedSchemas account) (sym left) (record { server = ordered.server; devices = ordered.devices }))
+said_ordered steps account (lines.Break (sides.Device name)) s t printed linked room ordered why (plan, none) =
+    (tt, planned_ordered account name with_break s t ordered plan (λ d. refl))
 said_ordered steps account (lines.Transfer directions.Upload name) s t printed linked room ordered (inl (plans, plain)) accepts = absurd plain
 said_ordered steps account (lines.Transfer directions.Upload name) s t printed linked room ordered (inr (none, quiet)) accepts = absurd quiet
 said_ordered steps account (lines.Transfer directions.Download name) s t printed linked room ordered why (outcome, text, ends, told, is) =

@@ -5,7 +5,7 @@ use Rattle.std.proofs.Common.{refl, sym, ap, subst, ◌∙◌, inl, inr}
 use Rattle.std.proofs.lemmas.Option.{none-some}
 use Rattle.ak_io.specs.declared.lines.Line.{Line}
 use Rattle.ak_keep.specs.Collections.{Collection}
-use Rattle.ak_lab.specs.LabPlans.{with_mishap}
+use Rattle.ak_lab.specs.LabPlans.{with_break, with_mishap}
 use Rattle.ak_lab.specs.LabStates.{LabState, at_line, opened_lab, with_changed}
 use Rattle.ak_lab.specs.LabSteps.{Accepts, AddsDevice, SideHolds}
 use Rattle.ak_lab.specs.LineOutcomes.{Accepted, EndsAs}
@@ -74,6 +74,9 @@ said_plans (lines.Disturb name call what) s t printed plans plain (plan, none) =
 said_plans (lines.Cross name call other) s t printed plans plain accepts = absurd plain
 said_plans (lines.Replay name call from count) s t printed plans plain accepts = absurd plain
 said_plans (lines.Resend from count) s t printed plans plain resends = same_devices s t (ap (λ (x : LabState). x.devices) resends.left) plans
+said_plans (lines.Break sides.Server) s t printed plans plain (left, none) = same_devices s t (ap (λ (x : LabState). x.devices) left) plans
+said_plans (lines.Break (sides.Device name)) s t printed plans plain (plan, none) =
+    kept_plans name s t plan.d (with_break plan.d) plan.found refl (ap (λ (x : LabState). x.devices) plan.left) plans
 said_plans (lines.Transfer direction name) s t printed plans plain (outcome, text, ends, told, is) =
     let alone = transfer_alone direction name s t outcome ends in
     kept_plans name s t alone.d alone.made alone.found (ap (λ (x : Device). x.planned) alone.session.plan)

@@ -11,6 +11,7 @@ use Rattle.ak_lab_joins.proofs.Worlds.{IsView, StaysQuiet, quiet_after, views_ar
 use Rattle.ak_lab_wires.proofs.Openings.{opening_is_committed}
 use Rattle.ak_lab_joins.specs.LabJoins.{IsLinkedServer, world_in}
 use Rattle.ak_lab.specs.LabRuns.{IsLabOpening}
+use Rattle.ak_lab.specs.LabSyncs.{with_fails}
 use Rattle.ak_lab_wires.specs.LabSessions.{lab_host}
 use Rattle.ak_loops.proofs.Logging.{events_append}
 use Rattle.ak_loops.specs.Entries.{LoggedState, account_opened, collection_in, entry_of, events_in, log_in, server_of, server_opened}
@@ -38,6 +39,17 @@ committed_is host account sessions server linked =
     ap (λ (h : List ℕ). committed_under h (server_of log)) linked.host_is
     ∙ ap (option_map (λ (s : AccountState). s.committed)) (logs_part log.opening log.events host
     ∙ ap (option_map (λ (s : AccountState). (world_after (opened s) (events_of host log.events)).state)) opens)
+
+-- which calls of its keeper are to fail is no part of what a server holds
+pub fails_set : (host : List ℕ) (account : AccountState) (sessions : ℕ) (server : LoggedState) (calls : List ℕ) → IsLinkedServer host account sessions server
+    → IsLinkedServer host account sessions (with_fails calls server)
+fails_set host account sessions server calls linked =
+    record { host_is = linked.host_is; unused = linked.unused; lawful = linked.lawful; number = linked.number }
+
+pub fails_unset : (host : List ℕ) (account : AccountState) (sessions : ℕ) (server : LoggedState) (calls : List ℕ) → IsLinkedServer host account sessions (with_fails calls server)
+    → IsLinkedServer host account sessions server
+fails_unset host account sessions server calls linked =
+    record { host_is = linked.host_is; unused = linked.unused; lawful = linked.lawful; number = linked.number }
 
 -- ---- views
 views_come : (host : List ℕ) (line views : ℕ) → AllByRecursion IsView (events_in host (replicate views (entry_of line logged.Viewed)))

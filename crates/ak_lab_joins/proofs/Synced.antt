@@ -183,27 +183,27 @@ module _ {mishaps : List Mishap} (account : AccountState) (sessions : ℕ) (at d
   pub committed : CommitsNoneOrJoin sync.ids.session.0 c was is_now
   committed =
       syncs.committed sync.ids account (log_in met) (log_in new) (keeping_of d) (keeping_of made) (health_over no_calls mishaps) sync.health first last
-      (Some (device_at ∷ [])) outcome c sync.alone refl log_now known sync.ended.sync ended sync.unfailed enough may
+      (Some (device_at ∷ [])) outcome c sync.alone refl log_now known sync.ended.sync ended may
 
   pub schema_stays : is_now.state.committed.head.schema ≡ was.state.committed.head.schema
   schema_stays =
       syncs.schema_stays sync.ids account (log_in met) (log_in new) (keeping_of d) (keeping_of made) (health_over no_calls mishaps) sync.health first last
-      (Some (device_at ∷ [])) outcome c sync.alone refl log_now known sync.ended.sync ended sync.unfailed enough may server.number
+      (Some (device_at ∷ [])) outcome c sync.alone refl log_now known sync.ended.sync ended may server.number
 
   linked_now : (e : Collection) → AreLinked e was.state.committed → AreLinked e is_now.state.committed
   linked_now e is =
       syncs.linked_now sync.ids account (log_in met) (log_in new) (keeping_of d) (keeping_of made) (health_over no_calls mishaps) sync.health first last
-      (Some (device_at ∷ [])) outcome c sync.alone refl log_now known sync.ended.sync ended sync.unfailed enough may server.number e is
+      (Some (device_at ∷ [])) outcome c sync.alone refl log_now known sync.ended.sync ended may server.number e is
 
   fits_now : (e : Collection) (step : Reversal) → StepFits e step was.state.committed → StepFits e step is_now.state.committed
   fits_now e step is =
       syncs.fits_now sync.ids account (log_in met) (log_in new) (keeping_of d) (keeping_of made) (health_over no_calls mishaps) sync.health first last
-      (Some (device_at ∷ [])) outcome c sync.alone refl log_now known sync.ended.sync ended sync.unfailed enough may server.number e step is
+      (Some (device_at ∷ [])) outcome c sync.alone refl log_now known sync.ended.sync ended may server.number e step is
 
   abbrev own_growth : GrowsSo (IsOfSession sync.ids.session.0) (log_in met) (log_in new)
   own_growth =
       syncs.own_growth sync.ids account (log_in met) (log_in new) (keeping_of d) (keeping_of made) (health_over no_calls mishaps) sync.health first last
-      (Some (device_at ∷ [])) outcome c sync.alone refl log_now known sync.ended.sync ended sync.unfailed enough may
+      (Some (device_at ∷ [])) outcome c sync.alone refl log_now known sync.ended.sync ended may
 
   -- ---- the server
   pub server_now : IsLinkedServer host account (one_more sessions) new
@@ -212,10 +212,10 @@ module _ {mishaps : List Mishap} (account : AccountState) (sessions : ℕ) (at d
     unused = unused_next host account sessions sync.ids.session.0 (log_in met) (log_in new) room sync.of.session server.unused own_growth;
     lawful =
         syncs.lawful_now sync.ids account (log_in met) (log_in new) (keeping_of d) (keeping_of made) (health_over no_calls mishaps) sync.health first last
-        (Some (device_at ∷ [])) outcome c sync.alone refl log_now known sync.ended.sync ended sync.unfailed enough may server.number;
+        (Some (device_at ∷ [])) outcome c sync.alone refl log_now known sync.ended.sync ended may server.number;
     number =
         syncs.number_stays sync.ids account (log_in met) (log_in new) (keeping_of d) (keeping_of made) (health_over no_calls mishaps) sync.health first last
-        (Some (device_at ∷ [])) outcome c sync.alone refl log_now known sync.ended.sync ended sync.unfailed enough may server.number;
+        (Some (device_at ∷ [])) outcome c sync.alone refl log_now known sync.ended.sync ended may server.number;
   }
 
   -- ---- the other devices
@@ -289,7 +289,7 @@ module _ {mishaps : List Mishap} (account : AccountState) (sessions : ℕ) (at d
   pub finished_now : outcome ≡ outcomes.Finished → FinishedSo
   finished_now is =
       let it = syncs.finished sync.ids account (log_in met) (log_in new) (keeping_of d) (keeping_of made) (health_over no_calls mishaps) sync.health first last
-      (Some (device_at ∷ [])) outcome c sync.alone refl log_now known sync.ended.sync ended sync.unfailed enough may is in
+      (Some (device_at ∷ [])) outcome c sync.alone refl log_now known sync.ended.sync ended may is in
       let device : Collection = it.0.device in
       let kept : made.collection ≡ kept_of device = kept_is made device it.0.holds in
       record {
@@ -333,10 +333,10 @@ module _ {mishaps : List Mishap} (account : AccountState) (sessions : ℕ) (at d
   pub agreed_now : outcome ≡ outcomes.NoChanges → SameContent (content_of c) (content_of was.state.committed)
   agreed_now is =
       syncs.agreed sync.ids account (log_in met) (log_in new) (keeping_of d) (keeping_of made) (health_over no_calls mishaps) sync.health first last
-      (Some (device_at ∷ [])) outcome c sync.alone refl log_now known sync.ended.sync ended sync.unfailed enough may is
+      (Some (device_at ∷ [])) outcome c sync.alone refl log_now known sync.ended.sync ended may is
 
   -- an end before the finish leaves what is committed
   pub early_quiet : ends_before_finish outcome ≡ true → StaysQuiet was is_now
   early_quiet early =
       syncs.quiet_if_early sync.ids account (log_in met) (log_in new) (keeping_of d) (keeping_of made) (health_over no_calls mishaps) sync.health first last
-      (Some (device_at ∷ [])) outcome c sync.alone refl log_now known sync.ended.sync ended sync.unfailed enough may early
+      (Some (device_at ∷ [])) outcome c sync.alone refl log_now known sync.ended.sync ended may early

@@ -1,8 +1,6 @@
 -- What a sync leaves on the server of a lab and on the device, over a device that is linked with the server.
 use Rattle.std.specs.List.{AllByRecursion}
-use Rattle.std.specs.Ordering.{int_eq}
-use Rattle.std.specs.Cmp.{signed_Decides}
-use Rattle.std.specs.Prelude.{◌≡◌, ◌≢◌, ◌⊎◌, ℕ, ℤ, pos, ◌+ℤ◌, ◌≤ℤ◌, ◌<ℤ◌, Bool, true, false, List, [], ◌∷◌, ◌++◌, Option, Some}
+use Rattle.std.specs.Prelude.{◌≡◌, ◌⊎◌, ℕ, ℤ, pos, ◌+ℤ◌, ◌<ℤ◌, Bool, true, false, List, [], ◌∷◌, ◌++◌, Option, Some}
 use Rattle.std.proofs.Common.{refl, sym, ap, subst, ◌∙◌, append-nil, inl, inr, arith}
 use Rattle.std.proofs.lemmas.Int.{ints}
 use Rattle.std.proofs.lemmas.List.{append_cancel_left, append_cancel_right}
@@ -19,14 +17,15 @@ use Rattle.ak_exchange.specs.declared.envelopes.Ids.{Ids}
 use Rattle.ak_faults.specs.Causes.{Health}
 use Rattle.ak_keep.specs.Collections.{Collection}
 use Rattle.ak_keep.specs.Keepers.{Keeping}
-use Rattle.ak_lab_joins.proofs.Metas.{asks_nothing, schema_is}
+use Rattle.ak_lab_joins.proofs.SchemasStay.{IsNoUpload, no_upload, none_uploads, schemas_stay}
 use Rattle.ak_lab_joins.proofs.Worlds.{commit_as, GrowsSo, IsOfSession, IsQuiet, StaysQuiet, grows_so, quiet_after, requests_of_session, world_grown}
 use Rattle.ak_merge.specs.Edits.{Reversal}
 use Rattle.ak_merge.specs.Exchanges.{AreExchanged, HoldsJoin}
 use Rattle.ak_merge.specs.Holdings.{SameContent, content_of}
 use Rattle.ak_merge.specs.Links.{AreLinked}
 use Rattle.ak_merge.specs.Undoing.{StepFits}
-use Rattle.ak_protocol.proofs.ContentLaws.{commits_are_made, fits_stay, old_schemas_stay_old, some_of_all}
+use Rattle.ak_messages.specs.declared.requests.Ask.TheVariants as asks
+use Rattle.ak_protocol.proofs.ContentLaws.{commits_are_made, fits_stay, some_of_all}
 use Rattle.ak_protocol.specs.Accounts.{AccountState}
 use Rattle.ak_protocol.specs.Commits.{EachNewer, HasFreshSchema, IsMade}
 use Rattle.ak_protocol.specs.LawfulServers.{IsLawfulAccount}
@@ -34,10 +33,6 @@ use Rattle.ak_protocol.specs.Logs.{Commit, Event, IsTimely, Log, World, events_o
 use Rattle.ak_session.specs.Plans.{Asker, requests_from}
 use Rattle.ak_wires.specs.Wires.{WireKind, WireState}
 use Rattle.ak_wires.specs.declared.wires.MetaSaid.{MetaSaid}
-
--- a log grows by requests of one session
-abbrev pub GrowsOwn : ℕ → Log → Log → Type 0
-GrowsOwn key old now = GrowsSo (IsOfSession key) old now
 
 -- a commit leaves the schema moment
 abbrev pub LeavesSchema : Commit → Type 0
@@ -64,7 +59,6 @@ not_zero usn is over = omega (arith, ints, is, over)
 module _ {kind : WireKind} (ids : Ids) (account : AccountState) (old now : Log) (before left : Keeping) (h0 h1 : Health) (w0 w1 : WireState kind) (to_come : Option (List ℤ)) (outcome : Outcome) (c : Collection)
     (alone : w0.alone ≡ true) (told : w0.log ≡ Some old) (told_now : w1.log ≡ Some now) (holds : before ≡ holding c)
     (sync : IsSync ids before left h0 h1 w0 w1 outcome) (because : EndsBecause sync.meta sync.moment sync.tries before to_come outcome)
-    (unfailed : outcome ≢ outcomes.Keep) (enough : outcome ≢ outcomes.Memory)
     (may : MayBegin (asker ids) c account old) where
   abbrev pub who : Asker
   who = asker ids
@@ -75,28 +69,14 @@ module _ {kind : WireKind} (ids : Ids) (account : AccountState) (old now : Log) 
   abbrev pub is_now : World
   is_now = world_at who account now
 
-  -- ---- schemas that differ
-  nothing_asked : c.head.schema ≢ was.state.committed.head.schema → sync.tries ≡ []
-  nothing_asked differ =
-      asks_nothing sync.meta sync.moment sync.tries c to_come outcome was.state.committed.head.schema
-      (subst (λ (k : Keeping). EndsBecause sync.meta sync.moment sync.tries k to_come outcome) holds because)
-      (λ said is. schema_is ids account old may.unused said h0 sync.tried.0 w0 sync.tried.1 sync.meta sync.tried.2 alone told is)
-      unfailed enough differ
-
-  -- after which nothing but metas came
+  -- ---- what came
+  -- nothing but metas, if nothing more was asked
   metas_came : sync.tries ≡ [] → GrowsSo IsQuiet old now
   metas_came none =
       let tried : AreTried (meta_of ids ∷ []) (sync.meta ∷ []) h0 h1 w0 w1 =
       subst (λ (tries : List TriedAsk). AreTried (meta_of ids ∷ requests_from (asker ids) sync.moment 1 (asks_in tries)) (sync.meta ∷ answers_in tries) h0 h1 w0 w1)
       none sync.tried in
       grows_so IsQuiet (meta_of ids ∷ []) (sync.meta ∷ []) h0 h1 w0 w1 old now tried ((λ at setback. refl), tt) alone told told_now
-
-  only_meta : c.head.schema ≢ was.state.committed.head.schema → StaysQuiet was is_now
-  only_meta differ =
-      let grows = metas_came (nothing_asked differ) in
-      subst (λ (w : World). StaysQuiet was w)
-      (sym (ap (world_at who account) grows.grown ∙ world_grown who.host.digits account old grows.growth))
-      (quiet_after was (events_of who.host.digits grows.growth) (some_of_all IsQuiet who.host.digits grows.growth grows.all))
 
   none_newer : StaysQuiet was is_now → (P : Commit → Type 0) → EachNewer P was is_now
   none_newer quiet P newer is =
@@ -108,24 +88,17 @@ module _ {kind : WireKind} (ids : Ids) (account : AccountState) (old now : Log) 
       grows_so (IsOfSession ids.session.0) (meta_of ids ∷ requests_from (asker ids) sync.moment 1 (asks_in sync.tries)) (sync.meta ∷ answers_in sync.tries)
       h0 h1 w0 w1 old now sync.tried ((λ at setback. refl), requests_of_session (asker ids) sync.moment 1 (asks_in sync.tries)) alone told told_now
 
-  fresh_if_same : c.head.schema ≡ was.state.committed.head.schema → EachNewer (HasFreshSchema c) was is_now
-  fresh_if_same same =
-      subst (EachNewer (HasFreshSchema c) was)
-      (sym (ap (world_at who account) own_growth.grown ∙ world_grown who.host.digits account old own_growth.growth))
-      (old_schemas_stay_old was (events_of who.host.digits own_growth.growth) c (no_more c.head.schema was.state.committed.head.schema same))
-    where
-      no_more : (a b : ℤ) → a ≡ b → a ≤ℤ b
-      no_more a b is = omega (arith, ints, is)
+  -- no upload is among what was asked, so each commit leaves the server's schema moment
+  plain_growth : GrowsSo IsNoUpload old now
+  plain_growth =
+      grows_so IsNoUpload (meta_of ids ∷ requests_from (asker ids) sync.moment 1 (asks_in sync.tries)) (sync.meta ∷ answers_in sync.tries)
+      h0 h1 w0 w1 old now sync.tried ((λ at setback. no_upload asks.Meta tt), none_uploads (asker ids) sync.moment 1 (asks_in sync.tries) sync.rows) alone told told_now
 
   pub fresh : EachNewer (HasFreshSchema c) was is_now
-  fresh = by (int_eq c.head.schema was.state.committed.head.schema) refl
-    where
-      not_both : {b : Bool} → b ≡ true → b ≡ false → ⊥
-      not_both is not = grind (arith, is, not)
-
-      by : (b : Bool) → int_eq c.head.schema was.state.committed.head.schema ≡ b → EachNewer (HasFreshSchema c) was is_now
-      by true is = fresh_if_same ((signed_Decides c.head.schema was.state.committed.head.schema).0 is)
-      by false is = none_newer (only_meta (λ same. not_both ((signed_Decides c.head.schema was.state.committed.head.schema).1 same) is)) (HasFreshSchema c)
+  fresh =
+      subst (EachNewer (HasFreshSchema c) was)
+      (sym (ap (world_at who account) plain_growth.grown ∙ world_grown who.host.digits account old plain_growth.growth))
+      (schemas_stay c was (events_of who.host.digits plain_growth.growth) (some_of_all IsNoUpload who.host.digits plain_growth.growth plain_growth.all))
 
   -- ---- what the client promises
   pub synced : Synced who sync.moment (asks_in sync.tries) c account old now left outcome

@@ -6,6 +6,7 @@ use Rattle.ak_client.specs.declared.outcomes.Outcome.TheVariants as outcomes
 use Rattle.ak_faults.specs.Causes.{one_more}
 use Rattle.ak_keep.specs.Collections.{Collection}
 use Rattle.ak_lab.specs.LabStates.{LabState}
+use Rattle.ak_lab.specs.LabSyncs.{server_met, with_fails}
 use Rattle.ak_lab_wires.specs.LabSessions.{lab_host}
 use Rattle.ak_lab_wires.specs.declared.lab_sessions.SessionKind.{SessionKind}
 use Rattle.ak_lab_wires.specs.declared.lab_sessions.SessionKind.TheVariants as kinds
@@ -16,7 +17,7 @@ use Rattle.ak_lab_joins.proofs.Alone.{EndsAlone}
 use Rattle.ak_lab_joins.proofs.Devices.{changed_found, changed_or_old, others_found}
 use Rattle.ak_lab_joins.proofs.Here as here
 use Rattle.ak_lab_joins.proofs.Names.{changed_unlike}
-use Rattle.ak_lab_joins.proofs.Servers.{committed_is}
+use Rattle.ak_lab_joins.proofs.Servers.{committed_is, fails_unset}
 use Rattle.ak_lab_joins.proofs.Synced.{holds_is, known_is}
 use Rattle.ak_lab_joins.proofs.Transferred as transferred
 use Rattle.ak_lab_joins.proofs.Transferred.{CommitsNoneOrUpload, EndsAfterAsk, TransferTold}
@@ -40,7 +41,7 @@ module _ (account : AccountState) (direction : Direction) (name : List ℕ) (s t
   abbrev same_host : lab_host ≡ ends.session.ids.host.digits
   same_host = here.same_host kind account name s t outcome linked ends
 
-  abbrev server_here : IsLinkedServer ends.session.ids.host.digits account s.sessions s.server
+  abbrev server_here : IsLinkedServer ends.session.ids.host.digits account s.sessions (server_met kind s)
   server_here = here.server_here kind account name s t outcome linked ends
 
   abbrev device_here : IsLinkedDevice (world_in ends.session.ids.host.digits account s.server).state.committed ends.d
@@ -52,7 +53,8 @@ module _ (account : AccountState) (direction : Direction) (name : List ℕ) (s t
   server_left : IsLinkedServer lab_host account (one_more s.sessions) t.server
   server_left =
       subst (λ (h : List ℕ). IsLinkedServer h account (one_more s.sessions) t.server) (sym same_host)
-      (transferred.server_now direction account s.sessions s.clock (s.clock +ℤ ends.d.shift) ends.d ends.made s.server t.server outcome room ends.session server_here device_here)
+      (fails_unset ends.session.ids.host.digits account (one_more s.sessions) t.server ends.fails_left
+      (transferred.server_now direction account s.sessions s.clock (s.clock +ℤ ends.d.shift) ends.d ends.made (server_met kind s) (with_fails ends.fails_left t.server) outcome room ends.session server_here device_here))
 
   -- the server's schema moment is as it was, or not this one's
   abbrev IsApart : Collection → Type 0
@@ -64,7 +66,7 @@ module _ (account : AccountState) (direction : Direction) (name : List ℕ) (s t
 
   -- the same by the host key of the session
   apart_here : (e : Collection) → IsApart e
-      → transferred.KeepsApart direction account s.sessions s.clock (s.clock +ℤ ends.d.shift) ends.d ends.made s.server t.server outcome room ends.session server_here device_here e
+      → transferred.KeepsApart direction account s.sessions s.clock (s.clock +ℤ ends.d.shift) ends.d ends.made (server_met kind s) (with_fails ends.fails_left t.server) outcome room ends.session server_here device_here e
   apart_here e is =
       subst (λ (h : List ℕ). ((world_in h account t.server).state.committed.head.schema ≡ (world_in h account s.server).state.committed.head.schema)
       ⊎ (e.head.schema ≢ (world_in h account t.server).state.committed.head.schema)) same_host is
@@ -72,13 +74,13 @@ module _ (account : AccountState) (direction : Direction) (name : List ℕ) (s t
   made_left : HasFreshServer account s t → IsLinkedDevice (committed_of account t) ends.made
   made_left fresh =
       subst (λ (h : List ℕ). IsLinkedDevice (world_in h account t.server).state.committed ends.made) (sym same_host)
-      (transferred.made_now direction account s.sessions s.clock (s.clock +ℤ ends.d.shift) ends.d ends.made s.server t.server outcome room ends.session server_here device_here
+      (transferred.made_now direction account s.sessions s.clock (s.clock +ℤ ends.d.shift) ends.d ends.made (server_met kind s) (with_fails ends.fails_left t.server) outcome room ends.session server_here device_here
       (λ held is. apart_here held (apart fresh name ends.d ends.found held is)))
 
   other_left : HasFreshServer account s t → (other : List ℕ) (d : Device) → device_of other s.devices ≡ Some d → IsLinkedDevice (committed_of account t) d
   other_left fresh other d found =
       subst (λ (h : List ℕ). IsLinkedDevice (world_in h account t.server).state.committed d) (sym same_host)
-      (transferred.others_now direction account s.sessions s.clock (s.clock +ℤ ends.d.shift) ends.d ends.made s.server t.server outcome room ends.session server_here device_here
+      (transferred.others_now direction account s.sessions s.clock (s.clock +ℤ ends.d.shift) ends.d ends.made (server_met kind s) (with_fails ends.fails_left t.server) outcome room ends.session server_here device_here
       d (here.linked_here kind account name s t outcome linked ends d (linked.devices other d found)) (λ held is. apart_here held (apart fresh other d found held is)))
 
   pub transfer_linked : HasFreshServer account s t → IsLinkedLab account t
@@ -95,7 +97,7 @@ module _ (account : AccountState) (direction : Direction) (name : List ℕ) (s t
 
   -- ---- what is committed, by the lab's host key and the session's number
   pub told : TransferTold direction ends.session.ids.session.0 ends.session.ids own.c account (log_in s.server) (log_in t.server) (keeping_of ends.made) outcome
-  told = transferred.told direction account s.sessions s.clock (s.clock +ℤ ends.d.shift) ends.d ends.made s.server t.server outcome room ends.session server_here device_here
+  told = transferred.told direction account s.sessions s.clock (s.clock +ℤ ends.d.shift) ends.d ends.made (server_met kind s) (with_fails ends.fails_left t.server) outcome room ends.session server_here device_here
 
   pub committed_so : CommitsNoneOrUpload (one_more s.sessions) own.c (lab_world account s) (lab_world account t)
   committed_so =
@@ -114,6 +116,7 @@ module _ (account : AccountState) (direction : Direction) (name : List ℕ) (s t
   keeps_others = record {
     clock = ap (λ (x : LabState). x.clock) ends.left;
     sessions = ap (λ (x : LabState). x.sessions) ends.left;
+    breaks = ap (λ (x : LabState). x.fails) ends.left;
     others = λ other differ. ap (λ (x : LabState). device_of other x.devices) ends.left
         ∙ others_found ends.made s.devices other (λ is. differ (sym is ∙ own_name));
     d = ends.d;
@@ -146,7 +149,7 @@ module _ (account : AccountState) (direction : Direction) (name : List ℕ) (s t
   pub held_still : outcome ≢ outcomes.Finished → DeviceHolds name t own.c
   held_still other =
       here.left_holds kind account name s t outcome linked ends own.c
-      (transferred.kept direction account s.sessions s.clock (s.clock +ℤ ends.d.shift) ends.d ends.made s.server t.server outcome room ends.session server_here device_here other
+      (transferred.kept direction account s.sessions s.clock (s.clock +ℤ ends.d.shift) ends.d ends.made (server_met kind s) (with_fails ends.fails_left t.server) outcome room ends.session server_here device_here other
       ∙ known_is ends.d own.c own.holds)
 
 -- ---- what a server has committed
@@ -217,7 +220,7 @@ keeps_sides direction account name s t outcome linked room other ends = record {
     may_have (inl is) = is
     may_have (inr (inl finished)) = absurd (other finished)
     may_have (inr (inr (inl lost))) = absurd (ends.session.unlost refl lost)
-    may_have (inr (inr (inr kept))) = absurd (ends.session.unfailed kept)
+    may_have (inr (inr (inr kept))) = absurd (ends.session.unfailed refl kept)
 
     none_or_once : (c : Collection) → StaysQuiet (lab_world account s) (lab_world account t) ⊎ EndsAfterAsk outcome
         → CommitsNoneOrUpload (one_more s.sessions) c (lab_world account s) (lab_world account t)

@@ -1,24 +1,27 @@
--- A session meets no fault of a server's keeper that is not to fail, whatever comes between its calls.
-use Rattle.std.specs.List.{AllByRecursion}
-use Rattle.std.specs.Prelude.{◌≡◌, ℕ, ℤ, Bool, true, List, [], ◌∷◌, ◌++◌}
+-- A session meets no fault of a keeper that is not to fail, whatever comes between its calls.
+use Rattle.std.specs.Prelude.{◌≡◌, ◌≢◌, ℕ, ℤ, Bool, true, List, [], ◌∷◌, ◌++◌}
 use Rattle.std.proofs.Common.{refl, sym, ap, ◌∙◌, inl, inr, append_assoc, append-nil}
 use Rattle.ak_client.specs.declared.outcomes.Outcome.{Outcome}
+use Rattle.ak_client.specs.declared.outcomes.Outcome.TheVariants as outcomes
+use Rattle.ak_faults.specs.Calls.{names_none}
 use Rattle.ak_lab.specs.LabPlans.{Resends}
 use Rattle.ak_lab.specs.LabStates.{LabState}
 use Rattle.ak_lab.specs.LabSyncs.{EndsLabSession}
 use Rattle.ak_lab_devices.specs.declared.devices.Device.{Device}
 use Rattle.ak_lab_devices.specs.declared.plans.Act.{Act}
 use Rattle.ak_lab_devices.specs.declared.plans.Act.TheVariants as acts
-use Rattle.ak_lab_joins.specs.LabMishaps.{MeetsNoFault, MetNoFault}
+use Rattle.ak_lab_joins.specs.LabBreaks.{HasBreak}
+use Rattle.ak_lab_joins.specs.LabMishaps.{AreFaultless, MeetsNoFault}
 use Rattle.ak_lab_wires.proofs.Kept.{Any, all_any, any_calls}
 use Rattle.ak_lab_wires.proofs.Keeping.{KeepsOn, all_served_keep, calls_keep, turns_keep}
-use Rattle.ak_lab_wires.specs.CrossedSyncs.{ActsBy, ActsOnce, CrossState, CrossedSync, CrossesAt, cross_state, crosses_nothing}
-use Rattle.ak_lab_wires.specs.LabSessions.{IsSessionOver}
+use Rattle.ak_lab_wires.specs.CrossedSyncs.{ActsBy, ActsOnce, CrossState, CrossedSync, CrossesAt, SyncsCrossed, cross_state, crosses_nothing}
+use Rattle.ak_lab_wires.specs.LabSessions.{IsSessionOver, fails_in}
 use Rattle.ak_lab_wires.specs.Replaying.{ReplaysAt, ReplaysBy, ReplaysOne, replays_nothing}
 use Rattle.ak_lab_wires.specs.Servings.{AreServed, ServesAgain, named_from, requests_in, with_line}
 use Rattle.ak_lab_wires.specs.Turns.{due}
 use Rattle.ak_lab_wires.specs.declared.crossed_syncs.Crossings.{Crossings}
 use Rattle.ak_lab_wires.specs.declared.lab_sessions.SessionKind.{SessionKind}
+use Rattle.ak_lab_wires.specs.declared.lab_sessions.SessionKind.TheVariants as kinds
 use Rattle.ak_lab_wires.specs.declared.replayed_requests.Replays.{Replays}
 use Rattle.ak_loops.specs.Betweens.{ActEnd, Acting}
 use Rattle.ak_loops.specs.Entries.{LoggedState, entry_of, health_in}
@@ -30,39 +33,31 @@ use Rattle.ak_messages.specs.declared.replies.Reply.{Reply}
 use Rattle.ak_messages.specs.declared.requests.Request.{Request}
 
 -- ---- what is kept
--- a keeper that is not to fail is not at fault, and stays so
-pub record IsUnfailed (old new : LoggedState) : Type 0 where
-  pub calm : (health_in new).calm ≡ true
-  pub met : MeetsNoFault old new
-
-abbrev pub StaysUnfailed : LoggedState → LoggedState → Type 0
-StaysUnfailed old new = (health_in old).calm ≡ true → IsUnfailed old new
+-- entries were added. A keeper that is not to fail is not at fault, and stays so
+pub record StaysUnfailed (old new : LoggedState) : Type 0 where
+  pub added : List Entry
+  pub entries : new.entries ≡ old.entries ++ added
+  pub calm : (health_in old).calm ≡ true → (health_in new).calm ≡ true
+  pub met : (health_in old).calm ≡ true → AreFaultless added
 
 pub nothing_met : (old new : LoggedState) → (health_in new).calm ≡ (health_in old).calm → new.entries ≡ old.entries → StaysUnfailed old new
-nothing_met old new same entries calm = record {
-  calm = same ∙ calm;
-  met = record { added = []; entries = entries ∙ sym (append-nil old.entries); each = tt };
-}
+nothing_met old new same entries =
+    record { added = []; entries = entries ∙ sym (append-nil old.entries); calm = λ is. same ∙ is; met = λ is. tt }
 
 pub nothing_came : (old new : LoggedState) → new ≡ old → StaysUnfailed old new
 nothing_came old new same = nothing_met old new (ap (λ (s : LoggedState). (health_in s).calm) same) (ap (λ (s : LoggedState). s.entries) same)
 
-pub both : (P : Entry → Type 0) (a b : List Entry) → AllByRecursion P a → AllByRecursion P b → AllByRecursion P (a ++ b)
-both P [] b one two = two
-both P (entry ∷ a) b one two = (one.0, both P a b one.1 two)
+both : (a b : List Entry) → AreFaultless a → AreFaultless b → AreFaultless (a ++ b)
+both [] b one two = two
+both (entry ∷ a) b one two = (one.0, both a b one.1 two)
 
-pub further : (a b c : LoggedState) → StaysUnfailed a b → StaysUnfailed b c → StaysUnfailed a c
-further a b c one two calm =
-    let first = one calm in
-    let second = two first.calm in
-    record {
-      calm = second.calm;
-      met = record {
-        added = first.met.added ++ second.met.added;
-        entries = second.met.entries ∙ ap (λ (l : List Entry). l ++ second.met.added) first.met.entries ∙ append_assoc a.entries first.met.added second.met.added;
-        each = both (λ (entry : Entry). MetNoFault entry.what) first.met.added second.met.added first.met.each second.met.each;
-      };
-    }
+further : (a b c : LoggedState) → StaysUnfailed a b → StaysUnfailed b c → StaysUnfailed a c
+further a b c one two = record {
+  added = one.added ++ two.added;
+  entries = two.entries ∙ ap (λ (l : List Entry). l ++ two.added) one.entries ∙ append_assoc a.entries one.added two.added;
+  calm = λ is. two.calm (one.calm is);
+  met = λ is. both one.added two.added (one.met is) (two.met (one.calm is));
+}
 
 abbrev Unfailed : {X : Type 0} → X → X → LoggedState → LoggedState → Type 0
 Unfailed x y old new = StaysUnfailed old new
@@ -71,13 +66,11 @@ keeps_unfailed : {X : Type 0} → KeepsOn (Unfailed {X = X})
 keeps_unfailed = record { same = λ x s. nothing_came s s refl; further = λ x y z a b c one two. further a b c one two }
 
 served_unfailed : {X : Type 0} (at : ℤ) (x : X) (a b : LoggedState) (request : Request) (reply : Reply) → Any request → IsServed a b request at reply → Unfailed x x a b
-served_unfailed at x a b request reply any is calm = record {
-  calm = is.goes.calm calm;
-  met = record {
-    added = entry_of a.line (logged.Served request at is.trouble) ∷ [];
-    entries = ap (λ (s : LoggedState). s.entries) is.adds;
-    each = (is.unfailed calm, tt);
-  };
+served_unfailed at x a b request reply any is = record {
+  added = entry_of a.line (logged.Served request at is.trouble) ∷ [];
+  entries = ap (λ (s : LoggedState). s.entries) is.adds;
+  calm = is.goes.calm;
+  met = λ calm. (is.unfailed calm, tt);
 }
 
 pub all_unfailed : (requests : List Request) (replies : List Reply) (at : ℤ) (old new : LoggedState) → AreServed requests at old new replies → StaysUnfailed old new
@@ -87,12 +80,12 @@ all_unfailed requests replies at old new are =
 -- ---- what comes between
 -- a line is set and set back
 with_lines : (line : ℕ) (old reached new : LoggedState) → StaysUnfailed (with_line line old) reached → new ≡ with_line old.line reached → StaysUnfailed old new
-with_lines line old reached new stays back calm =
-    let it = stays calm in
-    record {
-      calm = ap (λ (s : LoggedState). (health_in s).calm) back ∙ it.calm;
-      met = record { added = it.met.added; entries = ap (λ (s : LoggedState). s.entries) back ∙ it.met.entries; each = it.met.each };
-    }
+with_lines line old reached new stays back = record {
+  added = stays.added;
+  entries = ap (λ (s : LoggedState). s.entries) back ∙ stays.entries;
+  calm = λ is. ap (λ (s : LoggedState). (health_in s).calm) back ∙ stays.calm is;
+  met = stays.met;
+}
 
 again_unfailed : (from count line : ℕ) (at : ℤ) (old new : LoggedState) (came : ActEnd) → ServesAgain from count line at old new came → StaysUnfailed old new
 again_unfailed from count line at old new came (inl nothing) = nothing_came old new nothing.0
@@ -132,17 +125,39 @@ crosses_unfailed call session x y a b came it =
     (due call x.acts) (cross_state x.lab) (cross_state y.lab) a b came it.1
 
 -- ---- the laws
-pub session_stays_unfailed : (kind : SessionKind) (name : List ℕ) (s t : LabState) (crossed : List (List ℕ)) (outcome : Outcome) → EndsLabSession kind name s t crossed outcome
-    → StaysUnfailed s.server t.server
-session_stays_unfailed kind name s t crossed outcome ended =
-    let runs = ended.runs in
-    session_unfailed CrossesAt crosses_nothing crosses_unfailed kind _ _ _ _ _ runs.made runs.was runs.became s.server t.server outcome runs.session
+-- what came in a session: it met no fault if no call of the server's keeper is to fail in it
+pub record SessionMeets (kind : SessionKind) (s t : LabState) : Type 0 where
+  pub added : List Entry
+  pub entries : t.server.entries ≡ s.server.entries ++ added
+  pub met : names_none (fails_in kind s.fails) ≡ true → AreFaultless added
 
-pub sessions_meet_no_fault : (kind : SessionKind) (name : List ℕ) (s t : LabState) (crossed : List (List ℕ)) (outcome : Outcome) → (health_in s.server).calm ≡ true
-    → EndsLabSession kind name s t crossed outcome → MeetsNoFault s.server t.server
-sessions_meet_no_fault kind name s t crossed outcome calm ended = (session_stays_unfailed kind name s t crossed outcome ended calm).met
+pub session_meets : (kind : SessionKind) (name : List ℕ) (s t : LabState) (crossed : List (List ℕ)) (outcome : Outcome) → EndsLabSession kind name s t crossed outcome
+    → SessionMeets kind s t
+session_meets kind name s t crossed outcome ended =
+    let runs = ended.runs in
+    let stays = session_unfailed CrossesAt crosses_nothing crosses_unfailed kind _ _ _ _ _ runs.made runs.was runs.became _ _ outcome runs.session in
+    record { added = stays.added; entries = stays.entries; met = stays.met }
+
+pub sessions_meet_no_fault : (kind : SessionKind) (name : List ℕ) (s t : LabState) (crossed : List (List ℕ)) (outcome : Outcome)
+    → names_none (fails_in kind s.fails) ≡ true → EndsLabSession kind name s t crossed outcome → MeetsNoFault s.server t.server
+sessions_meet_no_fault kind name s t crossed outcome none ended =
+    let it = session_meets kind name s t crossed outcome ended in
+    record { added = it.added; entries = it.entries; each = it.met none }
 
 pub resends_meet_no_fault : (from count : ℕ) (s t : LabState) (printed : List (List ℕ)) → (health_in s.server).calm ≡ true → Resends from count s t printed
     → MeetsNoFault s.server t.server
 resends_meet_no_fault from count s t printed calm resends =
-    (all_unfailed (named_from from count (requests_in s.server.entries)) resends.replies s.clock s.server t.server resends.serves calm).met
+    let it = all_unfailed (named_from from count (requests_in s.server.entries)) resends.replies s.clock s.server t.server resends.serves in
+    record { added = it.added; entries = it.entries; each = it.met calm }
+
+-- a keeper failed in a session of a device: it is a sync, and a call of that keeper was to fail
+pub failed_by_break : (kind : SessionKind) (name : List ℕ) (s t : LabState) (crossed : List (List ℕ)) → EndsLabSession kind name s t crossed outcomes.Keep
+    → (kind ≡ kinds.Sync) × HasBreak name s
+failed_by_break kinds.Sync name s t crossed ended =
+    let runs = ended.runs in
+    (refl, (runs.d, ended.is.held runs.d runs.at, λ none. runs.session.unfailed (ap names_none none) refl))
+failed_by_break (kinds.Transfer direction) name s t crossed ended = absurd (ended.runs.session.unfailed refl refl)
+
+pub crossed_by_break : (line key : ℕ) (at : ℤ) (moments : List ℤ) (d made : Device) (old new : LoggedState) → SyncsCrossed line key at moments d made old new outcomes.Keep
+    → d.fails ≢ []
+crossed_by_break line key at moments d made old new sync none = sync.session.unfailed (ap names_none none) refl

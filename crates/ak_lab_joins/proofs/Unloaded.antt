@@ -114,6 +114,8 @@ said_none account (lines.Resend from count) s t printed quiet resends none =
     all_served_none (named_from from count (requests_in s.server.entries)) resends.replies s.clock s.server t.server
     (asked_none (log_in s.server).events (past_uploads_none s.server.host s.server.entries none) (named_from from count (requests_in s.server.entries)) (named_asked from count s.server))
     resends.serves none
+said_none account (lines.Break sides.Server) s t printed quiet (left, nothing) none = same_none s t (ap (λ (x : LabState). x.server) left) none
+said_none account (lines.Break (sides.Device name)) s t printed quiet (plan, nothing) none = same_none s t (ap (λ (x : LabState). x.server) plan.left) none
 said_none account (lines.Transfer directions.Upload name) s t printed quiet accepts none = absurd quiet
 said_none account (lines.Transfer directions.Download name) s t printed quiet (outcome, text, ended, told, is) none = download_none account name s t outcome ended none
 said_none account (lines.Show side what) s t printed quiet (c, holds, is) none = looked_none side s t c holds none

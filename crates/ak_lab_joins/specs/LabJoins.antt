@@ -19,7 +19,7 @@ use Rattle.ak_lab.specs.LineOutcomes.{Accepted, EndsAs, Says}
 use Rattle.ak_lab_devices.specs.Devices.{device_of}
 use Rattle.ak_lab_devices.specs.declared.devices.Device.{Device}
 use Rattle.ak_lab_keepers.specs.RestingKeepers.{Holds, kept_of}
-use Rattle.ak_lab_wires.specs.LabSessions.{lab_host}
+use Rattle.ak_lab_wires.specs.LabSessions.{fails_after, lab_host}
 use Rattle.ak_lab_wires.specs.Servings.{requests_in}
 use Rattle.ak_lab_lines.specs.declared.lab_lines.Direction.{Direction}
 use Rattle.ak_lab_lines.specs.declared.lab_lines.Direction.TheVariants as directions
@@ -250,16 +250,22 @@ pub record GoFresh (opening : Opening) (all : List Line) (t : LabState) (printed
 
 -- ---- what a sync leaves
 -- what a session of the device of this name leaves as it was: the clock, the other devices, and of the device its name, its clock and its
--- count of answers. There is nothing to undo then, and a sync used up what was planned for it
+-- count of answers. There is nothing to undo then, and a sync used up what was planned for it and for the server's keeper
 pub record KeepsOthers (kind : SessionKind) (name : List ℕ) (s t : LabState) : Type 0 where
   pub clock : t.clock ≡ s.clock
   pub sessions : t.sessions ≡ one_more s.sessions
+  pub breaks : t.fails ≡ fails_after kind s.fails
   pub others : (other : List ℕ) → other ≢ name → device_of other t.devices ≡ device_of other s.devices
   pub d : Device
   pub made : Device
   pub was : device_of name s.devices ≡ Some d
   pub now : device_of name t.devices ≡ Some made
-  pub rest : made ≡ record (without_plan_for kind d) { collection = made.collection; undo = []; calls = made.calls }
+  pub rest : made ≡ record (without_plan_for kind d) {
+    collection = made.collection;
+    undo = [];
+    calls = made.calls;
+    fails = fails_after kind d.fails;
+  }
 
 -- the server committed once in a session: over what it had committed before, what it has committed now
 abbrev pub CommitsOnceIn : ℕ → World → World → Type 0
@@ -323,11 +329,12 @@ MayHoldJoin key c before after = KeepsCommitted before after
     ⊎ CommitsOnceIn key before after × HoldsJoin c before.state.committed after.state.committed
 
 -- a server on which a sync did not finish has committed what it had. If the last request was refused or lost, or its reply was not one that was asked for,
--- that may have been the finish: then it may hold the join already
+-- or the device's keeper failed, that may have been the finish: then it may hold the join already
 abbrev pub StillCommits : ℕ → Collection → World → World → Outcome → Type 0
 StillCommits key c before after (outcomes.Refused status word seen) = MayHoldJoin key c before after
 StillCommits key c before after outcomes.Lost = MayHoldJoin key c before after
 StillCommits key c before after outcomes.BadReply = MayHoldJoin key c before after
+StillCommits key c before after outcomes.Keep = MayHoldJoin key c before after
 StillCommits key c before after outcome = KeepsCommitted before after
 
 -- a sync of the device of this name ended and did not finish. The device holds what it held and the server has committed what it had, but for

@@ -1,3 +1,5 @@
+pub mod EachCrossed
+pub mod LabBreaks
 pub mod LabCrossings
 pub mod LabJoins
 pub mod LabMishaps

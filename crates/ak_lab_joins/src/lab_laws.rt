@@ -1,14 +1,17 @@
 // What a user may rely on in a lab: a sync that finished leaves both sides with the join of what they held, and any other what they held.
 ghost use Rattle.std.specs.List.{AllByRecursion};
-ghost use Rattle.std.specs.Prelude.{◌≡◌, ◌≢◌, ◌+◌, ◌<◌, ◌∷◌, [], ℕ, List, Option as Maybe, codes, length, true};
+ghost use Rattle.std.specs.Prelude.{◌≡◌, ◌≢◌, ◌+◌, ◌+ℤ◌, ◌<◌, ◌∷◌, [], ℕ, ℤ, Bool, List, Option as Maybe, codes, false, length, true};
 ghost use Rattle.ak_client.specs.declared.outcomes.Outcome.{Outcome};
 ghost use Rattle.ak_client.specs.declared.outcomes.Outcome.TheVariants as outcomes;
+ghost use Rattle.ak_faults.specs.Calls.{names_none};
+ghost use Rattle.ak_faults.specs.Causes.{one_more};
 ghost use Rattle.ak_io.specs.declared.endings.ScriptEnd.{ScriptEnd};
 ghost use Rattle.ak_io.specs.declared.lines.Line.{Line};
 ghost use Rattle.ak_lab_joins.specs.LabJoins.{
   Agrees,
   AllGoFresh,
   AllGoUncrossed,
+  AreUnlike,
   LeavesDownload,
   Finishes,
   GoFresh,
@@ -19,6 +22,7 @@ ghost use Rattle.ak_lab_joins.specs.LabJoins.{
   HasOrderedSchemas,
   HasSession,
   IsFinish,
+  IsLevelFresh,
   IsLinkedLab,
   KeepsSides,
   KeepsTransferSides,
@@ -30,33 +34,52 @@ ghost use Rattle.ak_lab_joins.specs.LabJoins.{
   TakesFreshSchemas,
   LeavesUpload,
   committed_of,
+  device_names,
   lab_world,
 };
+ghost use Rattle.ak_lab_joins.specs.EachCrossed.{HoldsOfEachCrossed};
 ghost use Rattle.ak_lab_joins.specs.LabCrossings.{
+  CrossedLeavesJoin,
   FinishesOver,
   HasReviewsOf,
   HasSameReviews,
   IsCrossedFresh,
-  JoinsLate,
   KeepsCrossed,
   LeadsOn,
+  SyncJoinsLate,
 };
-ghost use Rattle.ak_lab_joins.specs.LabMishaps.{LosesThree, MeetsNoFault, MetNoFault};
+ghost use Rattle.ak_lab_joins.specs.LabBreaks.{
+  BreaksNot,
+  FailsNot,
+  FaultsInLine,
+  GoByBreaks,
+  HasBreak,
+  HasCalmServer,
+  HasNoBreak,
+  RunFaultsByBreaks,
+  StandsSo,
+};
+ghost use Rattle.ak_lab_joins.specs.LabMishaps.{EndsInLosses, MeetsNoFault};
 ghost use Rattle.ak_lab.specs.LabPlans.{Resends};
 ghost use Rattle.ak_lab.specs.LabRuns.{AllGo, IsLabOpening, RunsLab};
 ghost use Rattle.ak_lab.specs.LabStates.{LabState, at_line, opened_lab};
 ghost use Rattle.ak_lab.specs.LabSyncs.{EndsLabSession, EndsSync, EndsTransfer};
 ghost use Rattle.ak_lab.specs.LineOutcomes.{Accepted, EndsAs, Says};
+ghost use Rattle.ak_lab_devices.specs.declared.devices.Device.{Device};
 ghost use Rattle.ak_lab_lines.specs.LabTexts.{ending_text, sync_text};
 ghost use Rattle.ak_lab_lines.specs.declared.lab_lines.Direction.{Direction};
 ghost use Rattle.ak_lab_lines.specs.declared.lab_lines.Direction.TheVariants as directions;
 ghost use Rattle.ak_lab_lines.specs.declared.lab_lines.LabLine.TheVariants as lines;
+ghost use Rattle.ak_lab_wires.specs.CrossedSyncs.{SyncsCrossed};
+ghost use Rattle.ak_lab_wires.specs.LabSessions.{fails_in};
 ghost use Rattle.ak_lab_wires.specs.declared.lab_sessions.SessionKind.{SessionKind};
-ghost use Rattle.ak_loops.specs.Entries.{account_opened, health_in};
+ghost use Rattle.ak_lab_wires.specs.declared.lab_sessions.SessionKind.TheVariants as kinds;
+ghost use Rattle.ak_loops.specs.Entries.{LoggedState, account_opened};
 ghost use Rattle.ak_loops.specs.declared.logs.Entry.{Entry};
 ghost use Rattle.ak_openings.specs.declared.whole_collections.Opening.{Opening};
 ghost use Rattle.ak_protocol.specs.Accounts.{AccountState};
 ghost use Rattle.ak_protocol.specs.Commits.{EachNewer};
+ghost use Rattle.ak_protocol.specs.Logs.{World};
 
 use ak_any_lines::any_lines_are_steps;
 
@@ -165,8 +188,9 @@ pub fn unchanged_syncs_agree()
 {}
 
 /// A sync that came to another outcome leaves what the device held, but that its moments rise after a bad sanity check, and what the
-/// server had committed. Only if the last request was refused or lost, or its reply was no good, the server may hold the join already. All
-/// devices are linked with the server, and nothing is to undo on the device. The schema moment that a bad sanity check takes must be fresh.
+/// server had committed. Only if the last request was refused or lost, or its reply was no good, or the device's keeper failed, the server
+/// may hold the join already. All devices are linked with the server, and nothing is to undo on the device. The schema moment that a bad
+/// sanity check takes must be fresh.
 pub fn other_syncs_keep_sides()
     ensures { (account : AccountState) (name : List ℕ) (s t : LabState) (crossed : List (List ℕ)) (outcome : Outcome)
         → IsLinkedLab account s → HasSession s → PlansNothing name s → outcome ≢ outcomes.Finished
@@ -193,50 +217,103 @@ pub fn other_transfers_keep_sides()
 
 /// A sync that others may have crossed, by whole syncs and by requests of the log again: if it finished, its session committed once, over
 /// what was committed just before, and that commit and the device hold the join of this and of what the device held when the sync
-/// began. Otherwise the device holds what it held, but for its moments. The schema moments that commits took meanwhile must be fresh.
+/// began. Otherwise the device holds what it held, but for its moments. The schema moments that commits took meanwhile must be fresh, as they
+/// are if each commit is a finish. If each is, and the server's schema moment is not the last one, each sync that crosses this one leaves
+/// the same, and whatever comes later, its session commits at most once. So it is as long as nothing was uploaded.
 pub fn crossed_syncs_join()
     ensures finished { (account : AccountState) (name : List ℕ) (s t : LabState) (crossed : List (List ℕ))
         → IsLinkedLab account s → HasSession s → (ended : EndsSync name s t crossed outcomes.Finished)
-        → IsCrossedFresh account name s t crossed outcomes.Finished ended
-        → FinishesOver account name s t crossed outcomes.Finished ended }
+        → IsCrossedFresh ended.runs.d (lab_world account s) (lab_world account t)
+        → FinishesOver (one_more s.sessions) ended.runs.d ended.runs.made (lab_world account s) (lab_world account t) }
     ensures others { (account : AccountState) (name : List ℕ) (s t : LabState) (crossed : List (List ℕ)) (outcome : Outcome)
         → IsLinkedLab account s → HasSession s → outcome ≢ outcomes.Finished
-        → (ended : EndsSync name s t crossed outcome) → IsCrossedFresh account name s t crossed outcome ended
-        → KeepsCrossed account name s t crossed outcome ended }
+        → (ended : EndsSync name s t crossed outcome)
+        → IsCrossedFresh ended.runs.d (lab_world account s) (lab_world account t)
+        → KeepsCrossed (s.clock +ℤ ended.runs.d.shift) ended.runs.d ended.runs.made (lab_world account s) (lab_world account t) outcome }
+    ensures fresh { (d : Device) (before now : World) → EachNewer IsFinish before now → IsCrossedFresh d before now }
+    ensures unloaded { (account : AccountState) (name : List ℕ) (s t : LabState) (crossed : List (List ℕ)) (outcome : Outcome)
+        → IsLinkedLab account s → HasOrderedSchemas account s → HasNoUpload s.server → EndsSync name s t crossed outcome
+        → IsLevelFresh account s t }
+    ensures crossers { (account : AccountState) (name : List ℕ) (s t : LabState) (crossed : List (List ℕ)) (outcome : Outcome)
+        → IsLinkedLab account s → HasSession s → IsLevelFresh account s t → (ended : EndsSync name s t crossed outcome)
+        → HoldsOfEachCrossed (CrossedLeavesJoin account) kinds.Sync name s t crossed outcome ended }
 {}
 
 /// Once such a sync finished, what it committed has a review under each id under which the device held one when the sync began.
 pub fn finished_syncs_send_reviews()
-    ensures { (account : AccountState) (name : List ℕ) (s t : LabState) (crossed : List (List ℕ))
-        → (ended : EndsSync name s t crossed outcomes.Finished)
-        → (over : FinishesOver account name s t crossed outcomes.Finished ended) → HasReviewsOf over.c over.after }
+    ensures { (key : ℕ) (d made : Device) (before now : World) → (over : FinishesOver key d made before now)
+        → HasReviewsOf over.c over.after }
 {}
 
 /// Whatever comes to the server after such a sync, also its own requests again: its session commits at most once, that join.
 pub fn late_finishes_join()
     ensures { (account : AccountState) (name : List ℕ) (s t : LabState) (crossed : List (List ℕ)) (outcome : Outcome)
         → IsLinkedLab account s → HasSession s → (ended : EndsSync name s t crossed outcome)
-        → IsCrossedFresh account name s t crossed outcome ended → JoinsLate account name s t crossed outcome ended }
+        → IsCrossedFresh ended.runs.d (lab_world account s) (lab_world account t)
+        → SyncJoinsLate account name s t crossed outcome ended }
 {}
 
-/// A sync that ended as lost met three losses in a row that lines planned: of the three tries of one request.
+/// A sync that ended as lost, crossed or not, ended with the three tries of one request, whose messages lines planned to lose.
 pub fn lost_syncs_met_three_losses()
-    ensures { (name : List ℕ) (s t : LabState) (crossed : List (List ℕ)) (ended : EndsSync name s t crossed outcomes.Lost)
-        → (number : ℕ) × LosesThree number ended.runs.d.mishaps }
+    ensures syncs { (name : List ℕ) (s t : LabState) (crossed : List (List ℕ)) (ended : EndsSync name s t crossed outcomes.Lost)
+        → EndsInLosses ended.runs.session.calls ended.runs.d.mishaps }
+    ensures crossings { (line key : ℕ) (at : ℤ) (moments : List ℤ) (d made : Device) (old new : LoggedState)
+        → (sync : SyncsCrossed line key at moments d made old new outcomes.Lost) → EndsInLosses sync.session.calls d.mishaps }
 {}
 
-/// Nothing that comes to the server in a session, or is sent again, meets a fault of its keeper if none of the calls of this is to fail:
-/// whatever is lost, repeated, crossed or served again.
-pub fn no_session_meets_a_keepers_fault()
-    ensures sessions { (kind : SessionKind) (name : List ℕ) (s t : LabState) (crossed : List (List ℕ)) (outcome : Outcome)
-        → (health_in s.server).calm ≡ true → EndsLabSession kind name s t crossed outcome
-        → MeetsNoFault s.server t.server }
-    ensures resends { (from count : ℕ) (s t : LabState) (printed : List (List ℕ)) → (health_in s.server).calm ≡ true
-        → Resends from count s t printed → MeetsNoFault s.server t.server }
+/// A keeper fails only in a sync for which a break of it stands: a device's in its own, the server's in the next of any device, and in what
+/// crosses this.
+pub fn keepers_fail_by_breaks_alone()
+    // A device's: in no upload and no download, and in a sync, crossed or not, only if a break of it stands.
+    ensures devices { (kind : SessionKind) (name : List ℕ) (s t : LabState) (crossed : List (List ℕ))
+        → EndsLabSession kind name s t crossed outcomes.Keep → (kind ≡ kinds.Sync) × HasBreak name s }
+    ensures crossings { (line key : ℕ) (at : ℤ) (moments : List ℤ) (d made : Device) (old new : LoggedState)
+        → SyncsCrossed line key at moments d made old new outcomes.Keep → d.fails ≢ [] }
+    ensures crossers { (kind : SessionKind) (name other : List ℕ) (s t : LabState) (crossed : List (List ℕ)) (outcome : Outcome)
+        → other ≢ [] → HasNoBreak other s → (ended : EndsLabSession kind name s t crossed outcome)
+        → HoldsOfEachCrossed (FailsNot other) kind name s t crossed outcome ended }
 
-    // And so it is of whole runs: none of their lines makes a call of the server's keeper fail.
+    // The server's: whatever is lost, repeated, crossed or served again.
+    ensures sessions { (kind : SessionKind) (name : List ℕ) (s t : LabState) (crossed : List (List ℕ)) (outcome : Outcome)
+        → names_none (fails_in kind s.fails) ≡ true → EndsLabSession kind name s t crossed outcome
+        → MeetsNoFault s.server t.server }
+    ensures resends { (from count : ℕ) (s t : LabState) (printed : List (List ℕ)) → HasCalmServer s
+        → Resends from count s t printed → MeetsNoFault s.server t.server }
+    ensures lines { (number : ℕ) (line : Line) (s t : LabState) (printed : List (List ℕ)) (stood : Bool)
+        → StandsSo stood s → HasCalmServer s → EndsAs number line s t (Accepted printed)
+        → (stands : Bool) × FaultsInLine line stood stands s t × StandsSo stands t × HasCalmServer t }
+
+    // And so it is of whole scripts and runs, line by line: a line `break server` plans a break, and a line `sync` uses it up. When a lab is
+    // opened none stands.
+    ensures scripts { (number : ℕ) (all : List Line) (s t : LabState) (printed : List (List ℕ)) (stood : Bool)
+        → StandsSo stood s → HasCalmServer s → AllGo number all s t printed → GoByBreaks number all stood s t printed }
+    ensures opened { (opening : Opening) → StandsSo false (opened_lab opening) × HasCalmServer (opened_lab opening) }
     ensures runs { (end : ScriptEnd) (all : Maybe (List Line)) (entries : List Entry) (old new : Maybe (List ℕ))
-        → RunsLab end all entries old new → AllByRecursion (λ (entry : Entry). MetNoFault entry.what) entries }
+        → (it : RunsLab end all entries old new)
+        → RunFaultsByBreaks it.run.gone it.run.left (opened_lab it.opening) it.run.reached it.last it.run.printed }
+{}
+
+/// A break of a device stands only if a line `break` planned it.
+pub fn only_lines_break()
+    ensures none { (name : List ℕ) (s : LabState) → HasNoBreak name s → HasBreak name s → ⊥ }
+    ensures lines { (name : List ℕ) (number : ℕ) (line : Line) (s t : LabState) (printed : List (List ℕ)) → name ≢ []
+        → HasNoBreak name s → BreaksNot name line → EndsAs number line s t (Accepted printed) → HasNoBreak name t }
+    ensures runs { (name : List ℕ) (number : ℕ) (all : List Line) (s t : LabState) (printed : List (List ℕ)) → name ≢ []
+        → HasNoBreak name s → AllByRecursion (BreaksNot name) all → AllGo number all s t printed → HasNoBreak name t }
+    ensures opened { (name : List ℕ) (opening : Opening) → HasNoBreak name (opened_lab opening) }
+{}
+
+/// A sync uses up a break of its device and one of the server, whether it reached them or not, and a sync that crosses it one of its own
+/// device. No two devices of a script's lab have one name.
+pub fn syncs_use_up_breaks()
+    ensures devices { (name : List ℕ) (s t : LabState) (crossed : List (List ℕ)) (outcome : Outcome)
+        → AreUnlike (device_names s.devices) → EndsSync name s t crossed outcome → HasNoBreak name t }
+    ensures servers { (name : List ℕ) (s t : LabState) (crossed : List (List ℕ)) (outcome : Outcome)
+        → EndsSync name s t crossed outcome → t.fails ≡ [] }
+    ensures crossings { (line key : ℕ) (at : ℤ) (moments : List ℤ) (d made : Device) (old new : LoggedState) (outcome : Outcome)
+        → SyncsCrossed line key at moments d made old new outcome → made.fails ≡ [] }
+    ensures unlike { (opening : Opening) (all : List Line) (s : LabState) (printed : List (List ℕ))
+        → AllGo 1 all (opened_lab opening) s printed → AreUnlike (device_names s.devices) }
 {}
 
 /// Fewer lines than session keys leave one, if nothing comes between the calls of their syncs. So it is if no line plans anything there. A

@@ -6,9 +6,9 @@ mod lab_laws;
 pub use lab_laws::{
     commits_lead_on, committed_reviews_stay, crossed_syncs_join, few_lines_leave_a_session_key,
     finished_syncs_join, finished_syncs_send_reviews, finished_transfers_replace,
-    late_finishes_join, lines_keep_labs_linked, lines_without_uploads_take_fresh_schemas,
-    lost_syncs_met_three_losses, no_session_meets_a_keepers_fault, only_lines_plan,
-    opened_labs_are_linked, other_syncs_keep_sides, other_transfers_keep_sides, printed_syncs_join,
-    printed_transfers_replace, resends_leave_schemas, runs_keep_labs_linked, script_syncs_join,
-    script_transfers_replace, unchanged_syncs_agree,
+    keepers_fail_by_breaks_alone, late_finishes_join, lines_keep_labs_linked,
+    lines_without_uploads_take_fresh_schemas, lost_syncs_met_three_losses, only_lines_break,
+    only_lines_plan, opened_labs_are_linked, other_syncs_keep_sides, other_transfers_keep_sides,
+    printed_syncs_join, printed_transfers_replace, resends_leave_schemas, runs_keep_labs_linked,
+    script_syncs_join, script_transfers_replace, syncs_use_up_breaks, unchanged_syncs_agree,
 };

@@ -106,6 +106,8 @@ written_read (lines.Resend from count) h =
     (next_number_read 0 9_223_372_036_854_775_807 (pos from) (decimal count) (omega arith) (count_within from h.0))
     ∙ ap (λ o. option_map (λ n. lines.Resend from (unsigned_abs n)) o)
     (number_read 0 9_223_372_036_854_775_807 (pos count) (omega arith) (count_within count h.1))
+written_read (lines.Break side) h =
+    ap (option_map (λ word. lines.Break (side_of word))) (word_read (side_word side) (side_filled side h)) ∙ ap (λ s. Some (lines.Break s)) (side_read side h)
 written_read (lines.Transfer directions.Upload device) h = ap (option_map (lines.Transfer directions.Upload)) (word_read device h)
 written_read (lines.Transfer directions.Download device) h = ap (option_map (lines.Transfer directions.Download)) (word_read device h)
 written_read (lines.Show side what) h =

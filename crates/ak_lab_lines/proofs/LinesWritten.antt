@@ -16,7 +16,7 @@ use Rattle.ak_base.specs.declared.names.Table.TheVariants as tables
 use Rattle.ak_lines.specs.Reading.{is_word, number_in, next_number}
 use Rattle.ak_lines.proofs.Numerals.{number_written}
 use Rattle.ak_lines.proofs.Spaces.{cut_back}
-use Rattle.ak_lab_lines.specs.LabLines.{filled, word_of, next_word, is_device_name, side_of, shown_of, negated, signed_number, clock_line, device_line, shift_line, reviews_of, review_line, do_line, sync_line, lost_of, lose_line, repeat_line, another_word, cross_line, replay_line, resend_line, transfer_line, show_line, count_line, requests_line, line_of, lab_line_of}
+use Rattle.ak_lab_lines.specs.LabLines.{filled, word_of, next_word, is_device_name, side_of, shown_of, negated, signed_number, clock_line, device_line, shift_line, reviews_of, review_line, do_line, sync_line, lost_of, lose_line, repeat_line, another_word, cross_line, replay_line, resend_line, break_line, transfer_line, show_line, count_line, requests_line, line_of, lab_line_of}
 use Rattle.ak_lab_lines.specs.LabTexts.{direction_word}
 use Rattle.ak_lab_lines.specs.Written.{IsWord, IsSide, IsShown, AreReviews, IsLabNumber, IsCrossing, IsReplaying, side_word, shown_word, reviews_text, replaying_text, SaysLine}
 use Rattle.ak_lab_lines.specs.declared.lab_lines.Direction.{Direction}
@@ -339,6 +339,13 @@ resend_written text line h =
     let l = last_counted from.1 count was in
     subst (SaysAfter (codes "resend") text) is ((f.1, l.0), inl (ap (λ t. codes "resend " ++ t) (f.0 ∙ ap (λ t. decimal (unsigned_abs from.0) ++ (32 ∷ t)) (sym l.1))))))
 
+break_written : (text : List ℕ) (line : LabLine) → break_line text ≡ Some line → SaysAfter (codes "break") text line
+break_written text line h =
+    map_some (λ word. lines.Break (side_of word)) (word_of text) line h (λ word one is.
+    let w = word_written text word one in
+    let s = side_written word w.1 in
+    subst (SaysAfter (codes "break") text) is (s.1, inl (ap (λ t. codes "break " ++ t) (w.0 ∙ sym s.0))))
+
 transfer_written : (direction : Direction) (text : List ℕ) (line : LabLine) → transfer_line direction text ≡ Some line → SaysAfter (direction_word direction) text line
 transfer_written direction text line h =
     map_some (lines.Transfer direction) (word_of text) line h (λ word one is.
@@ -385,11 +392,12 @@ line_written word text line =
     named_or_other word (codes "cross") _ _ line (by_verb word (codes "cross") text line _ (cross_written text line)) (
     named_or_other word (codes "replay") _ _ line (by_verb word (codes "replay") text line _ (replay_written text line)) (
     named_or_other word (codes "resend") _ _ line (by_verb word (codes "resend") text line _ (resend_written text line)) (
+    named_or_other word (codes "break") _ _ line (by_verb word (codes "break") text line _ (break_written text line)) (
     named_or_other word (codes "upload") _ _ line (by_verb word (codes "upload") text line _ (transfer_written directions.Upload text line)) (
     named_or_other word (codes "download") _ _ line (by_verb word (codes "download") text line _ (transfer_written directions.Download text line)) (
     named_or_other word (codes "show") _ _ line (by_verb word (codes "show") text line _ (show_written text line)) (
     named_or_other word (codes "count") _ _ line (by_verb word (codes "count") text line _ (count_written text line)) (
-    named_or_other word (codes "requests") _ None line (by_verb word (codes "requests") text line _ (requests_written text line)) (none_is line))))))))))))))))
+    named_or_other word (codes "requests") _ None line (by_verb word (codes "requests") text line _ (requests_written text line)) (none_is line)))))))))))))))))
 
 pub read_said : (text : List ℕ) (line : LabLine) → lab_line_of text ≡ Some line → SaysLine text line
 read_said text line h =

@@ -157,6 +157,10 @@ resend_line text =
     option_and_then (λ from. option_map (λ count. lines.Resend (unsigned_abs from.0) (unsigned_abs count))
     (number_in (0, 9_223_372_036_854_775_807) from.1)) (next_number (0, 9_223_372_036_854_775_807) text)
 
+-- `break <side>`
+abbrev pub break_line : List ℕ → Option LabLine
+break_line text = option_map (λ word. lines.Break (side_of word)) (word_of text)
+
 -- `upload <device>`, `download <device>`
 abbrev pub transfer_line : Direction → List ℕ → Option LabLine
 transfer_line direction text = option_map (lines.Transfer direction) (word_of text)
@@ -187,6 +191,7 @@ line_of word text =
     else if is_word word (codes "cross") then cross_line text
     else if is_word word (codes "replay") then replay_line text
     else if is_word word (codes "resend") then resend_line text
+    else if is_word word (codes "break") then break_line text
     else if is_word word (codes "upload") then transfer_line directions.Upload text
     else if is_word word (codes "download") then transfer_line directions.Download text
     else if is_word word (codes "show") then show_line text

@@ -70,6 +70,7 @@ IsLabLine (lines.Disturb device call what) = IsWord device × IsLabNumber call
 IsLabLine (lines.Cross device call other) = IsWord device × IsCrossing device call other
 IsLabLine (lines.Replay device call from count) = IsWord device × IsReplaying call from count
 IsLabLine (lines.Resend from count) = IsLabNumber from × IsLabNumber count
+IsLabLine (lines.Break side) = IsSide side
 IsLabLine (lines.Transfer direction device) = IsWord device
 IsLabLine (lines.Show side what) = IsSide side × IsShown what
 IsLabLine (lines.Count side) = IsSide side
@@ -130,6 +131,7 @@ line_text (lines.Cross device call other) = spaced (codes "cross") (spaced devic
 line_text (lines.Replay device call from count) =
     spaced (codes "replay") (spaced device (replaying_text call from count))
 line_text (lines.Resend from count) = spaced (codes "resend") (spaced (decimal from) (decimal count))
+line_text (lines.Break side) = spaced (codes "break") (side_word side)
 line_text (lines.Transfer direction device) = spaced (direction_word direction) device
 line_text (lines.Show side what) = spaced (codes "show") (spaced (side_word side) (shown_word what))
 line_text (lines.Count side) = spaced (codes "count") (side_word side)

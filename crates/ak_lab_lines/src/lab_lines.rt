@@ -1,5 +1,5 @@
 ghost use Rattle.std.specs.Prelude.{◌≡◌, IfOk, IfErr, Some, None};
-ghost use Rattle.ak_lab_lines.specs.LabLines.{lab_line_of, line_of, clock_line, device_line, shift_line, review_line, reviews_of, do_line, sync_line, lose_line, losing_of, lost_of, repeat_line, cross_line, crossing_of, another_word, replay_line, replaying_of, resend_line, transfer_line, show_line, count_line, requests_line, side_of, shown_of};
+ghost use Rattle.ak_lab_lines.specs.LabLines.{lab_line_of, line_of, clock_line, device_line, shift_line, review_line, reviews_of, do_line, sync_line, lose_line, losing_of, lost_of, repeat_line, cross_line, crossing_of, another_word, replay_line, replaying_of, resend_line, break_line, transfer_line, show_line, count_line, requests_line, side_of, shown_of};
 ghost use Rattle.ak_lab_lines.specs.Reading.{Reads, Refuses};
 ghost use Rattle.ak_lab_lines.specs.Written.{IsLabLine};
 
@@ -66,6 +66,8 @@ pub enum LabLine {
         from: u64,
         count: u64,
     },
+    /// `break <side>`: the first call of that side's keeper in the next sync fails.
+    Break(Side),
     /// `upload <device>` and `download <device>`
     Transfer {
         direction: Direction,
@@ -91,7 +93,7 @@ pub enum Direction {
     Download,
 }
 
-/// A side of a lab: whose collection is looked at.
+/// A side of a lab: whose collection is looked at, or whose keeper fails.
 #[derive(Debug, Drop)]
 pub enum Side {
     Server,
@@ -147,6 +149,7 @@ fn read_words(alloc: Global, word: &str, text: &str) -> Result<LabLine, LabLineF
         "cross" => read_cross(alloc, text),
         "replay" => read_replay(alloc, text),
         "resend" => read_resend(text),
+        "break" => read_break(alloc, text),
         "upload" => read_transfer(alloc, Direction::Upload, text),
         "download" => read_transfer(alloc, Direction::Download, text),
         "show" => read_show(alloc, text),
@@ -382,6 +385,18 @@ fn read_resend(text: &str) -> Result<LabLine, LabLineFault>
         from: from.unsigned_abs(),
         count: count.unsigned_abs(),
     })
+}
+
+/// What follows `break`.
+fn read_break(alloc: Global, text: &str) -> Result<LabLine, LabLineFault>
+    ensures line { IfOk result (Reads (break_line text.now)) }
+    ensures bad { IfErr result (Refuses (break_line text.now)) }
+{
+    let Some(word) = word_of(text) else {
+        return Err(LabLineFault::BadLine);
+    };
+    let side = side_of(alloc, word)?;
+    Ok(LabLine::Break(side))
 }
 
 /// What follows `upload` or `download`.

@@ -1,6 +1,6 @@
 -- What a session keeps of the lab and of its server: clocks, names, and that the server's keeper does not fail.
 use Rattle.std.specs.List.{AllByRecursion}
-use Rattle.std.specs.Prelude.{◌≡◌, ◌≤◌, ℕ, zero, suc, ℤ, Bool, true, List, [], ◌∷◌, map, Some, slice_get, slice_set, Ok, Err, ⊤}
+use Rattle.std.specs.Prelude.{◌≡◌, ◌≤◌, ℕ, zero, suc, ℤ, true, List, [], ◌∷◌, map, Some, slice_get, slice_set, Ok, Err, ⊤}
 use Rattle.std.proofs.Common.{refl, sym, ap, subst, ◌∙◌, inl, inr, arith}
 use Rattle.std.proofs.lemmas.Option.{none-some, same_Some}
 use Rattle.ak_lab_devices.specs.declared.devices.Device.{Device}
@@ -9,14 +9,12 @@ use Rattle.ak_lab_devices.specs.declared.plans.Act.TheVariants as acts
 use Rattle.ak_lab_wires.proofs.Keeping.{KeepsOn, all_served_keep, calls_keep, turns_keep}
 use Rattle.ak_lab_wires.specs.CrossedSyncs.{ActsBy, ActsOnce, CrossState, CrossedSync, CrossesAt, TellsCrossed, cross_state, crosses_nothing}
 use Rattle.ak_lab_wires.specs.LabSessions.{IsSessionOver}
-use Rattle.ak_lab_wires.specs.Replaying.{ReplaysAt, ReplaysBy, ReplaysOne, replays_nothing}
-use Rattle.ak_lab_wires.specs.Servings.{AreServed, ServesAgain, with_line}
+use Rattle.ak_lab_wires.specs.Servings.{AreServed}
 use Rattle.ak_lab_wires.specs.Turns.{due}
 use Rattle.ak_lab_wires.specs.declared.crossed_syncs.Crossings.{Crossings}
 use Rattle.ak_lab_wires.specs.declared.lab_sessions.SessionKind.{SessionKind}
-use Rattle.ak_lab_wires.specs.declared.replayed_requests.Replays.{Replays}
 use Rattle.ak_client.specs.declared.outcomes.Outcome.{Outcome}
-use Rattle.ak_loops.specs.Betweens.{ActEnd, Acting}
+use Rattle.ak_loops.specs.Betweens.{ActEnd}
 use Rattle.ak_loops.specs.Entries.{LoggedState, health_in}
 use Rattle.ak_loops.specs.LoggedServers.{IsServed}
 use Rattle.ak_loops.specs.declared.mishaps.Mishap.{Mishap}
@@ -51,46 +49,6 @@ pub all_served_calm : (requests : List Request) (replies : List Reply) (at : ℤ
     → (health_in old).calm ≡ true → (health_in new).calm ≡ true
 all_served_calm requests replies at old new are =
     all_served_keep (StaysCalm {X = ℤ}) keeps_calm Any at (served_calm at) requests replies at old new (all_any requests) are
-
-again_calm : (from count line : ℕ) (at : ℤ) (old new : LoggedState) (came : ActEnd) → ServesAgain from count line at old new came → (health_in old).calm ≡ true → (health_in new).calm ≡ true
-again_calm from count line at old new came (inl nothing) calm = ap (λ (s : LoggedState). (health_in s).calm) nothing.0 ∙ calm
-again_calm from count line at old new came (inr it) calm =
-    ap (λ (s : LoggedState). (health_in s).calm) it.back
-    ∙ all_served_calm it.front.served it.front.replies at (with_line line old) it.reached it.front.serves calm
-
-replay_calm : (act : Act) (line : ℕ) (at : ℤ) (old new : LoggedState) (came : ActEnd) → ReplaysBy act line at old new came → (health_in old).calm ≡ true → (health_in new).calm ≡ true
-replay_calm (acts.Cross name) line at old new came it calm = ap (λ (s : LoggedState). (health_in s).calm) it.0 ∙ calm
-replay_calm (acts.Replay from count) line at old new came it calm = again_calm from count line at old new came it calm
-
-replays_calm : (call session : ℕ) (x y : Replays) (a b : LoggedState) (came : ActEnd) → ReplaysAt call session x y a b came → StaysCalm x y a b
-replays_calm call session x y a b came it =
-    turns_keep (StaysCalm {X = ℤ}) keeps_calm ReplaysOne (λ one p q c d end acted calm. replay_calm one.act one.line p c d end acted.1 calm)
-    (due call x.acts) x.at x.at a b came it.1
-
--- of a session over any wire between whose calls such acts come
-pub session_calm : {X : Type 0} (acts : Acting X) (idle : X → Bool) → ((call session : ℕ) (x y : X) (a b : LoggedState) (came : ActEnd) → acts call session x y a b came → StaysCalm x y a b)
-    → (kind : SessionKind) (key : ℕ) (at : ℤ) (moments : List ℤ) (mishaps : List Mishap) (d made : Device) (was became : X) (old new : LoggedState) (outcome : Outcome)
-    → IsSessionOver acts idle kind key at moments mishaps d made was became old new outcome → StaysCalm was became old new
-session_calm acts idle acted kind key at moments mishaps d made was became old new outcome ran =
-    calls_keep StaysCalm keeps_calm Any at (served_calm at) acts idle acted mishaps 0 ran.calls was became old new (any_calls ran.calls) ran.come
-
-crossed_calm : (name : List ℕ) (line session : ℕ) (was now : CrossState) (old new : LoggedState) (came : ActEnd) → CrossedSync name line session was now old new came
-    → (health_in old).calm ≡ true → (health_in new).calm ≡ true
-crossed_calm name line session was now old new came it calm =
-    let sync = it.sync.sync in
-    ap (λ (s : LoggedState). (health_in s).calm) sync.back
-    ∙ session_calm ReplaysAt replays_nothing replays_calm _ _ _ _ _ _ _ sync.replays sync.replays_left (with_line line old) sync.reached it.outcome sync.session calm
-
-act_calm : (act : Act) (line session : ℕ) (was now : CrossState) (old new : LoggedState) (came : ActEnd) → ActsBy act line session was now old new came
-    → (health_in old).calm ≡ true → (health_in new).calm ≡ true
-act_calm (acts.Cross name) line session was now old new came (inl nothing) calm = ap (λ (s : LoggedState). (health_in s).calm) nothing.1.0 ∙ calm
-act_calm (acts.Cross name) line session was now old new came (inr it) calm = crossed_calm name line session was now old new came it calm
-act_calm (acts.Replay from count) line session was now old new came it calm = again_calm from count line was.clock old new came it.1 calm
-
-pub crosses_calm : (call session : ℕ) (x y : Crossings) (a b : LoggedState) (came : ActEnd) → CrossesAt call session x y a b came → StaysCalm x y a b
-crosses_calm call session x y a b came it =
-    turns_keep (StaysCalm {X = CrossState}) keeps_calm (ActsOnce session) (λ one p q c d end acted calm. act_calm one.act one.line session p q c d end acted calm)
-    (due call x.acts) (cross_state x.lab) (cross_state y.lab) a b came it.1
 
 -- ---- names and clocks stay
 -- the name and the clock of each device

@@ -8,13 +8,14 @@ use Rattle.ak_client.specs.declared.outcomes.Outcome.TheVariants as outcomes
 use Rattle.ak_exchange.proofs.Calls.{calls_made}
 use Rattle.ak_exchange.specs.Asked.{answers_in}
 use Rattle.ak_exchange.specs.declared.envelopes.Ids.{Ids}
+use Rattle.ak_faults.specs.Calls.{names_none}
 use Rattle.ak_faults.specs.Causes.{Health, one_more}
 use Rattle.ak_keep.specs.Keepers.{Keeping}
 use Rattle.ak_lab_devices.specs.Devices.{given_outside, keeping_of}
 use Rattle.ak_lab_devices.specs.declared.devices.Device.{Device}
 use Rattle.ak_lab_lines.specs.declared.lab_lines.Direction.TheVariants as directions
 use Rattle.ak_lab_wires.proofs.Transferring.{transfer_tried}
-use Rattle.ak_lab_wires.specs.LabSessions.{CallsByKind, ComeInCalls, EndsByKind, IsLabIds, IsSessionOver, LeavesDevice, MayEnd, before_calls, calls_known_after, moment_told, sent_by}
+use Rattle.ak_lab_wires.specs.LabSessions.{CallsByKind, ComeInCalls, EndsByKind, IsLabIds, IsSessionOver, LeavesDevice, MayEnd, before_calls, calls_known_after, fails_after, fails_in, moment_told, sent_by}
 use Rattle.ak_lab_wires.specs.declared.lab_sessions.SessionKind.{SessionKind}
 use Rattle.ak_lab_wires.specs.declared.lab_sessions.SessionKind.TheVariants as kinds
 use Rattle.ak_loops.specs.Betweens.{Acting}
@@ -109,9 +110,10 @@ module _ {X : Type 0} (acts : Acting X) (idle : X → Bool) where
       (now : LoopInside X) (ids : Ids) (to_come : Option (List ℤ)) (became : X) (new : LoggedState) (outcome : Outcome) → counts ≡ no_calls → IsLabIds key ids
       → EndsByKind kind ids (keeping_of d) (keeping_of made) (given_outside (health_over counts mishaps) (state_of_loop acts idle (inside_with old was at mishaps counts)) (Some moments))
       (given_outside (health_over now.counts now.mishaps) (state_of_loop acts idle now) to_come) outcome
-      → MayEnd kind outcome → LeavesDevice kind (keeping_of d) (keeping_of made) (Some moments) to_come outcome → outcome ≢ outcomes.Keep
+      → MayEnd kind outcome → LeavesDevice kind (keeping_of d) (keeping_of made) (Some moments) to_come outcome
+      → (names_none (fails_in kind d.fails) ≡ true → outcome ≢ outcomes.Keep)
       → HasOutcomeCause outcomes.Lost (health_over counts mishaps) (health_over now.counts now.mishaps) outcome
-      → made ≡ record d { collection = made.collection; undo = []; calls = calls_known_after kind d.calls now.counts.calls }
+      → made ≡ record d { collection = made.collection; undo = []; calls = calls_known_after kind d.calls now.counts.calls; fails = fails_after kind d.fails }
       → new ≡ now.server → became ≡ now.between
       → IsSessionOver acts idle kind key at moments mishaps d made was became old new outcome
   session_ran kind key at moments mishaps d made was old counts now ids to_come became new outcome unused of ended may leaves unfailed lost rest server between =

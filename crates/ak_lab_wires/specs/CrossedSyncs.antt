@@ -53,7 +53,7 @@ pub record IsPreparedFor (d : Device) (clock : ℤ) (it : Prepared) : Type 0 whe
   pub left : it.left ≡ crossings_of d.planned
 
 -- a device made a whole sync, in the session of a key, at this moment of the server's clock, while its own gave these. What came of it is written down
--- with a line. It used up its losses, repeats and replays; its crossings are left
+-- with a line. It used up its breaks, losses, repeats and replays; its crossings are left
 pub record SyncsCrossed (line key : ℕ) (at : ℤ) (moments : List ℤ) (d made : Device) (old new : LoggedState) (outcome : Outcome) : Type 0 where
   -- what acted between its calls
   pub replays : Replays

@@ -7,6 +7,7 @@ use Rattle.ak_client.specs.declared.outcomes.Outcome.{Outcome}
 use Rattle.ak_client.specs.declared.outcomes.Outcome.TheVariants as outcomes
 use Rattle.ak_exchange.specs.Asked.{TriedAsk, answers_in, asker, asks_in}
 use Rattle.ak_exchange.specs.declared.envelopes.Ids.{Ids}
+use Rattle.ak_faults.specs.Calls.{names_none}
 use Rattle.ak_faults.specs.Causes.{Health, one_more}
 use Rattle.ak_keep.specs.Keepers.{Keeping}
 use Rattle.ak_lab_devices.specs.Devices.{given_outside, keeping_of}
@@ -78,6 +79,16 @@ abbrev pub calls_known_after : SessionKind → ℕ → ℕ → ℕ
 calls_known_after kinds.Sync before made = made
 calls_known_after (kinds.Transfer direction) before made = before
 
+-- the calls of a keeper that fail in a session: in a sync those that are planned, in an upload and a download none
+abbrev pub fails_in : SessionKind → List ℕ → List ℕ
+fails_in kinds.Sync planned = planned
+fails_in (kinds.Transfer direction) planned = []
+
+-- those that are planned after it: a sync uses them up, whether it reached them or not
+abbrev pub fails_after : SessionKind → List ℕ → List ℕ
+fails_after kinds.Sync planned = []
+fails_after (kinds.Transfer direction) planned = planned
+
 -- ---- its calls
 -- these calls are the tries of a meta that came to this and told this, and of what was asked after it
 abbrev pub AsksInCalls : Ids → Result MetaSaid Unanswered → Result Reply WireEnd → List Ask → List MadeCall → Type 0
@@ -125,8 +136,8 @@ pub record IsSessionOver {X : Type 0} (acts : Acting X) (idle : X → Bool) (kin
   pub between : end.between ≡ became
   pub server : end.server ≡ new
   pub may : MayEnd kind outcome
-  -- no keeper failed; and no request was lost, if nothing is
-  pub unfailed : outcome ≢ outcomes.Keep
+  -- the device's keeper did not fail, if none of its calls is to; and no request was lost, if nothing is
+  pub unfailed : names_none (fails_in kind d.fails) ≡ true → outcome ≢ outcomes.Keep
   pub unlost : loses_nothing mishaps ≡ true → outcome ≢ outcomes.Lost
   -- its calls are the tries of what it asked, step by step; and of each, what came before it and how it fared
   pub calls : List MadeCall
@@ -134,6 +145,12 @@ pub record IsSessionOver {X : Type 0} (acts : Acting X) (idle : X → Bool) (kin
       (given_outside health (state_of_loop acts idle end) to_come) outcome ended calls
   pub come : ComeInCalls acts idle mishaps at 0 calls was became old new
   pub counted : end.counts.calls ≡ more (length calls) 0
-  -- the device is as the outcome says, with nothing to undo, and knows how many calls its last sync made
+  -- the device is as the outcome says, with nothing to undo, knows how many calls its last sync made, and of its keeper no call is to fail after
+  -- a sync
   pub device : LeavesDevice kind (keeping_of d) (keeping_of made) (Some moments) to_come outcome
-  pub rest : made ≡ record d { collection = made.collection; undo = []; calls = calls_known_after kind d.calls end.counts.calls }
+  pub rest : made ≡ record d {
+    collection = made.collection;
+    undo = [];
+    calls = calls_known_after kind d.calls end.counts.calls;
+    fails = fails_after kind d.fails;
+  }

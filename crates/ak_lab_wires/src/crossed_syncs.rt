@@ -286,7 +286,7 @@ fn sync_crossed(
 }
 
 /// Takes what is planned for the next sync of a device: what happens to its messages, and what comes before its calls. This stays
-/// planned.
+/// planned. The calls of its keeper that are to fail are left for the session to take.
 pub fn take_plan(
     alloc: Global,
     device: &mut Device,

@@ -1,11 +1,12 @@
 // A session of a device over a wire in memory.
-ghost use Rattle.std.specs.Prelude.{◌≡◌, ◌≢◌, ◌∷◌, [], Some, IfOk};
+ghost use Rattle.std.specs.Prelude.{◌≡◌, ◌≢◌, ◌∷◌, [], true, Some, IfOk};
 ghost use Rattle.ak_call_counts.specs.CallCounts.{no_calls};
 ghost use Rattle.ak_client.specs.Outcomes.{HasOutcomeCause};
 ghost use Rattle.ak_client.specs.declared.outcomes.Outcome.TheVariants as outcomes;
+ghost use Rattle.ak_faults.specs.Calls.{names_none};
 ghost use Rattle.ak_io.specs.Arrivals.{IsClockMoment};
 ghost use Rattle.ak_lab_devices.specs.Devices.{given_outside, keeping_of};
-ghost use Rattle.ak_lab_wires.specs.LabSessions.{EndsByKind, IsSessionOver, LeavesDevice, MayEnd, calls_known_after, lab_host};
+ghost use Rattle.ak_lab_wires.specs.LabSessions.{EndsByKind, IsSessionOver, LeavesDevice, MayEnd, calls_known_after, fails_after, fails_in, lab_host};
 ghost use Rattle.ak_loops.specs.LoopWires.{health_over, inside_with, state_of_loop};
 
 use ak_base::{HostKey, List, Memory, SessionKey};
@@ -15,6 +16,7 @@ use ak_lab_devices::Device;
 use ak_lab_lines::Direction;
 use ak_loops::{Between, LoggedServer, LoopWire};
 use std::alloc::Global;
+use std::mem;
 
 /// What a device does in a session with the server. The laws of labs speak of a session by its kind.
 #[derive(Clone, Copy, Debug)]
@@ -58,7 +60,8 @@ pub fn run_over<B: Between>(
     (server, between, outcome)
 }
 
-/// Runs it by its kind. A sync sets how many calls its device knows of.
+/// Runs it by its kind. A sync uses up the calls of the device's keeper that are to fail, and sets how many calls of its wire the device
+/// knows of.
 fn run_by_kind<B: Between>(
     device: &mut Device,
     kind: SessionKind,
@@ -75,18 +78,23 @@ fn run_by_kind<B: Between>(
     ensures may { MayEnd kind result }
     ensures device { LeavesDevice kind (keeping_of device.old) (keeping_of device.new)
         (Some clock.old) (Some clock.new) result }
-    ensures unfailed { result ≢ outcomes.Keep }
+    ensures unfailed { names_none (fails_in kind device.old.fails) ≡ true → result ≢ outcomes.Keep }
     ensures lost { HasOutcomeCause outcomes.Lost (health_over wire.old.counts wire.old.mishaps)
         (health_over wire.new.counts wire.new.mishaps) result }
     ensures rest { device.new ≡ record device.old {
       collection = device.new.collection;
       undo = [];
       calls = calls_known_after kind device.old.calls wire.new.counts.calls;
+      fails = fails_after kind device.old.fails;
     } }
 {
     match kind {
         SessionKind::Sync => {
-            let outcome = device.collection.sync(&mut device.undo, wire, clock, ids);
+            let none = List::new(device.fails.allocator());
+            let fails = mem::replace(&mut device.fails, none);
+            let outcome = device
+                .collection
+                .sync(&mut device.undo, wire, clock, ids, fails);
             device.calls = wire.calls();
             outcome
         }

@@ -35,6 +35,7 @@ pub fn stand_in(alloc: Global, shift: i64) -> Result<Device, Memory>
         shift,
         done: 0,
         calls: 0,
+        fails: List::new(alloc),
         mishaps: List::new(alloc),
         planned: List::new(alloc),
     })

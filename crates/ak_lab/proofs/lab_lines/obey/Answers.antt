@@ -41,3 +41,6 @@ returns-in-Show-clause-ready c = ready_then _ _ c.show-came.ensures.ready
 
 pub returns-in-Count-clause-ready : goal.returns-in-Count-clause-ready
 returns-in-Count-clause-ready c = ready_then _ _ c.count-came.ensures.ready
+
+pub returns-in-Break-clause-ready : goal.returns-in-Break-clause-ready
+returns-in-Break-clause-ready c = ready_then _ _ c.plan_break-came.ensures.ready

@@ -1,11 +1,11 @@
-use Rattle.std.proofs.Common.{ℕ, ◌<◌, length, refl, sym, ap, subst, ◌∙◌, w64}
+use Rattle.std.proofs.Common.{List, ℕ, ◌<◌, length, refl, sym, ap, subst, ◌∙◌, w64}
 use Rattle.std.proofs.lemmas.Int.{to_z-of_z}
 use Rattle.std.proofs.lemmas.Option.{slice_get_read}
 use Rattle.ak_io.specs.Arrivals.{IsClockMoment}
 use Rattle.ak_lab.proofs.Shifting.{still_within}
 use Rattle.ak_lab.proofs.Syncing.{cross_begins, runs_there, session_ready}
 use Rattle.ak_lab.specs.LabStates.{state_of}
-use Rattle.ak_lab.specs.LabSyncs.{mishaps_for, planned_for, without_plan_for}
+use Rattle.ak_lab.specs.LabSyncs.{mishaps_for, planned_for, with_fails, without_plan_for}
 use Rattle.ak_lab_devices.proofs.InTime.{lab_in_time, moment_fits}
 use Rattle.ak_lab_devices.specs.declared.devices.Device.{Device}
 use Rattle.ak_lab_wires.proofs.Kept.{faces, session_lab}
@@ -37,13 +37,15 @@ returns-clause-runs c =
     let value = c.replace-device.ensures.value in
     let ran = c.run_over-server in
     rw clock
-    (runs_there c.args.kind c.args.place _ s _ d c.plan_for-mishaps.new.device ran.new.device c.replace-device.new.dest _ c.args.prepared.clock _ _ ran.result.1 c.args.lab.server
-    ran.result.0 _ ran.result.2 there (ap (λ (x : Device). x.name) c.replace-device.ensures.after ∙ prepared.nameless)
+    (runs_there c.args.kind c.args.place _ s _ d c.plan_for-mishaps.new.device ran.new.device c.replace-device.new.dest _ c.args.prepared.clock _ _ ran.result.1 c.fail_at.new.self
+    ran.result.0 c.fail_at-2.new.self c.fails_for-failing.new.planned _ ran.result.2 there (ap (λ (x : Device). x.name) c.replace-device.ensures.after ∙ prepared.nameless)
     (ap (λ (x : Device). x.shift) c.replace-device.ensures.after ∙ prepared.has_shift)
     (c.plan_for-mishaps.ensures.planned ∙ ap (planned_for c.args.kind) value) (cross_begins s _ c.args.place c.replace-device.new.dest refl c.saturating_add-key.ensures refl c.new.ensures)
     c.saturating_add-key.ensures refl prepared.clock (c.plan_for-mishaps.ensures.mishaps ∙ ap (mishaps_for c.args.kind) value)
-    (c.plan_for-mishaps.ensures.left ∙ ap (without_plan_for c.args.kind) value) refl
-    (rw (c.new-wire.ensures.server, c.new-wire.ensures.moment, c.new-wire.ensures.mishaps, c.new-wire.ensures.between, clock) at ran.ensures) refl refl)
+    (c.plan_for-mishaps.ensures.left ∙ ap (without_plan_for c.args.kind) value)
+    (c.fail_at.ensures ∙ ap (λ (l : List ℕ). with_fails l c.args.lab.server) c.fails_for-failing.ensures.fails)
+    (rw (c.new-wire.ensures.server, c.new-wire.ensures.moment, c.new-wire.ensures.mishaps, c.new-wire.ensures.between, clock) at ran.ensures)
+    (c.fail_at-2.ensures ∙ ap (λ (l : List ℕ). with_fails l ran.result.0) c.new-2.ensures) c.fails_for-failing.ensures.left refl refl)
 
 pub returns-clause-ready : goal.returns-clause-ready
 returns-clause-ready c =
@@ -57,10 +59,12 @@ returns-clause-ready c =
     let ran = c.run_over-server in
     rw clock
     (session_ready c.args.kind c.args.place s _ _ ran.result.2
-    (runs_there c.args.kind c.args.place _ s _ d c.plan_for-mishaps.new.device ran.new.device c.replace-device.new.dest _ c.args.prepared.clock _ _ ran.result.1 c.args.lab.server
-    ran.result.0 _ ran.result.2 there (ap (λ (x : Device). x.name) c.replace-device.ensures.after ∙ prepared.nameless)
+    (runs_there c.args.kind c.args.place _ s _ d c.plan_for-mishaps.new.device ran.new.device c.replace-device.new.dest _ c.args.prepared.clock _ _ ran.result.1 c.fail_at.new.self
+    ran.result.0 c.fail_at-2.new.self c.fails_for-failing.new.planned _ ran.result.2 there (ap (λ (x : Device). x.name) c.replace-device.ensures.after ∙ prepared.nameless)
     (ap (λ (x : Device). x.shift) c.replace-device.ensures.after ∙ prepared.has_shift)
     (c.plan_for-mishaps.ensures.planned ∙ ap (planned_for c.args.kind) value) (cross_begins s _ c.args.place c.replace-device.new.dest refl c.saturating_add-key.ensures refl c.new.ensures)
     c.saturating_add-key.ensures refl prepared.clock (c.plan_for-mishaps.ensures.mishaps ∙ ap (mishaps_for c.args.kind) value)
-    (c.plan_for-mishaps.ensures.left ∙ ap (without_plan_for c.args.kind) value) refl
-    (rw (c.new-wire.ensures.server, c.new-wire.ensures.moment, c.new-wire.ensures.mishaps, c.new-wire.ensures.between, clock) at ran.ensures) refl refl) c.requires.ready)
+    (c.plan_for-mishaps.ensures.left ∙ ap (without_plan_for c.args.kind) value)
+    (c.fail_at.ensures ∙ ap (λ (l : List ℕ). with_fails l c.args.lab.server) c.fails_for-failing.ensures.fails)
+    (rw (c.new-wire.ensures.server, c.new-wire.ensures.moment, c.new-wire.ensures.mishaps, c.new-wire.ensures.between, clock) at ran.ensures)
+    (c.fail_at-2.ensures ∙ ap (λ (l : List ℕ). with_fails l ran.result.0) c.new-2.ensures) c.fails_for-failing.ensures.left refl refl) c.requires.ready)

@@ -27,6 +27,7 @@ returns-clause-ends c =
           clock = c.args.self.now.clock;
           server = c.new_device.new.server;
           sessions = c.args.self.now.sessions;
+          fails = c.args.self.now.fails;
           devices = devices;
         } in t)
             (c.in_ok-push.ensures.items ∙ ap (λ (d : Device). c.args.self.now.devices.items ++ d ∷ []) made.2);
@@ -51,6 +52,7 @@ returns-in_err-push-clause-ends c =
         clock = c.args.self.now.clock;
         server = c.new_device.new.server;
         sessions = c.args.self.now.sessions;
+        fails = c.args.self.now.fails;
         devices = devices;
       } in t) c.in_err-push.ensures.items,
     )

@@ -1,4 +1,4 @@
-use Rattle.std.proofs.Common.{List, pos, ap, arith, sym, subst, ◌∙◌}
+use Rattle.std.proofs.Common.{List, [], ℕ, pos, ap, arith, sym, subst, ◌∙◌}
 use Rattle.ak_io.specs.Arrivals.{IsClockMoment}
 use Rattle.ak_lab.proofs.Openings.{lab_opened, opened_ready}
 use Rattle.ak_lab_wires.proofs.Openings.{opening_is_checked, opening_is_committed, opening_is_distinct}
@@ -22,11 +22,13 @@ pub returns-clause-opened : goal.returns-clause-opened
 returns-clause-opened c = (
   c.in_ok-made.made,
   c.in_ok-made.ensures.is,
-  ap (λ (devices : List Device). let s : LabState = record { clock = pos 1_700_000_000_000; server = c.in_ok-server.server; sessions = 0; devices = devices } in s) c.new-2.ensures.items
+  ap (λ (fails : List ℕ). let s : LabState = record { clock = pos 1_700_000_000_000; server = c.in_ok-server.server; sessions = 0; fails = fails; devices = c.new-3.result.items } in s) c.new-2.ensures
+      ∙ ap (λ (devices : List Device). let s : LabState = record { clock = pos 1_700_000_000_000; server = c.in_ok-server.server; sessions = 0; fails = []; devices = devices } in s) c.new-3.ensures.items
       ∙ lab_opened c.lab_key.result.digits c.in_ok-made.made c.in_ok-server.server c.in_ok-server.ensures c.lab_key.ensures,
 )
 
 pub returns-clause-ready : goal.returns-clause-ready
 returns-clause-ready c =
-    subst (λ (devices : List Device). IsReady (record { clock = pos 1_700_000_000_000; server = c.in_ok-server.server; sessions = 0; devices = devices })) (sym c.new-2.ensures.items)
-    (opened_ready c.lab_key.result.digits c.in_ok-made.made c.in_ok-server.server c.in_ok-server.ensures)
+    subst (λ (fails : List ℕ). IsReady (record { clock = pos 1_700_000_000_000; server = c.in_ok-server.server; sessions = 0; fails = fails; devices = c.new-3.result.items })) (sym c.new-2.ensures)
+    (subst (λ (devices : List Device). IsReady (record { clock = pos 1_700_000_000_000; server = c.in_ok-server.server; sessions = 0; fails = []; devices = devices })) (sym c.new-3.ensures.items)
+    (opened_ready c.lab_key.result.digits c.in_ok-made.made c.in_ok-server.server c.in_ok-server.ensures))

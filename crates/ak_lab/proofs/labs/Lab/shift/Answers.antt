@@ -31,6 +31,7 @@ returns-clause-ends c =
           clock = c.args.self.now.clock;
           server = c.args.self.now.server;
           sessions = c.args.self.now.sessions;
+          fails = c.args.self.now.fails;
           devices = devices;
         } in t) (sym (is.set made there.2)));
       },
