@@ -1,0 +1,9 @@
+use Rattle.ak_content_laws.proofs.CallEnds.{filtered_made}
+use Rattle.ak_content_laws.proofs.Keepings.{ends_keeps, where_told}
+use Rattle.ak_filtered.specs.MadeDecks.{IsMade}
+use Rattle.ak_keep.specs.Keepers.{WhereHeld}
+use Rattle.ak_content_laws.proofs.filtered_laws.made_decks_keep_sound.Goals as goal
+
+pub returns : goal.returns
+returns c = λ at given before now steps left result ends held. ends_keeps (λ value. WhereHeld before (λ c. IsMade at given c before now left value)) before now steps left result ends
+    (λ value _ done held. filtered_made at given before now steps left value held (where_told before held.c (λ c. IsMade at given c before now left value) held.told done)) held

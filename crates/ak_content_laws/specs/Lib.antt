@@ -1,0 +1,2 @@
+pub mod KeptContents
+pub mod SoundCalls
