@@ -41,6 +41,16 @@ pub fn texts_at(alloc: Global, arguments: &Value, place: usize) -> Result<List<T
     Ok(texts)
 }
 
+/// The list of words at a place of the arguments.
+pub fn words_at(alloc: Global, arguments: &Value, place: usize) -> Result<Vec<String>, Unread> {
+    let mut words = Vec::new(alloc);
+    for value in list_at(arguments, place)? {
+        let word = value.as_str().ok_or(Unread::Bad)?;
+        words.push(String::from_str(alloc, word)?)?;
+    }
+    Ok(words)
+}
+
 /// The list at a place of the arguments.
 pub fn list_at(arguments: &Value, place: usize) -> Result<&[Value], Unread> {
     match arguments.get(place) {

@@ -64,6 +64,16 @@ pub fn listed(alloc: Global, numbers: &[i64]) -> Result<String, Unread> {
     Ok(made)
 }
 
+/// How many bytes there are, and each of them.
+pub fn bytes_text(alloc: Global, bytes: &[u8]) -> Result<String, Unread> {
+    let count = bytes.len();
+    let mut made = format!(in alloc; "{count} bytes:")?;
+    for byte in bytes {
+        made.push_str(format!(in alloc; " {byte}")?.as_str())?;
+    }
+    Ok(made)
+}
+
 /// The JSON text of a row.
 pub fn row_text(alloc: Global, row: &Row) -> Result<String, Unread> {
     let value = write_row(alloc, row)?;
