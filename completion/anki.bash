@@ -39,6 +39,6 @@ complete -o filenames -F _anki anki bin/anki ./anki
 anki_verbs() {
     case $1 in
     desk) compgen -W "note fields tags delete deck rename drop move filter build empty adopt options unoptions type retype untype spread answer next counts find page mute suspend unsuspend bury flag undo check" -- "$2" ;;
-    lab) compgen -W "clock device shift review do sync upload download lose repeat cross replay resend show count requests" -- "$2" ;;
+    lab) compgen -W "clock device shift review do sync upload download lose repeat cross replay resend break show count requests" -- "$2" ;;
     esac
 }

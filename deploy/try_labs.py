@@ -7,24 +7,28 @@ Each script has 20 to 100 lines of all forms that a lab has; every second one en
 seed and the number alone, so that several processes can share them: of N scripts those numbered K, K + M and so on are made. A script is made line by line
 while a first `anki - - lab` obeys it, with `count` and `show` between its lines; then a second one gets the whole script without these. A model, written from
 the rules, says of each line what it prints and which rows, graves, settings, tags and moments it leaves; of answers and changed note types it says what each
-edit must keep. So it is seen that
+edit must keep. Its sessions, with what is lost, repeated, crossed, served again and broken, are those of tools/tests/lab_rules.py. So it is seen that
 
     - each line prints what the rules say; a line of another form is a fault
     - `show`, `count` and all that only asks change nothing, and the second run prints what the first one did
-    - a row of one side changes only by lines that name the side; stamps, graves and moments go as docs/profile/edits.md says, undone steps too
-    - a sync, an upload and a download end as their rules say, with so many requests; where a sync is finished device and server hold the join of what both
-      held; where it says `no changes` both held the same; else both hold what they held
+    - a row of one side changes only by lines that name the side, or in a sync that one of them planned; stamps, graves and moments go as docs/profile/edits.md
+      says, undone steps too
+    - a sync, an upload and a download end as their rules say, with so many requests, whatever comes between them; each reply to a request that is sent again is
+      that of the rules
+    - where a sync is finished device and server hold one content, the join of what the device held and of what was committed just before; where it says
+      `no changes` both hold the same; else the device holds what it held. One is lost only after losses at three calls in a row
     - a review that the server holds stays there until an upload is finished
     - what each side holds is sound, and `check` says so
 
 Each change of a schema, each upload and each sync that will be refused by its check comes at a clock moment of its own, so that no two schema moments are one
-by chance. How often each form of line, each end and each refusal came is told, and why some can't. The status is 1 if a script showed what it should not: its
+by chance. A look at the server ends its session: nobody looks where one may go on that requests of the log belong to. How often each form of line, each end and each refusal came is told, and why some can't. The status is 1 if a script showed what it should not: its
 number, the line and what was wrong are printed then, and --keep has a folder for the script. After ten of them no further one is begun.
 """
 import argparse
 import collections
 import functools
 import hashlib
+import itertools
 import json
 import os
 import random
@@ -35,35 +39,55 @@ import time
 
 HERE = os.path.dirname(os.path.realpath(__file__))
 TOP = os.path.dirname(HERE)
+sys.dont_write_bytecode = True
+sys.path.insert(0, TOP)
+
+from tools.tests import lab_rules  # noqa: E402
+
 BEGIN = 1_700_000_000_000
 LAST_CLOCK = 4_294_967_294_999
 TABLES = ("notes", "cards", "reviews", "types", "decks", "options", "graves")
-STAMP, USN = {"notes": 3, "cards": 4}, {"notes": 4, "cards": 5, "reviews": 2}
+STAMP = {"notes": 3, "cards": 4}
 KINDS = {"cards": 0, "notes": 1, "decks": 2}
+BURIED = {kind: table for table, kind in KINDS.items()}
+# What a sync sends together, in its order.
+SENT = {"graves": ("notes", "cards", "decks"), "changes": ("types", "decks", "options"), "rows": ("reviews", "cards", "notes")}
 COUNT_LINE = re.compile(r"notes (\d+) cards (\d+) reviews (\d+) graves (\d+) types (\d+) decks (\d+) options (\d+)$")
 DESK = ("note", "fields", "tags", "delete", "deck", "rename", "drop", "move", "adopt", "options", "unoptions", "type", "retype", "untype", "spread", "answer",
         "next", "counts", "find", "page", "suspend", "unsuspend", "bury", "flag", "undo", "check", "filter", "build", "empty")
-FORMS = ("clock", "device", "shift", "review", "sync", "upload", "download", "requests", "count", *("show " + it for it in (*TABLES, "head")), "skipped",
+MEETINGS = ("sync", "upload", "download", "resend")
+PLANS = ("lose request", "lose reply", "repeat", "cross", "replay", "break device", "break server")
+FORMS = ("clock", "device", "shift", "review", *MEETINGS, *PLANS, "requests", "count", *("show " + it for it in (*TABLES, "head")), "skipped",
          *("do " + it for it in DESK))
 FAULTS = ("card <n> without note", "note <n> without card", "note <n> without type", "card <n> without template")
+STOPPED = ("stopped", "bad reply", "lost", "keeper failed")
+REFUSED = tuple("refused " + it for it in ("409 base", "409 no session", "503 keeper", "409 step", "409 usn", "409 sequence", "403 key", "400 rows", "400 row", "400 newer", "500 memory"))
 ENDS = {"sync": ("finished", "no changes", "full needed: schema", "full needed: sequence", *("sanity failed: " + it for it in FAULTS),
-                 "sanity failed: counts", "clock off", "refused", "own check failed", "stopped", "bad reply", "too many chunks", "lost", "keeper failed"),
-        "upload": ("finished", "clock off", "own check failed", "refused", "stopped", "bad reply", "lost", "keeper failed"),
-        "download": ("finished", "clock off", "refused", "stopped", "bad reply", "lost", "keeper failed")}
+                 "sanity failed: counts", "clock off", *REFUSED, "own check failed", "too many chunks", *STOPPED),
+        "upload": ("finished", "clock off", "own check failed", "refused", *STOPPED), "download": ("finished", "clock off", "refused", *STOPPED)}
+# Ends of syncs that crossed others, and answers to requests that were sent again.
+CROSSED = ("finished", "no changes", "full needed: schema", *("sanity failed: " + it for it in FAULTS), "clock off", *REFUSED[:3], "lost", "keeper failed")
+RESENT = ("200 ok", "409 base", "409 no session", "409 step")
+# Commits that no line told as finished, by what brought them.
+LATE = {"sync": "by a replay, or by a finish to which no reply came", "resend": "by a resend"}
 REFUSALS = ("long input", "long line", "not text", "bad line", "no device <name>", "device held", "too many devices", *("json fault %d" % n for n in range(1, 5)),
             *("search fault %d at <n>" % n for n in range(1, 7)), *("no such %s <n>" % it for it in ("note", "card", "type", "deck", "options")),
             "in use: deck <n>", "in use: type <n>", "fields <n>, wanted <n>", "default kept", "stamp end", "id end", *("row fault %d at <n>" % n for n in range(1, 5)),
             *("template fault %d at <n>" % n for n in range(1, 5)), "no field <name>", "no filter <name>", "not answerable: queue <n>", "schema change not allowed",
-            "bad map at <n>", "nothing to undo", "not filtered: <n>", "bad plan: <n>")
-NO_LOSS = "no line of these scripts loses a message, and nobody syncs in between"
+            "bad map at <n>", "nothing to undo", "not filtered: <n>", "bad plan: <n>", "no request <n>")
 UNREACHED = {
     "sync full needed: sequence": "it takes 2,147,483,645 syncs", "sync sanity failed: note <n> without type": "a deleted note type changes the schema",
     "sync sanity failed: counts": "the two sides of a lab are linked",
     **{"%s own check failed" % word: "no line makes a device's collection unsound" for word in ("sync", "upload")},
     "sync too many chunks": "it takes 10,000,000 rows", "long input": "it takes an input of over a gibibyte", "id end": "no clock comes near the last id",
     "row fault 2 at <n>": "it never comes out", "row fault 3 at <n>": "it never comes out",
-    **{"%s %s" % (word, end): NO_LOSS for word in ENDS for end in ("refused", "stopped", "bad reply", "lost")},
-    **{"%s keeper failed" % word: "a lab's collections are in memory" for word in ENDS}}
+    "sync refused 409 step": "a sync's requests come in their order, and again only at once", "sync refused 409 usn": "a device's number is at most the server's, or their schema moments differ",
+    "sync refused 409 sequence": "it takes 2,147,483,645 syncs", "sync refused 403 key": "all requests of a lab have one key", "sync refused 500 memory": "memory does not run out",
+    **{"sync refused 400 " + word: "a device sends what may be held" for word in ("rows", "row", "newer")},
+    **{"%s stopped" % word: "a lab's server lets each go on" for word in ENDS}, **{"%s bad reply" % word: "a lab's replies come as they were sent" for word in ENDS},
+    **{"%s %s" % (word, end): "what is planned is left for the next sync" for word in ("upload", "download") for end in ("refused", "lost", "keeper failed")}}
+# What a program without the line `break` can't show.
+BREAKS = ("break device", "break server", "sync refused 503 keeper", "sync keeper failed")
 
 
 class Wrong(Exception):
@@ -165,6 +189,13 @@ def has_filtered(anki):
     return b"json fault 2" in ran.stdout
 
 
+@functools.lru_cache(maxsize=None)
+def has_breaks(anki):
+    """Whether the program has the line that makes a keeper fail."""
+    ran = subprocess.run([anki, "-", "-", "lab"], input=b"break server\n", stdout=subprocess.PIPE, stderr=subprocess.DEVNULL)
+    return ran.returncode == 0
+
+
 class Content:
     """What a side holds: rows by name, settings, the second of its day's count, tags."""
 
@@ -240,13 +271,108 @@ class Edit:
         self.rows, self.gone, self.tags, self.conf, self.schema = rows or {}, set(gone), set(tags), conf or {}, schema
 
 
-class Side:
-    """What the rules say that a side holds, with its moments and numbers. Of the server `usns` are the numbers of rows and tags, of a device `pending` those not sent."""
+class Whole:
+    """A collection of the rules: what it holds, its moments and its number, and the number of each row and tag, -1 if it was not sent yet. What has none here has 0."""
 
-    def __init__(self, content, moment, schema, usn):
-        self.content, self.moment, self.schema, self.usn = content, moment, schema, usn
-        self.usns, self.pending, self.steps = collections.Counter(), set(), []
-        self.shift, self.requests, self.texts = 0, 0, None
+    def __init__(self, content, moment, schema, usn, usns=()):
+        self.content, self.moment, self.schema, self.usn, self.usns = content, moment, schema, usn, dict(usns)
+
+    def copy(self):
+        held = self.content
+        return Whole(Content(dict(held.rows), held.conf, held.crt, held.tags), self.moment, self.schema, self.usn, self.usns)
+
+    def edited(self, content, now, usns, schema=False):
+        """The collection after an edit."""
+        return Whole(content, max(now, self.moment + 1), max(now, self.schema + 1) if schema else self.schema, self.usn, usns)
+
+    # What a session asks of a collection
+
+    def chosen(self, what, is_wanted):
+        tables = SENT[what]
+        if what == "graves":
+            names = [it for it in self.content.rows if it[0] == "graves" and is_wanted(self.usns.get(it, 0))]
+            names.sort(key=lambda it: (tables.index(BURIED[it[1]]), it[2]))
+        else:
+            names = [it for it in self.content.rows if it[0] in tables and is_wanted(self.usns.get(it, 0))]
+            names.sort(key=lambda it: (tables.index(it[0]), it[1]))
+        tags = [("tag", it) for it in sorted(self.content.tags) if is_wanted(self.usns.get(("tag", it), 0))] if what == "changes" else []
+        return [(it, self.content.rows.get(it)) for it in names + tags]
+
+    def take(self, given, usn, as_server):
+        for name, row in given:
+            if name[0] == "tag":
+                self.take_tag(name, usn)
+            elif name[0] == "graves":
+                self.bury(name, row, usn)
+            elif grave_of(name) not in self.content.rows and self.is_taken(name, row, as_server):
+                self.content.rows[name], self.usns[name] = row, usn
+
+    def take_tag(self, name, usn):
+        if name[1] not in self.content.tags:
+            self.content.tags, self.usns[name] = self.content.tags | {name[1]}, usn
+
+    def bury(self, name, row, usn):
+        if name not in self.content.rows:
+            self.content.rows[name], self.usns[name] = row, usn
+        for table in (self.content.rows, self.usns):
+            table.pop((BURIED[name[1]], name[2]), None)
+
+    def is_taken(self, name, row, as_server):
+        """Whether a row comes in place of the one that is held: on the server a newer one, on a device one that is not older."""
+        held = self.content.rows.get(name)
+        if held is None:
+            return True
+        if name[0] == "reviews":
+            return not as_server
+        mine, theirs = stamp_of(name[0], held), stamp_of(name[0], row)
+        return theirs > mine or theirs == mine and not as_server
+
+    def settings(self):
+        return self.content.conf, self.content.crt
+
+    def set(self, settings):
+        self.content.conf, self.content.crt = settings
+
+    def fault(self):
+        return self.content.fault()
+
+    def counts(self):
+        return collections.Counter(it[0] for it in self.content.rows)
+
+    def finished(self, moment, usn):
+        return Whole(self.content, moment, self.schema, usn + 1, {it: usn if number < 0 else number for it, number in self.usns.items()})
+
+    def uploaded(self, moment, schema):
+        held = self.content
+        return Whole(Content({it: row for it, row in held.rows.items() if it[0] != "graves"}, held.conf, held.crt, held.tags), moment, schema, 1)
+
+    def check_failed(self, now):
+        return self.edited(self.content, now, self.usns, schema=True)
+
+
+class Side(lab_rules.Device):
+    """A device of the rules, with the steps that it can undo, and what it printed when it was looked at last."""
+
+    def __init__(self, committed):
+        super().__init__(committed)
+        self.steps, self.texts = [], None
+
+    @property
+    def content(self):
+        return self.collection.content
+
+    @property
+    def schema(self):
+        return self.collection.schema
+
+    def copy(self):
+        made = super().copy()
+        made.steps = list(self.steps)
+        return made
+
+    def ended(self, word, calls):
+        super().ended(word, calls)
+        self.steps = []
 
     def free(self, table, now, made=()):
         number = max(now, 1)
@@ -275,13 +401,10 @@ class Side:
         names = {it for it in {*before.rows, *after.rows} if before.rows.get(it) != after.rows.get(it)}
         if not names and before.same(after) and not schema:
             return
-        self.pending = {it for it in self.pending | names if it[0] == "tag" or it in after.rows} | {("tag", it) for it in after.tags - before.tags}
-        self.moment = max(now, self.moment + 1)
-        if schema:
-            self.schema, self.steps = max(now, self.schema + 1), []
-        else:
-            self.steps = [({it: before.rows.get(it) for it in names}, before.conf, before.tags)] + self.steps[:29]
-        self.content = after
+        usns = {it: usn for it, usn in self.collection.usns.items() if it not in names}
+        usns.update((it, -1) for it in (*(it for it in names if it in after.rows), *(("tag", it) for it in after.tags - before.tags)))
+        self.collection = self.collection.edited(after, now, usns, schema)
+        self.steps = [] if schema else [({it: before.rows.get(it) for it in names}, before.conf, before.tags)] + self.steps[:29]
 
     def clear(self, edit, now):
         """The side has done an edit after which nothing can be undone."""
@@ -298,9 +421,9 @@ class Side:
             else:
                 stamps = [second, stamp_of(name[0], row) + 1] + ([stamp_of(name[0], rows[name]) + 1] if name in rows else [])
                 rows[name] = with_stamp(name[0], row, max(stamps))
-        back = {it for it, row in step.items() if row is not None}
-        self.pending = back | {it for it in self.pending if (it[1] in tags if it[0] == "tag" else it in rows)}
-        self.moment, self.content = max(now, self.moment + 1), Content(rows, conf, self.content.crt, tags)
+        usns = {it: usn for it, usn in self.collection.usns.items() if (it[1] in tags if it[0] == "tag" else it in rows)}
+        usns.update((it, -1) for it, row in step.items() if row is not None)
+        self.collection = self.collection.edited(Content(rows, conf, self.content.crt, tags), now, usns)
 
 
 class Run:
@@ -351,17 +474,47 @@ class Run:
             pass
 
 
+class ServerSide:
+    """The server of the rules, and what it printed when it was looked at last, None if that was before it committed."""
+
+    def __init__(self, server, texts):
+        self.server, self.told, self.at = server, texts, server.committed
+
+    @property
+    def content(self):
+        return self.server.committed.content
+
+    @property
+    def schema(self):
+        return self.server.committed.schema
+
+    @property
+    def texts(self):
+        return self.told if self.at is self.server.committed else None
+
+    @texts.setter
+    def texts(self, texts):
+        self.told, self.at = texts, self.server.committed
+
+
 class Lab:
-    """A script under way: the run, the model of all sides, the lines and what they printed."""
+    """A script under way: the run, the rules' lab beside it, the lines and what they printed."""
 
     def __init__(self, anki, chance, counts):
         self.anki, self.chance, self.counts = anki, chance, counts
         self.run, self.script, self.printed = Run(anki), [], []
-        self.clock, self.server, self.devices, self.spent, self.schemas = BEGIN, None, {}, set(), {BEGIN}
-        _, [(content, _)] = self.seen("server")
-        self.server = Side(content, BEGIN, BEGIN, 1)
-        self.server.texts = self.last_texts
-        self.reviews = set()
+        self.rules, self.server, self.spent, self.schemas, self.reviews = None, None, set(), {BEGIN}, set()
+        _, [(content, texts)] = self.seen("server")
+        self.rules = lab_rules.Lab(Whole(content, BEGIN, BEGIN, 1), Side)
+        self.server = ServerSide(self.rules.server, texts)
+
+    @property
+    def clock(self):
+        return self.rules.clock
+
+    @property
+    def devices(self):
+        return self.rules.devices
 
     # What is printed
 
@@ -383,7 +536,6 @@ class Lab:
                 text = self.run.line()
                 expect("a count of " + side, bool(COUNT_LINE.match(text or "")), True)
             contents.append(self.read(COUNT_LINE.match(text).groups()))
-        self.last_texts = contents[-1][1]
         return own, contents
 
     def read(self, numbers):
@@ -413,18 +565,52 @@ class Lab:
         data = line if isinstance(line, bytes) else line.encode()
         self.script.append(data)
         self.counts["form", form] += 1
-        own, contents = self.seen(*(sides or ("server",)), line=data)
+        looked = sides or (self.looked(),)
+        own, contents = self.seen(*looked, line=data)
         if contents is None:
             raise Wrong("a line that should be accepted: %r" % own[-1:])
         self.printed += own
-        for side, (content, texts) in zip(sides or ("server",), contents):
+        for side, (content, texts) in zip(looked, contents):
             held = self.side(side)
             expect("the check of what %s holds" % side, content.fault(), None)
-            if not sides and held is not None:
-                expect("the server is as before", texts == held.texts, True)
-            elif held is not None:
-                held.texts = texts
+            if side == "server":
+                self.server_keeps(content)
+            if not sides and held.texts is not None:
+                expect("%s is as before" % side, texts == held.texts, True)
+            held.texts = texts
         return (own, *(it[0] for it in contents)) if sides else (own,)
+
+    def is_resumable(self):
+        """Whether a request of the log, sent again, can tell that the server's session is there. Then nobody looks at the server, since that ends it."""
+        server = self.rules.server
+        return server.session is not None and any(it["key"] == server.session.key and it["method"] != "meta" and not server.is_repeat(it) for it in server.log)
+
+    def looked(self):
+        """The side that is looked at after a line that changes none."""
+        return sorted(self.devices)[0] if self.is_resumable() else "server"
+
+    def told(self, form, line):
+        """Gives a line of which the rules say all. The devices that it names at an end or that it changed are looked at, and after a meeting the server. It gives what it printed."""
+        kept, commits = {name: it.collection for name, it in self.devices.items()}, self.rules.server.commits
+        wanted = self.say(line)
+        sides = [name for name, it in self.devices.items() if it.collection is not kept.get(name) or any(" %s: " % name in text for text in wanted)]
+        if form in MEETINGS and not self.is_resumable():
+            sides.append("server")
+        if any(re.fullmatch("upload .*: finished", it) for it in wanted):
+            self.reviews = set()
+        if form in LATE:
+            self.counts["commit", LATE[form]] += self.rules.server.commits - commits - len([it for it in wanted if it.endswith(": finished")])
+        own, *contents = self.accepted(form, line, *sides)
+        expect(line, own, wanted)
+        for side, content in zip(sides, contents):
+            self.holds(side, content, line)
+        return own
+
+    def say(self, line):
+        """What the rules print of a line."""
+        self.rules.printed = []
+        self.rules.obey(line)
+        return self.rules.printed
 
     def refused(self, line, text):
         """Gives a line that is to be refused with this text. It ends the script."""
@@ -447,33 +633,35 @@ class Lab:
     # Lines of the lab
 
     def set_clock(self, moment):
-        (own,) = self.accepted("clock", "clock %d" % moment)
-        expect("a clock line", own, [])
-        self.clock = moment
+        self.told("clock", "clock %d" % moment)
 
-    def at_own_moment(self, schema_of):
-        """Sets the clock to a moment that no change of a schema had, nor gives it a schema moment that stands anywhere."""
-        if self.clock not in self.spent and schema_of() not in self.schemas and self.chance.random() < 0.3:
-            self.spent.add(self.clock)
-            self.schemas.add(schema_of())
+    def at_own_moment(self, schemas_of):
+        """Sets the clock to a moment at which no schema changed, and where none of the new schema moments is one that was ever there. They depend on the clock, which this takes."""
+        found = schemas_of(self.clock)
+        if not found:
             return
-        before, moment = self.clock, self.clock
-        for turn in range(10):
-            # Past all schema moments by more than any shift, if those that are near don't do.
-            moment = (moment if turn < 5 else max(moment, *self.schemas) + 10_000_000) + self.chance.randint(1, 40_000)
-            self.clock = moment
-            if moment not in self.spent and schema_of() not in self.schemas:
-                break
-        self.clock = before
-        self.set_clock(moment)
-        self.spent.add(moment)
-        self.schemas.add(schema_of())
+        if self.clock in self.spent or found & self.schemas or self.chance.random() < 0.7:
+            moment = self.clock
+            for turn in range(10):
+                # Past all schema moments by more than any shift, if those that are near don't do.
+                moment = (moment if turn < 5 else max(moment, *self.schemas) + 10_000_000) + self.chance.randint(1, 40_000)
+                found = schemas_of(moment)
+                if moment not in self.spent and not found & self.schemas:
+                    break
+            self.set_clock(moment)
+        self.spent.add(self.clock)
+        self.schemas |= found
+
+    def new_schemas(self, line, clock):
+        """The schema moments that a line brings at a moment of the clock."""
+        tried = self.rules.copy()
+        tried.clock = clock
+        tried.obey(line)
+        tried.server = ServerSide(tried.server, None)
+        return {new.schema for new, old in ((tried.server, self.server), *((it, self.devices[name]) for name, it in tried.devices.items())) if new.schema != old.schema}
 
     def device(self, name):
-        self.devices[name] = Side(self.server.content, self.server.moment, self.server.schema, self.server.usn)
-        own, content = self.accepted("device", "device " + name, name)
-        expect("a device line", own, [])
-        self.holds(name, content, "a new device")
+        self.told("device", "device " + name)
 
     def holds(self, name, content, what):
         held = self.side(name).content
@@ -481,9 +669,7 @@ class Lab:
             raise Wrong("%s: %s holds what the rules don't say: %s" % (what, name, content.difference(held)))
 
     def shift(self, name, by):
-        (own,) = self.accepted("shift", "shift %s %d" % (name, by))
-        expect("a shift line", own, [])
-        self.devices[name].shift = by
+        self.told("shift", "shift %s %d" % (name, by))
 
     def review(self, name, card, ease, count):
         side, rows, number = self.devices[name], {}, self.now(name)
@@ -497,72 +683,42 @@ class Lab:
         self.holds(name, content, "reviews")
 
     def ask(self, form, line, wanted):
+        if line.split(" ")[1] == "server":
+            self.rules.held("server")
         (own,) = self.accepted(form, line)
         expect(line, own, wanted)
 
     def sync(self, name):
-        side, server = self.devices[name], self.server
-        end, joined = self.sync_end(name)
-        if end.startswith("sanity failed"):
-            self.at_own_moment(lambda: max(self.now(name), side.schema + 1))
-            end, joined = self.sync_end(name)
-        requests = 1
-        if joined:
-            requests = self.requests(side, server, end == "finished")
-        if end == "no changes" and not side.content.same(server.content):
-            raise Wrong("the model's device and server differ where nothing changed: %s" % side.content.difference(server.content))
-        if end == "finished":
-            number = server.usn
-            for it, row in joined.rows.items():
-                if server.content.rows.get(it) != row:
-                    server.usns[it] = number
-            for tag in joined.tags - server.content.tags:
-                server.usns["tag", tag] = number
-            server.usns = collections.Counter({it: usn for it, usn in server.usns.items() if it[0] == "tag" or it in joined.rows})
-            server.moment = side.moment = max(self.clock, server.moment + 1, side.moment + 1)
-            server.usn = side.usn = number + 1
-            server.content = side.content = joined
-            side.pending = set()
-        elif end.startswith("sanity failed"):
-            side.moment, side.schema = max(self.now(name), side.moment + 1), max(self.now(name), side.schema + 1)
-        side.steps, side.requests = [], requests
-        own, mine, theirs = self.accepted("sync", "sync " + name, name, "server")
-        self.counts["end", "sync " + plain(end)] += 1
-        expect("a sync", own, ["sync %s: %s" % (name, end)])
-        self.run.give([b"requests " + name.encode()])
-        expect("the requests of a sync", self.run.line(), "requests %s: %d" % (name, requests))
-        self.holds(name, mine, "a sync that says " + end)
-        self.holds("server", theirs, "a sync that says " + end)
+        """A sync, with all that lines planned for it."""
+        line, side = "sync " + name, self.devices[name]
+        self.at_own_moment(lambda clock: self.new_schemas(line, clock))
+        held, lost = side.collection, set(side.lost)
+        own = self.told("sync", line)
+        names = [re.match("sync ([^:]*): ", it).group(1) for it in own]
+        for number, text in enumerate(own):
+            end = text.partition(": ")[2]
+            self.counts["end", "sync " + plain(end)] += 1
+            if number < len(own) - 1:
+                self.counts["crossed", "sync " + plain(end)] += 1
+        for it in sorted(set(names)):
+            self.run.give([b"requests " + it.encode()])
+            expect("the requests of a sync", self.run.line(), "requests %s: %d" % (it, self.devices[it].requests))
+        self.keeps_promises(name, end, held, lost)
+
+    def keeps_promises(self, name, end, held, lost):
+        """What stands after a sync that ended so: the device held this when it began, and lost these messages."""
+        mine, server = self.devices[name].collection, self.rules.server
         if end in ("finished", "no changes"):
-            expect("one content after the sync", mine.same(theirs), True)
-        self.server_keeps(theirs)
-
-    def sync_end(self, name):
-        """How a sync ends, and what it joins."""
-        side, server = self.devices[name], self.server
-        mine, theirs = self.now(name) // 1000, self.clock // 1000
-        if abs(mine - theirs) > 300:
-            return "clock off: %d %d" % (mine, theirs), None
-        if (side.moment, side.schema, side.usn) == (server.moment, server.schema, server.usn) and not side.pending:
-            return "no changes", None
-        if side.schema != server.schema:
-            return "full needed: schema %d %d" % (side.schema, server.schema), None
-        joined = join(side.content, server.content, side.moment > server.moment)
-        fault = joined.fault()
-        return ("sanity failed: " + fault if fault else "finished"), joined
-
-    def requests(self, side, server, finished):
-        """How many requests a sync takes that comes to its check, by docs/profile/requests.md."""
-        graves = [it for it in side.pending if it[0] == "graves"]
-        dead = {("graves", it[1], it[2]) for it in graves}
-        given = {it: row for it, row in server.content.rows.items()
-                 if it[0] in ("reviews", "cards", "notes") and server.usns[it] >= side.usn and grave_of(it) not in dead}
-        their_graves = {it for it in server.content.rows if it[0] == "graves" and server.usns[it] >= side.usn}
-        sent = 0
-        for it in side.pending:
-            if it[0] in ("reviews", "cards", "notes") and grave_of(it) not in their_graves:
-                sent += it not in given or (it[0] != "reviews" and stamp_of(it[0], side.content.rows[it]) > stamp_of(it[0], given[it]))
-        return 4 + -(-len(graves) // 250) + len(given) // 250 + 1 + sent // 250 + 1 + finished
+            expect("one content on both sides", mine.content.same(server.committed.content), True)
+        if end == "finished":
+            joined = join(held.content, server.before.content, held.moment > server.before.moment)
+            if not joined.same(mine.content):
+                raise Wrong("a sync of %s finished with what is not the join: %s" % (name, mine.content.difference(joined)))
+        elif not held.content.same(mine.content):
+            raise Wrong("a sync of %s did not finish, and changed what it holds: %s" % (name, mine.content.difference(held.content)))
+        if end == "lost":
+            calls = {it[0] for it in lost}
+            expect("losses at three calls in a row", any({it, it + 1, it + 2} <= calls for it in calls), True)
 
     def server_keeps(self, content):
         """Reviews that the server held stay."""
@@ -570,44 +726,24 @@ class Lab:
         expect("reviews that the server lost", self.reviews - found, set())
         self.reviews = found
 
-    def transfer_end(self, name, word):
-        mine, theirs = self.now(name) // 1000, self.clock // 1000
-        if abs(mine - theirs) > 300:
-            return "clock off: %d %d" % (mine, theirs)
-        return "finished"
-
     def upload(self, name):
-        side, server = self.devices[name], self.server
-        self.at_own_moment(lambda: max(self.clock, server.schema + 1, side.schema + 1))
-        end = self.transfer_end(name, "upload")
-        if end == "finished":
-            held = side.content
-            server.content = side.content = Content({it: row for it, row in held.rows.items() if it[0] != "graves"}, held.conf, held.crt, held.tags)
-            server.moment = side.moment = max(self.clock, server.moment + 1, side.moment + 1)
-            server.schema = side.schema = max(self.clock, server.schema + 1, side.schema + 1)
-            server.usn = side.usn = 1
-            server.usns, side.pending = collections.Counter(), set()
-        self.transferred(name, "upload", end)
+        line = "upload " + name
+        self.at_own_moment(lambda clock: self.new_schemas(line, clock))
+        self.transferred(name, "upload")
 
     def download(self, name):
-        side, server = self.devices[name], self.server
-        end = self.transfer_end(name, "download")
-        if end == "finished":
-            side.content, side.moment, side.schema, side.usn, side.pending = server.content, server.moment, server.schema, server.usn, set()
-        self.transferred(name, "download", end)
+        self.transferred(name, "download")
 
-    def transferred(self, name, word, end):
-        self.devices[name].steps = []
-        own, mine, theirs = self.accepted(word, "%s %s" % (word, name), name, "server")
+    def transferred(self, name, word):
+        own = self.told(word, "%s %s" % (word, name))
+        end = own[-1].partition(": ")[2]
         self.counts["end", "%s %s" % (word, plain(end))] += 1
-        expect("an %s" % word, own, ["%s %s: %s" % (word, name, end)])
-        self.holds(name, mine, word)
-        self.holds("server", theirs, word)
         if end == "finished":
-            expect("one content after the " + word, mine.same(theirs), True)
-            if word == "upload":
-                self.reviews = {it for it in theirs.rows if it[0] == "reviews"}
-        self.server_keeps(theirs)
+            expect("one content after the " + word, self.devices[name].content.same(self.server.content), True)
+
+    def resend(self, requests):
+        for text in self.told("resend", "resend " + requests):
+            self.counts["resent", text] += 1
 
     # Lines of the desk
 
@@ -615,7 +751,7 @@ class Lab:
         """A line of the desk of which the rules say all: its edit, and what it prints."""
         side, now = self.devices[name], self.now(name)
         if edit and edit.schema:
-            self.at_own_moment(lambda: max(self.now(name), side.schema + 1))
+            self.at_own_moment(lambda clock: {max(clock + side.shift, side.schema + 1)})
             now = self.now(name)
         if edit:
             side.took(side.after(edit, now), now, edit.schema)
@@ -629,7 +765,7 @@ class Lab:
         """A line of the desk of which the rules of all edits are looked at."""
         side = self.devices[name]
         if schema:
-            self.at_own_moment(lambda: max(self.now(name), side.schema + 1))
+            self.at_own_moment(lambda clock: {max(clock + side.shift, side.schema + 1)})
         now, before = self.now(name), side.content
         own, after = self.accepted("do " + form, "do %s %s" % (name, line), name)
         keeps_law(before, after, now // 1000, schema)
@@ -644,8 +780,9 @@ class Lab:
     def finish(self):
         """Looks at all sides, ends the first run, and lets a second one obey the whole script."""
         for name in ("server", *self.devices):
-            self.seen(name)
-            expect("%s is as before" % name, self.last_texts == self.side(name).texts, True)
+            _, [(content, texts)] = self.seen(name)
+            self.holds(name, content, "the end")
+            expect("%s is as before" % name, texts == (self.side(name).texts or texts), True)
         expect("the end of the lab", self.run.end(), (0, []))
 
     def again(self, refused):
@@ -687,6 +824,8 @@ def plain(text):
     for word in ("full needed: schema", "clock off", "own check failed"):
         if text.startswith(word):
             return word
+    if text.startswith("refused "):
+        return text
     if re.match(r"(json|search|template|row) fault", text):
         return re.sub(r" at \d+", " at <n>", text)
     return re.sub(r"\d+", "<n>", text)
@@ -748,7 +887,8 @@ class Maker:
         lab = self.lab
         for _ in range(self.chance.randint(1, 3)):
             lab.device(self.new_name())
-        steps = [(getattr(self, name), weight) for name, weight in WEIGHTS + (FILTERED if has_filtered(lab.anki) else ())]
+        weights = WEIGHTS + (FILTERED if has_filtered(lab.anki) else ()) + (BROKEN if has_breaks(lab.anki) else ())
+        steps = [(getattr(self, name), weight) for name, weight in weights]
         calls, weights = zip(*steps)
         while len(lab.script) < size - 1:
             self.chance.choices(calls, weights)[0]()
@@ -816,6 +956,91 @@ class Maker:
     def a_skipped(self):
         (own,) = self.lab.accepted("skipped", self.some(("", "# a word", "#", "#sync A")))
         expect("a skipped line", own, [])
+
+    # Losses, and what comes between the calls of a sync
+
+    def call(self):
+        """The number of a call, mostly of one that a sync makes."""
+        return self.some((0, 0, 1, 1, 2, 3, 4, 5, 6, 6, 7, 8, 9, 12, 40, 2**63 - 1))
+
+    def lose(self, name, call):
+        what = self.some(("request", "reply"))
+        self.lab.told("lose " + what, "lose %s %d %s" % (name, call, what))
+
+    def a_loss(self):
+        self.lose(self.device(), self.call())
+
+    def a_lost(self):
+        """Losses at three calls in a row, and mostly the sync that meets them. Then it may be taken up again."""
+        name, call = self.device(), self.chance.randint(0, 7)
+        for it in range(call, call + 3):
+            self.lose(name, it)
+        if self.chance.random() < 0.8:
+            self.lab.sync(name)
+            if self.chance.random() < 0.6:
+                self.a_resend()
+
+    def a_repeat(self):
+        self.lab.told("repeat", "repeat %s %d" % (self.device(), self.call()))
+
+    def two_devices(self):
+        return self.chance.sample(sorted(self.lab.devices), 2) if len(self.lab.devices) > 1 else None
+
+    def a_cross(self):
+        names = self.two_devices()
+        if names:
+            self.lab.told("cross", "cross %s %d %s" % (names[0], self.call(), names[1]))
+
+    def stretches(self):
+        """The requests of the log in stretches of one session: of each the key, the first, and how many."""
+        found, first = [], 0
+        for key, stretch in itertools.groupby(self.lab.rules.server.log, lambda it: it["key"]):
+            count = len(list(stretch))
+            found.append((key, first, count))
+            first += count
+        return found
+
+    def requests(self):
+        """Requests of the log: the first, and how many."""
+        count, way = len(self.lab.rules.server.log), self.chance.random()
+        if count and way < 0.5:
+            return "%d %d" % self.some(self.stretches()[-6:])[1:]
+        if count and way < 0.95:
+            first = self.chance.randint(max(0, count - 30), count - 1)
+            return "%d %d" % (first, self.chance.randint(1, min(count - first, self.some((1, 1, 12)))))
+        return "%d 0" % self.some((0, count, count + 1, 2**63 - 1))
+
+    def a_replay(self):
+        self.lab.told("replay", "replay %s %d %s" % (self.device(), self.call(), self.requests()))
+
+    def a_resend(self):
+        self.lab.resend(self.requests())
+
+    def a_late(self):
+        """A sync before whose finish another one comes; and then its requests again, now or in another sync. They commit it if the other one committed nothing."""
+        names = self.two_devices()
+        if not names:
+            return
+        tried = self.lab.rules.copy()
+        tried.obey("sync " + names[0])
+        self.lab.told("cross", "cross %s %d %s" % (names[0], tried.devices[names[0]].requests - 1, names[1]))
+        key = self.lab.rules.sessions + 1
+        self.lab.sync(names[0])
+        again = ["%d %d" % (first, count) for of, first, count in self.stretches() if of == key]
+        if self.chance.random() < 0.5:
+            for it in again:
+                self.lab.resend(it)
+            return
+        for it in again:
+            self.lab.told("replay", "replay %s 1 %s" % (names[1], it))
+        if self.chance.random() < 0.5:
+            self.lab.told("cross", "cross %s 0 %s" % tuple(names))
+        self.lab.sync(names[0])
+        self.lab.sync(names[1])
+
+    def a_break(self):
+        side = self.some(("server", *sorted(self.lab.devices)))
+        self.lab.told("break server" if side == "server" else "break device", "break " + side)
 
     # The desk
 
@@ -1252,8 +1477,12 @@ class Maker:
         else:
             for name, card in zip((one, two), sorted(content.cards_of(number))):
                 self.alone(name, card)
-        for name in (one, two):
-            self.lab.sync(name)
+        self.lab.sync(one)
+        if self.chance.random() < 0.3:
+            self.lab.told("cross", "cross %s 0 %s" % (one, two))
+            self.lab.sync(one)
+        else:
+            self.lab.sync(two)
 
     def alone(self, name, card):
         """Moves a card into a new deck, and drops that."""
@@ -1288,15 +1517,26 @@ class Maker:
         of_it = ("sync %s %s", "sync %s ", " sync %s", "SYNC %s", "download %s x", "shift %s x", "shift %s 99999999999999", "review %s 5 0 1", "review %s 5 5 1",
                  "review %s 0 3 1", "review %s 5 3 0", "review %s 5 3 100001", "show %s card", "do %s", "do %s ", "do %s #x", "do %s flag 8 1", "do %s flag 1",
                  "do %s spread 3", "do %s answer 1 5 10", "do %s note 1 1", "do %s allow flag 1 1", "do %s page 1 middle", "do %s delete 9223372036854775808",
-                 "do %s undo 1")
+                 "do %s undo 1", "lose %s 0", "lose %s 0 Request", "lose %s x reply", "lose %s 0 reply ", "lose %s 9223372036854775808 request", "repeat %s", "repeat %s -1", "repeat %s 0 0",
+                 "cross %s 1", "cross %s 1 %s", "replay %s 0 0", "replay %s 0 x 1", "replay %s 0 0 00", "break %s 0", "break %s ")
         alone = ("frobnicate", "count\r", "sync", "upload", "clock", "clock x", "clock -1", "clock 01", "clock %d" % (LAST_CLOCK + 1), "device",
-                 "device a-b", "device server", "device abcdefghijklmnopq", "review Z 5 9 1", "show server", "count", "requests", "requests server x")
+                 "device a-b", "device server", "device abcdefghijklmnopq", "review Z 5 9 1", "show server", "count", "requests", "requests server x", "lose", "repeat", "cross", "replay", "resend", "resend 0", "resend -1 1", "resend 0 1 1", "break")
         return self.some((*alone, *(it.replace("%s", name) for it in of_it))), "bad line"
 
     def refused_by_name(self):
         name = self.some(("Zz", "a-b", "server", self.device() + "\r"))
-        lines = ["sync %s", "upload %s", "download %s", "requests %s", "shift %s 1", "review %s 5 3 1", "do %s check"] + (["count %s"] if name != "server" else [])
+        lines = ["sync %s", "upload %s", "download %s", "requests %s", "shift %s 1", "review %s 5 3 1", "do %s check", "lose %s 0 reply", "repeat %s 0", "cross %s 0 Zy", "replay %s 0 0 1",
+                 "cross " + self.device() + " 0 %s"]
+        if name != "server":
+            lines += ["count %s", "show %s cards"] + (["break %s"] if has_breaks(self.lab.anki) else [])
         return self.some(lines) % name, "no device " + name
+
+    def refused_request(self):
+        held = len(self.lab.rules.server.log)
+        first, count = self.some(((held, 1), (held + 7, 2), (0, held + 1), (max(0, held - 1), 2), (2**63 - 1, 1), (0, 2**63 - 1)))
+        if first + count <= held:
+            return None
+        return self.some(("resend", "replay %s %d" % (self.device(), self.call()))) + " %d %d" % (first, count), "no request %d" % max(first, held)
 
     def refused_device(self):
         if self.chance.random() < 0.5:
@@ -1471,10 +1711,10 @@ def came_back(card):
 WEIGHTS = (("a_device", 2), ("a_clock", 6), ("a_shift", 2), ("a_review", 5), ("a_sync", 16), ("a_way_out", 6), ("a_look", 5), ("a_skipped", 1), ("a_note", 12),
            ("a_change", 6), ("a_tag", 4), ("a_delete", 3), ("a_deck", 4), ("a_rename", 2), ("a_drop", 2), ("a_move", 3), ("a_flag", 3), ("a_suspend", 2),
            ("an_unsuspend", 2), ("a_bury", 3), ("an_adopt", 2), ("an_options", 2), ("an_unoptions", 1), ("a_type", 1), ("a_retype", 2), ("an_untype", 1),
-           ("a_spread", 2), ("an_answer", 10), ("a_next", 4), ("a_find", 3), ("a_page", 3), ("an_undo", 4), ("a_check", 3), ("a_clash", 2))
-
-
+           ("a_spread", 2), ("an_answer", 10), ("a_next", 4), ("a_find", 3), ("a_page", 3), ("an_undo", 4), ("a_check", 3), ("a_clash", 2), ("a_loss", 4), ("a_lost", 2),
+           ("a_repeat", 2), ("a_cross", 4), ("a_replay", 3), ("a_resend", 4), ("a_late", 1))
 FILTERED = (("a_filter", 4), ("a_build", 9), ("an_empty", 3))
+BROKEN = (("a_break", 3),)
 
 
 def try_script(anki, seed, number, counts):
@@ -1498,13 +1738,15 @@ def try_script(anki, seed, number, counts):
         lab.run.kill()
 
 
-def table(counts):
+def table(counts, breaks=True):
     """How often each form, end and refusal came, and why some did not."""
-    wanted = [("form", it) for it in FORMS] + [("end", "%s %s" % (word, it)) for word, ends in ENDS.items() for it in ends] + [("refusal", it) for it in REFUSALS]
+    wanted = [("form", it) for it in FORMS] + [("end", "%s %s" % (word, it)) for word, ends in ENDS.items() for it in ends] + [("crossed", "sync " + it) for it in CROSSED]
+    wanted += [("resent", it) for it in RESENT] + [("commit", it) for it in LATE.values()] + [("refusal", it) for it in REFUSALS]
+    reasons = UNREACHED if breaks else {**UNREACHED, **dict.fromkeys(BREAKS, "the program has no line that breaks a keeper")}
     for key in sorted(set(counts) - set(wanted)):
         yield "%-8s %-48s %9d" % (*key, counts[key])
     for kind, what in wanted:
-        yield ("%-8s %-48s %9d%s" % (kind, what, counts[kind, what], "" if counts[kind, what] else "  " + UNREACHED.get(what, "by chance"))).rstrip()
+        yield ("%-8s %-48s %9d%s" % (kind, what, counts[kind, what], "" if counts[kind, what] else "  " + reasons.get(what, "by chance"))).rstrip()
 
 
 def main():
@@ -1536,7 +1778,7 @@ def main():
                     file.write(b"".join(it + b"\n" for it in script))
             if failed == 10:
                 break
-    print("\n".join(table(counts)))
+    print("\n".join(table(counts, has_breaks(anki))))
     print("%d scripts, %d lines, %d of them wrong, %.0f s" % (done, lines, failed, time.monotonic() - began))
     return 1 if failed else 0
 

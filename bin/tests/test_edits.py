@@ -4,6 +4,7 @@ three functions: `low`, and `high` and `higher`, which call it.
     python3 -m unittest discover -s bin/tests
 """
 import os
+import re
 import subprocess
 import sys
 import unittest
@@ -83,6 +84,15 @@ class Rounds(unittest.TestCase):
         crate = Crate("fn spike::high: no proof: it calls `spike::low`, which is not proved")
         self.assertEqual([it for it, _ in self.tried(crate, "high")], [True])
         self.assertEqual(crate.asked, [["spike::high"], "the crate"])
+
+
+class Listed(unittest.TestCase):
+    def test_each_wrong_body_that_edits_readme_lists_stands(self):
+        with open(f"{TOP}/edits/README.md", encoding="utf-8") as file:
+            rows = [line for line in file.read().split("\n") if line.startswith("| ") and not line.startswith("| what ")]
+        named = re.findall(r"`([\w/]+)`", "".join(rows))
+        self.assertTrue(rows and all("`" in row for row in rows))
+        self.assertEqual([it for it in named if not os.path.isfile(f"{TOP}/edits/{it}.edit")], [])
 
 
 class Log(unittest.TestCase):

@@ -60,7 +60,15 @@ class Copy(unittest.TestCase):
         self.assertEqual(run(self.top).returncode, 0)
         page = self.page()
         self.assertLess(page.index("| HOUSE, 2 crates "), page.index("| GROUND, 1 crates "))
+        self.assertIn("| What uses it ", page)
         self.assertIn("| on ground ", page)
+
+    def test_a_box_that_promises_nothing_has_a_table_alone(self):
+        self.put("crates.txt", CRATES + "four: two\n")
+        self.put("docs/boxes.txt", BOXES + "\n[cases] What tries it\nfour | lines |\n")
+        self.assertEqual(run(self.top).returncode, 0)
+        self.assertNotIn("CASES", self.page())
+        self.assertIn("### Cases\n\nWhat tries it.\n\n| crate | its job | stands on |\n", self.page())
 
     def test_a_crate_names_what_nothing_else_of_it_uses(self):
         run(self.top)

@@ -44,6 +44,8 @@ class Rooms(unittest.TestCase):
         with open(path, "w", encoding="utf-8") as file:
             file.write("#!/bin/sh\nANKI=%s\n%s\n" % (ANKI, text))
         os.chmod(path, 0o755)
+        for asked in (labs.has_filtered, labs.has_breaks):
+            asked.cache_clear()
         return path
 
 
@@ -122,7 +124,8 @@ class Labs(Rooms):
 
     def test_a_program_that_lies_is_seen(self):
         lies = ("s/^sync \\([^:]*\\): finished/sync \\1: no changes/", "s/^ok$/okay/", "s/^requests .*$/&0/",
-                "s/^\\(\\[[0-9]*,[0-9]*,0,[1-4]\\),0,/\\1,1,/", 's/"nextPos":3/"nextPos":4/', "s/^sound$/note 1 without card/")
+                "s/^\\(\\[[0-9]*,[0-9]*,0,[1-4]\\),0,/\\1,1,/", 's/"nextPos":3/"nextPos":4/', "s/^sound$/note 1 without card/",
+                "s/^\\(sync .*\\): lost$/\\1: finished/", "s/^409 base$/409 step/")
         for lie in lies:
             anki = self.stand_in("\"$ANKI\" \"$@\" | sed -u '%s'" % lie)
             for number in range(0, 40, 2):
@@ -130,6 +133,103 @@ class Labs(Rooms):
                 if wrong:
                     break
             self.assertRegex(wrong or "nothing seen", "^Wrong: ", lie)
+
+    def test_a_program_that_does_not_do_what_was_planned_is_seen(self):
+        for verb in ("lose", "cross", "replay", "resend", "break"):
+            # Its output is held by the true program alone, so that it ends with that.
+            anki = self.stand_in("exec 4<&0; sed -u 's/^%s .*/#/' <&4 | \"$ANKI\" \"$@\" &\nexec 4<&- >&-; wait $!" % verb)
+            for number in range(0, 60, 2):
+                _, wrong, _ = self.tried(anki, number)
+                if wrong:
+                    break
+            self.assertRegex(wrong or "nothing seen", "^Wrong: ", verb)
+
+    def lab(self, *lines):
+        """A lab that obeyed these lines, of which the rules say all."""
+        lab = labs.Lab(ANKI, random.Random(7), collections.Counter())
+        self.addCleanup(lab.run.kill)
+        for line in lines:
+            lab.told(line.partition(" ")[0], line)
+        return lab
+
+    def test_a_review_that_the_server_loses_is_seen(self):
+        lab = self.lab("device A")
+        lab.review("A", 5, 3, 2)
+        lab.sync("A")
+        held = lab.server.content
+        lab.server_keeps(held)
+        first = min(it for it in held.rows if it[0] == "reviews")
+        with self.assertRaisesRegex(labs.Wrong, "reviews that the server lost"):
+            lab.server_keeps(labs.Content({it: row for it, row in held.rows.items() if it != first}, held.conf, held.crt, held.tags))
+        lab.download("A")
+        self.assertIn(first, lab.reviews)
+        lab.upload("A")
+        self.assertIn(first, lab.reviews)
+
+    def test_what_a_sync_leaves_is_looked_at(self):
+        lab = self.lab("device A", "device B")
+        lab.review("A", 5, 3, 2)
+        held = lab.devices["A"].collection
+        with self.assertRaisesRegex(labs.Wrong, "one content on both sides"):
+            lab.keeps_promises("A", "finished", held, set())
+        with self.assertRaisesRegex(labs.Wrong, "did not finish, and changed"):
+            lab.keeps_promises("A", "refused 409 base", lab.devices["B"].collection, set())
+        with self.assertRaisesRegex(labs.Wrong, "losses at three calls in a row"):
+            lab.keeps_promises("A", "lost", held, {(4, "reply"), (5, "request"), (7, "reply")})
+        lab.keeps_promises("A", "lost", held, {(4, "reply"), (5, "request"), (6, "reply")})
+        lab.sync("A")
+        lab.keeps_promises("A", "finished", held, set())
+        lab.rules.server.before = lab.devices["A"].collection
+        with self.assertRaisesRegex(labs.Wrong, "not the join"):
+            lab.keeps_promises("A", "finished", labs.Whole(labs.Content({("reviews", 9): [9, 8, 0, 3, 0, 0, 0, 0, 0]}, {}, 0, frozenset()), 5, 5, 1), set())
+
+    def test_nobody_looks_at_a_server_whose_session_may_go_on(self):
+        lost = ["lose A %d reply" % call for call in (3, 4, 5)]
+        lab = self.lab("device A", *lost)
+        lab.review("A", 5, 3, 1)
+        self.assertEqual((lab.is_resumable(), lab.looked()), (False, "server"))
+        lab.sync("A")
+        self.assertEqual((lab.is_resumable(), lab.looked()), (True, "A"))
+        lab.resend("0 1")
+        self.assertTrue(lab.is_resumable())
+        lab.sync("A")
+        lab.download("A")
+        self.assertFalse(lab.is_resumable())
+        lab.finish()
+        lab.again(False)
+
+    def test_a_finish_that_came_too_late_can_be_committed_later(self):
+        lab = self.lab("device A", "device B")
+        lab.review("A", 5, 3, 1)
+        lab.told("cross", "cross A 6 B")
+        lab.sync("A")
+        self.assertEqual(lab.counts["end", "sync refused 409 no session"], 1)
+        before = lab.server.content
+        for requests in ("0 6", "7 1"):
+            lab.resend(requests)
+        self.assertEqual(lab.counts["resent", "200 ok"], 7)
+        self.assertEqual(len(lab.server.content.table("reviews")), len(before.table("reviews")) + 1)
+        lab.finish()
+        lab.again(False)
+
+    def test_rows_are_taken_by_the_rules(self):
+        def whole(*rows):
+            return labs.Whole(labs.Content({labs.name_of(table, row): row for table, row in rows}, {}, 0, frozenset()), 5, 5, 1)
+
+        def note(stamp, text):
+            return "notes", [5, "g", 1, stamp, 0, "", text, text, 0, 0, ""]
+
+        grave, name = ("graves", [0, 5, 1]), ("notes", 5)
+        for stamp, as_server, wanted in ((99, True, "a"), (100, True, "a"), (101, True, "b"), (99, False, "a"), (100, False, "b"), (101, False, "b")):
+            held = whole(note(100, "a"))
+            held.take([(name, note(stamp, "b")[1])], 7, as_server)
+            self.assertEqual((held.content.row(*name)[6], held.usns.get(name, 0)), (wanted, 7 if wanted == "b" else 0))
+        held.take([(("graves", 1, 5), grave[1])], 8, True)
+        held.take([(name, note(200, "c")[1])], 9, True)
+        self.assertEqual((list(held.content.rows), held.usns), ([("graves", 1, 5)], {("graves", 1, 5): 8}))
+        held.take([(("tag", "noun"), None), (("tag", "noun"), None)], 9, False)
+        self.assertEqual((held.content.tags, held.chosen("changes", lambda usn: usn == 9)), ({"noun"}, [(("tag", "noun"), None)]))
+        self.assertEqual(held.finished(50, 9).usn, 10)
 
     def test_the_join_is_that_of_the_rules(self):
         def content(*rows, tags=()):
@@ -174,9 +274,11 @@ class Labs(Rooms):
         told = list(labs.table(collections.Counter({("end", "sync finished"): 3, ("form", "odd"): 1})))
         self.assertRegex(told[0], "^form +odd +1$")
         self.assertTrue(any(line.startswith("end ") and "sync finished" in line and line.endswith(" 3") for line in told))
-        self.assertTrue(any("sync lost" in line and line.endswith("0  " + labs.NO_LOSS) for line in told))
-        known = {"%s %s" % (word, it) for word, ends in labs.ENDS.items() for it in ends} | set(labs.REFUSALS)
-        self.assertLessEqual(set(labs.UNREACHED), known)
+        self.assertTrue(any("sync stopped" in line and line.endswith("0  " + labs.UNREACHED["sync stopped"]) for line in told))
+        known = {"%s %s" % (word, it) for word, ends in labs.ENDS.items() for it in ends} | set(labs.REFUSALS) | set(labs.FORMS)
+        self.assertLessEqual({*labs.UNREACHED, *labs.BREAKS}, known)
+        self.assertFalse(any("no line that breaks" in line for line in told))
+        self.assertEqual(sum("no line that breaks" in line for line in labs.table(collections.Counter(), breaks=False)), 6)
 
     def test_plain_texts_are_those_of_the_table(self):
         for text, wanted in (("no device Zz", "no device <name>"), ("search fault 4 at 7", "search fault 4 at <n>"), ("json fault 2", "json fault 2"),
@@ -185,6 +287,7 @@ class Labs(Rooms):
             self.assertEqual(labs.plain(text), wanted)
             self.assertIn(wanted, labs.REFUSALS)
         self.assertEqual(labs.plain("full needed: schema 1 2"), "full needed: schema")
+        self.assertEqual(labs.plain("refused 409 base"), "refused 409 base")
 
     def test_early_intervals_are_those_of_the_rules(self):
         group = {"rev": {"hardFactor": "1.2", "ease4": "1.3", "ivlFct": "1", "maxIvl": 36500}}

@@ -9,7 +9,7 @@ from tools.tests.support import TOP
 FIRST = "README.new.md" if os.path.exists(os.path.join(TOP, "README.new.md")) else "README.md"
 
 # Pages whose links are followed.
-PAGES = [FIRST, "CONTRIBUTING.md", "SECURITY.md", "CHANGELOG.md", "docs/FILES.md", "docs/ANSWERS.md", "docs/CAUSES.md", "docs/USE.md", "docs/LOSSES.md", "docs/profile/lab.md", "docs/profile/words.md", "docs/profile/csv.md", "docs/profile/ends.md", "docs/profile/desk.md", "docs/profile/README.md"]
+PAGES = [FIRST, "CONTRIBUTING.md", "SECURITY.md", "CHANGELOG.md", "docs/ARCHITECTURE.md", "docs/FILES.md", "docs/ANSWERS.md", "docs/CAUSES.md", "docs/USE.md", "docs/LOSSES.md", "docs/profile/lab.md", "docs/profile/words.md", "docs/profile/csv.md", "docs/profile/ends.md", "docs/profile/desk.md", "docs/profile/README.md"]
 
 # Pages that come with the fronts.
 OF_THE_FRONTS = ("docs/TUTORIAL.md", "docs/front/README.md")
@@ -52,7 +52,7 @@ class FirstPage(unittest.TestCase):
 
 class Sentences(unittest.TestCase):
     def test_no_sentence_is_over_40_words(self):
-        for page in ("CONTRIBUTING.md", "SECURITY.md", "CHANGELOG.md", "docs/FILES.md", "docs/LOSSES.md", "docs/profile/words.md", "docs/profile/csv.md"):
+        for page in ("CONTRIBUTING.md", "SECURITY.md", "CHANGELOG.md", "docs/ARCHITECTURE.md", "docs/FILES.md", "docs/LOSSES.md", "docs/profile/words.md", "docs/profile/csv.md"):
             self.assertEqual([], [it for it in sentences_of(read(page)) if len(it.split()) > 40], page)
 
 

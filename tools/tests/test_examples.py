@@ -79,15 +79,16 @@ class Transfers(unittest.TestCase):
 
 class Cases(unittest.TestCase):
     def test_the_rules_give_each_answer_that_is_stored(self):
-        known = 0
+        known = []
         for script, answer in cases():
             try:
                 told = lab_rules.run(script)
             except lab_rules.Unknown:
                 continue
-            known += 1
+            known.append(script)
             self.assertEqual(answer, answer_of(*told), script)
-        self.assertGreater(known, 100)
+        self.assertGreater(len(known), 100)
+        self.assertGreater(len([script for script in known if "break " in script]), 20)
 
     def test_the_program_prints_what_the_rules_do(self):
         for script, _ in cases():
@@ -96,6 +97,18 @@ class Cases(unittest.TestCase):
             except lab_rules.Unknown:
                 continue
             self.assertEqual(told, printed_by_program(script), script)
+
+
+class Breaks(unittest.TestCase):
+    """A break meets the first request that asks the server's keeper: one that is answered by the kept reply does not ask it, unless it is a download."""
+
+    def test_the_rules_and_the_program_print_it(self):
+        synced, downloaded = "device A\nreview A 5 3 1\nsync A\nbreak server\nreplay A 0 %d 1\nsync A\nsync A\n", "device A\ndownload A\nbreak server\nreplay A 0 %d 1\nsync A\nsync A\n"
+        refused, spared = ["sync A: refused 503 keeper", "sync A: no changes"], ["sync A: no changes", "sync A: no changes"]
+        for script, first, rest in ((synced % 6, "sync", refused), (synced % 5, "sync", spared), (synced % 0, "sync", spared), (downloaded % 1, "download", spared)):
+            wanted = ["%s A: finished" % first, *rest], 0
+            self.assertEqual(wanted, lab_rules.run(script), script)
+            self.assertEqual(wanted, printed_by_program(script), script)
 
 
 if __name__ == "__main__":
