@@ -1,5 +1,7 @@
 pub mod TagLaws
 pub mod Passing
+pub mod CheckedLinks
+pub mod CheckTold
 pub mod Taking
 pub mod HeldFacts
 pub mod JoinLaws

@@ -1,4 +1,4 @@
--- The check's walk over the rows of a part.
+-- Walks over the rows of two collections, page by page, that look for a conflict.
 use Rattle.ak_keep.specs.Marks.{WithMark}
 use Rattle.ak_keep.proofs.Told.{where_told-map}
 use Rattle.ak_base.specs.Tables.{all_tables}
@@ -15,8 +15,6 @@ use Rattle.ak_keep.specs.Keepers.{Keeping, WhereTold}
 use Rattle.ak_keep.specs.Walks.{ahead}
 use Rattle.ak_keep.specs.declared.walks.Walk.{Walk}
 use Rattle.ak_merge.specs.Conflicts.{first_conflict, first_conflict_in, first_conflict_of, has_conflict}
-use Rattle.ak_merge.specs.Soundness.{first_bad, is_bad, table_of}
-use Rattle.ak_merge.specs.declared.checks.Part.{Part}
 
 find-append : {A : Type 0} (p : A → Bool) (xs ys : List A) → find p (xs ++ ys) ≡ option_or (find p xs) (find p ys)
 find-append p [] ys = refl
@@ -44,30 +42,12 @@ passed p page rest all whole same is none =
     behind (Some x) other is = cc
 
 -- ---- where a keeper tells
--- the first bad row ahead is the first of all
-abbrev pub HasPassed : Part → Walk → Rows → Type 0
-HasPassed part walk rows = find (is_bad part rows) (ahead walk rows) ≡ find (is_bad part rows) (rows_past (table_of part) (pos 0) rows)
-
-told_three : (k : Keeping) (P Q R S : Holding → Type 0) → ((h : Holding) → P h → Q h → R h → S h) → WhereTold k P → WhereTold k Q → WhereTold k R → WhereTold k S
+pub told_three : (k : Keeping) (P Q R S : Holding → Type 0) → ((h : Holding) → P h → Q h → R h → S h) → WhereTold k P → WhereTold k Q → WhereTold k R → WhereTold k S
 told_three k P Q R S so =
     elim k.told as (λ (o : Option (WithMark Holding)). IfSome o (λ w. P w.current) → IfSome o (λ w. Q w.current) → IfSome o (λ w. R w.current) → IfSome o (λ w. S w.current)) [
       | None ↦ λ _ _ _. tt
       | Some w ↦ so w.current
     ]
-
-pub bad_found : (k : Keeping) (part : Part) (walk next : Walk) (page : List Row) (name : Name)
-    → WhereTold k (λ c. HasPassed part walk c.rows) → WhereTold k (λ c. ahead walk c.rows ≡ page ++ ahead next c.rows)
-    → WhereTold k (λ c. Some name ≡ option_map name_of (find (is_bad part c.rows) page)) → WhereTold k (λ c. Some name ≡ first_bad part c.rows)
-bad_found k part walk next page name = told_three k (λ c. HasPassed part walk c.rows) (λ c. ahead walk c.rows ≡ page ++ ahead next c.rows)
-    (λ c. Some name ≡ option_map name_of (find (is_bad part c.rows) page)) (λ c. Some name ≡ first_bad part c.rows)
-    (λ c same is first. found (is_bad part c.rows) page (ahead next c.rows) (ahead walk c.rows) (rows_past (table_of part) (pos 0) c.rows) name same is first)
-
-pub bad_passed : (k : Keeping) (part : Part) (walk next : Walk) (page : List Row)
-    → WhereTold k (λ c. HasPassed part walk c.rows) → WhereTold k (λ c. ahead walk c.rows ≡ page ++ ahead next c.rows)
-    → WhereTold k (λ c. None ≡ option_map name_of (find (is_bad part c.rows) page)) → WhereTold k (λ c. HasPassed part next c.rows)
-bad_passed k part walk next page = told_three k (λ c. HasPassed part walk c.rows) (λ c. ahead walk c.rows ≡ page ++ ahead next c.rows)
-    (λ c. None ≡ option_map name_of (find (is_bad part c.rows) page)) (λ c. HasPassed part next c.rows)
-    (λ c same is none. passed (is_bad part c.rows) page (ahead next c.rows) (ahead walk c.rows) (rows_past (table_of part) (pos 0) c.rows) same is none)
 
 -- ---- where two keepers tell
 -- the first row ahead that is in doubt is the first of the table

@@ -33,8 +33,8 @@ pub record Received : Type 0 where
   pub tags : List (List ℕ)
   pub settings : Option Settings
 
--- a server's collection once this came: each row, one after the other, is taken with the head's number, each tag that was not held is held
--- with that number, and the settings are those that came, if some came
+-- a server's collection once this came: each row, one after the other, is taken with the head's usn, each tag that was not held is held
+-- with that usn, and the settings are those that came, if some came
 abbrev pub with_received : Received → Collection → Collection
 with_received came c =
     let settings = unwrap_or came.settings (settings_of c.head) in
@@ -50,7 +50,7 @@ pub record IsCommitOf (came : Received) (before after : Collection) : Type 0 whe
   pub rows : after.rows ≡ (with_received came before).rows
   pub tags : after.head.tags ≡ (with_received came before).head.tags
   pub settings : settings_of after.head ≡ settings_of (with_received came before).head
-  -- the number that the next sync gives is one higher
+  -- the usn that the next sync gives is one higher
   pub usn : after.head.usn ≡ before.head.usn +ℤ pos 1
   -- the schema and the moment of the last sync are the same, and the collection was changed later
   pub schema : after.head.schema ≡ before.head.schema
@@ -67,7 +67,7 @@ pub record IsInRange (came : Received) (s : Collection) (at : ℤ) : Type 0 wher
   pub moment : IsMoment at
 
 -- what a server keeps of its committed collection: each row stands under its name and in its ranges, none beside its own grave, each
--- row and tag has a number from 0 to below the head's, and the head is in its ranges
+-- row and tag has a usn from 0 to below the head's, and the head is in its ranges
 pub record IsCommitted (s : Collection) : Type 0 where
   pub named : AreNamed (row_under s)
   pub checked : AreChecked (row_under s)
@@ -76,7 +76,7 @@ pub record IsCommitted (s : Collection) : Type 0 where
   pub head : IsHeadInRange s.head
 
 -- ---- whole collections
--- what a server holds that no device has synced with: each row and tag has the number 0, no grave is held, and the next sync gives 1
+-- what a server holds that no device has synced with: each row and tag has the usn 0, no grave is held, and the next sync gives 1
 pub record IsOpening (s : Collection) : Type 0 where
   pub rows : (name : Name) → IfSome (row_under s name) (λ row. usn_of row ≡ pos 0)
   pub tags : (name : List ℕ) → IfSome (tag_usn s.head.tags name) (λ number. number ≡ pos 0)
@@ -96,13 +96,13 @@ pub record Whole : Type 0 where
   pub schema : ℤ
   pub moment : ℤ
 
--- the rows of an upload as a server holds them: those that are no graves, each with the number 0
+-- the rows of an upload as a server holds them: those that are no graves, each with the usn 0
 abbrev pub uploaded_rows : List Row → List Row
 uploaded_rows rows = map (λ (row : Row). with_usn row (pos 0)) (filter (λ (row : Row). not (is_some (buried_of row))) rows)
 
 -- what a server's collection is once an upload took its place
 pub record IsUploadOf (came : Whole) (before after : Collection) : Type 0 where
-  -- the rows but the graves, and the tags, all with the number 0, and the settings
+  -- the rows but the graves, and the tags, all with the usn 0, and the settings
   pub rows : after.rows ≡ rows_of (uploaded_rows came.rows)
   pub tags : after.head.tags ≡ tags_taken (pos 0) came.tags []
   pub settings : settings_of after.head ≡ came.settings

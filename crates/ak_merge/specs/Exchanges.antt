@@ -43,7 +43,7 @@ pub record IsSent (sent : List Row) (at after : RowsByName) : Type 0 where
   pub each : AreOf at sent
   pub whole : (name : Name) (row : Row) → at name ≡ Some row → after name ≡ Some row → Contains sent row
 
--- whether the tag that has this number, if one has, was not sent yet
+-- whether the tag that has this usn, if one has, was not sent yet
 abbrev pub is_unsent_tag : Option ℤ → Bool
 is_unsent_tag number = option_map_or (λ (usn : ℤ). int_eq usn (negsuc 0)) number false
 
@@ -51,20 +51,20 @@ is_unsent_tag number = option_map_or (λ (usn : ℤ). int_eq usn (negsuc 0)) num
 abbrev pub unsent_tags : List Tag → List ℕ → Bool
 unsent_tags tags name = is_unsent_tag (tag_usn tags name)
 
--- whether there is a number, of at least so much
+-- whether there is a usn, of at least so much
 abbrev pub is_tag_from : ℤ → Option ℤ → Bool
 is_tag_from usn number = option_map_or (λ (own : ℤ). not (int_lt own usn)) number false
 
--- the tags with at least this number
+-- the tags with at least this usn
 abbrev pub tags_from : ℤ → List Tag → List ℕ → Bool
 tags_from usn tags name = is_tag_from usn (tag_usn tags name)
 
--- whether a number is wanted: not sent yet, or at least so much
+-- whether a usn is wanted: not sent yet, or at least so much
 abbrev pub is_wanted_number : Wanted → ℤ → Bool
 is_wanted_number Unsent number = int_eq number (negsuc 0)
 is_wanted_number (From usn) number = not (int_lt number usn)
 
--- the names of the tags whose number is wanted, in their order
+-- the names of the tags whose usn is wanted, in their order
 abbrev pub wanted_tags : Wanted → List Tag → List (List ℕ)
 wanted_tags want tags = map (λ (tag : Tag). tag.name) (filter (λ (tag : Tag). is_wanted_number want tag.usn) tags)
 
@@ -100,7 +100,7 @@ settled_tags usn tags = map (settled_tag usn) tags
 -- ---- the two halves
 -- what the server's collection s is after it took what the device c sent, once rows of its own came to the device, and was committed as t
 pub record IsServerHalf (got sent : Received) (c s t : Collection) : Type 0 where
-  -- what came to the device are rows of the server's with at least the device's number
+  -- what came to the device are rows of the server's with at least the device's usn
   pub gives : AreOf (wanted_under (From c.head.usn) (row_under s)) got.rows
   -- the device gives its rows and its tags that were not sent yet, and its settings if it was changed last
   pub sends : IsSent sent.rows (wanted_under Unsent (row_under c)) (get (all_taken Device s.head.usn got.rows c.rows))
@@ -114,15 +114,15 @@ pub record IsServerHalf (got sent : Received) (c s t : Collection) : Type 0 wher
 pub record IsDeviceHalf (got sent : Received) (c s d t : Collection) : Type 0 where
   -- what was sent to the server are rows of the device's that were not sent yet
   pub sends : AreOf (wanted_under Unsent (row_under c)) sent.rows
-  -- the server gives its rows and its tags with at least the device's number, and its settings unless the device was changed last
+  -- the server gives its rows and its tags with at least the device's usn, and its settings unless the device was changed last
   pub gives : IsSent got.rows (wanted_under (From c.head.usn) (row_under s)) (get (all_taken Server s.head.usn sent.rows s.rows))
   pub tags_given : (name : List ℕ) → has_name got.tags name ≡ tags_from c.head.usn s.head.tags name
   pub gives_settings : got.settings ≡ settings_given c.head s.head
-  -- the device takes them with the server's number, and gives that number to each row and tag that was not sent yet
+  -- the device takes them with the server's usn, and gives that usn to each row and tag that was not sent yet
   pub rows : (name : Name) → row_under d name ≡ option_map (settled s.head.usn) (get (all_taken Device s.head.usn got.rows c.rows) name)
   pub tags : d.head.tags ≡ settled_tags s.head.usn (tags_taken s.head.usn got.tags c.head.tags)
   pub settings : settings_of d.head ≡ unwrap_or got.settings (settings_of c.head)
-  -- its number is the server's plus 1, and its moment and that of its last sync are the moment that the server committed at
+  -- its usn is the server's plus 1, and its moment and that of its last sync are the moment that the server committed at
   pub usn : d.head.usn ≡ s.head.usn +ℤ pos 1
   pub moment : d.head.moment ≡ t.head.moment
   pub last_sync : d.head.last_sync ≡ t.head.moment

@@ -3,6 +3,7 @@ pub mod Joins
 pub mod Takings
 pub mod Links
 pub mod Soundness
+pub mod CheckLinks
 pub mod Conflicts
 pub mod Tags
 pub mod TagMaps

@@ -9,7 +9,7 @@ use Rattle.ak_base.specs.declared.rows.Row.{Row}
 use Rattle.ak_keep.specs.Graves.{grave_under}
 use Rattle.ak_merge.specs.Holdings.{row_under, IsSingle, tag_usn}
 
--- ---- the numbers
+-- ---- the usns
 -- from 0 to below a head's update sequence number
 pub record IsGiven (usn number : ℤ) : Type 0 where
   pub low : pos 0 ≤ℤ number
@@ -19,7 +19,7 @@ pub record IsGiven (usn number : ℤ) : Type 0 where
 abbrev pub IsOwn : ℤ → ℤ → Type 0
 IsOwn usn number = (number ≡ negsuc 0) ⊎ IsGiven usn number
 
--- each row and each tag has a number of this kind
+-- each row and each tag has a usn of this kind
 pub record AreNumbered (Fits : ℤ → ℤ → Type 0) (c : Collection) : Type 0 where
   pub rows : (name : Name) → IfSome (row_under c name) (λ row. Fits c.head.usn (usn_of row))
   pub tags : (name : List ℕ) → IfSome (tag_usn c.head.tags name) (Fits c.head.usn)
@@ -49,7 +49,7 @@ abbrev pub IsThere : Option Row → (Row → Type 0) → Type 0
 IsThere None P = ⊥
 IsThere (Some x) P = P x
 
--- of the server's row y: if its number is below the device's, the device's row x or grave g accounts for it
+-- of the server's row y: if its usn is below the device's, the device's row x or grave g accounts for it
 abbrev pub HasTaken : ℤ → Option Row → Option Row → Option Row → Type 0
 HasTaken usn x g None = ⊤
 HasTaken usn x g (Some y) = usn_of y <ℤ usn → IsHeldLike y x ⊎ IsThere x (IsNewerUnsent y) ⊎ IsThere g (λ grave. IsTrue (is_pending grave))
@@ -59,13 +59,13 @@ abbrev pub IsKnown : ℤ → Option Row → Option Row → Option Row → Type 0
 IsKnown usn None y h = ⊤
 IsKnown usn (Some x) y h = IsTrue (is_settled x) → IsHeldLike x y ⊎ IsThere y (IsNewerFrom usn x) ⊎ IsThere h (λ grave. usn ≤ℤ usn_of grave)
 
--- of a review or grave, or of a tag, which only come: if the device's is settled the server has it, and if the server's number
+-- of a review or grave, or of a tag, which only come: if the device's is settled the server has it, and if the server's usn
 -- is below the device's the device has it
 pub record IsShared (usn : ℤ) (x y : Option Row) : Type 0 where
   pub sent : IfSome x (λ row. IsTrue (is_settled row) → IsHeldLike row y)
   pub came : IfSome y (λ row. usn_of row <ℤ usn → IsHeldLike row x)
 
--- the same of a tag, by its numbers on the two sides
+-- the same of a tag, by its usns on the two sides
 pub record IsTagShared (usn : ℤ) (x y : Option ℤ) : Type 0 where
   pub sent : IfSome x (λ number. number ≢ negsuc 0 → IsTrue (is_some y))
   pub came : IfSome y (λ number. number <ℤ usn → IsTrue (is_some x))
@@ -73,25 +73,25 @@ pub record IsTagShared (usn : ℤ) (x y : Option ℤ) : Type 0 where
 -- ---- linked
 -- the six parts, for a device's collection c and a server's committed collection s of one schema moment
 pub record AreLinkedParts (c s : Collection) : Type 0 where
-  -- 1. The device's number is at most the server's. Each number in the server's is from 0 to below its own; each in the device's
+  -- 1. The device's usn is at most the server's. Each usn in the server's is from 0 to below its own; each in the device's
   -- is -1, or from 0 to below its own.
   pub usn : c.head.usn ≤ℤ s.head.usn
   pub given : AreNumbered IsGiven s
   pub own : AreNumbered IsOwn c
-  -- 2. For each note, card, note type, deck or options row of the server with a number below the device's, the device holds an
+  -- 2. For each note, card, note type, deck or options row of the server with a usn below the device's, the device holds an
   -- equal row, or a row of that name that was not sent yet and is newer, or a grave of it that was not sent yet.
   pub taken : (name : Name) → IsTrue (has_stamps name.table) → HasTaken c.head.usn (row_under c name) (grave_under (row_under c) name) (row_under s name)
-  -- 3. For each settled row of these five tables in the device's, the server holds an equal row, or one that is newer with a number
-  -- of at least the device's, or its grave with such a number.
+  -- 3. For each settled row of these five tables in the device's, the server holds an equal row, or one that is newer with a usn
+  -- of at least the device's, or its grave with such a usn.
   pub known : (name : Name) → IsTrue (has_stamps name.table) → IsKnown c.head.usn (row_under c name) (row_under s name) (grave_under (row_under s) name)
-  -- 4. Each settled grave, review and tag of the device's is held by the server. Each of the server's with a number below the
+  -- 4. Each settled grave, review and tag of the device's is held by the server. Each of the server's with a usn below the
   -- device's is held by the device. Reviews are then equal.
   pub shared : (name : Name) → has_stamps name.table ≡ false → IsShared c.head.usn (row_under c name) (row_under s name)
   pub tags : (name : List ℕ) → IsTagShared c.head.usn (tag_usn c.head.tags name) (tag_usn s.head.tags name)
   -- 5. In neither does a row stand beside its own grave.
   pub own_single : IsSingle (row_under c)
   pub single : IsSingle (row_under s)
-  -- 6. If the two numbers are equal, the device was changed no earlier than the server. If the two were then changed at one moment,
+  -- 6. If the two usns are equal, the device was changed no earlier than the server. If the two were then changed at one moment,
   -- they have one conf and one crt.
   pub later : c.head.usn ≡ s.head.usn → s.head.moment ≤ℤ c.head.moment
   pub settings : c.head.usn ≡ s.head.usn → c.head.moment ≡ s.head.moment → (c.head.conf ≡ s.head.conf) × (c.head.crt ≡ s.head.crt)

@@ -59,11 +59,11 @@ pub record IsBack (was back : Collection) : Type 0 where
 pub record StepFitsParts (u : ℤ) (step : Reversal) (s : Collection) : Type 0 where
   -- it is at most the server's
   pub usn : u ≤ℤ s.head.usn
-  -- the server holds with a number below it no row and no grave that the step added
+  -- the server holds with a usn below it no row and no grave that the step added
   pub added : (name : Name) → step.rows name ≡ Some None → IfSome (row_under s name) (λ row. u ≤ℤ usn_of row)
-  -- the server holds with a number below it no tag that the step's tags lack
+  -- the server holds with a usn below it no tag that the step's tags lack
   pub tags : (name : List ℕ) → has_tag step.tags name ≡ false → IfSome (tag_usn s.head.tags name) (λ number. u ≤ℤ number)
-  -- of a row that the step changed or removed, the server holds with a number below it none with a greater stamp than before the step
+  -- of a row that the step changed or removed, the server holds with a usn below it none with a greater stamp than before the step
   pub older : (name : Name) (before : Row) → step.rows name ≡ Some (Some before) → IfSome (row_under s name) (λ row. usn_of row <ℤ u → stamp_of row ≤ℤ stamp_of before)
 
 -- the schema moments differ, or all of that holds
@@ -77,7 +77,7 @@ adds_grave step name =
     option_map_or (λ (before : Option Row). not (is_some before))
     (option_and_then (λ (graves : Table). step.rows (record { table = graves; id = name.id })) (graves_of name.table)) false
 
--- a tag of the list is one of the step's, with the number that it has there, or was not sent yet
+-- a tag of the list is one of the step's, with the usn that it has there, or was not sent yet
 abbrev pub IsTagKept : Option ℤ → Option ℤ → Type 0
 IsTagKept before number = (before ≡ number) ⊎ ((before ≡ None) × (number ≡ Some (negsuc 0)))
 

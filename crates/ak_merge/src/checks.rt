@@ -1,15 +1,18 @@
-ghost use Rattle.ak_merge.specs.Holdings.{name_in};
 ghost use Rattle.std.specs.Prelude.{◌≡◌, not, is_some, find};
 ghost use Rattle.std.specs.FinMap.{get};
+ghost use Rattle.std.specs.List.{All};
 ghost use Rattle.std.specs.Option.{option_map};
-ghost use Rattle.ak_base.specs.Rows.{name_of};
-ghost use Rattle.ak_base.specs.declared.names.Table.TheVariants as tables;
 ghost use Rattle.ak_keep.specs.Collections.{cards_of};
 ghost use Rattle.ak_keep.specs.Readings.{ReadsBy};
-ghost use Rattle.ak_merge.specs.Soundness.{first_fault, first_bad, is_bad, bad_note, bad_card, is_empty, lacks_template, type_name, type_under, table_of};
+ghost use Rattle.ak_merge.specs.CheckLinks.{AreLinksOf, IsGoodIn, bad_link};
+ghost use Rattle.ak_merge.specs.Holdings.{name_in};
+ghost use Rattle.ak_merge.specs.Soundness.{first_fault, first_bad, is_empty, lacks_template, table_of, type_name, type_under};
+ghost use Rattle.ak_base.specs.declared.names.Table.TheVariants as tables;
+ghost use Rattle.ak_base.specs.declared.names.Name.{Name as RowName};
 
-use ak_base::{Card, Name, Note, Row, Table};
-use ak_keep::{KeepFault, Lookup, Readable, Walk};
+use crate::check_links::{Link, Links, read_links};
+use ak_base::{Name, Note, Row, Table};
+use ak_keep::{KeepFault, Lookup, Readable};
 
 /// Why a collection is not sound, with the id of the first such row.
 #[derive(Clone, Copy, Debug, PartialEq, Eq)]
@@ -33,143 +36,103 @@ pub(crate) enum Part {
     CardTemplate,
 }
 
-/// The first fault of the collection, by the order of the faults and then by id: Anki's basic check.
+/// The first fault of the collection, by the order of the faults and then by id: Anki's basic check. It reads each row once, and
+/// looks up only what it doesn't see to be good.
 pub fn check<R: Readable>(from: &mut R) -> Result<Option<CheckFault>, KeepFault>
     ensures reads { ReadsBy R.Lookup from.old from.new result (λ h fault. fault ≡ first_fault h.rows) }
 {
-    if let Some(name) = first_bad(from, Part::CardNote)? {
-        return Ok(Some(CheckFault::CardNoNote(name.id)));
+    let links = read_links(from)?;
+    if let Some(id) = first_bad(from, Part::CardNote, &links)? {
+        return Ok(Some(CheckFault::CardNoNote(id)));
     }
-    if let Some(name) = first_bad(from, Part::NoteCard)? {
-        return Ok(Some(CheckFault::NoteNoCard(name.id)));
+    if let Some(id) = first_bad(from, Part::NoteCard, &links)? {
+        return Ok(Some(CheckFault::NoteNoCard(id)));
     }
-    if let Some(name) = first_bad(from, Part::NoteType)? {
-        return Ok(Some(CheckFault::NoteNoType(name.id)));
+    if let Some(id) = first_bad(from, Part::NoteType, &links)? {
+        return Ok(Some(CheckFault::NoteNoType(id)));
     }
-    if let Some(name) = first_bad(from, Part::CardTemplate)? {
-        return Ok(Some(CheckFault::CardNoTemplate(name.id)));
+    if let Some(id) = first_bad(from, Part::CardTemplate, &links)? {
+        return Ok(Some(CheckFault::CardNoTemplate(id)));
     }
     Ok(None)
 }
 
-/// The name of the first row that the part finds bad.
-fn first_bad<R: Readable>(from: &mut R, part: Part) -> Result<Option<Name>, KeepFault>
-    ensures reads { ReadsBy R.Lookup from.old from.new result (λ h first. first ≡ first_bad part h.rows) }
+/// The id of the first row that the part finds bad.
+fn first_bad<L: Lookup>(from: &mut L, part: Part, links: &Links) -> Result<Option<i64>, KeepFault>
+    ensures reads { ReadsBy L.Lookup from.old from.new result (λ h first. AreLinksOf h.rows links.now → first ≡ option_map (λ (name : RowName). name.id) (first_bad part h.rows)) }
 {
-    let mut walk = Walk::over(table_of(part));
-    'pages: while !walk.is_done() {
-        let page = walk.next(from)?;
-        if let Some(name) = bad_among(from, part, page.as_slice())? {
-            return Ok(Some(name));
+    match part {
+        Part::CardNote | Part::CardTemplate => bad_among(from, part, &links.cards),
+        Part::NoteCard | Part::NoteType => bad_among(from, part, &links.notes),
+    }
+}
+
+/// The id of the first of these that the part finds bad.
+fn bad_among<L: Lookup>(from: &mut L, part: Part, links: &[Link]) -> Result<Option<i64>, KeepFault>
+    ensures reads { ReadsBy L.Lookup from.old from.new result (λ h first. All (IsGoodIn (table_of part) h.rows) links.now → first ≡ option_map (λ link. link.id) (find (bad_link part h.rows) links.now)) }
+{
+    for link in links {
+        if is_bad(from, part, link)? {
+            return Ok(Some(link.id));
         }
     }
     Ok(None)
 }
 
-/// The table whose rows the part asks about.
-fn table_of(part: Part) -> Table
-    ensures { result ≡ table_of part }
+/// Whether the part finds the row bad. If it is known to be good, it is not asked about.
+fn is_bad<L: Lookup>(from: &mut L, part: Part, link: &Link) -> Result<bool, KeepFault>
+    ensures reads { ReadsBy L.Lookup from.old from.new result (λ h bad. IsGoodIn (table_of part) h.rows link.now → bad ≡ bad_link part h.rows link.now) }
+{
+    if link.good {
+        return Ok(false);
+    }
+    ask(from, part, link)
+}
+
+/// Asks whether the part finds the row bad.
+fn ask<L: Lookup>(from: &mut L, part: Part, link: &Link) -> Result<bool, KeepFault>
+    ensures reads { ReadsBy L.Lookup from.old from.new result (λ h bad. bad ≡ bad_link part h.rows link.now) }
 {
     match part {
-        Part::CardNote | Part::CardTemplate => Table::Card,
-        Part::NoteCard | Part::NoteType => Table::Note,
+        Part::CardNote => lacks(from, Table::Note, &link.to),
+        Part::NoteCard => has_no_card(from, &link.id),
+        Part::NoteType => lacks(from, Table::NoteType, &link.to),
+        Part::CardTemplate => has_no_template(from, link),
     }
 }
 
-/// The name of the first of these rows that the part finds bad.
-fn bad_among<L: Lookup>(from: &mut L, part: Part, among: &[Row]) -> Result<Option<Name>, KeepFault>
-    ensures reads { ReadsBy L.Lookup from.old from.new result (λ h first. first ≡ option_map name_of (find (is_bad part h.rows) among.now)) }
+/// Whether no row of this id is held in the table.
+fn lacks<L: Lookup>(from: &mut L, table: Table, id: &i64) -> Result<bool, KeepFault>
+    ensures reads { ReadsBy L.Lookup from.old from.new result (λ h lacks. lacks ≡ not (is_some (get h.rows (name_in table id.now)))) }
 {
-    for row in among {
-        if is_bad(from, part, row)? {
-            return Ok(Some(row.name()));
-        }
-    }
-    Ok(None)
-}
-
-/// Whether the part finds the row bad. Other rows than notes and cards never are.
-fn is_bad<L: Lookup>(from: &mut L, part: Part, row: &Row) -> Result<bool, KeepFault>
-    ensures reads { ReadsBy L.Lookup from.old from.new result (λ h bad. bad ≡ is_bad part h.rows row.now) }
-{
-    match row {
-        Row::Note(note) => is_bad_note(from, part, note),
-        Row::Card(card) => is_bad_card(from, part, card),
-        _ => Ok(false),
-    }
-}
-
-/// Whether the part finds the note bad.
-fn is_bad_note<L: Lookup>(from: &mut L, part: Part, note: &Note) -> Result<bool, KeepFault>
-    ensures reads { ReadsBy L.Lookup from.old from.new result (λ h bad. bad ≡ bad_note part h.rows note.now) }
-{
-    match part {
-        Part::NoteCard => has_no_card(from, note),
-        Part::NoteType => lacks(from, type_of(note)),
-        Part::CardNote | Part::CardTemplate => Ok(false),
-    }
-}
-
-/// Whether the part finds the card bad.
-fn is_bad_card<L: Lookup>(from: &mut L, part: Part, card: &Card) -> Result<bool, KeepFault>
-    ensures reads { ReadsBy L.Lookup from.old from.new result (λ h bad. bad ≡ bad_card part h.rows card.now) }
-{
-    match part {
-        Part::CardNote => lacks(from, note_of(card)),
-        Part::CardTemplate => has_no_template(from, card),
-        Part::NoteCard | Part::NoteType => Ok(false),
-    }
-}
-
-/// The name of the card's note.
-fn note_of(card: &Card) -> Name
-    ensures { result ≡ name_in tables.Note card.now.nid }
-{
-    Name {
-        table: Table::Note,
-        id: card.nid,
-    }
-}
-
-/// The name of the note's type.
-fn type_of(note: &Note) -> Name
-    ensures { result ≡ name_in tables.NoteType note.now.mid }
-{
-    Name {
-        table: Table::NoteType,
-        id: note.mid,
-    }
-}
-
-/// Whether no row of this name is held.
-fn lacks<L: Lookup>(from: &mut L, name: Name) -> Result<bool, KeepFault>
-    ensures reads { ReadsBy L.Lookup from.old from.new result (λ h lacks. lacks ≡ not (is_some (get h.rows name))) }
-{
-    let row = from.get(name)?;
+    let row = from.get(Name { table, id: *id })?;
     Ok(row.is_none())
 }
 
-/// Whether the note has no card.
-fn has_no_card<L: Lookup>(from: &mut L, note: &Note) -> Result<bool, KeepFault>
-    ensures reads { ReadsBy L.Lookup from.old from.new result (λ h none. none ≡ is_empty (cards_of note.now.id h.rows)) }
+/// Whether the note of this id has no card.
+fn has_no_card<L: Lookup>(from: &mut L, note: &i64) -> Result<bool, KeepFault>
+    ensures reads { ReadsBy L.Lookup from.old from.new result (λ h none. none ≡ is_empty (cards_of note.now h.rows)) }
 {
-    let cards = from.cards_of(note.id)?;
+    let cards = from.cards_of(*note)?;
     Ok(cards.as_slice().is_empty())
 }
 
 /// Whether the card's place is none of the templates of its note's standard type.
-fn has_no_template<L: Lookup>(from: &mut L, card: &Card) -> Result<bool, KeepFault>
-    ensures reads { ReadsBy L.Lookup from.old from.new result (λ h none. none ≡ lacks_template card.now.ord (type_under (get h.rows) (name_in tables.Note card.now.nid))) }
+fn has_no_template<L: Lookup>(from: &mut L, card: &Link) -> Result<bool, KeepFault>
+    ensures reads { ReadsBy L.Lookup from.old from.new result (λ h none. none ≡ lacks_template card.now.ord (type_under (get h.rows) (name_in tables.Note card.now.to))) }
 {
-    let held = type_under(from, note_of(card))?;
-    Ok(lacks_template(card, &held))
+    let held = type_under(from, &card.to)?;
+    Ok(lacks_template(&card.ord, &held))
 }
 
-/// The type of the note of this name, if both are held.
-fn type_under<L: Lookup>(from: &mut L, note: Name) -> Result<Option<Row>, KeepFault>
-    ensures reads { ReadsBy L.Lookup from.old from.new result (λ h held. held ≡ type_under (get h.rows) note) }
+/// The type of the note of this id, if both are held.
+fn type_under<L: Lookup>(from: &mut L, note: &i64) -> Result<Option<Row>, KeepFault>
+    ensures reads { ReadsBy L.Lookup from.old from.new result (λ h held. held ≡ type_under (get h.rows) (name_in tables.Note note.now)) }
 {
-    let note = from.get(note)?;
+    let note = from.get(Name {
+        table: Table::Note,
+        id: *note,
+    })?;
     match type_name(&note) {
         Some(name) => from.get(name),
         None => Ok(None),
@@ -186,13 +149,23 @@ fn type_name(note: &Option<Row>) -> Option<Name>
     }
 }
 
-/// Whether this is a standard type that has no template at the card's place.
-fn lacks_template(card: &Card, held: &Option<Row>) -> bool
-    ensures { result ≡ lacks_template card.now.ord held.now }
+/// The name of the note's type.
+fn type_of(note: &Note) -> Name
+    ensures { result ≡ name_in tables.NoteType note.now.mid }
+{
+    Name {
+        table: Table::NoteType,
+        id: note.mid,
+    }
+}
+
+/// Whether this is a standard type that has no template at the place.
+fn lacks_template(ord: &i64, held: &Option<Row>) -> bool
+    ensures { result ≡ lacks_template ord.now held.now }
 {
     match held {
         Some(Row::NoteType(held)) => {
-            !held.cloze && card.ord >= held.templates.as_slice().len() as i64
+            !held.cloze && *ord >= held.templates.as_slice().len() as i64
         }
         _ => false,
     }

@@ -14,7 +14,7 @@ pub fn copies_are_linked()
     ensures content { (s c : Collection) → IsCopyOf s c → SameContent (content_of c) (content_of s) }
 {}
 
-/// A collection that no device has synced with, all numbers 0 and no graves under the number 1, is what a server may
+/// A collection that no device has synced with, all usns 0 and no graves under the usn 1, is what a server may
 /// hold.
 pub fn openings_are_lawful()
     ensures { (s : Collection) → AreNamed (row_under s) → AreChecked (row_under s) → IsHeadInRange s.head → IsOpening s → IsCommitted s }
@@ -37,7 +37,7 @@ pub fn fresh_schemas_link()
     ensures { (c s : Collection) → c.head.schema ≢ s.head.schema → AreLinked c s }
 {}
 
-/// If a device is linked with a server's collection, has its number and its moment and nothing to send, a sync has
+/// If a device is linked with a server's collection, has its usn and its moment and nothing to send, a sync has
 /// nothing to do: the two have one content.
 #[tactic(auto, using(crate::proofs::EqualHeads::equal_heads_are_equal_contents))]
 pub fn equal_heads_are_equal_contents()

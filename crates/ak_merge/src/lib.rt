@@ -2,6 +2,7 @@
 // and how a row is taken, with the laws that hold of them.
 #![tactic(auto)]
 
+mod check_links;
 mod checks;
 mod commit_laws;
 mod conflicts;

@@ -36,8 +36,8 @@ pub fn parts_add_up()
     ensures { (side : Side) (usn : ℤ) (front rest : List Row) (held : Rows) → all_taken side usn (front ++ rest) held ≡ all_taken side usn rest (all_taken side usn front held) }
 {}
 
-/// A row that stands in the end with another number than the one that is taken with stood after every front of what
-/// was taken: a row that comes never stands with its old number.
+/// A row that stands in the end with another usn than the one that is taken with stood after every front of what
+/// was taken: a row that comes never stands with its old usn.
 pub fn rows_stand_between()
     ensures { (side : Side) (usn : ℤ) (front rest : List Row) (held : Rows) (name : Name) (row : Row) → usn_of row ≢ usn → get (all_taken side usn (front ++ rest) held) name ≡ Some row → get (all_taken side usn front held) name ≡ Some row }
 {}

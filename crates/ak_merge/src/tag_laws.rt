@@ -14,8 +14,8 @@ ghost use Rattle.ak_merge.specs.Exchanges.{settled_number, settled_tags, tags_fr
 ghost use Rattle.ak_merge.specs.Holdings.{tag_usn};
 ghost use Rattle.ak_merge.specs.Tags.{IsTagName, has_name, tags_taken};
 
-/// The tags are the union: each that was held has its own number, and each other whose name came has the
-/// number of those that came.
+/// The tags are the union: each that was held has its own usn, and each other whose name came has the
+/// usn of those that came.
 #[tactic(auto, using(crate::proofs::TagLaws::tags_are_united))]
 pub fn tags_are_united()
     ensures { (usn : ℤ) (names : List (List ℕ)) (tags : List Tag) (name : List ℕ) → tag_usn (tags_taken usn names tags) name ≡ option_or (tag_usn tags name) (if has_name names name then Some usn else None) }
@@ -38,7 +38,7 @@ pub fn tag_parts_add_up()
     ensures { (usn : ℤ) (front rest : List (List ℕ)) (tags : List Tag) → tags_taken usn (front ++ rest) tags ≡ tags_taken usn rest (tags_taken usn front tags) }
 {}
 
-/// The names of the wanted tags are those of the tags that were not sent yet, or have at least a number, if the tags
+/// The names of the wanted tags are those of the tags that were not sent yet, or have at least a usn, if the tags
 /// are distinct and ascend. They are names of tags.
 pub fn wanted_tags_are_listed()
     ensures unsent { (tags : List Tag) (name : List ℕ) → IsStrictlySortedBy (slice_cmp nat_cmp) (tag_names tags) → has_name (wanted_tags Unsent tags) name ≡ unsent_tags tags name }
@@ -46,7 +46,7 @@ pub fn wanted_tags_are_listed()
     ensures in_range { (want : Wanted) (tags : List Tag) → All IsTagInRange tags → All IsTagName (wanted_tags want tags) }
 {}
 
-/// Tags that are settled keep their names, their order and their ranges, and each that was sent its number.
+/// Tags that are settled keep their names, their order and their ranges, and each that was sent its usn.
 pub fn settled_tags_stay_lawful()
     ensures names { (usn : ℤ) (tags : List Tag) → tag_names (settled_tags usn tags) ≡ tag_names tags }
     ensures ordered { (usn : ℤ) (tags : List Tag) → IsStrictlySortedBy (slice_cmp nat_cmp) (tag_names tags) → IsStrictlySortedBy (slice_cmp nat_cmp) (tag_names (settled_tags usn tags)) }

@@ -44,7 +44,7 @@ fn precedes(name: &Text, tags: &[Tag]) -> bool
     }
 }
 
-/// The number of each tag by its name.
+/// The usn of each tag by its name.
 fn numbers_of(alloc: Global, tags: Vec<Tag>) -> Result<BTreeMap<String, i64>, Memory>
     requires { ascend tags.items ≡ true }
     ensures { IfOk result (λ made. tags_of made ≡ tags.items) }

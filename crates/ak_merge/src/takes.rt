@@ -73,7 +73,7 @@ fn beats(held: &Row, came: &Row, side: Side) -> bool
 {
     match side {
         Side::Server => held.stamp() < came.stamp(),
-        // A grave that is held keeps its number: if it was not sent yet it still has to be.
+        // A grave that is held keeps its usn: if it was not sent yet it still has to be.
         Side::Device => came.buried().is_none() && held.stamp() <= came.stamp(),
     }
 }

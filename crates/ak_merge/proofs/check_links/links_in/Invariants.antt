@@ -1,17 +1,18 @@
-use Rattle.std.proofs.Common.{◌≡◌}
+use Rattle.std.proofs.Common.{◌≡◌, pos, false}
 use Rattle.ak_faults.specs.Causes.{GoesOn}
 use Rattle.ak_keep.specs.Keepers.{WhereTold}
 use Rattle.ak_keep.specs.Walks.{most_pages}
-use Rattle.ak_merge.proofs.Passing.{HasPassed}
-use Rattle.ak_merge.proofs.checks.first_bad.Given as goal
+use Rattle.ak_keep.proofs.Collecting.{Finds}
+use Rattle.ak_merge.specs.CheckLinks.{link_of}
+use Rattle.ak_merge.proofs.check_links.links_in.Given as goal
 
--- the rows that were passed are not bad
+-- the links so far, and those ahead, are all
 abbrev pub invariant-pages : goal.invariant-pages
 invariant-pages g l = record {
-  first : WhereTold (g.R.Lookup.keeping l.fn.from) (λ h. HasPassed l.part l.walk h.rows);
   kept : g.R.Lookup.kept l.from ≡ g.R.Lookup.kept l.fn.from;
   same : g.R.Lookup.keeping l.from ≡ g.R.Lookup.keeping l.fn.from;
   goes : GoesOn (g.R.Lookup.health l.fn.from) (g.R.Lookup.health l.from);
+  found : WhereTold (g.R.Lookup.keeping l.fn.from) (Finds link_of l.links (record { past = record { table = l.fn.table; id = pos 0 }; done = false }) l.walk);
 }
 
 abbrev pub decreases-pages : goal.decreases-pages
