@@ -1,8 +1,9 @@
 -- What the answers show, review by review, and when they serve a search.
-use Rattle.std.proofs.Common.{◌≡◌, true, false, ◌&&◌, ◌||◌, cond, Bool, ℤ, int_lt, Option, Some, List, [], ◌∷◌, ◌++◌, refl, ap, sym, ◌∙◌, arith}
+use Rattle.std.proofs.Common.{◌≡◌, true, false, ◌&&◌, ◌||◌, cond, Bool, ℤ, pos, int_lt, Option, Some, List, [], ◌∷◌, ◌++◌, refl, ap, sym, ◌∙◌, arith}
 use Rattle.std.proofs.lemmas.Int.{ints}
 use Rattle.std.specs.BTreeMap.{get}
 use Rattle.std.specs.Cmp.{signed_Decides, tied_then}
+use Rattle.std.specs.List.{list_any}
 use Rattle.std.specs.Ordering.{int_cmp, int_eq, is_eq}
 use Rattle.std.proofs.lemmas.Bool.{and_parts, or_parts}
 use Rattle.std.proofs.Math.Bool.{or_assoc, or-false}
@@ -14,9 +15,9 @@ use Rattle.ak_base.specs.declared.notes.Note.{Note}
 use Rattle.ak_base.specs.declared.rows.Row.{Row}
 use Rattle.ak_keep.specs.Collections.{Rows}
 use Rattle.ak_search.specs.CardFacts.{Seen, seen, is_since, is_answer, is_answered, is_answer_in}
-use Rattle.ak_search.specs.Holds.{held_and, holds, path_matches}
+use Rattle.ak_search.specs.Holds.{held_and, holds, id_back, path_matches}
 use Rattle.ak_search.specs.Meanings.{walk, negated_by}
-use Rattle.ak_search.specs.Passes.{AreAnswersOf, Serves, Suits, holds_by, related_in, asked, needs_answers, is_shown, pair_cmp, seen_by, some_term, tested}
+use Rattle.ak_search.specs.Passes.{AreAnswersFor, Serves, Suits, asks_before, holds_by, related_in, asked, needs_answers, is_shown, pair_cmp, seen_by, some_term, tested}
 use Rattle.ak_search.specs.declared.answers.Answers.{Answers}
 use Rattle.ak_search.specs.declared.evaluator.Group.{Group as Outer}
 use Rattle.ak_search.specs.declared.holds.SearchContext.{SearchContext}
@@ -106,15 +107,41 @@ same_walk apart f g same outer either all (Or ∷ ps) h = same_walk apart f g sa
 same_walk apart f g same outer either all (And ∷ ps) h = same_walk apart f g same outer either all ps h
 same_walk apart f g same outer either all (OpenQuote ∷ ps) h = same_walk apart f g same outer either all ps h
 
+-- a term that asks for no answers before an id holds the same by answers that are the same from it on
+same_from : (day : Day) (id : ℤ) (s : Seen) (f : ℤ → ℤ → Bool) (term : Term) → asks_before day id term ≡ false → ((ease least : ℤ) → int_lt least id ≡ false → s.answered ease least ≡ f ease least)
+    → holds day s term ≡ holds day (record s { answered = f }) term
+same_from day id s f (terms.Contains pattern) h same = refl
+same_from day id s f (terms.Word pattern) h same = refl
+same_from day id s f (terms.Field name pattern) h same = refl
+same_from day id s f (terms.Deck pattern) h same = refl
+same_from day id s f (terms.Tag pattern) h same = refl
+same_from day id s f terms.Untagged h same = refl
+same_from day id s f (terms.NoteType pattern) h same = refl
+same_from day id s f (terms.Template pattern) h same = refl
+same_from day id s f (terms.InState state) h same = refl
+same_from day id s f (terms.Prop what comparison bound) h same = refl
+same_from day id s f (terms.Flag number) h same = refl
+same_from day id s f (terms.Rated days) h same =
+    let own : ℤ → Bool = λ ease. s.answered ease (id_back day days) in
+    let other : ℤ → Bool = λ ease. f ease (id_back day days) in
+    let each : own ≡ other = λ i ease. same ease (id_back day days) h i in
+    ap (λ (test : ℤ → Bool). list_any test (pos 1 ∷ pos 2 ∷ pos 3 ∷ pos 4 ∷ [])) each
+same_from day id s f (terms.RatedWith days ease) h same = same ease (id_back day days) h
+same_from day id s f (terms.Added days) h same = refl
+same_from day id s f (terms.Edited days) h same = refl
+same_from day id s f (terms.NoteIds ids) h same = refl
+same_from day id s f (terms.CardIds ids) h same = refl
+
 -- what is seen of a card decides as what is held does
-by_answers : (day : Day) (held : Rows) (answers : Answers) (c : Card) (ps : List Piece) → (some_term needs_answers ps ≡ true → AreAnswersOf answers held)
+by_answers : (day : Day) (held : Rows) (answers : Answers) (c : Card) (ps : List Piece) → AreAnswersFor day ps answers held
     → asked ps (holds day (seen_by answers c (related_in held c))) ≡ asked ps (holds day (seen held c))
 by_answers day held answers c ps serve =
+    let by : Seen = seen_by answers c (related_in held c) in
     elim (some_term needs_answers ps) as (λ b. some_term needs_answers ps ≡ b → asked ps (holds day (seen_by answers c (related_in held c))) ≡ asked ps (holds day (seen held c))) [
       | true ↦ λ asks.
-          let same : is_shown answers c.id ≡ is_answered held c.id = λ i ease least. serve asks c.id ease least i in
-          ap (λ (f : ℤ → ℤ → Bool). asked ps (holds day (record (seen held c) { answered = f }))) same
-      | false ↦ λ asks. same_walk needs_answers (holds day (seen_by answers c (related_in held c))) (holds day (seen held c)) (λ term h. same_unless day (seen_by answers c (related_in held c)) (is_answered held c.id) term h) [] false true ps asks
+          let from = serve asks in
+          same_walk (asks_before day from.0) (holds day by) (holds day (seen held c)) (λ term h. same_from day from.0 by (is_answered held c.id) term h (λ ease least later. from.2 c.id ease least later)) [] false true ps from.1
+      | false ↦ λ asks. same_walk needs_answers (holds day by) (holds day (seen held c)) (λ term h. same_unless day by (is_answered held c.id) term h) [] false true ps asks
     ] refl
 
 pub serves : (context : SearchContext) (held : Rows) (c : Card) (ps : List Piece) → Serves context ps held → asked ps (tested context held c) ≡ asked ps (holds context.day (seen held c))

@@ -1,4 +1,4 @@
--- No fault of a text is want of memory.
+-- No fault of a text is that memory ran out.
 use Rattle.std.specs.Prelude.{◌≢◌, ℕ, ◌&&◌, ◌==◌, nat_lt, Bool, true, false, cond, List, [], ◌∷◌, Option, Some, None, IfSome}
 use Rattle.std.specs.Option.{option_or}
 use Rattle.ak_search.specs.Grammar.{begins_close, begins_part, closes, depth_behind, ends_part, fault_at, fault_in, first_fault, pieces_in, tokens}

@@ -1,6 +1,8 @@
 pub mod Answering
+pub mod Earlier
 pub mod Faulting
 pub mod Grammars
+pub mod LaterAnswers
 pub mod Levels
 pub mod Lexing
 pub mod Looking
@@ -9,6 +11,7 @@ pub mod Orders
 pub mod Parsing
 pub mod Passing
 pub mod Places
+pub mod Runs
 pub mod Sets
 pub mod Skipping
 pub mod Stripping

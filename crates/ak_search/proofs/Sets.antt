@@ -14,7 +14,8 @@ use Rattle.ak_keep.proofs.Paging.{rows_past-ascend}
 use Rattle.ak_search.specs.Holds.{is_listed, holds, is_hit, is_card, hits, cards, asked_by}
 use Rattle.ak_search.specs.CardFacts.{seen}
 use Rattle.ak_search.specs.Meanings.{followed, has_no_or}
-use Rattle.ak_search.specs.Trees.{Tree, End, Group, Either}
+use Rattle.ak_search.specs.declared.terms.Term.{Term}
+use Rattle.ak_search.specs.Trees.{Tree, End, Asks, Group, Either}
 use Rattle.ak_search.proofs.Walking.{either_meets, both_meet, none_meets}
 
 -- whether the id is that of a row that passes
@@ -126,3 +127,21 @@ both_hit held day one other id named h g =
 pub other_hits : (held : Rows) (day : Day) (tree : Tree) (id : ℤ) → StandsUnderNames held → is_listed id (hits held day (Group true tree End)) ≡ (is_listed id (cards held) && not (is_listed id (hits held day tree)))
 other_hits held day tree id named =
     picks_as is_card (is_hit (asked_by tree) held day) (is_hit (asked_by (Group true tree End)) held day) (λ v w. v && not w) refl (each_other held day tree) (pos 0) id (rows_past tables.Card (pos 0) held) (ascending held named)
+
+-- a term without parentheses
+not_alone : (h : Bool) → ((not h && true) || false) ≡ not ((h && true) || false)
+not_alone true = refl
+not_alone false = refl
+
+each_without : (held : Rows) (day : Day) (term : Term) (row : Row) → is_hit (asked_by (Asks true term End)) held day row ≡ (is_card row && not (is_hit (asked_by (Asks false term End)) held day row))
+each_without held day term (rows.Note n) = refl
+each_without held day term (rows.Card c) = not_alone (holds day (seen held c) term)
+each_without held day term (rows.Review r) = refl
+each_without held day term (rows.NoteType t) = refl
+each_without held day term (rows.Deck d) = refl
+each_without held day term (rows.Options o) = refl
+each_without held day term (rows.Grave g) = refl
+
+pub other_term : (held : Rows) (day : Day) (term : Term) (id : ℤ) → StandsUnderNames held → is_listed id (hits held day (Asks true term End)) ≡ (is_listed id (cards held) && not (is_listed id (hits held day (Asks false term End))))
+other_term held day term id named =
+    picks_as is_card (is_hit (asked_by (Asks false term End)) held day) (is_hit (asked_by (Asks true term End)) held day) (λ v w. v && not w) refl (each_without held day term) (pos 0) id (rows_past tables.Card (pos 0) held) (ascending held named)

@@ -1,7 +1,12 @@
 -- What is known where a keeper tells its collection: one more row, one more page.
-use Rattle.std.proofs.Common.{◌≡◌, true, false, cond, ◌||◌, ◌∙◌, ap, refl, subst, sym, arith, Bool, ℤ, pos, List, [], ◌∷◌, ◌++◌, map, Option, Some, None, IfSome, append-nil, length}
+use Rattle.std.proofs.Common.{◌≡◌, true, false, cond, ◌||◌, ◌∙◌, ap, refl, subst, sym, arith, Bool, ℤ, pos, int_lt, ◌≤ℤ◌, ◌<ℤ◌, ◌⊎◌, List, [], ◌∷◌, ◌++◌, map, Option, Some, None, Result, Ok, Err, IfOk, IfSome, append-nil, length}
+use Rattle.std.proofs.Math.Bool.{or-false}
 use Rattle.std.proofs.lemmas.List.{nil_from_length}
+use Rattle.std.proofs.lemmas.Option.{none-some, same_Some}
+use Rattle.std.specs.BTreeMap.{get}
+use Rattle.std.specs.Cmp.{signed_Decides}
 use Rattle.std.specs.Option.{option_map, option_or}
+use Rattle.std.specs.Ordering.{int_cmp, int_eq, is_eq}
 use Rattle.ak_base.specs.Rows.{name_of}
 use Rattle.ak_base.specs.declared.cards.Card.{Card}
 use Rattle.ak_base.specs.declared.days.Day.{Day}
@@ -11,22 +16,24 @@ use Rattle.ak_base.specs.declared.note_types.NoteType.{NoteType}
 use Rattle.ak_base.specs.declared.notes.Note.{Note}
 use Rattle.ak_base.specs.declared.rows.Row.TheVariants as rows
 use Rattle.ak_base.specs.declared.rows.Row.{Row}
-use Rattle.ak_keep.specs.Collections.{Holding, Rows, rows_past}
+use Rattle.ak_keep.specs.Collections.{Holding, Rows, StandsUnderNames, rows_past}
 use Rattle.ak_keep.specs.Lookups.{note_at, note_type_at, deck_at, deck_of_card}
 use Rattle.ak_keep.specs.Marks.{WithMark}
 use Rattle.ak_keep.specs.Walks.{ahead}
+use Rattle.ak_keep.specs.declared.keepers.KeepFault.{KeepFault}
 use Rattle.ak_keep.specs.declared.walks.Walk.{Walk}
 use Rattle.ak_search.specs.CardFacts.{Seen, is_answer_in, is_answered, seen, type_of}
 use Rattle.ak_search.specs.Grammar.{pieces_in}
 use Rattle.ak_search.specs.Holds.{asked_by, holds, is_hit, ids_of_hits, hits}
 use Rattle.ak_search.specs.Meanings.{meets, walk}
-use Rattle.ak_search.specs.Passes.{AreLatest, HasNoteOf, HasTexts, HasTypeOf, KeepsTexts, Serves, Stays, Suits, Tells, asked, holds_by, needs_texts, evaluated_from, is_shown, needs_deck, needs_note, tested}
+use Rattle.ak_search.specs.Passes.{AreAnswersFor, AreAnswersFrom, AreLatest, AreTypesOf, HasNoteOf, HasTexts, HasTypeOf, KeepsTexts, Serves, Stays, Suits, Tells, asked, asks_before, holds_by, needs_texts, evaluated_from, is_shown, needs_deck, needs_note, some_term, tested}
 use Rattle.ak_search.specs.Searching.{SearchStays, SearchesBy}
 use Rattle.ak_search.specs.Trees.{Tree, pieces_of}
 use Rattle.ak_search.specs.declared.answers.Answers.{Answers}
 use Rattle.ak_search.specs.declared.evaluator.Evaluator.{Evaluator}
 use Rattle.ak_search.specs.declared.evaluator.Group.{Group}
 use Rattle.ak_search.specs.declared.holds.SearchContext.{SearchContext}
+use Rattle.ak_search.specs.declared.kept_types.KeptTypes.{KeptTypes}
 use Rattle.ak_search.specs.declared.related.Latest.{Latest}
 use Rattle.ak_search.specs.declared.searches.Search.{Search}
 use Rattle.ak_search.specs.declared.terms.Term.TheVariants as terms
@@ -34,6 +41,7 @@ use Rattle.ak_search.specs.declared.terms.Term.{Term}
 use Rattle.ak_search.specs.declared.tokens.Piece.TheVariants.{Test}
 use Rattle.ak_search.specs.declared.tokens.Piece.{Piece}
 use Rattle.ak_search.proofs.Answering.{page_added, serves, tests_as}
+use Rattle.ak_search.proofs.LaterAnswers.{later_answers}
 use Rattle.ak_search.proofs.Passing.{page_taken, row_taken}
 use Rattle.ak_search.proofs.Walking.{walked}
 
@@ -102,21 +110,21 @@ pub note_known : (told : Option (WithMark Holding)) (latest : Latest) (id : ℤ)
 note_known None latest id by = tt
 note_known (Some held) latest id by = λ is. (is, is.note id by)
 
-pub note_read : (told : Option (WithMark Holding)) (old new : Latest) (id : ℤ) (note : Option Note) → new ≡ record { nid = Some id; mid = old.mid; did = old.did; related = record { note = note; note_type = old.related.note_type; deck = old.related.deck }; texts = None }
+pub note_read : (told : Option (WithMark Holding)) (old new : Latest) (id : ℤ) (note : Option Note) → new ≡ record { nid = Some id; mid = old.mid; did = old.did; related = record { note = note; note_type = old.related.note_type; deck = old.related.deck }; texts = None; types = old.types }
     → IfSome told (λ held. note ≡ note_at held.current.rows id) → IfSome told (λ held. NoteStays old new id held.current.rows)
 note_read None old new id found is read = tt
 note_read (Some held) old new id found is read = λ latest. subst (λ (l : Latest). AreLatest l held.current.rows × (l.related.note ≡ note_at held.current.rows id)) (sym is)
-    (record { note = λ own e. read ∙ ap (note_at held.current.rows) (some_same id own e); note_type = latest.note_type; deck = latest.deck; texts = λ e. absurd (true_false e refl) }, read)
+    (record { note = λ own e. read ∙ ap (note_at held.current.rows) (some_same id own e); note_type = latest.note_type; deck = latest.deck; texts = λ e. absurd (true_false e refl); types = latest.types }, read)
 
 pub deck_known : (told : Option (WithMark Holding)) (latest : Latest) (c : Card) → latest.did ≡ Some c.did → IfSome told (λ held. Stays latest latest held.current.rows (latest.related.deck ≡ deck_of_card held.current.rows c))
 deck_known None latest c by = tt
 deck_known (Some held) latest c by = λ is. (is, is.deck c.did by)
 
-pub deck_read : (told : Option (WithMark Holding)) (old new : Latest) (c : Card) (deck : Option Deck) → new ≡ record { nid = old.nid; mid = old.mid; did = Some c.did; related = record { note = old.related.note; note_type = old.related.note_type; deck = deck }; texts = old.texts }
+pub deck_read : (told : Option (WithMark Holding)) (old new : Latest) (c : Card) (deck : Option Deck) → new ≡ record { nid = old.nid; mid = old.mid; did = Some c.did; related = record { note = old.related.note; note_type = old.related.note_type; deck = deck }; texts = old.texts; types = old.types }
     → IfSome told (λ held. deck ≡ deck_of_card held.current.rows c) → IfSome told (λ held. Stays old new held.current.rows (new.related.deck ≡ deck_of_card held.current.rows c))
 deck_read None old new c deck is read = tt
 deck_read (Some held) old new c deck is read = λ latest. subst (λ (l : Latest). AreLatest l held.current.rows × (l.related.deck ≡ deck_of_card held.current.rows c)) (sym is)
-    (record { note = latest.note; note_type = latest.note_type; deck = λ own e. read ∙ ap (λ id. option_or (deck_at held.current.rows id) (deck_at held.current.rows (pos 1))) (some_same c.did own e); texts = latest.texts }, read)
+    (record { note = latest.note; note_type = latest.note_type; deck = λ own e. read ∙ ap (λ id. option_or (deck_at held.current.rows id) (deck_at held.current.rows (pos 1))) (some_same c.did own e); texts = latest.texts; types = latest.types }, read)
 
 -- the type of the note that was looked up last
 abbrev pub TypeStays : Latest → Latest → Rows → Type 0
@@ -134,17 +142,64 @@ pub type_known : (told : Option (WithMark Holding)) (latest : Latest) (id : ℤ)
 type_known None latest id by of = tt
 type_known (Some held) latest id by of = λ is. (is, (refl, is.note_type id by ∙ type_by_id held.current.rows latest.related.note id of))
 
-pub type_read : (told : Option (WithMark Holding)) (old new : Latest) (id : ℤ) (note_type : Option NoteType) → new ≡ record { nid = old.nid; mid = Some id; did = old.did; related = record { note = old.related.note; note_type = note_type; deck = old.related.deck }; texts = None }
-    → option_map (λ (n : Note). n.mid) old.related.note ≡ Some id → IfSome told (λ held. note_type ≡ note_type_at held.current.rows id) → IfSome told (λ held. TypeStays old new held.current.rows)
-type_read None old new id note_type is of read = tt
-type_read (Some held) old new id note_type is of read = λ latest. subst (λ (l : Latest). AreLatest l held.current.rows × ((l.related.note ≡ old.related.note) × (l.related.note_type ≡ type_of held.current.rows old.related.note))) (sym is)
-    (record { note = latest.note; note_type = λ own e. read ∙ ap (note_type_at held.current.rows) (some_same id own e); deck = latest.deck; texts = λ e. absurd (true_false e refl) }, (refl, read ∙ type_by_id held.current.rows old.related.note id of))
+-- this type was turned to
+abbrev pub with_type : Latest → ℤ → Option NoteType → KeptTypes → Latest
+with_type l id note_type types = record { nid = l.nid; mid = Some id; did = l.did; related = record { note = l.related.note; note_type = note_type; deck = l.related.deck }; texts = None; types = types }
 
-pub type_none : (told : Option (WithMark Holding)) (old new : Latest) → new ≡ record { nid = old.nid; mid = None; did = old.did; related = record { note = old.related.note; note_type = None; deck = old.related.deck }; texts = None }
+pub type_turned : (old kept : Latest) (own id : ℤ) (note_type : Option NoteType) (types : KeptTypes)
+    → kept ≡ record { nid = old.nid; mid = None; did = old.did; related = record { note = old.related.note; note_type = None; deck = old.related.deck }; texts = old.texts; types = kept.types }
+    → own ≡ id → with_type kept own note_type types ≡ with_type old id note_type types
+type_turned old kept own id note_type types is same = ap (λ (l : Latest). with_type l own note_type types) is ∙ ap (λ i. with_type old i note_type types) same
+
+pub type_read : (told : Option (WithMark Holding)) (old new : Latest) (id : ℤ) (note_type : Option NoteType) (kept : KeptTypes)
+    → new ≡ record { nid = old.nid; mid = Some id; did = old.did; related = record { note = old.related.note; note_type = note_type; deck = old.related.deck }; texts = None; types = new.types }
+    → option_map (λ (n : Note). n.mid) old.related.note ≡ Some id → ((held : Rows) → AreLatest old held → AreTypesOf kept held)
+    → IfSome told (λ held. AreTypesOf kept held.current.rows → AreTypesOf new.types held.current.rows × (note_type ≡ note_type_at held.current.rows id)) → IfSome told (λ held. TypeStays old new held.current.rows)
+type_read None old new id note_type kept is of keeps takes = tt
+type_read (Some held) old new id note_type kept is of keeps takes = λ latest.
+    let taken = takes (keeps held.current.rows latest) in
+    let read : note_type ≡ note_type_at held.current.rows id = taken.1 in
+    subst (λ (l : Latest). AreTypesOf l.types held.current.rows → AreLatest l held.current.rows × ((l.related.note ≡ old.related.note) × (l.related.note_type ≡ type_of held.current.rows old.related.note))) (sym is)
+    (λ types. (
+      record { note = latest.note; note_type = λ own e. read ∙ ap (note_type_at held.current.rows) (some_same id own e); deck = latest.deck; texts = λ e. absurd (true_false e refl); types = types },
+      (refl, read ∙ type_by_id held.current.rows old.related.note id of),
+    )) taken.0
+
+-- one more type is kept, and one is taken out
+pub type_kept : (old new : KeptTypes) (id key : ℤ) (note_type : Option NoteType) → key ≡ id → ((q : ℤ) → get int_cmp new.by_id q ≡ cond (is_eq (int_cmp key q)) (Some note_type) (get int_cmp old.by_id q))
+    → (held : Rows) → note_type ≡ note_type_at held id → AreTypesOf old held → AreTypesOf new held
+type_kept old new id key note_type same puts held read are = λ q other e.
+    elim (int_eq id q) as (λ b. int_eq id q ≡ b → cond b (Some note_type) (get int_cmp old.by_id q) ≡ Some other → other ≡ note_type_at held q) [
+      | true ↦ λ own e. sym (same_Some note_type other e) ∙ read ∙ ap (note_type_at held) ((signed_Decides id q).0 own)
+      | false ↦ λ _ e. are q other e
+    ] refl (sym (puts q ∙ ap (λ k. cond (is_eq (int_cmp k q)) (Some note_type) (get int_cmp old.by_id q)) same) ∙ e)
+
+still_kept : (old new : KeptTypes) (key : ℤ) (held : Rows) → ((q : ℤ) → get int_cmp new.by_id q ≡ cond (is_eq (int_cmp key q)) None (get int_cmp old.by_id q)) → AreTypesOf old held → AreTypesOf new held
+still_kept old new key held takes are = λ q other e.
+    elim (is_eq (int_cmp key q)) as (λ b. cond b None (get int_cmp old.by_id q) ≡ Some other → other ≡ note_type_at held q) [
+      | true ↦ λ e. absurd (none-some other e)
+      | false ↦ λ e. are q other e
+    ] (sym (takes q) ∙ e)
+
+pub type_taken : (told : Option (WithMark Holding)) (old new : KeptTypes) (id key : ℤ) (note_type : Option NoteType) → key ≡ id → Some note_type ≡ get int_cmp old.by_id key
+    → ((q : ℤ) → get int_cmp new.by_id q ≡ cond (is_eq (int_cmp key q)) None (get int_cmp old.by_id q))
+    → IfSome told (λ held. AreTypesOf old held.current.rows → AreTypesOf new held.current.rows × (note_type ≡ note_type_at held.current.rows id))
+type_taken None old new id key note_type same there takes = tt
+type_taken (Some held) old new id key note_type same there takes = λ are.
+    (still_kept old new key held.current.rows takes are, are id note_type (ap (get int_cmp old.by_id) (sym same) ∙ sym there))
+
+pub type_looked_up : (told : Option (WithMark Holding)) (old new : KeptTypes) (id key : ℤ) (result : Result (Option NoteType) KeepFault)
+    → ((q : ℤ) → get int_cmp new.by_id q ≡ cond (is_eq (int_cmp key q)) None (get int_cmp old.by_id q)) → IfOk result (λ note_type. IfSome told (λ held. note_type ≡ note_type_at held.current.rows id))
+    → IfOk result (λ note_type. IfSome told (λ held. AreTypesOf old held.current.rows → AreTypesOf new held.current.rows × (note_type ≡ note_type_at held.current.rows id)))
+type_looked_up told old new id key (Err fault) takes read = tt
+type_looked_up None old new id key (Ok note_type) takes read = tt
+type_looked_up (Some held) old new id key (Ok note_type) takes read = λ are. (still_kept old new key held.current.rows takes are, read)
+
+pub type_none : (told : Option (WithMark Holding)) (old new : Latest) → new ≡ record { nid = old.nid; mid = None; did = old.did; related = record { note = old.related.note; note_type = None; deck = old.related.deck }; texts = None; types = old.types }
     → option_map (λ (n : Note). n.mid) old.related.note ≡ None → IfSome told (λ held. TypeStays old new held.current.rows)
 type_none None old new is of = tt
 type_none (Some held) old new is of = λ latest. subst (λ (l : Latest). AreLatest l held.current.rows × ((l.related.note ≡ old.related.note) × (l.related.note_type ≡ type_of held.current.rows old.related.note))) (sym is)
-    (record { note = latest.note; note_type = λ own e. absurd (no_some own e); deck = latest.deck; texts = λ e. absurd (true_false e refl) }, (refl, no_type held.current.rows old.related.note of))
+    (record { note = latest.note; note_type = λ own e. absurd (no_some own e); deck = latest.deck; texts = λ e. absurd (true_false e refl); types = latest.types }, (refl, no_type held.current.rows old.related.note of))
 
 -- the note, and then its type
 pub both_told : (told : Option (WithMark Holding)) (old now new : Latest) (c : Card) → IfSome told (λ held. NoteStays old now c.nid held.current.rows) → IfSome told (λ held. TypeStays now new held.current.rows)
@@ -163,7 +218,7 @@ texts_told None old now new c is strips turned = tt
 texts_told (Some held) old now new c is strips turned = λ latest.
     let one = turned latest in
     subst (λ (l : Latest). HasTexts l → AreLatest l held.current.rows × (HasNoteOf l held.current.rows c × HasTexts l)) (sym is)
-    (λ texts. (record { note = one.0.note; note_type = one.0.note_type; deck = one.0.deck; texts = λ _. texts }, (one.1, texts))) (strips one.0.texts)
+    (λ texts. (record { note = one.0.note; note_type = one.0.note_type; deck = one.0.deck; texts = λ _. texts; types = one.0.types }, (one.1, texts))) (strips one.0.texts)
 
 -- what a term asks for
 texts_of_note : (term : Term) → needs_texts term ≡ true → needs_note term ≡ true
@@ -342,13 +397,42 @@ all_told None ps day search found walk done so_far = tt
 all_told (Some held) ps day search found walk done so_far = λ tree are.
     sym ((so_far tree are).1 ∙ ap (λ b. found ++ ids_of_hits (asked_by tree) held.current.rows day (cond b [] (rows_past walk.past.table walk.past.id held.current.rows))) done ∙ append-nil found)
 
+-- what is shown, with the reviews ahead, is what all reviews show from an id on
+abbrev pub ShowsFrom : ℤ → Answers → Walk → Rows → Type 0
+ShowsFrom id answers walk held = (card ease least : ℤ) → int_lt least id ≡ false → (is_shown answers card ease least || is_answer_in card ease least (ahead walk held)) ≡ is_answered held card ease least
+
 -- one more page of reviews was read
-pub reviews_told : (told : Option (WithMark Holding)) (answers more : Answers) (walk next : Walk) (page : List Row)
-    → IfSome told (λ held. (card ease least : ℤ) → (is_shown answers card ease least || is_answer_in card ease least (ahead walk held.current.rows)) ≡ is_answered held.current.rows card ease least)
+pub reviews_told : (told : Option (WithMark Holding)) (id : ℤ) (answers more : Answers) (walk next : Walk) (page : List Row) → IfSome told (λ held. ShowsFrom id answers walk held.current.rows)
     → IfSome told (λ held. ahead walk held.current.rows ≡ page ++ ahead next held.current.rows)
     → ((card ease least : ℤ) → is_shown more card ease least ≡ (is_shown answers card ease least || is_answer_in card ease least page))
-    → IfSome told (λ held. (card ease least : ℤ) → (is_shown more card ease least || is_answer_in card ease least (ahead next held.current.rows)) ≡ is_answered held.current.rows card ease least)
-reviews_told None answers more walk next page so_far split step = tt
-reviews_told (Some held) answers more walk next page so_far split step = λ card ease least.
+    → IfSome told (λ held. ShowsFrom id more next held.current.rows)
+reviews_told None id answers more walk next page so_far split step = tt
+reviews_told (Some held) id answers more walk next page so_far split step = λ card ease least later.
     page_added (is_shown answers card ease least) (is_shown more card ease least) (is_answered held.current.rows card ease least) card ease least (ahead walk held.current.rows) page (ahead next held.current.rows)
-    (step card ease least) split (so_far card ease least)
+    (step card ease least) split (so_far card ease least later)
+
+-- before the first page, past an id before which nothing is asked
+pub none_shown_told : (told : Option (WithMark Holding)) (id past : ℤ) (answers : Answers) (walk : Walk) → walk ≡ record { past = record { table = tables.Review; id = past }; done = false }
+    → pos 0 ≤ℤ past → (past ≡ pos 0) ⊎ (past <ℤ id) → ((card ease least : ℤ) → is_shown answers card ease least ≡ false)
+    → IfSome told (λ held. StandsUnderNames held.current.rows) → IfSome told (λ held. ShowsFrom id answers walk held.current.rows)
+none_shown_told None id past answers walk is low before none named = tt
+none_shown_told (Some held) id past answers walk is low before none named = λ card ease least later.
+    ap (λ b. b || is_answer_in card ease least (ahead walk held.current.rows)) (none card ease least)
+    ∙ ap (λ (w : Walk). is_answer_in card ease least (ahead w held.current.rows)) is
+    ∙ later_answers id past card ease least held.current.rows low before later named
+
+-- no page is ahead
+pub all_shown_told : (told : Option (WithMark Holding)) (id : ℤ) (answers : Answers) (walk : Walk) → walk.done ≡ true → IfSome told (λ held. ShowsFrom id answers walk held.current.rows)
+    → IfSome told (λ held. AreAnswersFrom id answers held.current.rows)
+all_shown_told None id answers walk done shows = tt
+all_shown_told (Some held) id answers walk done shows = λ card ease least later.
+    sym (or-false (is_shown answers card ease least))
+    ∙ sym (ap (λ b. is_shown answers card ease least || is_answer_in card ease least (cond b [] (rows_past walk.past.table walk.past.id held.current.rows))) done)
+    ∙ shows card ease least later
+
+-- if they are those from an id on before which none is asked, they serve
+pub answers_serve : (told : Option (WithMark Holding)) (day : Day) (ps : List Piece) (id : ℤ) (result : Result Answers KeepFault) → some_term (asks_before day id) ps ≡ false
+    → IfOk result (λ answers. IfSome told (λ held. AreAnswersFrom id answers held.current.rows)) → IfOk result (λ answers. IfSome told (λ held. AreAnswersFor day ps answers held.current.rows))
+answers_serve told day ps id (Err fault) none from = tt
+answers_serve None day ps id (Ok answers) none from = tt
+answers_serve (Some held) day ps id (Ok answers) none from = λ _. (id, none, from)

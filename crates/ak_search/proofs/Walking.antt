@@ -1,12 +1,69 @@
 -- What a search asks: walked through piece by piece, and of trees that are made of others.
 use Rattle.std.proofs.Common.{◌≡◌, Bool, true, false, not, ◌&&◌, ◌||◌, List, [], ◌∷◌, ◌++◌, append_assoc, refl, ap, sym, ◌∙◌, arith, append-nil}
 use Rattle.std.proofs.Math.Bool.{and_assoc, or_assoc}
+use Rattle.std.specs.List.{list_all}
 use Rattle.ak_search.specs.declared.terms.Term.{Term}
 use Rattle.ak_search.specs.declared.tokens.Piece.{Piece}
 use Rattle.ak_search.specs.declared.tokens.Piece.TheVariants.{Close}
 use Rattle.ak_search.specs.declared.evaluator.Group.{Group as Outer}
 use Rattle.ak_search.specs.Trees.{Tree, End, Asks, Group, Either, Also, pieces_of}
-use Rattle.ak_search.specs.Meanings.{negated_by, meets_from, meets, followed, has_no_or, walk}
+use Rattle.ak_search.specs.Meanings.{negated_by, some_holds, with_part, alternatives, meets, followed, has_no_or, walk}
+
+-- whether a card meets what is left of a tree, as it is walked through. The truth values say whether it meets some alternative before the last `or`,
+-- and all parts behind it so far
+abbrev meets_from : (Term → Bool) → Bool → Bool → Tree → Bool
+meets_from holds either all End = either || all
+meets_from holds either all (Asks negated term after) = meets_from holds either (all && negated_by negated (holds term)) after
+meets_from holds either all (Group negated inside after) = meets_from holds either (all && negated_by negated (meets_from holds false true inside)) after
+meets_from holds either all (Either after) = meets_from holds (either || all) true after
+meets_from holds either all (Also after) = meets_from holds either all after
+
+-- ---- the walk by the alternatives
+
+-- whether the alternatives so far are met, or these, of which the first goes on with the parts so far
+abbrev met_from : Bool → Bool → List (List Bool) → Bool
+met_from either all [] = either
+met_from either all (first ∷ others) = either || ((all && list_all (λ part. part) first) || some_holds others)
+
+no_part : (either all : Bool) → (either || all) ≡ met_from either all ([] ∷ [])
+no_part true all = refl
+no_part false true = refl
+no_part false false = refl
+
+one_part : (either all part : Bool) (all_of : List (List Bool)) → met_from either (all && part) all_of ≡ met_from either all (with_part part all_of)
+one_part either all part [] = refl
+one_part either true part (first ∷ others) = refl
+one_part either false part (first ∷ others) = refl
+
+next_one : (either all : Bool) (all_of : List (List Bool)) → met_from (either || all) true all_of ≡ met_from either all ([] ∷ all_of)
+next_one true all [] = refl
+next_one true all (first ∷ others) = refl
+next_one false true [] = refl
+next_one false true (first ∷ others) = refl
+next_one false false [] = refl
+next_one false false (first ∷ others) = refl
+
+from_front : (all_of : List (List Bool)) → met_from false true all_of ≡ some_holds all_of
+from_front [] = refl
+from_front (first ∷ others) = refl
+
+by_alternatives : (holds : Term → Bool) (tree : Tree) (either all : Bool) → meets_from holds either all tree ≡ met_from either all (alternatives holds tree)
+by_alternatives holds End either all = no_part either all
+by_alternatives holds (Asks negated term after) either all =
+    let part = negated_by negated (holds term) in
+    by_alternatives holds after either (all && part) ∙ one_part either all part (alternatives holds after)
+by_alternatives holds (Group negated inside after) either all =
+    let part = negated_by negated (some_holds (alternatives holds inside)) in
+    ap (λ v. meets_from holds either (all && negated_by negated v) after) (by_alternatives holds inside false true ∙ from_front (alternatives holds inside))
+    ∙ by_alternatives holds after either (all && part)
+    ∙ one_part either all part (alternatives holds after)
+by_alternatives holds (Either after) either all = by_alternatives holds after (either || all) true ∙ next_one either all (alternatives holds after)
+by_alternatives holds (Also after) either all = by_alternatives holds after either all
+
+walk_meets : (holds : Term → Bool) (tree : Tree) → meets_from holds false true tree ≡ meets holds tree
+walk_meets holds tree = by_alternatives holds tree false true ∙ from_front (alternatives holds tree)
+
+-- ---- the walk through the pieces
 
 -- the two truth values behind a tree say whether it is met, whatever comes then
 Walked : (Term → Bool) → List Outer → Bool → Bool → Tree → Type 0
@@ -32,7 +89,7 @@ pub walked : (holds : Term → Bool) (tree : Tree) → walk holds [] false true 
 unfolding Walked
 walked holds tree =
     let whole = walked_tree holds tree [] false true in
-    ap (walk holds [] false true) (sym (append-nil (pieces_of tree))) ∙ whole.3 [] ∙ whole.2
+    ap (walk holds [] false true) (sym (append-nil (pieces_of tree))) ∙ whole.3 [] ∙ whole.2 ∙ walk_meets holds tree
 
 -- ---- union, intersection, complement
 
@@ -54,7 +111,11 @@ or_from holds (Either after) other either all = or_from holds after other (eithe
 or_from holds (Also after) other either all = or_from holds after other either all
 
 pub either_meets : (holds : Term → Bool) (one other : Tree) → meets holds (followed one (Either other)) ≡ meets holds one || meets holds other
-either_meets holds one other = or_from holds one other false true
+either_meets holds one other =
+    sym (walk_meets holds (followed one (Either other)))
+    ∙ or_from holds one other false true
+    ∙ ap (λ v. v || meets_from holds false true other) (walk_meets holds one)
+    ∙ ap (λ v. meets holds one || v) (walk_meets holds other)
 
 all_apart : (holds : Term → Bool) (tree : Tree) (all : Bool) → has_no_or tree ≡ true → meets_from holds false all tree ≡ all && meets_from holds false true tree
 all_apart holds End true h = refl
@@ -74,7 +135,16 @@ and_from holds (Either after) other all h g = grind (arith, h)
 and_from holds (Also after) other all h g = and_from holds after other all h g
 
 pub both_meet : (holds : Term → Bool) (one other : Tree) → has_no_or one ≡ true → has_no_or other ≡ true → meets holds (followed one other) ≡ meets holds one && meets holds other
-both_meet holds one other h g = and_from holds one other true h g
+both_meet holds one other h g =
+    sym (walk_meets holds (followed one other))
+    ∙ and_from holds one other true h g
+    ∙ ap (λ v. v && meets_from holds false true other) (walk_meets holds one)
+    ∙ ap (λ v. meets holds one && v) (walk_meets holds other)
+
+-- the one alternative has one part
+alone : (part : Bool) → ((part && true) || false) ≡ part
+alone true = refl
+alone false = refl
 
 pub none_meets : (holds : Term → Bool) (tree : Tree) → meets holds (Group true tree End) ≡ not (meets holds tree)
-none_meets holds tree = refl
+none_meets holds tree = alone (not (meets holds tree))

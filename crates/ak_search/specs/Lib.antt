@@ -1,11 +1,13 @@
 pub mod AllFaults
 pub mod CardFacts
+pub mod Earliest
 pub mod Grammar
 pub mod Holds
 pub mod Matching
 pub mod Meanings
 pub mod Passes
 pub mod Patterns
+pub mod Runs
 pub mod Searching
 pub mod SourceChars
 pub mod Terms

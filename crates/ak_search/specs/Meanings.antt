@@ -1,5 +1,6 @@
 -- What a search asks of a card, by what its terms do.
 use Rattle.std.specs.Prelude.{Bool, true, false, not, ◌&&◌, ◌||◌, if◌then◌else◌, List, [], ◌∷◌}
+use Rattle.std.specs.List.{list_any, list_all}
 use Rattle.ak_search.specs.declared.terms.Term.{Term}
 use Rattle.ak_search.specs.declared.tokens.Piece.{Piece}
 use Rattle.ak_search.specs.declared.tokens.Piece.TheVariants.{Test, BadValue, Open, Close, Or, And, OpenQuote}
@@ -10,18 +11,26 @@ use Rattle.ak_search.specs.Trees.{Tree, End, Asks, Group, Either, Also}
 abbrev pub negated_by : Bool → Bool → Bool
 negated_by negated holds = if negated then not holds else holds
 
--- whether a card meets what is left of a tree. The truth values say whether it meets some alternative before the last
--- `or`, and all parts behind it so far: parts side by side, or with `and` between, both hold, and `or` binds weaker
-abbrev pub meets_from : (Term → Bool) → Bool → Bool → Tree → Bool
-meets_from holds either all End = either || all
-meets_from holds either all (Asks negated term after) = meets_from holds either (all && negated_by negated (holds term)) after
-meets_from holds either all (Group negated inside after) = meets_from holds either (all && negated_by negated (meets_from holds false true inside)) after
-meets_from holds either all (Either after) = meets_from holds (either || all) true after
-meets_from holds either all (Also after) = meets_from holds either all after
+-- whether all parts of some alternative hold
+abbrev pub some_holds : List (List Bool) → Bool
+some_holds alternatives = list_any (list_all (λ part. part)) alternatives
+
+-- a part more at the front of the first alternative
+abbrev pub with_part : Bool → List (List Bool) → List (List Bool)
+with_part part [] = []
+with_part part (first ∷ others) = (part ∷ first) ∷ others
+
+-- the alternatives of a tree: each has the parts between two `or`, which stand side by side or with `and` between; of each part whether it holds
+abbrev pub alternatives : (Term → Bool) → Tree → List (List Bool)
+alternatives holds End = [] ∷ []
+alternatives holds (Asks negated term after) = with_part (negated_by negated (holds term)) (alternatives holds after)
+alternatives holds (Group negated inside after) = with_part (negated_by negated (some_holds (alternatives holds inside))) (alternatives holds after)
+alternatives holds (Either after) = [] ∷ alternatives holds after
+alternatives holds (Also after) = alternatives holds after
 
 -- whether a card for which these terms hold meets the tree. Every card meets the empty one
 abbrev pub meets : (Term → Bool) → Tree → Bool
-meets holds tree = meets_from holds false true tree
+meets holds tree = some_holds (alternatives holds tree)
 
 -- ---- trees made of others
 

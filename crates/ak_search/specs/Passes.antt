@@ -15,12 +15,13 @@ use Rattle.ak_filters.specs.Strips.{stripped}
 use Rattle.ak_keep.specs.Collections.{Rows}
 use Rattle.ak_keep.specs.Lookups.{note_at, note_type_at, deck_at, deck_of_card}
 use Rattle.ak_search.specs.CardFacts.{Seen, fields_seen, type_of, is_answered, is_since}
-use Rattle.ak_search.specs.Holds.{held_and, holds, passes}
+use Rattle.ak_search.specs.Holds.{held_and, holds, id_back, passes}
 use Rattle.ak_search.specs.Meanings.{walk}
 use Rattle.ak_search.specs.Patterns.{matches}
 use Rattle.ak_search.specs.declared.answers.Answers.{Answers}
 use Rattle.ak_search.specs.declared.evaluator.Evaluator.{Evaluator}
 use Rattle.ak_search.specs.declared.holds.SearchContext.{SearchContext}
+use Rattle.ak_search.specs.declared.kept_types.KeptTypes.{KeptTypes}
 use Rattle.ak_search.specs.declared.patterns.PatternItem.{PatternItem}
 use Rattle.ak_search.specs.declared.related.Latest.{Latest}
 use Rattle.ak_search.specs.declared.related.Related.{Related}
@@ -88,6 +89,12 @@ needs_answers (terms.Rated days) = true
 needs_answers (terms.RatedWith days ease) = true
 needs_answers term = false
 
+-- whether a term asks for answers before an id
+abbrev pub asks_before : Day → ℤ → Term → Bool
+asks_before day id (terms.Rated days) = int_lt (id_back day days) id
+asks_before day id (terms.RatedWith days ease) = int_lt (id_back day days) id
+asks_before day id term = false
+
 -- whether a term asks for the texts of a note's fields
 abbrev pub needs_texts : Term → Bool
 needs_texts (terms.Contains pattern) = true
@@ -112,9 +119,13 @@ abbrev pub needs_deck : Term → Bool
 needs_deck (terms.Deck pattern) = true
 needs_deck term = false
 
--- the answers are those of the collection
-abbrev pub AreAnswersOf : Answers → Rows → Type 0
-AreAnswersOf answers held = (card ease least : ℤ) → is_shown answers card ease least ≡ is_answered held card ease least
+-- the answers from an id on are those of the collection
+abbrev pub AreAnswersFrom : ℤ → Answers → Rows → Type 0
+AreAnswersFrom id answers held = (card ease least : ℤ) → int_lt least id ≡ false → is_shown answers card ease least ≡ is_answered held card ease least
+
+-- the answers serve the pieces: where a term asks for some, they are those of the collection from an id on before which none asks
+abbrev pub AreAnswersFor : Day → List Piece → Answers → Rows → Type 0
+AreAnswersFor day ps answers held = some_term needs_answers ps ≡ true → (id : ℤ) × (some_term (asks_before day id) ps ≡ false) × AreAnswersFrom id answers held
 
 -- the stripped texts of the fields that are seen of a note
 abbrev pub texts_seen : Option NoteType → Note → List (List ℕ)
@@ -128,12 +139,17 @@ HasTexts latest = latest.texts ≡ option_map (texts_seen latest.related.note_ty
 abbrev pub KeepsTexts : Latest → Type 0
 KeepsTexts latest = is_some latest.texts ≡ true → HasTexts latest
 
+-- types that are kept are those that the collection has under their ids
+abbrev pub AreTypesOf : KeptTypes → Rows → Type 0
+AreTypesOf types held = (id : ℤ) (note_type : Option NoteType) → get int_cmp types.by_id id ≡ Some note_type → note_type ≡ note_type_at held id
+
 -- what was looked up last is what the collection has under the ids that it was looked up by
 pub record AreLatest (latest : Latest) (held : Rows) : Type 0 where
   pub note : (id : ℤ) → latest.nid ≡ Some id → latest.related.note ≡ note_at held id
   pub note_type : (id : ℤ) → latest.mid ≡ Some id → latest.related.note_type ≡ note_type_at held id
   pub deck : (id : ℤ) → latest.did ≡ Some id → latest.related.deck ≡ option_or (deck_at held id) (deck_at held (pos 1))
   pub texts : KeepsTexts latest
+  pub types : AreTypesOf latest.types held
 
 -- what was looked up last stays that of the collection, if it was, and this is true
 abbrev pub Stays : Latest → Latest → Rows → Type 0 → Type 0
@@ -153,9 +169,9 @@ pub record Suits (latest : Latest) (held : Rows) (c : Card) (term : Term) : Type
   pub deck : needs_deck term ≡ true → latest.related.deck ≡ deck_of_card held c
   pub texts : needs_texts term ≡ true → HasTexts latest
 
--- what is asked with serves the pieces: where a term asks for answers, they are those of the collection
+-- what is asked with serves the pieces
 abbrev pub Serves : SearchContext → List Piece → Rows → Type 0
-Serves context ps held = some_term needs_answers ps ≡ true → AreAnswersOf context.answers held
+Serves context ps held = AreAnswersFor context.day ps context.answers held
 
 -- whether the text of a field of that name passes, the ASCII case of names aside
 abbrev pub named_text : List ℕ → (List ℕ → Bool) → List FieldDef → List (List ℕ) → Bool

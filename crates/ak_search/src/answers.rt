@@ -1,12 +1,12 @@
 // The answers that cards got, read from the reviews of a keeper.
-ghost use Rattle.std.specs.Prelude.{◌≡◌, ◌||◌, ℤ, OnOk, false};
+ghost use Rattle.std.specs.Prelude.{◌≡◌, ◌≤ℤ◌, ◌<ℤ◌, ◌⊎◌, ◌||◌, ℤ, pos, OnOk, false};
 ghost use Rattle.ak_base.specs.declared.rows.Row.TheVariants as rows;
 ghost use Rattle.ak_keep.specs.Readings.{ReadsBy};
 ghost use Rattle.ak_search.specs.CardFacts.{is_answer, is_answer_in, is_since};
-ghost use Rattle.ak_search.specs.Passes.{AreAnswersOf, is_shown};
+ghost use Rattle.ak_search.specs.Passes.{AreAnswersFrom, is_shown};
 
 use crate::states::is_since;
-use ak_base::{Memory, Review, Row, Table};
+use ak_base::{Memory, Name, Review, Row, Table};
 use ak_keep::{KeepFault, Readable, Walk};
 use std::alloc::Global;
 use std::collections::BTreeMap;
@@ -79,15 +79,38 @@ impl Answers {
     }
 }
 
-/// The answers in all reviews that are kept.
-pub(crate) fn read_answers<R: Readable>(alloc: Global, from: &mut R) -> Result<Answers, KeepFault>
-    ensures reads { ReadsBy R.Lookup from.old from.new result (λ h answers. AreAnswersOf answers h.rows) }
+/// The answers in the reviews from an id on.
+pub(crate) fn read_answers<R: Readable>(
+    alloc: Global,
+    from: &mut R,
+    least: &i128,
+) -> Result<Answers, KeepFault>
+    ensures reads { ReadsBy R.Lookup from.old from.new result (λ h answers. AreAnswersFrom least.now answers h.rows) }
 {
+    // For the proof alone: it says that each row stands under its name.
+    let _held = from.held();
     let mut answers = Answers::new(alloc);
-    let mut walk = Walk::over(Table::Review);
+    let mut walk = Walk::past(Name {
+        table: Table::Review,
+        id: id_before(least),
+    });
     'pages: while !walk.is_done() {
         let page = walk.next(from)?;
         answers.add_rows(page.as_slice())?;
     }
     Ok(answers)
+}
+
+/// An id that is not below 0, past which all ids over 0 are that are not before the other.
+fn id_before(least: &i128) -> i64
+    ensures low { pos 0 ≤ℤ result }
+    ensures before { (result ≡ pos 0) ⊎ (result <ℤ least.now) }
+{
+    if *least <= 0 {
+        return 0;
+    }
+    match i64::try_from(*least - 1) {
+        Ok(before) => before,
+        Err(_) => i64::MAX,
+    }
 }

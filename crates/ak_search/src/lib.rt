@@ -3,10 +3,12 @@
 
 mod answers;
 mod checks;
+mod earliest;
 mod evaluator;
 mod faults;
 mod holds;
 mod ids;
+mod kept_types;
 mod laws;
 mod lexemes;
 mod matching;

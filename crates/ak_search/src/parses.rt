@@ -20,7 +20,7 @@ pub fn parse(alloc: Global, text: &str) -> Result<Expr, SearchFault>
     // The text has the tree of the expression.
     ensures tree { IfOk result (λ expr. (tree : Tree) × ReadsSearch text.now tree × (pieces_in expr.tokens.items ≡ pieces_of tree)) }
 
-    // A text that has a tree is refused for want of memory alone.
+    // A text that has a tree is refused only if memory runs out.
     ensures only { (tree : Tree) → ReadsSearch text.now tree → IfErr result (λ fault. fault ≡ faults.Memory) }
 
     // Any other refusal is the first fault.

@@ -1,16 +1,17 @@
 // What a card belongs to: its note, its type and its deck, and the texts of the note. What was looked up last is kept.
-ghost use Rattle.std.specs.Prelude.{◌≡◌, true, IfOk, OnOk, Some};
+ghost use Rattle.std.specs.Prelude.{◌≡◌, true, IfOk, OnOk, Some, None};
 ghost use Rattle.std.specs.Option.{option_map};
 ghost use Rattle.ak_base.specs.declared.notes.Note.{Note as Noted};
 ghost use Rattle.ak_keep.specs.Collections.{Rows};
 ghost use Rattle.ak_keep.specs.Lookups.{note_at, deck_of_card};
 ghost use Rattle.ak_keep.specs.Readings.{ReadsBy};
-ghost use Rattle.ak_search.specs.Passes.{AreLatest, HasNoteOf, HasTexts, HasTypeOf, KeepsTexts, Stays, Suits, needs_note, needs_deck, needs_texts, texts_seen};
+ghost use Rattle.ak_search.specs.Passes.{AreLatest, AreTypesOf, HasNoteOf, HasTexts, HasTypeOf, KeepsTexts, Stays, Suits, needs_note, needs_deck, needs_texts, texts_seen};
 
 use crate::Term;
+use crate::kept_types::KeptTypes;
 use crate::texts::stripped_fields;
 use ak_base::{Card, Deck, List, Memory, Note, NoteType, Text};
-use ak_keep::{KeepFault, Lookup, deck_of_card, note_at, note_type_at};
+use ak_keep::{KeepFault, Lookup, deck_of_card, note_at};
 use std::alloc::Global;
 
 /// What a card belongs to, each if it is held.
@@ -31,11 +32,13 @@ pub(crate) struct Latest {
     pub(crate) related: Related,
     /// The stripped texts of the note's fields, if a term asked for them since the note was looked up. None without a note.
     pub(crate) texts: Option<List<Text>>,
+    /// The types that were looked up before.
+    pub(crate) types: KeptTypes,
 }
 
 impl Latest {
     /// Before anything was looked up.
-    pub(crate) fn nothing() -> Latest
+    pub(crate) fn nothing(alloc: Global) -> Latest
         ensures { (held : Rows) → AreLatest result held }
     {
         Latest {
@@ -48,6 +51,7 @@ impl Latest {
                 deck: None,
             },
             texts: None,
+            types: KeptTypes::new(alloc),
         }
     }
 
@@ -145,11 +149,27 @@ impl Latest {
         if is_by(self.mid, id) {
             return Ok(());
         }
-        let note_type = note_type_at(from, id)?;
+        self.keep_type()?;
+        let note_type = self.types.take(from, id)?;
         self.related.note_type = note_type;
         self.texts = None;
         self.mid = Some(id);
         Ok(())
+    }
+
+    /// Puts the type that was looked up last to those that were looked up before.
+    fn keep_type(&mut self) -> Result<(), Memory>
+        ensures same { self.new ≡ record self.old { mid = None; related = record self.old.related { note_type = None }; types = self.new.types } }
+        ensures types { OnOk result ((held : Rows) → AreLatest self.old held → AreTypesOf self.new.types held) }
+    {
+        let note_type = self.related.note_type.take();
+        match self.mid.take() {
+            Some(id) => self.types.keep(id, note_type),
+            None => {
+                drop(note_type);
+                Ok(())
+            }
+        }
     }
 
     /// Looks up the deck of the card.
@@ -216,16 +236,15 @@ fn needs_note(term: &Term) -> bool
     ensures { result ≡ needs_note term.now }
 {
     match term {
-        Term::Deck(_) => false,
-        Term::InState(_) => false,
-        Term::Prop(_, _, _) => false,
-        Term::Flag(_) => false,
-        Term::Rated(_) => false,
-        Term::RatedWith(_, _) => false,
-        Term::Added(_) => false,
-        Term::NoteIds(_) => false,
-        Term::CardIds(_) => false,
-        _ => true,
+        Term::Contains(_) => true,
+        Term::Word(_) => true,
+        Term::Field(_, _) => true,
+        Term::Tag(_) => true,
+        Term::Untagged => true,
+        Term::NoteType(_) => true,
+        Term::Template(_) => true,
+        Term::Edited(_) => true,
+        _ => false,
     }
 }
 

@@ -1,5 +1,5 @@
 // Which cards meet an expression: a search that is asked card by card, and one pass over the cards of a keeper.
-ghost use Rattle.std.specs.Prelude.{◌≡◌, ◌++◌, [], ◌∷◌, true, ℤ, IfOk, OnErr, OnOk, IsTrue};
+ghost use Rattle.std.specs.Prelude.{◌≡◌, ◌++◌, [], ◌∷◌, ℤ, IfOk, OnErr, OnOk, IsTrue};
 ghost use Rattle.std.specs.List.Sorted.{IsStrictlySortedBy};
 ghost use Rattle.std.specs.Ordering.{int_cmp};
 ghost use Rattle.ak_base.specs.Rows.{name_of};
@@ -11,11 +11,12 @@ ghost use Rattle.ak_search.specs.CardFacts.{seen};
 ghost use Rattle.ak_search.specs.Grammar.{pieces_in};
 ghost use Rattle.ak_search.specs.Holds.{asked_by, holds, hits, is_hit, ids_of_hits};
 ghost use Rattle.ak_search.specs.Meanings.{meets};
-ghost use Rattle.ak_search.specs.Passes.{AreAnswersOf, Stays, Tells, TakesFrom, asked, needs_answers, some_term, tested};
+ghost use Rattle.ak_search.specs.Passes.{AreAnswersFor, Stays, Tells, TakesFrom, asked, tested};
 ghost use Rattle.ak_search.specs.Searching.{SearchStays, SearchesBy, StillSearches};
 ghost use Rattle.ak_search.specs.Trees.{Tree, pieces_of};
 
 use crate::answers::{Answers, read_answers};
+use crate::earliest::earliest_asked;
 use crate::evaluator::Evaluator;
 use crate::holds::SearchContext;
 use crate::related::Latest;
@@ -25,8 +26,8 @@ use ak_base::{Card, Day, List, Row, Table};
 use ak_keep::{KeepFault, Lookup, Readable, Walk};
 use std::alloc::Global;
 
-/// The ids of the cards that meet the expression on that day, in one pass over the cards. Reviews are read once, and
-/// only for an expression that asks for answers.
+/// The ids of the cards that meet the expression on that day, in one pass over the cards. Reviews are read once, from the first
+/// on that matters, and only for an expression that asks for answers.
 pub fn find<R: Readable>(
     alloc: Global,
     expr: &Expr,
@@ -68,7 +69,7 @@ impl<'a> Search<'a> {
         ensures reads { ReadsBy R.Lookup from.old from.new result
             (λ h search. (tree : Tree) → pieces_in expr.now.tokens.items ≡ pieces_of tree → SearchesBy search h.rows day tree) }
     {
-        let answers = answers_for(alloc, &expr.tokens, from)?;
+        let answers = answers_for(alloc, &expr.tokens, from, day)?;
         Ok(Search {
             tokens: &expr.tokens,
             context: SearchContext {
@@ -76,7 +77,7 @@ impl<'a> Search<'a> {
                 day,
                 answers,
             },
-            latest: Latest::nothing(),
+            latest: Latest::nothing(alloc),
         })
     }
 
@@ -92,50 +93,27 @@ impl<'a> Search<'a> {
         match meets(&self.context, self.tokens, from, &mut self.latest, card) {
             Ok(does) => Ok(does),
             Err(fault) => {
-                self.latest = Latest::nothing();
+                self.latest = Latest::nothing(self.context.alloc);
                 Err(fault)
             }
         }
     }
 }
 
-/// The answers in the reviews, if some term asks for them, and none if not.
+/// The answers in the reviews from the first on that some term asks about. If no term asks for answers, no review is read.
 fn answers_for<R: Readable>(
     alloc: Global,
     tokens: &[Token],
     from: &mut R,
+    day: Day,
 ) -> Result<Answers, KeepFault>
-    ensures reads { ReadsBy R.Lookup from.old from.new result (λ h answers. some_term needs_answers (pieces_in tokens.now) ≡ true → AreAnswersOf answers h.rows) }
+    ensures reads { ReadsBy R.Lookup from.old from.new result (λ h answers. AreAnswersFor day (pieces_in tokens.now) answers h.rows) }
 {
-    if some_needs_answers(tokens) {
-        read_answers(alloc, from)
+    let earliest = earliest_asked(day, tokens);
+    if earliest.asked {
+        read_answers(alloc, from, &earliest.least)
     } else {
         Ok(Answers::new(alloc))
-    }
-}
-
-/// Whether some term asks for answers.
-fn some_needs_answers(tokens: &[Token]) -> bool
-    ensures { result ≡ some_term needs_answers (pieces_in tokens.now) }
-{
-    for token in tokens {
-        if let Piece::Test(_, term) = &token.piece {
-            if needs_answers(term) {
-                return true;
-            }
-        }
-    }
-    false
-}
-
-/// Whether a term asks for answers.
-fn needs_answers(term: &Term) -> bool
-    ensures { result ≡ needs_answers term.now }
-{
-    match term {
-        Term::Rated(_) => true,
-        Term::RatedWith(_, _) => true,
-        _ => false,
     }
 }
 

@@ -39,7 +39,11 @@ pub(crate) fn source_chars_of(alloc: Global, text: &str) -> Result<Vec<SourceCha
 pub(crate) fn letters_of(alloc: Global, text: &str) -> Result<Vec<char>, Memory>
     ensures { IfOk result (λ letters. letters.items ≡ chars text.now) }
 {
-    let letters: Vec<char> = text.chars().collect(alloc)?;
+    // No text has more characters than bytes.
+    let mut letters = Vec::with_capacity(alloc, text.len())?;
+    for letter in text.chars() {
+        letters.push(letter)?;
+    }
     Ok(letters)
 }
 

@@ -1,8 +1,8 @@
-use Rattle.std.proofs.Common.{refl, w64}
+use Rattle.std.proofs.Common.{refl, to_z, of_z, w64}
 use Rattle.std.proofs.lemmas.Int.{to_z-of_z}
 use Rattle.ak_faults.proofs.Healths.{goes_nowhere}
 use Rattle.ak_keep.proofs.Causing.{cause-ok}
-use Rattle.ak_search.proofs.Telling.{type_known, type_read}
+use Rattle.ak_search.proofs.Telling.{type_known, type_read, type_turned, with_type}
 use Rattle.ak_search.proofs.related.Latest.look_up_type_at.Goals as goal
 
 pub returns-then-is_by : goal.returns-then-is_by
@@ -18,11 +18,16 @@ returns-then-is_by g c = record {
 pub returns : goal.returns
 returns g c =
     let read = c.in_ok-note_type.ensures.reads in
+    let kept = c.keep_type.new.self in
+    let own = to_z w64 (of_z w64 c.args.id) in
+    let fits = to_z-of_z w64 c.args.id c.ranges.id in
+    let found = c.in_ok-note_type.note_type in
     record {
       reads = record {
         kept = read.kept;
         same = read.same;
         cause = cause-ok tt read.cause.goes;
-        told = type_read (g.R.Lookup.keeping c.args.from.now).told c.args.self.now _ c.args.id c.in_ok-note_type.note_type (rw (to_z-of_z w64 c.args.id c.ranges.id) refl) c.requires (rw (to_z-of_z w64 c.args.id c.ranges.id) at read.told);
+        told = type_read (g.R.Lookup.keeping c.args.from.now).told c.args.self.now (with_type kept own found c.take.new.self) c.args.id found kept.types
+            (type_turned c.args.self.now kept own c.args.id found c.take.new.self c.keep_type.ensures.same fits) c.requires c.in_ok-keep_type.ensures.types (rw fits at read.told);
       };
     }
