@@ -1,4 +1,5 @@
 pub mod Ascending
 pub mod Emptiness
 pub mod Generating
+pub mod Marks
 pub mod Places

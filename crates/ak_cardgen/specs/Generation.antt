@@ -1,5 +1,6 @@
 -- The cards that a note has, as the ords of its type.
-use Rattle.std.specs.Prelude.{◌≡◌, ◌⊎◌, ⊤, take, IfOk, OnOk, IfErr, Result, ℕ, zero, suc, ℤ, pos, Bool, true, false, ◌||◌, if◌then◌else◌, List, [], ◌∷◌, ◌++◌, length, Option, Some, None}
+use Rattle.std.specs.Prelude.{◌≡◌, ◌⊎◌, ⊤, take, IfOk, OnOk, IfErr, Result, ℕ, zero, suc, ◌<◌, ℤ, pos, Bool, true, false, ◌||◌, if◌then◌else◌, List, [], ◌∷◌, ◌++◌, length, Option, Some, None}
+use Rattle.std.specs.List.{slice_index_or}
 use Rattle.std.specs.Option.{option_map, option_or, unwrap_or}
 use Rattle.std.specs.Ordering.{int_eq}
 use Rattle.ak_base.specs.declared.note_types.FieldDef.{FieldDef}
@@ -88,6 +89,14 @@ abbrev pub has_number : ℤ → List ℤ → Bool
 has_number number [] = false
 has_number number (first ∷ others) = int_eq first number || has_number number others
 
+-- these marks say of each ord below 500 whether its number is there
+abbrev pub AreMarksOf : List Bool → List ℤ → Type 0
+AreMarksOf marks numbers = (ord : ℕ) → ord < 500 → slice_index_or marks ord false ≡ has_number (pos (suc ord)) numbers
+
+-- the ord of one number was marked
+abbrev pub MarksOne : ℤ → List Bool → List Bool → Type 0
+MarksOne number old new = (ord : ℕ) → ord < 500 → slice_index_or new ord false ≡ (slice_index_or old ord false || int_eq number (pos (suc ord)))
+
 -- those ords below a bound whose numbers are there, ascending
 unfoldable pub ords_below : ℕ → List ℤ → List ℤ
 ords_below zero numbers = []
@@ -130,7 +139,7 @@ ord_end note_type = if note_type.cloze then 500 else length note_type.templates
 
 -- ---- what a call answers
 
--- a refusal is for want of memory, or it is this fault of a front
+-- a refusal is that memory ran out, or it is this fault of a front
 abbrev pub RefusesAs : {A : Type 0} → Option TemplateFault → Result A GenFault → Type 0
 RefusesAs found result = IfErr result (λ fault. (fault ≡ Memory) ⊎ (option_map OfTemplate found ≡ Some fault))
 

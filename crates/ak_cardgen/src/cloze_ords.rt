@@ -1,6 +1,7 @@
-ghost use Rattle.std.specs.Prelude.{◌≡◌, suc, ◌∷◌, [], ◌++◌, ◌≤◌, pos, List, IfOk, OnOk, if◌then◌else◌};
+ghost use Rattle.std.specs.Prelude.{◌≡◌, false, ◌∷◌, [], ◌++◌, ◌≤◌, ◌<◌, pos, List, IfOk, OnOk, if◌then◌else◌};
+ghost use Rattle.std.specs.List.{slice_index_or};
 ghost use Rattle.std.specs.Option.{unwrap_or};
-ghost use Rattle.ak_cardgen.specs.Generation.{TellsClozed, step_numbers, numbers_in, has_number, ords_below};
+ghost use Rattle.ak_cardgen.specs.Generation.{AreMarksOf, MarksOne, TellsClozed, step_numbers, numbers_in, ords_below};
 ghost use Rattle.ak_template.specs.Pages.{field_value};
 
 use ak_base::{List, Memory, Text};
@@ -70,33 +71,43 @@ fn keep_ords(alloc: Global, bound: u32, numbers: &[i64]) -> Result<List<i64>, Me
     requires { bound ≤ 500 }
     ensures { IfOk result (λ ords. ords ≡ ords_below bound numbers.now) }
 {
+    let marks = marks_of(numbers);
     let mut ords = List::new(alloc);
     for ord in 0..bound {
-        add_ord(&mut ords, ord, numbers)?;
+        add_ord(&mut ords, ord, &marks)?;
     }
     Ok(ords)
 }
 
-/// Adds the ord if its number is among these.
-fn add_ord(ords: &mut List<i64>, ord: u32, numbers: &[i64]) -> Result<(), Memory>
-    requires { ord ≤ 500 }
-    ensures { OnOk result (ords.new ≡ ords.old ++ (if has_number (pos (suc ord)) numbers.now then pos ord ∷ [] else [])) }
+/// For each ord below 500, whether its number is one of these.
+fn marks_of(numbers: &[i64]) -> [bool; 500]
+    ensures { AreMarksOf result numbers.now }
 {
-    if !has_number(i64::from(ord) + 1, numbers) {
+    let mut marks = [false; 500];
+    for number in numbers {
+        mark(&mut marks, number);
+    }
+    marks
+}
+
+/// Marks the ord of the number, if it is below 500.
+fn mark(marks: &mut [bool; 500], number: &i64)
+    ensures { MarksOne number.now marks.old marks.new }
+{
+    if *number < 1 || *number > 500 {
+        return;
+    }
+    marks[(*number - 1) as usize] = true;
+}
+
+/// Adds the ord if it is marked.
+fn add_ord(ords: &mut List<i64>, ord: u32, marks: &[bool; 500]) -> Result<(), Memory>
+    requires { ord < 500 }
+    ensures { OnOk result (ords.new ≡ ords.old ++ (if slice_index_or marks.now ord false then pos ord ∷ [] else [])) }
+{
+    if !marks[ord as usize] {
         return Ok(());
     }
     ords.push(i64::from(ord))?;
     Ok(())
-}
-
-/// Whether the number is one of these.
-fn has_number(number: i64, numbers: &[i64]) -> bool
-    ensures { result ≡ has_number number numbers.now }
-{
-    for other in numbers {
-        if *other == number {
-            return true;
-        }
-    }
-    false
 }

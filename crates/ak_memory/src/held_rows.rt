@@ -1,6 +1,7 @@
 // Rows in boxes. A `Row` has the size of the largest kind, over three times that of a review.
 ghost use Rattle.std.specs.Prelude.{◌≡◌, None, IfOk};
 ghost use Rattle.ak_base.specs.Rows.{usn_of};
+ghost use Rattle.ak_base.specs.declared.rows.Row.TheVariants as rows;
 ghost use Rattle.ak_memory.specs.NoteKeys.{note_of_card};
 ghost use Rattle.ak_memory.specs.HeldRows.{held_row};
 
@@ -39,13 +40,14 @@ impl HeldRow {
     pub(crate) fn copy(&self) -> Result<Row, Memory>
         ensures { IfOk result (λ row. row ≡ held_row self.now) }
     {
+        // Each kind is copied by a function of its own: a function clears room for all that it makes, whichever arm is taken.
         match self {
-            HeldRow::Note(note) => Ok(Row::Note(note.copy()?)),
-            HeldRow::Card(card) => Ok(Row::Card(card.copy()?)),
+            HeldRow::Note(note) => copy_note(note),
+            HeldRow::Card(card) => copy_card(card),
             HeldRow::Review(review) => Ok(Row::Review(**review)),
-            HeldRow::NoteType(note_type) => Ok(Row::NoteType(note_type.copy()?)),
-            HeldRow::Deck(deck) => Ok(Row::Deck(deck.copy()?)),
-            HeldRow::Options(options) => Ok(Row::Options(options.copy()?)),
+            HeldRow::NoteType(note_type) => copy_note_type(note_type),
+            HeldRow::Deck(deck) => copy_deck(deck),
+            HeldRow::Options(options) => copy_options(options),
             HeldRow::Grave(grave) => Ok(Row::Grave(**grave)),
         }
     }
@@ -75,6 +77,46 @@ impl HeldRow {
             HeldRow::NoteType(_) | HeldRow::Deck(_) | HeldRow::Options(_) => None,
         }
     }
+}
+
+/// A row that is a copy of the note.
+fn copy_note(note: &Note) -> Result<Row, Memory>
+    ensures { IfOk result (λ row. row ≡ rows.Note note.now) }
+{
+    let copy = note.copy()?;
+    Ok(Row::Note(copy))
+}
+
+/// A row that is a copy of the card.
+fn copy_card(card: &Card) -> Result<Row, Memory>
+    ensures { IfOk result (λ row. row ≡ rows.Card card.now) }
+{
+    let copy = card.copy()?;
+    Ok(Row::Card(copy))
+}
+
+/// A row that is a copy of the type.
+fn copy_note_type(note_type: &NoteType) -> Result<Row, Memory>
+    ensures { IfOk result (λ row. row ≡ rows.NoteType note_type.now) }
+{
+    let copy = note_type.copy()?;
+    Ok(Row::NoteType(copy))
+}
+
+/// A row that is a copy of the deck.
+fn copy_deck(deck: &Deck) -> Result<Row, Memory>
+    ensures { IfOk result (λ row. row ≡ rows.Deck deck.now) }
+{
+    let copy = deck.copy()?;
+    Ok(Row::Deck(copy))
+}
+
+/// A row that is a copy of the group of options.
+fn copy_options(options: &Options) -> Result<Row, Memory>
+    ensures { IfOk result (λ row. row ≡ rows.Options options.now) }
+{
+    let copy = options.copy()?;
+    Ok(Row::Options(copy))
 }
 
 /// A row that is to be held, with room for the row that it replaces, so that to hold it takes no memory.

@@ -119,8 +119,11 @@ impl MarkedRows {
         ensures page { IfOk result (λ page. IsPageOf (λ past. rows_past table past self.now.current) past limit page) }
         ensures ascends { IfOk result (λ page. AscendsPast table past page) }
     {
+        // No page is larger than the table, so a page with this room never grows.
+        let room = limit.min(self.count(table) as usize);
+        let empty = List::of(Vec::with_capacity(self.alloc, room)?);
         let before = Name { table, id: past };
-        let page = page_of(self.alloc, self.indexed.places(), &None, &before, limit)?;
+        let page = page_of(empty, self.indexed.places(), &None, &before, limit)?;
         Ok(page)
     }
 
@@ -141,7 +144,7 @@ impl MarkedRows {
     {
         let before = Name { table, id: past };
         let page = page_of(
-            self.alloc,
+            List::new(self.alloc),
             self.indexed.places(),
             &Some(want),
             &before,

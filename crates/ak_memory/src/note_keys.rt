@@ -58,6 +58,10 @@ pub(crate) fn forget_key(
     ensures all { HaveAllKeys keys.new.keys places.now.entries }
     ensures gone { is_needed note name places.now.entries ≡ false → (key : NoteKey) → is_key_of note name key ≡ true → has_key keys.new.keys key ≡ false }
 {
+    // Most rows are no cards, or replaced none: nothing is looked up for them.
+    if note.is_none() {
+        return;
+    }
     if needs_key(places, &name, &note) {
         return;
     }

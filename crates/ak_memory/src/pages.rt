@@ -1,5 +1,5 @@
 // A page of a table: the rows that are held, by ascending id.
-ghost use Rattle.std.specs.Prelude.{◌≡◌, ◌++◌, filter, take, IfOk, OnOk};
+ghost use Rattle.std.specs.Prelude.{◌≡◌, [], ◌++◌, filter, take, IfOk, OnOk};
 ghost use Rattle.std.specs.BTreeMap.{IsOrdered};
 ghost use Rattle.std.specs.BTreeMap.Range.{entries_between};
 ghost use Rattle.std.specs.Option.{option_to_list};
@@ -15,21 +15,22 @@ use crate::held_rows::HeldRow;
 use crate::places::Place;
 use ak_base::{List, Memory, Name, Row};
 use ak_keep::Wanted;
-use std::alloc::Global;
 use std::ops::Bound;
 
-/// The rows of the table of `past` that are held and come after it, or the wanted of them, up to `limit`.
+/// The rows of the table of `past` that are held and come after it, or the wanted of them, up to `limit`. They are put into an
+/// empty page, which may have room for them.
 pub(crate) fn page_of(
-    alloc: Global,
+    empty: List<Row>,
     places: &Places,
     want: &Option<Wanted>,
     past: &Name,
     limit: usize,
 ) -> Result<List<Row>, Memory>
+    requires { empty ≡ [] }
     ensures rows { IfOk result (λ page. page ≡ take limit (filter (is_picked want.now) (held_run past.now.table (entries_between name_cmp (Excluded past.now) Unbounded places.now.entries)))) }
     ensures ordered { IsOrdered name_cmp places.now }
 {
-    let mut page = List::new(alloc);
+    let mut page = empty;
     for (name, place) in places.range((Bound::Excluded(*past), Bound::Unbounded)) {
         if page.as_slice().len() == limit {
             return Ok(page);
