@@ -4,7 +4,6 @@ mod Crossing
 pub mod Keeping
 pub mod Kept
 pub mod Named
-pub mod Openings
 pub mod Running
 pub mod Serving
 pub mod Transferring

@@ -1,25 +1,18 @@
 -- The collection that is made of a seed is one that a server may hold.
-use Rattle.std.proofs.Common.{is_eq, ◌≡◌, ℕ, ℤ, pos, ◌+◌, ◌*◌, ◌<◌, ◌≤◌, false, is_some, List, [], ◌∷◌, ◌++◌, map, Option, Some, None, IfSome, refl, sym, ap, ◌∙◌, subst, arith}
+use Rattle.std.proofs.Common.{is_eq, ◌≡◌, ℕ, ℤ, pos, ◌+◌, ◌*◌, ◌<◌, ◌≤◌, false, List, [], ◌++◌, refl, sym, ap, ◌∙◌, subst, arith}
 use Rattle.std.proofs.lemmas.Int.{ints}
-use Rattle.std.specs.FinMap.{get, get-from_entries}
 use Rattle.std.specs.List.{AllByRecursion}
 use Rattle.std.specs.Cmp.{int_cmp_is}
 use Rattle.std.specs.Ordering.{int_cmp}
 use Rattle.std.specs.declared.cmp.Ordering.TheVariants.{Less}
 use Rattle.ak_base.specs.Heads.{IsHeadInRange}
-use Rattle.ak_base.specs.Names.{names_total}
-use Rattle.ak_base.specs.Rows.{IsChecked, name_of, usn_of}
-use Rattle.ak_base.specs.Tables.{graves_of}
+use Rattle.ak_base.specs.Rows.{IsChecked, name_of}
 use Rattle.ak_base.specs.declared.decks.Deck.{Deck}
-use Rattle.ak_base.specs.declared.heads.Head.{Head}
-use Rattle.ak_base.specs.declared.heads.Tag.{Tag}
 use Rattle.ak_base.specs.declared.names.Name.{Name}
-use Rattle.ak_base.specs.declared.names.Table.{Table}
 use Rattle.ak_base.specs.declared.note_types.NoteType.{NoteType}
 use Rattle.ak_base.specs.declared.option_groups.Options.{Options}
 use Rattle.ak_base.specs.declared.rows.Row.TheVariants as rows
 use Rattle.ak_base.specs.declared.rows.Row.{Row}
-use Rattle.ak_keep.proofs.RowsByName.{all_find, named-get, named-rows_of}
 use Rattle.ak_keep.specs.Collections.{rows_of}
 use Rattle.ak_made_collections.proofs.CheckedCards.{card_passes, review_passes}
 use Rattle.ak_made_collections.proofs.Runs.{AreOthers, HaveOwnNames, both, both_distinct, each_of, others_of, run_apart, run_distinct}
@@ -27,64 +20,11 @@ use Rattle.ak_made_collections.specs.MadeCards.{made_card, made_review}
 use Rattle.ak_made_collections.specs.MadeLists.{card_rows, made_rows, note_rows, review_rows}
 use Rattle.ak_made_collections.specs.MadeNotes.{made_note}
 use Rattle.ak_made_collections.specs.RowNumbers.{cards_before}
-use Rattle.ak_merge.proofs.CommitLaws.{when_some}
-use Rattle.ak_merge.proofs.FirstLinks.{openings_are_lawful}
-use Rattle.ak_merge.proofs.TakingLaws.{buries, grave_in, its_grave}
 use Rattle.ak_merge.specs.Commits.{IsCommitted}
-use Rattle.ak_merge.specs.Holdings.{tag_usn}
+use Rattle.ak_openings.proofs.OpeningLaws.{opened_graveless, opened_new}
+use Rattle.ak_openings.proofs.ServersRows.{IsNew, IsNoGrave, new_is_committed}
 use Rattle.ak_openings.specs.Openings.{IsOpening, five_rows}
 use Rattle.ak_openings.specs.declared.whole_collections.Opening.{Opening}
-
--- ---- what stands under a name
-abbrev entries_of : List Row → List (Name × Row)
-entries_of rows = map (λ (row : Row). (name_of row, row)) rows
-
-each_entry : (P : Row → Type 0) (rows : List Row) → AllByRecursion P rows → AllByRecursion (λ (entry : Name × Row). P entry.1) (entries_of rows)
-each_entry P [] all = tt
-each_entry P (row ∷ rows) all = (all.0, each_entry P rows all.1)
-
--- what holds of each row holds of whatever stands there
-each_stands : (P : Row → Type 0) (rows : List Row) → AllByRecursion P rows → (name : Name) (row : Row) → get (rows_of rows) name ≡ Some row → P row
-each_stands P rows all name row is =
-    all_find (λ (entry : Name × Row). P entry.1) name row (entries_of rows) (each_entry P rows all)
-    (sym (get-from_entries names_total (entries_of rows) name) ∙ is)
-
--- ---- graves and numbers
-abbrev IsNoGrave : Row → Type 0
-IsNoGrave row = (name : Name) → buries row name ≡ false
-
-abbrev IsNew : Row → Type 0
-IsNew row = usn_of row ≡ pos 0
-
-no_grave : (rows : List Row) → AllByRecursion IsNoGrave rows → (name : Name) (graves : Option Table) → graves_of name.table ≡ graves
-    → is_some (grave_in (get (rows_of rows)) name graves) ≡ false
-no_grave rows none name None is = refl
-no_grave rows none name (Some graves) is =
-    let grave : Name = record { table = graves; id = name.id } in
-    elim (get (rows_of rows) grave) as (λ (it : Option Row). get (rows_of rows) grave ≡ it → is_some it ≡ false) [
-      | None ↦ λ _. refl
-      | Some row ↦ λ held.
-          let clear : buries row name ≡ false = each_stands IsNoGrave rows none grave row held name in
-          let one = its_grave row name graves is (sym (named-get (rows_of rows) grave row (named-rows_of rows) held)) in
-          sym one ∙ clear
-    ] refl
-
-no_tag : (tags : List Tag) → tags ≡ [] → (name : List ℕ) → IfSome (tag_usn tags name) (λ number. number ≡ pos 0)
-no_tag tags none name = subst (λ (tags : List Tag). IfSome (tag_usn tags name) (λ number. number ≡ pos 0)) (sym none) tt
-
--- rows that no device has synced with, under a head that gives 1, are a server's
-new_is_committed : (rows : List Row) (head : Head) → AllByRecursion IsChecked rows → AllByRecursion IsNew rows → AllByRecursion IsNoGrave rows
-    → IsHeadInRange head → head.usn ≡ pos 1 → head.tags ≡ [] → IsCommitted (record { rows = rows_of rows; head = head })
-new_is_committed rows head checked new none range usn tags =
-    openings_are_lawful (record { rows = rows_of rows; head = head })
-    (λ name row held. named-get (rows_of rows) name row (named-rows_of rows) held)
-    (each_stands IsChecked rows checked) range
-    (record {
-      rows = λ name. when_some IsNew (get (rows_of rows) name) (each_stands IsNew rows new name);
-      tags = no_tag head.tags tags;
-      graves = λ name. no_grave rows none name (graves_of name.table) refl;
-      usn = usn;
-    })
 
 -- ---- the rows of each number
 abbrev note_of : ℕ → ℕ → Row
@@ -163,17 +103,6 @@ all_distinct ms seed size opened small is own =
     (run_apart (note_of seed) 0 size opened.rows (λ number. opened_others ms opened (name_of (note_of seed number)) is (λ b c r d o. (refl, (refl, (refl, (refl, (refl, tt))))))))
     (λ number few. opened_others ms opened (name_of (card_of seed number)) is (λ b c r d o. (refl, (refl, (refl, (refl, (refl, tt)))))))
     (λ number few. opened_others ms opened (name_of (review_of seed number)) is (λ b c r d o. (refl, (refl, (refl, (refl, (refl, tt))))))))
-
-opened_new : (ms : ℤ) (opened : Opening) → IsOpening ms false opened → AllByRecursion IsNew opened.rows
-opened_new ms opened is =
-    let (b, c, r, d, o, are, five) = is.rows_are.are in
-    subst (AllByRecursion IsNew) (sym are)
-    (five.is_basic.usn, (five.is_cloze.usn, (five.is_reversed.usn, (five.is_deck.usn, (five.are_options.usn, tt)))))
-
-opened_graveless : (ms : ℤ) (opened : Opening) → IsOpening ms false opened → AllByRecursion IsNoGrave opened.rows
-opened_graveless ms opened is =
-    let (b, c, r, d, o, are, five) = is.rows_are.are in
-    subst (AllByRecursion IsNoGrave) (sym are) ((λ name. refl), ((λ name. refl), ((λ name. refl), ((λ name. refl), ((λ name. refl), tt)))))
 
 pub all_lawful : (ms : ℤ) (seed size : ℕ) (opened : Opening) → size ≤ 20_000 → IsOpening ms false opened → IsHeadInRange opened.head
     → AllByRecursion IsChecked (made_rows seed size) → AllByRecursion IsChecked opened.rows

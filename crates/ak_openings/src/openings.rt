@@ -98,8 +98,8 @@ fn opening_head(alloc: Global, ms: i64, unsent: bool) -> Result<Head, Memory>
     })
 }
 
-/// The settings.
-fn opening_conf(alloc: Global) -> Result<Conf, Memory>
+/// The settings with which a collection opens.
+pub fn opening_conf(alloc: Global) -> Result<Conf, Memory>
     ensures { IfOk result IsOpeningConf }
 {
     Ok(Conf {
