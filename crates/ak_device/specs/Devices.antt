@@ -24,13 +24,13 @@ use Rattle.ak_session.specs.Slices.{wanted_changes}
 use Rattle.ak_merge.specs.declared.sides.Side.TheVariants.{Device}
 
 -- ---- what comes to a device
--- a head once this came: each tag that was not held has the server's number, and settings that came stand
+-- a head once this came: each tag that was not held has the server's usn, and settings that came stand
 abbrev pub head_with : ℤ → Received → Head → Head
 head_with usn came head =
     let settings = unwrap_or came.settings (settings_of head) in
     record head { tags = tags_taken usn came.tags head.tags; conf = settings.conf; crt = settings.crt }
 
--- what a device holds once this came: each row, one after the other, is taken with the server's number
+-- what a device holds once this came: each row, one after the other, is taken with the server's usn
 abbrev pub received : ℤ → Received → Holding → Holding
 received usn came h = record { rows = all_taken Device usn came.rows h.rows; head = option_map (head_with usn came) h.head }
 
@@ -60,7 +60,7 @@ abbrev pub IsFullIfMore : Chunk → Type 0
 IsFullIfMore chunk = chunk.done ≡ false → chunk_entries chunk ≡ 250
 
 -- ---- what was sent is settled
--- each row and each tag that was not sent yet has this number, and the rest is as it was
+-- each row and each tag that was not sent yet has this usn, and the rest is as it was
 pub record IsSettledTo (usn : ℤ) (before after : Holding) : Type 0 where
   pub rows : (name : Name) → get after.rows name ≡ option_map (settled usn) (get before.rows name)
   pub head : after.head ≡ option_map (λ (head : Head). record head { tags = settled_tags usn head.tags }) before.head

@@ -1,4 +1,4 @@
--- What a device sent is settled once its request was granted: it gets the server's number, which says so.
+-- What a device sent is settled once its request was granted: it gets the server's usn, which says so.
 use Rattle.std.specs.FinMap.{get, insert}
 use Rattle.std.specs.Option.{option_map, option_map_or}
 use Rattle.std.specs.Prelude.{◌≡◌, ℤ, Bool, true, false, IfSome, List, [], ◌∷◌, map, ⊤}
@@ -18,7 +18,7 @@ use Rattle.ak_messages.specs.declared.requests.Ask.TheVariants as asks
 use Rattle.ak_session.specs.Asks.{brought}
 
 -- ---- rows
--- rows once the one under this name has this number, if one stands there and was not sent yet
+-- rows once the one under this name has this usn, if one stands there and was not sent yet
 abbrev pub settled_at : ℤ → Name → Rows → Rows
 settled_at usn name held = option_map_or (λ (row : Row). insert held name (settled usn row)) (get held name) held
 
@@ -44,7 +44,7 @@ abbrev pub names_in : Table → List ℤ → List Name
 names_in table ids = map (λ (id : ℤ). record { table = table; id = id }) ids
 
 -- ---- a head
--- a head whose tags that were not sent yet have this number
+-- a head whose tags that were not sent yet have this usn
 abbrev pub tags_settled : ℤ → Head → Head
 tags_settled usn head = record head { tags = settled_tags usn head.tags }
 
@@ -68,7 +68,7 @@ NamesUnsentTags (asks.ApplyChanges changes) k = WhereTold k (λ h. IfSome h.head
 NamesUnsentTags ask k = ⊤
 
 -- a head once what this request sent is settled: of changes these are all tags that were not sent yet, since changes name each of them and
--- what their reply brings has a number
+-- what their reply brings has a usn
 abbrev pub head_settled : ℤ → Ask → Head → Head
 head_settled usn (asks.ApplyChanges changes) head = tags_settled usn head
 head_settled usn ask head = head
@@ -82,6 +82,6 @@ abbrev pub all_settled_by : ℤ → List Ask → Holding → Holding
 all_settled_by usn [] h = h
 all_settled_by usn (ask ∷ more) h = all_settled_by usn more (settled_by usn ask h)
 
--- what a device holds once this came to it, which was taken with this number, and what these requests sent was settled
+-- what a device holds once this came to it, which was taken with this usn, and what these requests sent was settled
 abbrev pub taken_and_settled : ℤ → Received → List Ask → Holding → Holding
 taken_and_settled usn came sent h = all_settled_by usn sent (received usn came h)

@@ -1,18 +1,19 @@
 // The end of a device's sync: its commit, and the moments that rise after a bad sanity check.
 ghost use Rattle.std.specs.Prelude.{◌≡◌, ◌≢◌, ◌<ℤ◌, ◌≤ℤ◌, ◌+ℤ◌, pos, true, false, Err, IfSome, OnOk, OnErr};
-ghost use Rattle.ak_base.specs.Heads.{AreMomentsInRange, IsHeadInRange, IsMoment};
+ghost use Rattle.ak_base.specs.Heads.{AreMomentsInRange, IsMoment};
 ghost use Rattle.ak_base.specs.Limits.{last_head_usn};
 ghost use Rattle.ak_device.specs.Devices.{RaisesMoments, advanced_moment};
 ghost use Rattle.ak_io.specs.Arrivals.{IsClockMoment};
+ghost use Rattle.ak_keep.specs.HeadNumbers.{AreNumbersInRange};
 ghost use Rattle.ak_keep.specs.Keepers.{KeepCause, back, committed, is_marked, moments_set};
 ghost use Rattle.ak_keep.specs.declared.keepers.KeepFault.TheVariants.{Memory as WantOfMemory};
 
-use ak_base::{Head, LAST_MOMENT};
-use ak_keep::{KeepFault, Keeper, keep_or_back};
-use ak_parts::head_of;
+use ak_base::LAST_MOMENT;
+use ak_keep::{KeepFault, Keeper, Numbers, keep_or_back};
+use ak_parts::held_numbers;
 
 /// Commits what the device took and settled, at the moment that the server committed at, in milliseconds: the device's
-/// number is the one after the server's, and its schema moment stays. If it is refused, the device is back at its mark.
+/// usn is the one after the server's, and its schema moment stays. If it is refused, the device is back at its mark.
 pub fn commit_at<K: Keeper>(
     keeper: &mut K,
     moment: i64,
@@ -65,27 +66,29 @@ pub fn raise_moments<K: Keeper>(keeper: &mut K, at: i64) -> Result<(), KeepFault
     ensures ok { OnOk result (RaisesMoments at (K.keeping keeper.old) (K.keeping keeper.new)) }
     ensures err { OnErr result (K.keeping keeper.new ≡ K.keeping keeper.old) }
     ensures cause { KeepCause (K.health keeper.old) (K.health keeper.new) result }
+    ensures spares { K.spares_memory ≡ true → result ≢ Err WantOfMemory }
 {
-    let head = head_of(keeper)?;
+    let numbers = held_numbers(keeper)?;
     keeper.mark()?;
-    commit_raised(keeper, head, at)
+    commit_raised(keeper, numbers, at)
 }
 
-/// Raises both moments of this head, which is the one that is held, and commits. If it is refused, the keeper is back at its
-/// mark.
-fn commit_raised<K: Keeper>(keeper: &mut K, head: Head, at: i64) -> Result<(), KeepFault>
+/// Raises both moments of these numbers, which are those of the head that is held, and commits. If it is refused, the keeper is back
+/// at its mark.
+fn commit_raised<K: Keeper>(keeper: &mut K, numbers: Numbers, at: i64) -> Result<(), KeepFault>
     requires marked { is_marked (K.keeping keeper.old) ≡ true }
     requires held { (K.keeping keeper.old).headed.current ≡ true }
-    requires range { IsHeadInRange head }
+    requires range { AreNumbersInRange numbers }
     requires clock { IsClockMoment at }
-    ensures ok { OnOk result (K.keeping keeper.new ≡ committed (moments_set (advanced_moment at head.moment) (advanced_moment at head.schema)
-        head.usn head.last_sync (K.keeping keeper.old))) }
+    ensures ok { OnOk result (K.keeping keeper.new ≡ committed (moments_set (advanced_moment at numbers.moment) (advanced_moment at numbers.schema)
+        numbers.usn numbers.last_sync (K.keeping keeper.old))) }
     ensures err { OnErr result (K.keeping keeper.new ≡ back (K.keeping keeper.old)) }
     ensures cause { KeepCause (K.health keeper.old) (K.health keeper.new) result }
+    ensures spares { K.spares_memory ≡ true → result ≢ Err WantOfMemory }
 {
-    let moment = advanced_moment(at, head.moment);
-    let schema = advanced_moment(at, head.schema);
-    commit_moments(keeper, moment, schema, head.usn, head.last_sync)
+    let moment = advanced_moment(at, numbers.moment);
+    let schema = advanced_moment(at, numbers.schema);
+    commit_moments(keeper, moment, schema, numbers.usn, numbers.last_sync)
 }
 
 /// A moment that is advanced: the greater of `at` and the one after it, at most the last one.

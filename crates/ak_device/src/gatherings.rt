@@ -8,7 +8,7 @@ ghost use Rattle.ak_session.specs.Slices.{slice};
 
 use ak_base::{Head, Memory, Name, Row, Table};
 use ak_keep::{KeepFault, Keeper, Wanted};
-use ak_messages::{Changes, Chunk, GraveIds, Newer};
+use ak_messages::{Changes, Chunk, GraveIds, MOST_ENTRIES, Newer};
 use ak_parts::{
     Changed, changed_of, chunk_of, grave_ids, head_of, next_rows, wanted_changes, wanted_tags,
 };
@@ -32,7 +32,7 @@ pub fn graves_part(alloc: Global, graves: &[Row], part: usize) -> Result<GraveId
     requires { 250 * part < length graves.now }
     ensures { IfOk result (λ ids. ids ≡ grave_ids (slice part graves.now)) }
 {
-    grave_ids(alloc, rows_at(graves, 250 * part))
+    grave_ids(alloc, rows_at(graves, MOST_ENTRIES as usize * part))
 }
 
 /// The rows from this place on, at most 250.
@@ -41,7 +41,7 @@ fn rows_at(rows: &[Row], from: usize) -> &[Row]
     requires { from < length rows.now }
     ensures { result.now ≡ take 250 (drop from rows.now) }
 {
-    let most = (rows.len() - from).min(250);
+    let most = (rows.len() - from).min(MOST_ENTRIES as usize);
     &rows[from..from + most]
 }
 

@@ -1,7 +1,6 @@
-// What the server gave is taken with the server's number. A refusal leaves the keeper marked, with some of it taken.
+// What the server gave is taken with the server's usn. A refusal leaves the keeper marked, with some of it taken.
 ghost use Rattle.std.specs.Prelude.{◌≡◌, pos, true, OnOk, IfOk};
 ghost use Rattle.std.specs.List.{All};
-ghost use Rattle.std.specs.Option.{option_map, unwrap_or};
 ghost use Rattle.ak_base.specs.Heads.{IsHeadInRange, IsWithin};
 ghost use Rattle.ak_base.specs.Limits.{last_head_usn};
 ghost use Rattle.ak_base.specs.Rows.{IsChecked};
@@ -9,14 +8,13 @@ ghost use Rattle.ak_device.specs.Devices.{head_with, received};
 ghost use Rattle.ak_keep.specs.Keepers.{IsMarkedAt, KeepCause, back, changed, is_marked};
 ghost use Rattle.ak_messages.specs.declared.replies.Give.TheVariants as gives;
 ghost use Rattle.ak_parts.specs.Takes.{MayBeTaken};
-ghost use Rattle.ak_session.specs.Messages.{settings_in};
 ghost use Rattle.ak_session.specs.Replies.{replied};
 
-use ak_base::{Conf, Head, Memory};
+use ak_base::{Head, Memory};
 use ak_keep::{KeepFault, Keeper};
 use ak_merge::{Side, take_tags};
-use ak_messages::{Changes, Chunk, GraveIds, Newer};
-use ak_parts::{head_of, take_changed_rows, take_chunk_rows, take_given_graves};
+use ak_messages::{Changes, Chunk, GraveIds};
+use ak_parts::{head_of, settings_after, take_changed_rows, take_chunk_rows, take_given_graves};
 
 /// Takes the graves that a start was given.
 #[tactic(auto, using(crate::proofs::Receiving::usn_fits))]
@@ -92,15 +90,4 @@ fn head_with(head: Head, came: &Changes, usn: i64) -> Result<Head, Memory>
         conf,
         tags,
     })
-}
-
-/// The settings that came, or else the held ones.
-fn settings_after(newer: &Option<Newer>, conf: Conf, crt: i64) -> Result<(Conf, i64), Memory>
-    ensures conf { IfOk result (λ made. made.0 ≡ (unwrap_or (option_map settings_in newer.now) (record { conf = conf; crt = crt })).conf) }
-    ensures crt { IfOk result (λ made. made.1 ≡ (unwrap_or (option_map settings_in newer.now) (record { conf = conf; crt = crt })).crt) }
-{
-    match newer {
-        Some(newer) => Ok((newer.conf.copy()?, newer.crt)),
-        None => Ok((conf, crt)),
-    }
 }

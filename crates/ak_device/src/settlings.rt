@@ -1,4 +1,4 @@
-// What was sent gets the server's number, which says so, once its request was granted.
+// What was sent gets the server's usn, which says so, once its request was granted.
 ghost use Rattle.std.specs.FinMap.{get};
 ghost use Rattle.std.specs.Prelude.{◌≡◌, pos, true, map, Some, OnOk};
 ghost use Rattle.ak_base.specs.Heads.{IsHeadInRange, IsWithin};
@@ -16,7 +16,7 @@ use ak_merge::settle_tags;
 use ak_messages::{Ask, Changes, Chunk, GraveIds};
 use ak_parts::head_of;
 
-/// Gives what a request sent this number, where it has none yet: the rows that stand under the names of its rows, and with
+/// Gives what a request sent this usn, where it has none yet: the rows that stand under the names of its rows, and with
 /// changes all tags. It is for a request that was granted. A refusal leaves the keeper marked, with some of it settled.
 pub fn settle_sent<K: Keeper>(keeper: &mut K, ask: &Ask, usn: i64) -> Result<(), KeepFault>
     requires marked { is_marked (K.keeping keeper.old) ≡ true }
@@ -172,7 +172,7 @@ fn settle_head<K: Keeper>(keeper: &mut K, usn: i64) -> Result<(), KeepFault>
     keeper.set_head(settled_head(head, usn))
 }
 
-/// The head, each tag that was not sent yet with this number.
+/// The head, each tag that was not sent yet with this usn.
 fn settled_head(head: Head, usn: i64) -> Head
     requires range { IsHeadInRange head }
     requires usn { IsWithin (pos 0) last_head_usn usn }
