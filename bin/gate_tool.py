@@ -3,6 +3,7 @@ bin/ runs its commands. `toolchain` tests that each name that is used here is th
 """
 import importlib.machinery
 import importlib.util
+import io
 import os
 import shutil
 import subprocess
@@ -10,7 +11,7 @@ import sys
 
 # The names of `rt` that are used here, and those of its class of crates.
 NAMES = ("main", "Crate", "checked", "linked", "must_fail", "handles_of", "rtlib", "MISSED", "REFUSED", "AT_LIMIT")
-OF_CRATES = ("below", "words", "cuts_libraries", "allowed")
+OF_CRATES = ("below", "words", "front_end", "cuts_libraries", "allowed")
 # Of each command that ended: its words, the folder that it ran in, and the seconds of processor time that it and all it started took.
 ENDED = []
 
@@ -61,6 +62,11 @@ class Tried:
         """Tries one edit by a check of the whole crate, and returns whether it was refused, and what is said of it."""
         kind, line = self.rt.must_fail(self.crate, edit, ["--jobs", "1"], seed)
         return kind in (self.rt.REFUSED, self.rt.AT_LIMIT), line
+
+    def compiled(self):
+        """Returns what is said of the crate before any proof, '' if it compiles. No library below it is built in the copy then."""
+        self.crate.out = io.StringIO()
+        return self.crate.out.getvalue() if self.crate.front_end() else ""
 
     def copied(self, seed, to):
         self.rt.linked(seed, to)

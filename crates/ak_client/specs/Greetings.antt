@@ -48,7 +48,7 @@ clock_stop meta second =
     else if are_far_apart second meta.ts then Some (stops.ClockOff second meta.ts)
     else None
 
--- whether the moments, the schema moments and the numbers of device and server are equal
+-- whether the moments, the schema moments and the usns of device and server are equal
 abbrev pub have_equal_heads : MetaSaid → Head → Bool
 have_equal_heads meta head = int_eq head.moment meta.moment && int_eq head.schema meta.scm && int_eq head.usn meta.usn
 

@@ -85,7 +85,7 @@ StaysOnce who c base moment asks account now = (later : List Event)
     → CommitsAtMostOnce who.session.0 c base (world_at who account (with_growth now later)).commits
 
 -- ---- what it leaves if it reports that it is finished
--- the session committed once. The device holds d, whose moment and last sync are at that commit, and whose number is the one after the
+-- the session committed once. The device holds d, whose moment and last sync are at that commit, and whose usn is the one after the
 -- server's. The join of device and server is sound, both hold it and are linked, and the device is linked with what is committed now
 pub record IsSyncFinished (who : Asker) (c base : Collection) (account : AccountState) (now : Log)
     (left : Keeping) : Type 0 where
@@ -154,7 +154,7 @@ pub record Synced (who : Asker) (moment : ℤ) (asks : List Ask) (c : Collection
   -- it asked its plan up to some place
   pub front : (rest : List Ask) × (asks ++ rest ≡ planned c base)
   -- that is at most 8 requests, its meta counted, and one more for each 250 of the graves that the device did not send yet, of the reviews,
-  -- cards and notes of the server with at least the device's number, and of those that the device did not send yet
+  -- cards and notes of the server with at least the device's usn, and of those that the device did not send yet
   pub short : length asks + 1 ≤ 8 + length (wanted_graves Unsent c.rows) / 250
       + length (wanted_in_chunks (From c.head.usn) base.rows) / 250 + length (wanted_in_chunks Unsent c.rows) / 250
   pub once : StaysOnce who c base moment asks account now
@@ -319,7 +319,7 @@ fewest_moments outcomes.BadReply = 0
 fewest_moments outcomes.Memory = 0
 fewest_moments outcome = 1
 
--- the most: a keeper's fault and want of memory may come after a bad sanity check too
+-- the most: a keeper's fault, and memory that runs out, may come after a bad sanity check too
 abbrev pub most_moments : Outcome → ℕ
 most_moments (outcomes.BadRow fault) = 2
 most_moments (outcomes.BadCounts client server) = 2

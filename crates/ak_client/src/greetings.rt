@@ -28,7 +28,7 @@ use ak_wires::{MetaSaid, Wire, ask_meta};
 const MOST_APART: i64 = 300;
 
 /// Sends the meta, and tests what it says: whether the sync may go on, the clocks, whether there is something to sync, the
-/// schema moments, the server's number, and the device's own check. Nothing is marked or changed.
+/// schema moments, the server's usn, and the device's own check. Nothing is marked or changed.
 pub(crate) fn greet<K: Keeper, W: Wire, C: Clock>(
     keeper: &mut K,
     wire: &mut W,
@@ -40,7 +40,7 @@ pub(crate) fn greet<K: Keeper, W: Wire, C: Clock>(
     // Where the wire tells its log, what is known of the server.
     ensures greets { GreetsTold ids (W.state wire.old).log (W.state wire.new).log result }
 
-    // If the sync may go on, the device's head, and that moments, schema moments, numbers and the check let it.
+    // If the sync may go on, the device's head, and that moments, schema moments, usns and the check let it.
     ensures ready { IfOk result (λ met. WhereTold (K.keeping keeper.old) (λ h. IsReady h met)) }
     ensures low { IfOk result (λ met. pos 0 ≤ℤ met.meta.usn) }
     ensures number { IfOk result (λ met. met.meta.usn <ℤ last_head_usn) }
@@ -73,7 +73,7 @@ pub(crate) fn greet<K: Keeper, W: Wire, C: Clock>(
 }
 
 /// The second in which a moment lies.
-fn second_of(at: i64) -> i64
+pub fn second_of(at: i64) -> i64
     requires clock { IsClockMoment at }
     ensures second { result ≡ second_of at }
     ensures range { IsWithin (pos 0) (pos 4_294_967_294) result }
@@ -81,8 +81,8 @@ fn second_of(at: i64) -> i64
     at / 1000
 }
 
-/// Whether the server lets the sync go on, and the clocks are at most 300 seconds apart.
-fn test_clocks(meta: MetaSaid, second: i64) -> Result<(), Stop>
+/// Whether the server lets the device go on, and the clocks are at most 300 seconds apart.
+pub fn test_clocks(meta: MetaSaid, second: i64) -> Result<(), Stop>
     requires { IsWithin (pos 0) (pos 4_294_967_294) second }
     ensures stop { result ≡ stop_or_go (clock_stop meta second) }
     ensures early { IfErr result IsOfGreeting }
@@ -129,7 +129,7 @@ fn test_device<K: Keeper>(keeper: &mut K, meta: MetaSaid) -> Result<Head, Stop>
     Ok(head)
 }
 
-/// Whether there is nothing to sync. No row is read if moments, schema moments or numbers differ.
+/// Whether there is nothing to sync. No row is read if moments, schema moments or usns differ.
 fn is_unchanged<K: Keeper>(keeper: &mut K, meta: MetaSaid, head: &Head) -> Result<bool, KeepFault>
     ensures reads { ReadsBy K.Lookup keeper.old keeper.new result (λ h unchanged. unchanged ≡ is_unchanged meta head.now h.rows) }
     ensures unread { have_equal_heads meta head.now ≡ false → keeper.new ≡ keeper.old }
@@ -144,7 +144,7 @@ fn is_unchanged<K: Keeper>(keeper: &mut K, meta: MetaSaid, head: &Head) -> Resul
     Ok(!has_unsent(keeper, head.tags.as_slice())?)
 }
 
-/// Whether moments, schema moments and numbers of device and server are equal.
+/// Whether moments, schema moments and usns of device and server are equal.
 fn have_equal_heads(meta: MetaSaid, head: &Head) -> bool
     ensures { result ≡ have_equal_heads meta head.now }
 {
@@ -173,7 +173,7 @@ fn test_heads(meta: MetaSaid, head: &Head, unchanged: bool) -> Result<(), Stop>
 }
 
 /// Whether the device's own collection is sound.
-fn test_rows<K: Keeper>(keeper: &mut K) -> Result<(), Stop>
+pub fn test_rows<K: Keeper>(keeper: &mut K) -> Result<(), Stop>
     ensures sound { OnOk result (WhereTold (K.keeping keeper.old) (λ h. first_fault h.rows ≡ None)) }
     ensures same { K.keeping keeper.new ≡ K.keeping keeper.old }
     ensures fault { IfErr result (λ stop. ((fault : KeepFault) × (stop ≡ keep_stop fault))

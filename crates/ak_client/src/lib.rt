@@ -10,7 +10,8 @@ mod syncs;
 mod unsent;
 
 pub use ak_exchange::Ids;
-pub use outcomes::Outcome;
+pub use greetings::{second_of, test_clocks, test_rows};
+pub use outcomes::{Outcome, outcome_of};
 pub use states::{Checked, Exchanged, Greeted, Hello, Pulled, Pushed, Started};
 pub use sync_laws::{lost_finishes_heal, syncs_may_go_on};
 pub use syncs::sync_over;

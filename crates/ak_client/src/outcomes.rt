@@ -19,7 +19,7 @@ pub enum Outcome {
         device: i64,
         server: i64,
     },
-    /// The server's number is the last one: the whole collection has to be sent.
+    /// The server's usn is the last one: the whole collection has to be sent.
     FullSequence {
         usn: i64,
     },
@@ -57,8 +57,8 @@ pub enum Outcome {
     Memory,
 }
 
-/// The outcome of a sync.
-pub(crate) fn outcome_of(end: Result<(), Stop>) -> Outcome
+/// The outcome of a sync, or of an upload or a download.
+pub fn outcome_of(end: Result<(), Stop>) -> Outcome
     ensures { result ≡ outcome_of end }
 {
     match end {

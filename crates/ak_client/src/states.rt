@@ -1,6 +1,6 @@
 // A sync state by state, for a caller that has something to do in between. A state holds the keeper and the wire, so that
-// nobody else acts on them, and must be spent: by its next call, or by `leave`. The calls are those of `sync_over`, whose
-// contract does not rest on these states.
+// nobody else acts on them, and must be spent: by its next call, or by `leave`. Its fields are private, so that only the call
+// before makes it. The calls are those of `sync_over`, whose contract does not rest on these states.
 ghost use Rattle.std.specs.Prelude.{◌≡◌, ◌≤ℤ◌, ◌<ℤ◌, [], pos, true, false, Ok, IfOk, OnOk};
 ghost use Rattle.ak_base.specs.Heads.{IsHeadInRange, IsMoment};
 ghost use Rattle.ak_base.specs.Limits.{last_head_usn};
@@ -25,64 +25,64 @@ use std::alloc::Global;
 
 /// Nothing was asked yet. The undo list is empty.
 pub struct Hello<'a, K: Keeper, W: Wire> {
-    pub alloc: Global,
-    pub keeper: &'a mut K,
-    pub wire: &'a mut W,
-    pub ids: Ids,
+    alloc: Global,
+    keeper: &'a mut K,
+    wire: &'a mut W,
+    ids: Ids,
 }
 
 /// The meta was granted, and the sync may go on. The device is not marked yet.
 pub struct Greeted<'a, K: Keeper, W: Wire> {
-    pub alloc: Global,
-    pub keeper: &'a mut K,
-    pub wire: &'a mut W,
-    pub ids: Ids,
-    pub met: Met,
+    alloc: Global,
+    keeper: &'a mut K,
+    wire: &'a mut W,
+    ids: Ids,
+    met: Met,
 }
 
-/// The device is marked, told the server its number and moment, and took the graves that it was given.
+/// The device is marked, told the server its usn and moment, and took the graves that it was given.
 pub struct Started<'a, K: Keeper, W: Wire> {
-    pub alloc: Global,
-    pub keeper: &'a mut K,
-    pub wire: &'a mut W,
-    pub envelopes: Envelopes,
-    pub met: Met,
+    alloc: Global,
+    keeper: &'a mut K,
+    wire: &'a mut W,
+    envelopes: Envelopes,
+    met: Met,
 }
 
 /// It sent its graves, and both sides gave the other their changes. What it sent is settled.
 pub struct Exchanged<'a, K: Keeper, W: Wire> {
-    pub alloc: Global,
-    pub keeper: &'a mut K,
-    pub wire: &'a mut W,
-    pub envelopes: Envelopes,
-    pub met: Met,
+    alloc: Global,
+    keeper: &'a mut K,
+    wire: &'a mut W,
+    envelopes: Envelopes,
+    met: Met,
 }
 
 /// It took the server's chunks.
 pub struct Pulled<'a, K: Keeper, W: Wire> {
-    pub alloc: Global,
-    pub keeper: &'a mut K,
-    pub wire: &'a mut W,
-    pub envelopes: Envelopes,
-    pub met: Met,
+    alloc: Global,
+    keeper: &'a mut K,
+    wire: &'a mut W,
+    envelopes: Envelopes,
+    met: Met,
 }
 
 /// It sent its own, and settled them.
 pub struct Pushed<'a, K: Keeper, W: Wire> {
-    pub alloc: Global,
-    pub keeper: &'a mut K,
-    pub wire: &'a mut W,
-    pub envelopes: Envelopes,
-    pub met: Met,
+    alloc: Global,
+    keeper: &'a mut K,
+    wire: &'a mut W,
+    envelopes: Envelopes,
+    met: Met,
 }
 
 /// Both sides hold the same, and that is sound. Only the finish is left.
 pub struct Checked<'a, K: Keeper, W: Wire> {
-    pub alloc: Global,
-    pub keeper: &'a mut K,
-    pub wire: &'a mut W,
-    pub envelopes: Envelopes,
-    pub met: Met,
+    alloc: Global,
+    keeper: &'a mut K,
+    wire: &'a mut W,
+    envelopes: Envelopes,
+    met: Met,
 }
 
 impl<'a, K: Keeper, W: Wire> Hello<'a, K, W> {
@@ -155,7 +155,7 @@ impl<'a, K: Keeper, W: Wire> Hello<'a, K, W> {
 }
 
 impl<'a, K: Keeper, W: Wire> Greeted<'a, K, W> {
-    /// Marks the device, tells the server its number and moment, and takes the graves that it gives.
+    /// Marks the device, tells the server its usn and moment, and takes the graves that it gives.
     pub fn start(self) -> Result<Started<'a, K, W>, Outcome>
         requires unmarked { is_marked (K.keeping self.keeper.now) ≡ false }
         requires held { (K.keeping self.keeper.now).headed.current ≡ true }
