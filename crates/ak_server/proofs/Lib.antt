@@ -6,6 +6,7 @@ pub mod Faulting
 pub mod Followings
 pub mod GoingOn
 pub mod Keepings
+pub mod Linking
 pub mod Outcomes
 pub mod Passing
 pub mod Places

@@ -38,7 +38,8 @@ use Rattle.ak_server.proofs.Passing.{AlikeNumbers, Passed}
 use Rattle.ak_server.specs.Accounts.{IsOver}
 use Rattle.ak_server.specs.Serving.{is_bad}
 use Rattle.ak_session.proofs.Ranges.{not_both}
-use Rattle.ak_session.specs.Answers.{counts_of, is_good, no_counts, sanity_reply}
+use Rattle.ak_session.specs.Answers.{counts_of, is_good, sanity_reply}
+use Rattle.ak_messages.specs.MessageForms.{no_counts}
 use Rattle.ak_session.specs.Asks.{brought}
 use Rattle.ak_session.specs.Messages.{changes_of, chunk_of}
 use Rattle.ak_session.specs.NextMethods.{methods_after}

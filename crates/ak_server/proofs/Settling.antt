@@ -1,15 +1,16 @@
 -- What an account does, from what its keeper gave: a repeat, a refusal, and a request that is accepted.
 use Rattle.std.specs.Option.{option_and_then, option_map, unwrap_or}
-use Rattle.std.specs.Prelude.{◌≡◌, ℕ, ℤ, Bool, true, false, if◌then◌else◌, Option, Some, None, Result, Ok, IfSome, IfOk, IfErr, ⊤}
-use Rattle.std.proofs.Common.{refl, sym, ap, subst, ◌∙◌, arith}
+use Rattle.std.specs.Prelude.{◌≡◌, ℕ, ℤ, Bool, true, false, if◌then◌else◌, Option, Some, None, Result, Ok, IfSome, IfOk, IfErr, ⊤, ◌⊎◌}
+use Rattle.std.proofs.Common.{refl, sym, ap, subst, ◌∙◌, inl, inr, arith}
+use Rattle.ak_answers.specs.Answers.{HasNumbers}
 use Rattle.ak_answers.specs.declared.answers.Basis.{Basis}
 use Rattle.ak_keep.specs.Collections.{Collection, collection_of}
 use Rattle.ak_keep.specs.HeadNumbers.{AreNumbersInRange, numbered, numbers_of}
 use Rattle.ak_keep.specs.Keepers.{IsNamedRightly, Keeping, WhereTold, back}
 use Rattle.ak_keep.specs.declared.head_numbers.Numbers.{Numbers}
 use Rattle.ak_keep.specs.declared.keepers.KeepFault.{KeepFault}
-use Rattle.ak_keep.specs.declared.keepers.KeepFault.TheVariants.{Memory}
-use Rattle.ak_machine.specs.Decisions.{refusal_of}
+use Rattle.ak_keep.specs.declared.keepers.KeepFault.TheVariants.{Failed, Memory}
+use Rattle.ak_machine.specs.Decisions.{refusal_of, setback_reply}
 use Rattle.ak_machine.specs.Serving.{Did, accepted, begun, by_repeat, does, unchanged}
 use Rattle.ak_machine.specs.Sessions.{IsCounted, kept_seen, session_seen}
 use Rattle.ak_machine.specs.Summaries.{AccountSummary, SessionSummary}
@@ -22,14 +23,14 @@ use Rattle.ak_messages.specs.declared.requests.Request.{Request}
 use Rattle.ak_messages.specs.declared.requests.Whole.{Whole}
 use Rattle.ak_protocol.proofs.Cases.{not_none}
 use Rattle.ak_protocol.specs.Accounts.{KeptReply, given_again, is_repeat, repeated}
-use Rattle.ak_protocol.specs.Replies.{Refusal, NoSession, Objected, PastBase, WrongStep, download_reply, objected, refused}
+use Rattle.ak_protocol.specs.Replies.{Refusal, NoSession, Objected, PastBase, WrongStep, download_reply, keeper_failed, objected, out_of_memory, refused}
 use Rattle.ak_protocol.specs.Serving.{Undisturbed}
 use Rattle.ak_server.proofs.Keepings.{unmarked_tables}
 use Rattle.ak_server.proofs.Outcomes.{done_if_accepted, done_if_refused}
 use Rattle.ak_server.proofs.Passing.{AlikeNumbers, none_mapped, refusal_alike}
 use Rattle.ak_server.proofs.Seeing.{for_some, numbered_same, numbers_alike, numbers_are, of_current, of_some, same_some, see}
 use Rattle.ak_server.specs.Accounts.{AreGranted, IsKept, IsOver, IsRight, IsSameAccount, account_seen, committed_in, is_started, tables_in}
-use Rattle.ak_server.specs.Servers.{DoesUndisturbed, LeavesCommitted}
+use Rattle.ak_server.specs.Servers.{DoesUndisturbed, IsTested, LeavesCommitted}
 use Rattle.ak_server.specs.Serving.{Accepts, Does, FindsAgain, IsAccepted, IsDecided, IsGivenAgain, IsOnlyRead}
 use Rattle.ak_server.specs.declared.accounts.Account.{Account}
 use Rattle.ak_session.specs.Objections.{Objection, MayNotCome, WrongUsn, NoNumber, TooManyRows, WrongRow, WrongNewer}
@@ -220,6 +221,22 @@ pub does_read : {K : Type 0} (keeping : K → Keeping) (old read new : Account K
     → Does keeping read request now new reply → Does keeping old request now new reply
 does_read keeping old read new request now reply only did =
     subst (λ (o : Option AccountSummary). IfSome o (λ s. DoesUndisturbed keeping s request now new reply)) (seen_read keeping old read only) did
+
+-- the reply to a setback is one of two
+pub set_back : (fault : KeepFault) (reply : Reply) → reply ≡ setback_reply fault → (reply ≡ keeper_failed) ⊎ (reply ≡ out_of_memory)
+set_back Failed reply is = inl is
+set_back Memory reply is = inr is
+
+-- what was tested after a read was tested before it
+pub tested_read : {K : Type 0} (keeping : K → Keeping) (old read : Account K) (request : Request) (reply : Reply) → IsOnlyRead keeping old read
+    → IsTested keeping read request reply → IsTested keeping old request reply
+tested_read keeping old read request reply only (inl granted) = inl granted
+tested_read keeping old read request reply only (inr first) = inr (record {
+  numbers = first.numbers;
+  held = subst (λ (k : Keeping). HasNumbers k first.numbers) only.keeper first.held;
+  why = λ c tables. subst (λ (live : Option Session). option_map refused (refusal_of (numbered first.numbers c) (option_map (session_seen tables) live) request) ≡ Some reply)
+      (live_read keeping old read only) (first.why c tables);
+})
 
 pub same_read : {K : Type 0} (keeping : K → Keeping) (old read new : Account K) → IsOnlyRead keeping old read → IsSameAccount read new → IsSameAccount old new
 same_read keeping old read new only same = record {

@@ -80,7 +80,7 @@ pub record IsOver (live : Session) (committed held : Collection) : Type 0 where
   pub schema : held.head.schema ≡ committed.head.schema
   pub usn : held.head.usn ≡ committed.head.usn
   pub last_sync : held.head.last_sync ≡ committed.head.last_sync
-  -- once it has started there is a number after the server's and a moment after the committed one
+  -- once it has started there is a usn after the server's and a moment after the committed one
   pub room : has_mark live.method ≡ true → (committed.head.usn <ℤ last_head_usn) × (has_no_next committed.head.moment ≡ false)
   -- while a chunk may come, it begins where the last one ended
   pub next : list_any (same_method methods.Chunk) (methods_after live.method live.done) ≡ true

@@ -7,20 +7,27 @@ use Rattle.ak_faults.specs.Causes.{Health, GoesOn, Rose}
 use Rattle.ak_base.specs.declared.heads.Head.{Head}
 use Rattle.ak_base.specs.declared.names.Table.{Table}
 use Rattle.ak_base.specs.declared.rows.Row.{Row}
+use Rattle.ak_answers.specs.Answers.{HasNumbers}
 use Rattle.ak_keep.specs.Collections.{Collection, IsPageOf, rows_past}
+use Rattle.ak_keep.specs.HeadNumbers.{numbered}
 use Rattle.ak_keep.specs.Keepers.{Keeping, KeepCause, WhereTold, back}
 use Rattle.ak_keep.specs.MemoryKeepers.{MemoryState}
+use Rattle.ak_keep.specs.declared.head_numbers.Numbers.{Numbers}
 use Rattle.ak_keep.specs.declared.keepers.KeepFault.{KeepFault}
+use Rattle.ak_machine.specs.Decisions.{refusal_of}
+use Rattle.ak_merge.specs.Commits.{IsCommitted}
+use Rattle.ak_merge.specs.Links.{AreLinked}
 use Rattle.ak_messages.specs.declared.replies.Reply.{Reply}
 use Rattle.ak_messages.specs.declared.requests.Request.{Request}
 use Rattle.ak_protocol.specs.Accounts.{AccountState, is_repeat}
-use Rattle.ak_protocol.specs.Replies.{out_of_memory, unknown_key}
-use Rattle.ak_protocol.specs.Logs.{View, server_next}
+use Rattle.ak_protocol.specs.Replies.{keeper_failed, out_of_memory, refused, unknown_key}
+use Rattle.ak_protocol.specs.Commits.{HasFreshSchema}
+use Rattle.ak_protocol.specs.Logs.{View, commit_by, server_next}
 use Rattle.ak_protocol.specs.Servers.{ServerState, same_host, server_served, with_account}
 use Rattle.ak_protocol.specs.Serving.{Setback, Undisturbed, served}
 use Rattle.ak_server.specs.Accounts.{StandsFor, IsRight, IsSameAccount, account_at, account_seen, committed_in}
 use Rattle.ak_machine.specs.Serving.{does}
-use Rattle.ak_machine.specs.Sessions.{kept_seen}
+use Rattle.ak_machine.specs.Sessions.{kept_seen, session_seen}
 use Rattle.ak_machine.specs.Summaries.{AccountSummary, account_summary}
 use Rattle.ak_server.specs.declared.accounts.Account.{Account}
 use Rattle.ak_session.specs.Requests.{is_meta}
@@ -72,6 +79,28 @@ IsServedFor health (Some before) (Some now) reply =
 IsServedFor health (Some before) None reply = ⊥
 IsServedFor health None now reply = reply ≡ unknown_key
 
+-- ---- replies, whatever the keeper tells
+-- a request is refused by the first test that finds fault with it, over the live session and numbers that the keeper gave: each in its
+-- range, and where the keeper tells what it holds those of the held head. Nothing else that is held matters
+pub record IsRefusedFirst {K : Type 0} (keeping : K → Keeping) (old : Account K) (request : Request) (reply : Reply) : Type 0 where
+  pub numbers : Numbers
+  pub held : HasNumbers (keeping old.keeper) numbers
+  pub why : (c : Collection) (tables : Collection)
+      → option_map refused (refusal_of (numbered numbers c) (option_map (session_seen tables) old.live) request) ≡ Some reply
+
+-- the reply to a request that was tested: it is granted, or refused for the first reason
+abbrev pub IsTested : {K : Type 0} → (K → Keeping) → Account K → Request → Reply → Type 0
+IsTested keeping old request reply = (reply.status ≡ 200) ⊎ IsRefusedFirst keeping old request reply
+
+-- the reply of an account: if not that, the keeper failed or memory ran out
+abbrev pub RepliesAs : {K : Type 0} → (K → Keeping) → Account K → Request → Reply → Type 0
+RepliesAs keeping old request reply = IsTested keeping old request reply ⊎ (reply ≡ keeper_failed) ⊎ (reply ≡ out_of_memory)
+
+-- the same, if there is an account
+abbrev pub Replies : {K : Type 0} → (K → Keeping) → Option (Account K) → Request → Reply → Type 0
+Replies keeping (Some old) request reply = RepliesAs keeping old request reply
+Replies keeping None request reply = reply ≡ unknown_key
+
 -- a repeat of the request whose reply is kept, but for a download, is given that reply, and all of the account is as it was, what its
 -- keeper counts too: nothing was asked of it. Memory may run out before
 abbrev pub GivesAgain : {K : Type 0} → Option (Account K) → Option (Account K) → Request → Reply → Type 0
@@ -95,6 +124,19 @@ abbrev pub Strikes : {K : Type 0} → (K → Keeping) → Option (Account K) →
 Strikes keeping (Some old) (Some new) request reply = StrikesOne keeping old new request reply
 Strikes keeping (Some old) None request reply = ⊥
 Strikes keeping None new request reply = ⊤
+
+-- ---- links
+-- if the request commits, that gives no schema moment that a device has
+abbrev pub CommitsFresh : Collection → AccountState → Request → ℤ → Setback → Type 0
+CommitsFresh c s request now setback =
+    let it = served s request now setback in
+    it.is_commit ≡ true → HasFreshSchema c (commit_by request s it)
+
+-- a device that was linked with what the account of the host key had committed is linked with what it has committed then
+abbrev pub LinksStay : ServerState → Request → ℤ → Setback → Type 0
+LinksStay server request now setback = (s : AccountState) (c : Collection) → server request.host.digits ≡ Some s → IsCommitted s.committed
+    → AreLinked c s.committed → CommitsFresh c s request now setback
+    → IfSome ((server_served server request now setback).next request.host.digits) (λ t. AreLinked c t.committed)
 
 -- ---- accounts that are added
 -- an account that was just added: it has no session and no kept reply

@@ -2,8 +2,10 @@
 #![tactic(auto)]
 
 mod accounts;
+mod link_laws;
 mod servers;
 mod serving;
 
 pub use accounts::Account;
+pub use link_laws::served_links_stay;
 pub use servers::{AddFault, Server};

@@ -56,7 +56,7 @@ impl<K: Keeper> Server<K> {
     ghost use Rattle.ak_keep.specs.Keepers.{is_marked};
     ghost use Rattle.ak_messages.specs.declared.requests.Ask.TheVariants as asks;
     ghost use Rattle.ak_server.specs.Accounts.{StandsFor, account_at};
-    ghost use Rattle.ak_server.specs.Servers.{EndsOne, GivesAgain, GivesHead, GivesOneHead, GivesOneRows, GivesRows, IsEmpty, IsViewedAt, OthersStay, Serves, ServesFor, StandsWith, IsServedFor, Strikes, no_accounts, account_added, ViewCause};
+    ghost use Rattle.ak_server.specs.Servers.{EndsOne, GivesAgain, GivesHead, GivesOneHead, GivesOneRows, GivesRows, IsEmpty, IsViewedAt, OthersStay, Replies, Serves, ServesFor, StandsWith, IsServedFor, Strikes, no_accounts, account_added, ViewCause};
 
     /// A server without accounts, in this allocator's memory. It takes no memory.
     pub fn new(alloc: Global) -> Server<K>
@@ -112,7 +112,7 @@ impl<K: Keeper> Server<K> {
     }
 
     /// Serves a request at a moment of the clock, in milliseconds: 403 exactly if its host key is no account's, 503 only
-    /// if that account's keeper failed in this call, 500 for want of memory, and else the protocol's reply.
+    /// if that account's keeper failed in this call, 500 if memory ran out, and else the protocol's reply.
     pub fn serve(&mut self, request: &Request, now: i64) -> Reply
         requires clock { IsClockMoment now }
         ensures serves { Serves K.keeping self.old self.new request.now now result }
@@ -121,6 +121,9 @@ impl<K: Keeper> Server<K> {
         ensures others { OthersStay request.now.host.digits self.old self.new }
         ensures key { result.status ≡ 403 ↔ account_at request.now.host.digits self.old ≡ None }
         ensures unknown { account_at request.now.host.digits self.old ≡ None → self.new ≡ self.old }
+
+        // If the keeper tells nothing too: a reply is 200, the first refusal that the tests find, 503 or 500.
+        ensures replies { Replies K.keeping (account_at request.now.host.digits self.old) request.now result }
         ensures again { GivesAgain (account_at request.now.host.digits self.old)
             (account_at request.now.host.digits self.new) request.now result }
         ensures struck { Strikes K.keeping (account_at request.now.host.digits self.old)

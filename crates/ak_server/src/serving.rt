@@ -14,7 +14,7 @@ ghost use Rattle.ak_protocol.specs.Accounts.{repeated};
 ghost use Rattle.ak_protocol.specs.Replies.{download_reply};
 ghost use Rattle.ak_protocol.specs.Serving.{kept_of};
 ghost use Rattle.ak_server.specs.Accounts.{IsRight, IsSameAccount, account_seen};
-ghost use Rattle.ak_server.specs.Servers.{DoesSo, GivesAgain, IsStruck, LeavesCommitted, ServeCause, StrikesOne};
+ghost use Rattle.ak_server.specs.Servers.{DoesSo, GivesAgain, IsStruck, IsTested, LeavesCommitted, RepliesAs, ServeCause, StrikesOne};
 ghost use Rattle.ak_server.specs.Serving.{Accepts, Does, FindsAgain, IsAccepted, IsDecided, IsGivenAgain, IsOnlyRead, is_bad};
 ghost use Rattle.ak_session.specs.Requests.{asks_commit, is_meta};
 ghost use Rattle.std.specs.Option.{option_map};
@@ -40,6 +40,7 @@ pub(crate) fn serve_account<K: Keeper>(
     ensures same { IsSameAccount account.old account.new }
     ensures serves { IfSome (account_seen K.keeping account.old) (λ s. DoesSo K.keeping s request.now now account.new result) }
     ensures known { result.status ≢ 403 }
+    ensures replies { RepliesAs K.keeping account.old request.now result }
     ensures again { GivesAgain (Some account.old) (Some account.new) request.now result }
     ensures struck { StrikesOne K.keeping account.old account.new request.now result }
     ensures cause { ServeCause (K.health account.old.keeper) (K.health account.new.keeper) result }
@@ -69,6 +70,7 @@ fn attempt<K: Keeper>(
     ensures does { IfOk result (λ reply. Does K.keeping account.old request.now now account.new reply) }
     ensures again { FindsAgain (λ reply same. reply ≡ same) account.old account.new request.now result }
     ensures status { IfOk result (λ reply. IsDecided reply) }
+    ensures tests { IfOk result (λ reply. IsTested K.keeping account.old request.now reply) }
     ensures err { OnErr result (LeavesCommitted K.keeping account.old account.new) }
     ensures cause { KeepCause (K.health account.old.keeper) (K.health account.new.keeper) result }
     ensures spares { K.spares_memory ≡ true → request.now.ask ≡ asks.Finish → result ≢ Err WantOfMemory }
@@ -191,6 +193,7 @@ fn decide<K: Keeper>(
     ensures same { IsSameAccount account.old account.new }
     ensures does { IfOk result (λ reply. Does K.keeping account.old request.now now account.new reply) }
     ensures status { IfOk result (λ reply. IsDecided reply) }
+    ensures tests { IfOk result (λ reply. IsTested K.keeping account.old request.now reply) }
     ensures err { OnErr result (LeavesCommitted K.keeping account.old account.new) }
     ensures cause { KeepCause (K.health account.old.keeper) (K.health account.new.keeper) result }
     ensures spares { K.spares_memory ≡ true → request.now.ask ≡ asks.Finish → result ≢ Err WantOfMemory }

@@ -1,6 +1,6 @@
 use Rattle.std.specs.Option.{option_map}
 use Rattle.std.specs.Prelude.{◌≡◌, Some}
-use Rattle.std.proofs.Common.{refl, sym, ap, ◌∙◌, w64}
+use Rattle.std.proofs.Common.{refl, sym, ap, ◌∙◌, inl, inr, w64}
 use Rattle.std.proofs.lemmas.Int.{to_z-of_z}
 use Rattle.ak_answers.specs.declared.answers.Basis.{Basis}
 use Rattle.ak_faults.proofs.Healths.{cause_after}
@@ -35,6 +35,14 @@ returns-in-Some-clause-status g c =
     decided_refused (refusal_of none (option_map (session_seen none) c.args.account.now.live) c.args.request.now) c.declined_reply.result
     (ap Some c.declined_reply.ensures ∙ sym (ap (option_map declined_so) c.in-Some.is) ∙ c.in_ok-why.ensures.why some_collection none)
 
+pub returns-in-Some-clause-tests : goal.returns-in-Some-clause-tests
+returns-in-Some-clause-tests g c =
+    inr (record {
+      numbers = c.in_ok-numbers.numbers;
+      held = record { held = c.requires.right.keeper.held; told = c.in_ok-numbers.ensures.reads.told; range = c.in_ok-numbers.ensures.range };
+      why = λ k tables. sym (ap Some c.declined_reply.ensures ∙ sym (ap (option_map declined_so) c.in-Some.is) ∙ c.in_ok-why.ensures.why k tables);
+    })
+
 pub accept-requires-clause-accepted : goal.accept-requires-clause-accepted
 accept-requires-clause-accepted g c =
     taken_read g.K.Lookup.keeping c.args.account.now _ c.args.request.now c.in_ok-numbers.numbers c.in-Some-live.live (record { rest = refl; keeper = c.in_ok-numbers.ensures.reads.same })
@@ -61,6 +69,9 @@ returns-clause-does g c =
 
 pub returns-clause-status : goal.returns-clause-status
 returns-clause-status g c = ok_so c.accept.result (λ (x : Reply). x.status ≡ 200) _ (λ reply is. decided_granted reply is) c.accept.ensures.status
+
+pub returns-clause-tests : goal.returns-clause-tests
+returns-clause-tests g c = ok_so c.accept.result (λ (x : Reply). x.status ≡ 200) _ (λ reply is. inl is) c.accept.ensures.status
 
 pub returns-clause-err : goal.returns-clause-err
 returns-clause-err g c = err_so c.accept.result _ _ (λ leaves. leaves_read g.K.Lookup.keeping c.args.account.now _ _ (record { rest = refl; keeper = c.in_ok-numbers.ensures.reads.same }) leaves) c.accept.ensures.err

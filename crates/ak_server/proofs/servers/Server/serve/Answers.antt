@@ -6,7 +6,7 @@ use Rattle.ak_protocol.proofs.Cases.{not_none}
 use Rattle.ak_server.proofs.Places.{each_at, got_at, place_in}
 use Rattle.ak_server.proofs.Standing.{both_found, serves_account, serves_known}
 use Rattle.ak_server.specs.Accounts.{IsRight, account_at}
-use Rattle.ak_server.specs.Servers.{GivesAgain, IsServedFor, Serves, ServesFor, Strikes}
+use Rattle.ak_server.specs.Servers.{GivesAgain, IsServedFor, Replies, Serves, ServesFor, Strikes}
 use Rattle.ak_server.specs.declared.accounts.Account.{Account}
 use Rattle.ak_server.proofs.servers.Server.serve.Goals as goal
 
@@ -54,6 +54,13 @@ returns-in-Some-clause-unknown g c = λ none.
     let at = place_in c.args.request.now.host.digits c.self.inside.accounts.items c.as_slice.result.now c.in-Some.place c.in-Some.ensures c.as_slice.ensures.value in
     let got = got_at c.self.inside.accounts.items c.in-Some.place c.index_mut.result.now at.within c.index_mut.ensures.value in
     absurd (not_none (sym (ap (account_at c.args.request.now.host.digits) (sym c.self.view_is) ∙ at.held ∙ got) ∙ none))
+
+pub returns-in-Some-clause-replies : goal.returns-in-Some-clause-replies
+returns-in-Some-clause-replies g c =
+    let at = place_in c.args.request.now.host.digits c.self.inside.accounts.items c.as_slice.result.now c.in-Some.place c.in-Some.ensures c.as_slice.ensures.value in
+    let got = got_at c.self.inside.accounts.items c.in-Some.place c.index_mut.result.now at.within c.index_mut.ensures.value in
+    subst (λ (before : Option (Account g.row.K.Denot)). Replies g.K.Lookup.keeping before c.args.request.now c.serve_account.result)
+    (sym (ap (account_at c.args.request.now.host.digits) (sym c.self.view_is) ∙ at.held ∙ got)) c.serve_account.ensures.replies
 
 pub returns-in-Some-clause-again : goal.returns-in-Some-clause-again
 returns-in-Some-clause-again g c =
