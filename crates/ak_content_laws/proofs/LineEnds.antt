@@ -8,7 +8,7 @@ use Rattle.ak_any_lines.specs.FirstThings.{GoesFirst}
 use Rattle.ak_away_answers.specs.AwayAnswers.{EndsAnyAnswer}
 use Rattle.ak_base.specs.declared.cards.Card.{Card}
 use Rattle.ak_calls.specs.CardEdits.{card_edit}
-use Rattle.ak_deck_paths.specs.DeckPaths.{path_at}
+use Rattle.ak_calls.specs.DeckPaths.{path_at}
 use Rattle.ak_deck_trees.specs.DeckDeletions.{RefusesDeckDeletion, deck_deletion}
 use Rattle.ak_decks.specs.DeckOptions.{options_use}
 use Rattle.ak_decks.specs.Flags.{flagged}

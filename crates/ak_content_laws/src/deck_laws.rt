@@ -2,10 +2,10 @@
 ghost use Rattle.std.specs.Prelude.{◌≡◌, Result, Some, ℕ, ℤ, List};
 ghost use Rattle.ak_base.specs.declared.decks.Deck.{Deck};
 ghost use Rattle.ak_calls.specs.Calls.{EndsEdit};
+ghost use Rattle.ak_calls.specs.DeckPaths.{path_at};
 ghost use Rattle.ak_content_laws.specs.KeptContents.{MovesDecks};
 ghost use Rattle.ak_content_laws.specs.SoundCalls.{EndsOrStays, HoldsSound};
 ghost use Rattle.ak_deck_paths.specs.Additions.{DoesAdd};
-ghost use Rattle.ak_deck_paths.specs.DeckPaths.{path_at};
 ghost use Rattle.ak_deck_paths.specs.Renames.{DoesRename, IsMoved};
 ghost use Rattle.ak_deck_trees.specs.DeckDeletions.{RefusesDeckDeletion, deck_deletion};
 ghost use Rattle.ak_decks.specs.DeckOptions.{RefusesUse, options_use};
