@@ -156,7 +156,7 @@ module _ {kind : WireKind} (ids : Ids) (c : Collection) (account : AccountState)
             synced.front,
       )
 
-  -- a refusal is want of memory
+  -- a refusal is that memory ran out
   refused : (status : ℕ) (word : Word) (seen : ℤ) → EndsAt (meta_tried own.meta ∷ own.tries) after.wire (outcomes.Refused status word seen) → RanOutOfMemory it.growth
   refused status word seen (last, (earlier, parts), (reply, answered, other, same_status, same_word, same_seen)) = by (quiet_or_out it.growth it.server)
     where

@@ -8,7 +8,7 @@ use Rattle.std.proofs.lemmas.List.{length-append, length-map}
 use Rattle.std.proofs.lemmas.List.Elements.{recursion_from_All}
 use Rattle.std.proofs.lemmas.List.Folds.{list_all-append}
 use Rattle.ak_base.specs.Limits.{last_head_usn, last_moment, last_stamp}
-use Rattle.ak_base.specs.Heads.{IsHeadInRange}
+use Rattle.ak_base.specs.Heads.{IsHeadInRange, is_tag_name}
 use Rattle.ak_base.specs.Names.{table_place}
 use Rattle.ak_base.specs.Rows.{IsChecked, name_of}
 use Rattle.ak_base.specs.declared.heads.Head.{Head}
@@ -29,7 +29,7 @@ use Rattle.ak_merge.specs.Soundness.{IsFault, fault_id, first_fault}
 use Rattle.ak_merge.specs.Tags.{IsTagName}
 use Rattle.ak_merge.specs.declared.checks.CheckFault.{CheckFault}
 use Rattle.ak_merge.specs.declared.checks.CheckFault.TheVariants as faults
-use Rattle.ak_messages.specs.MessageForms.{chunk_entries}
+use Rattle.ak_messages.specs.MessageForms.{chunk_entries, no_counts}
 use Rattle.ak_messages.specs.declared.replies.Give.TheVariants as gives
 use Rattle.ak_messages.specs.declared.requests.Ask.{Ask}
 use Rattle.ak_messages.specs.declared.requests.Ask.TheVariants as asks
@@ -44,11 +44,11 @@ use Rattle.ak_session.proofs.InOrder.{Made, all_drop, all_take, changes_keep, ch
 use Rattle.ak_session.proofs.MessageLaws.{front_checked}
 use Rattle.ak_session.proofs.Ranges.{all_append, not_both}
 use Rattle.ak_session.proofs.Sums.{change_rows_of, changes_given, chunk_rows_of, fold_checked, fold_named, graves_checked, slice_of_three, wanted_checked}
-use Rattle.ak_session.specs.Answers.{answer_to, chunk_count, counts_of, is_good, no_counts, same_counts, sanity_reply, server_changes, server_rows}
+use Rattle.ak_session.specs.Answers.{answer_to, chunk_count, counts_of, is_good, same_counts, sanity_reply, server_changes, server_rows}
 use Rattle.ak_session.specs.Asks.{fold_of, least_usn}
 use Rattle.ak_session.specs.Messages.{change_rows, changes_of, chunk_of, chunk_rows, grave_ids, ids_in, newer_of}
 use Rattle.ak_session.specs.Plans.{chunks_to_ask, device_changes, device_rows, graves_to_send, planned, planned_changes, planned_chunks, planned_graves, planned_pushes, planned_start, rows_to_send}
-use Rattle.ak_session.specs.Refusals.{are_changes_in_range, is_checked, is_id, is_newer_in_range, is_tag_name}
+use Rattle.ak_session.specs.Refusals.{are_changes_in_range, is_checked, is_id, is_newer_in_range}
 use Rattle.ak_session.specs.Requests.{asks_commit, is_download, is_meta}
 use Rattle.ak_session.specs.Sessions.{MaySync}
 use Rattle.ak_session.specs.Slices.{slice, filled_slices, slices_until_short, wanted_changes, wanted_graves, wanted_in_chunks}

@@ -7,10 +7,11 @@ mod Faults
 pub mod Forming
 pub mod Granting
 mod Graves
+pub mod Joining
 pub mod Metas
 mod Reading
 pub mod Running
 pub mod Serving
 pub mod Sides
-mod Stopping
+pub mod Stopping
 pub mod Undisturbed

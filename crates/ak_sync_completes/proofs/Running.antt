@@ -7,7 +7,7 @@ use Rattle.ak_base.specs.declared.keys.HostKey.{HostKey}
 use Rattle.ak_client.specs.Syncs.{IsSyncEnded}
 use Rattle.ak_client.specs.declared.outcomes.Outcome.{Outcome}
 use Rattle.ak_client.specs.declared.outcomes.Outcome.TheVariants as outcomes
-use Rattle.ak_faults.specs.Causes.{Health, Rose}
+use Rattle.ak_faults.specs.Causes.{Rose}
 use Rattle.ak_io.specs.Arrivals.{GivesNext}
 use Rattle.ak_keep.specs.Collections.{Collection}
 use Rattle.ak_keep.specs.Keepers.{Keeping}
@@ -15,8 +15,8 @@ use Rattle.ak_outcomes.specs.OutcomeTexts.{outcome_status, outcome_text}
 use Rattle.ak_protocol.specs.Accounts.{AccountState}
 use Rattle.ak_protocol.specs.Logs.{Event}
 use Rattle.ak_sync_completes.proofs.Completing.{ends_by_fault}
-use Rattle.ak_sync_completes.specs.Completing.{EndsWell, IsUnhindered}
-use Rattle.ak_sync_completes.specs.Runs.{RunEndsWell, ends_of}
+use Rattle.ak_sync_completes.specs.Completing.{EndsWell}
+use Rattle.ak_sync_completes.specs.Runs.{RunEndsWell, RunsUnhindered, ends_of}
 use Rattle.ak_sync_runs.specs.SyncRuns.{EndsPrinting, EndsSync, EndsSyncOn, HasStatusCause, SyncOutside, TellsOutcome, ids_of}
 use Rattle.ak_wires.specs.Wires.{WireKind}
 
@@ -59,29 +59,25 @@ module _ (growth : List Event) (status : ℕ) (old new : Option (List ℕ)) (wri
   told_by_fault outcome (inr (inl lost)) (inl (text, is, ends)) = inr ((printed text (outcome_status outcome) ends).0 ∙ ap outcome_status lost)
   told_by_fault outcome (inr (inr kept)) (inl (text, is, ends)) = absurd (keeps ((printed text (outcome_status outcome) ends).0 ∙ ap outcome_status kept))
 
-module _ {kind : WireKind} (spares : Bool) (host : HostKey) (c : Collection) (account : AccountState) (status : ℕ) (before after : SyncOutside kind)
-    (keeper_before keeper_now out_before out_now : Health) (old new : Option (List ℕ)) (word : ℕ) (words : List ℕ)
-    (ends : EndsSync spares host status before after old new) (out : HasStatusCause 5 out_before out_now status)
-    (keeper : HasStatusCause 6 keeper_before keeper_now status) (chance : before.words ≡ Some (word ∷ words))
-    (it : IsUnhindered (ids_of host word) c account (ends_of keeper_before before) (ends_of keeper_now after))
-    (written : Rose out_before out_now → ⊥) where
-  pub run_ends_lossy : RunEndsWell it.growth status old new ⊎ (status ≡ 7)
-  run_ends_lossy = by (subst (λ (b : Bool). EndsSyncOn spares b host status before after old new) (ap (λ (k : Keeping). k.headed.current) it.begins.holds) ends)
+module _ {kind : WireKind} (spares : Bool) (host : HostKey) (c : Collection) (account : AccountState) (status : ℕ) (before after : SyncOutside kind) (old new : Option (List ℕ))
+    (it : RunsUnhindered host c account status before after) (ends : EndsSync spares host status before after old new) where
+  pub run_ends_lossy : RunEndsWell it.sync.growth status old new ⊎ (status ≡ 7)
+  run_ends_lossy = by (subst (λ (b : Bool). EndsSyncOn spares b host status before after old new) (ap (λ (k : Keeping). k.headed.current) it.sync.begins.holds) ends)
     where
-      by : EndsSyncOn spares true host status before after old new → RunEndsWell it.growth status old new ⊎ (status ≡ 7)
+      by : EndsSyncOn spares true host status before after old new → RunEndsWell it.sync.growth status old new ⊎ (status ≡ 7)
       by (inr (same, (memory, nothing))) = inl (inr (inl memory))
       by (inl run) =
-          let drawn : run.word ≡ word = word_told word run.word words after.words (subst (λ (o : Option (List ℕ)). GivesNext o after.words run.word) chance run.drawn) in
-          told_by_fault it.growth status old new (λ is. written (out.failed is)) (λ is. it.keeper (keeper.failed is))
+          let drawn : run.word ≡ it.word = word_told it.word run.word it.words after.words (subst (λ (o : Option (List ℕ)). GivesNext o after.words run.word) it.chance run.drawn) in
+          told_by_fault it.sync.growth status old new (λ is. it.written (it.out.failed is)) (λ is. it.sync.keeper (it.keeper.failed is))
           run.outcome
-          (ends_by_fault (ids_of host word) c account (ends_of keeper_before before) (ends_of keeper_now after) run.outcome it
+          (ends_by_fault (ids_of host it.word) c account (ends_of it.keeper_before before) (ends_of it.keeper_now after) run.outcome it.sync
           (subst (λ (w : ℕ). IsSyncEnded (ids_of host w) before.keeping after.keeping before.health after.health before.wire after.wire before.moments run.outcome)
           drawn run.sparing.ended))
           run.told
 
-  pub run_ends_well : HasStatusCause 7 before.health after.health status → (Rose before.health after.health → ⊥) → RunEndsWell it.growth status old new
+  pub run_ends_well : HasStatusCause 7 before.health after.health status → (Rose before.health after.health → ⊥) → RunEndsWell it.sync.growth status old new
   run_ends_well wire calm = by run_ends_lossy
     where
-      by : RunEndsWell it.growth status old new ⊎ (status ≡ 7) → RunEndsWell it.growth status old new
+      by : RunEndsWell it.sync.growth status old new ⊎ (status ≡ 7) → RunEndsWell it.sync.growth status old new
       by (inl well) = well
       by (inr lost) = absurd (calm (wire.failed lost))

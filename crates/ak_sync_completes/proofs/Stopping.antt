@@ -38,12 +38,12 @@ use Rattle.ak_wires.specs.Wires.{WireKind, Carries, WireState}
 use Rattle.ak_wires.specs.declared.wires.MetaSaid.{MetaSaid}
 
 -- ---- what is no such end
-abbrev is_stopped : Outcome → Bool
+abbrev pub is_stopped : Outcome → Bool
 is_stopped outcomes.Stopped = true
 is_stopped outcome = false
 
 -- the server lets the sync go on, so the clocks do not stop it so
-clocks_other : (said : MetaSaid) (second : ℤ) (stop : Stop) → said.cont ≡ true → clock_stop said second ≡ Some stop → is_stopped (outcome_at stop) ≡ false
+pub clocks_other : (said : MetaSaid) (second : ℤ) (stop : Stop) → said.cont ≡ true → clock_stop said second ≡ Some stop → is_stopped (outcome_at stop) ≡ false
 clocks_other said second stop goes is =
     by (are_far_apart second said.ts)
     (sym (ap (λ (b : Bool). if not b then Some stops.Stopped else if are_far_apart second said.ts then Some (stops.ClockOff second said.ts) else None) goes) ∙ is)
@@ -82,7 +82,7 @@ meta_goes account ids now KeeperFault reply said is told = absurd (none-some sai
 meta_goes account ids now OutOfMemory reply said is told = absurd (none-some said (subst (λ (r : Reply). told_by (Ok r) ≡ Some said) (sym is) told))
 
 module _ {kind : WireKind} (ids : Ids) (old : Log) (h0 h1 : Health) (w0 w1 : WireState kind) (told_old : w0.log ≡ Some old) where
-  said_goes : (answer : Answer) (more : List Request) (answers : List Answer) → AreTried (meta_of ids ∷ more) (answer ∷ answers) h0 h1 w0 w1
+  pub said_goes : (answer : Answer) (more : List Request) (answers : List Answer) → AreTried (meta_of ids ∷ more) (answer ∷ answers) h0 h1 w0 w1
       → (said : MetaSaid) → told_by answer ≡ Some said → said.cont ≡ true
   said_goes (Err end) more answers tried said told = absurd (none-some said told)
   said_goes (Ok reply) more answers tried said told =

@@ -47,7 +47,7 @@ pub record IsSyncOver {kind : WireKind} (ids : Ids) (before after : SyncEnds kin
   pub lost : HasOutcomeCause outcomes.Lost before.health after.health outcome
 
 -- ---- when nothing stops it
--- a device's collection c and a server's s have equal moments, schema moments and numbers, and the device has nothing to send
+-- a device's collection c and a server's s have equal moments, schema moments and usns, and the device has nothing to send
 abbrev pub have_nothing_to_sync : Collection → Collection → Bool
 have_nothing_to_sync c s =
     (int_eq c.head.moment s.head.moment && int_eq c.head.schema s.head.schema && int_eq c.head.usn s.head.usn)
@@ -60,7 +60,7 @@ pub record AreJoinable (c s : Collection) : Type 0 where
   -- they have one schema moment, and there is something to sync
   pub schema : c.head.schema ≡ s.head.schema
   pub differ : have_nothing_to_sync c s ≡ false
-  -- neither moment is the last one, and neither is the server's number
+  -- neither moment is the last one, and neither is the server's usn
   pub room : HaveRoom c s
   -- the device is sound, and so is what both make
   pub sound : IsSound (row_under c)

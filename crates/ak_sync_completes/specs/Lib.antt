@@ -1,3 +1,4 @@
+pub mod Alone
 pub mod Causes
 pub mod Completing
 pub mod Runs

@@ -1,1 +1,2 @@
+mod Retrying
 mod Telling

@@ -73,7 +73,7 @@ text_of_line old text line written =
     sym (append_cancel_right line text (10 ∷ []) (append_cancel_left old (line ++ 10 ∷ []) (text ++ 10 ∷ []) written))
 
 -- an outcome with status 0 that was told as finished
-finished_by : (outcome : Outcome) (old : List ℕ) → TellsOutcome outcome 0 (Some old) (Some (old ++ finished_line))
+pub finished_by : (outcome : Outcome) (old : List ℕ) → TellsOutcome outcome 0 (Some old) (Some (old ++ finished_line))
     → outcome ≡ outcomes.Finished
 finished_by outcome old (inl (text, is, inl (status, written))) =
     told_finished outcome text is (text_of_line old text (codes "finished") written) (done_by outcome status)
@@ -344,7 +344,7 @@ early_by outcomes.TooManyChunks is = refl
 early_by outcomes.Keep is = absurd (search (is, rules))
 early_by outcomes.Memory is = absurd (search (is, rules))
 
--- no status of an end before the finish is that of a failed output or of want of memory
+-- no status of an end before the finish is that of a failed output or of memory that ran out
 early_told : (outcome : Outcome) (status : ℕ) (old new : Option (List ℕ)) → TellsOutcome outcome status old new
     → is_early_status status ≡ true → ends_before_finish outcome ≡ true
 early_told outcome status old new told early =

@@ -1,2 +1,3 @@
 pub mod NoServers
+pub mod Retries
 pub mod SyncRuns

@@ -8,7 +8,7 @@ mod sync_runs;
 
 pub use no_servers::NoServer;
 pub use run_laws::{
-    a_printed_finish_joins, a_printed_no_changes_agrees, a_sync_commits_once,
-    memory_runs_out_early, other_ends_keep_the_device,
+    a_lost_finish_is_healed, a_printed_finish_joins, a_printed_no_changes_agrees,
+    a_sync_commits_once, memory_runs_out_early, other_ends_keep_the_device,
 };
 pub use sync_runs::{NO_COLLECTION, print_ending, run_sync, tell_outcome};

@@ -2,6 +2,7 @@
 ghost use Rattle.std.specs.Prelude.{◌≡◌, ◌≢◌, ◌⊎◌, ℕ, List, [], ◌∷◌, ◌++◌, Bool, true, Option, Some, codes};
 ghost use Rattle.ak_base.specs.declared.keys.HostKey.{HostKey};
 ghost use Rattle.ak_client.specs.Syncs.{HasRaised};
+ghost use Rattle.ak_sync_runs.specs.Retries.{HealsNext};
 ghost use Rattle.ak_sync_runs.specs.SyncRuns.{AgreesNext, CommitsNextOnce, EndsSync, FinishesNext, RunsOutNextEarly, SyncOutside};
 
 use ak_wires::Wire;
@@ -49,4 +50,13 @@ pub fn a_sync_commits_once<W: Wire>()
 pub fn memory_runs_out_early<W: Wire>()
     ensures { (host : HostKey) (before after : SyncOutside W.kind) (old new : Option (List ℕ))
         → EndsSync true host 8 before after old new → RunsOutNextEarly host before after }
+{}
+
+/// If a sync left the device as it was, be it that the reply to its finish was lost, and nothing came to the server before the next sync, that one,
+/// if it prints `finished` with status 0, leaves both with the join of what they held before the first one: what was joined is joined once.
+pub fn a_lost_finish_is_healed<W: Wire>()
+    ensures { (spares : Bool) (host : HostKey) (status : ℕ) (before mid again after : SyncOutside W.kind)
+        → (old new : Option (List ℕ)) (text : List ℕ) → EndsSync spares host status before mid old new
+        → EndsSync spares host 0 again after (Some text) (Some (text ++ (codes "finished" ++ 10 ∷ [])))
+        → HealsNext host before mid again after }
 {}

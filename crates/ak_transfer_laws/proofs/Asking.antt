@@ -171,7 +171,7 @@ module _ {kind : WireKind} (ids : Ids) (c : Collection) (account : AccountState)
             same_growth it.old mid came.3.growth first.2.growth (sym same_mid ∙ came.3.grown) first.2.grown in
             subst (AreUndisturbed (meta_of ids ∷ [])) same (came.3.order (subst (AllByRecursion IsQuiet) (sym same) quiet_first))
 
-    -- one that was not granted met want of memory
+    -- memory ran out for one that was not granted
     pub granted_or_out : (reply.status ≡ 200) ⊎ RanOutOfMemory it.growth
     granted_or_out = by (quiet_or_out it.growth it.server)
       where

@@ -6,5 +6,6 @@ mod NextSyncs
 mod Reasons
 mod Running
 mod Sent
+mod Stopping
 mod Syncing
 mod Wholes

@@ -1,5 +1,5 @@
 -- What the sync after an upload or a download says, on the device that did it and elsewhere.
-use Rattle.std.specs.Prelude.{◌≡◌, ◌≢◌, ◌⊎◌, ℤ, ◌≤ℤ◌, ◌<ℤ◌, List}
+use Rattle.std.specs.Prelude.{◌≡◌, ◌≢◌, ◌⊎◌, ℤ, ◌≤ℤ◌, ◌<ℤ◌, true, List}
 use Rattle.std.proofs.Common.{refl, sym, subst, arith}
 use Rattle.std.proofs.lemmas.Int.{ints}
 use Rattle.ak_client.specs.declared.outcomes.Outcome.{Outcome}
@@ -13,21 +13,26 @@ use Rattle.ak_messages.specs.declared.requests.Ask.{Ask}
 use Rattle.ak_protocol.specs.Accounts.{AccountState}
 use Rattle.ak_protocol.specs.Logs.{Log}
 use Rattle.ak_session.specs.Plans.{Asker}
-use Rattle.ak_sync_completes.specs.Completing.{IsSyncOver, SyncEnds}
+use Rattle.ak_sync_completes.specs.Completing.{IsSyncOver, SyncEnds, have_nothing_to_sync}
 use Rattle.ak_transfer_laws.proofs.Meeting.{lawful}
-use Rattle.ak_transfer_laws.proofs.Reasons.{copies_stop, schemas_stop}
+use Rattle.ak_transfer_laws.proofs.Reasons.{copies_stop, equal_sides_stop, schemas_stop}
 use Rattle.ak_transfer_laws.proofs.Syncing.{syncs_end}
 use Rattle.ak_transfer_laws.specs.Completing.{EndsWith, IsLeftAlone, committed_before}
 use Rattle.ak_transfers.specs.Transfers.{Downloaded, HoldsUpload, Uploaded}
 use Rattle.ak_wires.specs.Wires.{WireKind}
 
--- a device that holds a copy of what is committed
+-- a device that holds a copy of what is committed, or has nothing to sync for another reason, or has another schema moment
 module _ {kind : WireKind} (ids : Ids) (d : Collection) (account : AccountState) (before after : SyncEnds kind) (outcome : Outcome) (it : IsLeftAlone ids d account before after)
     (over : IsSyncOver ids before after outcome) where
   pub copies_end : IsCopyOf (committed_before ids account it.old) d → EndsWith outcomes.NoChanges it.growth outcome ⊎ (outcome ≡ outcomes.Lost)
   copies_end copy =
       syncs_end ids d account before after outcome it over stops.NoChanges
       (λ said says. copies_stop (committed_before ids account it.old) d it.at said (lawful ids d account before after it) copy says)
+
+  pub equals_end : have_nothing_to_sync d (committed_before ids account it.old) ≡ true → EndsWith outcomes.NoChanges it.growth outcome ⊎ (outcome ≡ outcomes.Lost)
+  equals_end nothing =
+      syncs_end ids d account before after outcome it over stops.NoChanges
+      (λ said says. equal_sides_stop (committed_before ids account it.old) d it.at said nothing says)
 
   pub schemas_end : d.head.schema ≢ (committed_before ids account it.old).head.schema
       → EndsWith (outcomes.FullSchema d.head.schema (committed_before ids account it.old).head.schema) it.growth outcome ⊎ (outcome ≡ outcomes.Lost)

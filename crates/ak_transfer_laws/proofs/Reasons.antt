@@ -17,6 +17,7 @@ use Rattle.ak_merge.specs.Soundness.{first_fault}
 use Rattle.ak_merge.specs.declared.checks.CheckFault.{CheckFault}
 use Rattle.ak_protocol.proofs.Commits.{not_both}
 use Rattle.ak_sync_completes.proofs.Metas.{Says}
+use Rattle.ak_sync_completes.specs.Completing.{have_nothing_to_sync}
 use Rattle.ak_transfer_laws.proofs.Sent.{all_sent}
 use Rattle.ak_wires.specs.declared.wires.MetaSaid.{MetaSaid}
 
@@ -33,11 +34,25 @@ differs_is a b differs = by (int_eq a b) refl
     by true is = absurd (differs ((signed_Decides a b).0 is))
     by false is = is
 
--- a copy has nothing to sync
-pub copies_stop : (s c : Collection) (at : ℤ) (said : MetaSaid) → IsCommitted s → IsCopyOf s c → Says s at said → device_stop said (held_by c) ≡ Some stops.NoChanges
-copies_stop s c at said lawful copy says =
+-- a device on which nothing changed has nothing to sync
+unchanged_stop : (c : Collection) (said : MetaSaid) → is_unchanged said c.head c.rows ≡ true → device_stop said (held_by c) ≡ Some stops.NoChanges
+unchanged_stop c said unchanged =
     ap (λ (b : Bool). option_or (if b then Some stops.NoChanges else if not (int_eq c.head.schema said.scm) then Some (stops.FullSchema c.head.schema said.scm)
     else if int_eq said.usn last_head_usn then Some (stops.FullSequence said.usn) else None) (own_faults c)) unchanged
+
+-- so it is where the heads are equal and nothing is to be sent
+pub equal_sides_stop : (s c : Collection) (at : ℤ) (said : MetaSaid) → have_nothing_to_sync c s ≡ true → Says s at said
+    → device_stop said (held_by c) ≡ Some stops.NoChanges
+equal_sides_stop s c at said nothing says =
+    unchanged_stop c said
+    (ap (λ (moment : ℤ). (int_eq c.head.moment moment && int_eq c.head.schema said.scm && int_eq c.head.usn said.usn) && not (has_unsent c.rows c.head.tags)) says.moment
+    ∙ ap (λ (scm : ℤ). (int_eq c.head.moment s.head.moment && int_eq c.head.schema scm && int_eq c.head.usn said.usn) && not (has_unsent c.rows c.head.tags)) says.schema
+    ∙ ap (λ (usn : ℤ). (int_eq c.head.moment s.head.moment && int_eq c.head.schema s.head.schema && int_eq c.head.usn usn) && not (has_unsent c.rows c.head.tags)) says.usn
+    ∙ nothing)
+
+-- a copy has nothing to sync
+pub copies_stop : (s c : Collection) (at : ℤ) (said : MetaSaid) → IsCommitted s → IsCopyOf s c → Says s at said → device_stop said (held_by c) ≡ Some stops.NoChanges
+copies_stop s c at said lawful copy says = unchanged_stop c said unchanged
   where
     moment : int_eq c.head.moment said.moment ≡ true
     moment = same_is c.head.moment said.moment (ap (λ (h : Head). h.moment) copy.head ∙ sym says.moment)

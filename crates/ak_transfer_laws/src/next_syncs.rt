@@ -1,5 +1,5 @@
 // What an upload and a download leave for the syncs after them.
-ghost use Rattle.std.specs.Prelude.{◌≡◌, ◌≢◌, ◌⊎◌, ◌≤ℤ◌, List, refl};
+ghost use Rattle.std.specs.Prelude.{◌≡◌, ◌≢◌, ◌⊎◌, ◌≤ℤ◌, List, refl, true};
 ghost use Rattle.ak_client.specs.declared.outcomes.Outcome.{Outcome};
 ghost use Rattle.ak_client.specs.declared.outcomes.Outcome.TheVariants as outcomes;
 ghost use Rattle.ak_exchange.specs.declared.envelopes.Ids.{Ids};
@@ -13,7 +13,7 @@ ghost use Rattle.ak_messages.specs.declared.requests.Ask.{Ask};
 ghost use Rattle.ak_protocol.specs.Accounts.{AccountState};
 ghost use Rattle.ak_protocol.specs.Logs.{Log};
 ghost use Rattle.ak_session.specs.Plans.{Asker};
-ghost use Rattle.ak_sync_completes.specs.Completing.{IsSyncOver, SyncEnds};
+ghost use Rattle.ak_sync_completes.specs.Completing.{IsSyncOver, SyncEnds, have_nothing_to_sync};
 ghost use Rattle.ak_transfer_laws.specs.Completing.{EndsWith, IsLeftAlone, committed_before};
 ghost use Rattle.ak_transfers.specs.Transfers.{Downloaded, HoldsUpload, MayTransfer, Uploaded};
 
@@ -29,6 +29,19 @@ pub fn copies_have_nothing_to_sync<W: Wire>()
     ensures lossy { (ids : Ids) (c : Collection) (account : AccountState) (before after : SyncEnds W.kind) (outcome : Outcome)
         → (it : IsLeftAlone ids c account before after) → IsCopyOf (committed_before ids account it.old) c
         → IsSyncOver ids before after outcome → EndsWith outcomes.NoChanges it.growth outcome ⊎ (outcome ≡ outcomes.Lost) }
+{}
+
+/// So has any device whose moments and number are the server's and that has nothing to send: a sync that nothing stops says that there are no
+/// changes, or memory ran out. If calls of its wire fail, its meta may be lost besides.
+pub fn equal_sides_have_nothing_to_sync<W: Wire>()
+    ensures faultless { (ids : Ids) (c : Collection) (account : AccountState) (before after : SyncEnds W.kind) (outcome : Outcome)
+        → (it : IsLeftAlone ids c account before after)
+        → have_nothing_to_sync c (committed_before ids account it.old) ≡ true → IsSyncOver ids before after outcome
+        → (Rose before.health after.health → ⊥) → EndsWith outcomes.NoChanges it.growth outcome }
+    ensures lossy { (ids : Ids) (c : Collection) (account : AccountState) (before after : SyncEnds W.kind) (outcome : Outcome)
+        → (it : IsLeftAlone ids c account before after)
+        → have_nothing_to_sync c (committed_before ids account it.old) ≡ true → IsSyncOver ids before after outcome
+        → EndsWith outcomes.NoChanges it.growth outcome ⊎ (outcome ≡ outcomes.Lost) }
 {}
 
 /// A device whose schema moment is not the server's, as after an upload elsewhere, needs the whole collection: a sync that nothing stops

@@ -1,7 +1,7 @@
 use Rattle.std.proofs.Common.{refl}
 use Rattle.ak_client.specs.declared.outcomes.Outcome.TheVariants as outcomes
-use Rattle.ak_sync_ends.proofs.Joining.{early, finished}
-use Rattle.ak_sync_ends.proofs.alone_laws.syncs_alone_join.Goals as goal
+use Rattle.ak_sync_completes.proofs.Joining.{early, finished}
+use Rattle.ak_sync_completes.proofs.alone_laws.syncs_alone_join.Goals as goal
 
 pub returns : goal.returns
 returns g c = record {

@@ -10,7 +10,7 @@ ghost use Rattle.ak_keep.specs.Collections.{Collection};
 ghost use Rattle.ak_keep.specs.Keepers.{Keeping};
 ghost use Rattle.ak_protocol.specs.Accounts.{AccountState};
 ghost use Rattle.ak_protocol.specs.Logs.{Log};
-ghost use Rattle.ak_sync_ends.specs.Alone.{BeginsAlone, LeavesTheJoin};
+ghost use Rattle.ak_sync_completes.specs.Alone.{BeginsAlone, LeavesTheJoin};
 ghost use Rattle.ak_wires.specs.Wires.{WireState};
 
 use ak_wires::Wire;

@@ -13,7 +13,7 @@ use Rattle.ak_keep.specs.Keepers.{Keeping}
 use Rattle.ak_merge.specs.Exchanges.{AreExchanged}
 use Rattle.ak_protocol.specs.Accounts.{AccountState}
 use Rattle.ak_protocol.specs.Logs.{Log}
-use Rattle.ak_sync_ends.specs.Alone.{BeginsAlone, LeavesTheJoin}
+use Rattle.ak_sync_completes.specs.Alone.{BeginsAlone, LeavesTheJoin}
 use Rattle.ak_wires.specs.Wires.{WireKind, WireState}
 
 module _ {kind : WireKind} (ids : Ids) (c : Collection) (account : AccountState) (old now : Log) (before left : Keeping) (h0 h1 : Health) (w0 w1 : WireState kind) (outcome : Outcome)
