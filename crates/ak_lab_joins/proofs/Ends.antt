@@ -111,8 +111,8 @@ module _ (account : AccountState) (name : List ℕ) (s t : LabState) (outcome : 
       server_here device_here))
 
   -- ---- not finished
-  kept : ends_before_finish outcome ≡ true → KeepsCommitted (world_in lab_host account s.server) (world_in lab_host account t.server)
-  kept early =
+  pub kept_early : ends_before_finish outcome ≡ true → KeepsCommitted (world_in lab_host account s.server) (world_in lab_host account t.server)
+  kept_early early =
       let stays = subst (λ (h : List ℕ). StaysQuiet (world_in h account s.server) (world_in h account t.server)) same_host
       (synced.early_quiet account s.sessions s.clock (s.clock +ℤ ends.d.shift) ends.d ends.made (server_met kinds.Sync s) (with_fails ends.fails_left t.server) outcome room ends.session enough
       server_here device_here early) in
@@ -122,18 +122,18 @@ module _ (account : AccountState) (name : List ℕ) (s t : LabState) (outcome : 
   still_commits : outcome ≢ outcomes.Finished → (o : Outcome) → outcome ≡ o
       → StillCommits (one_more s.sessions) own.c (world_in lab_host account s.server) (world_in lab_host account t.server) o
   still_commits other outcomes.Finished is = absurd (other is)
-  still_commits other outcomes.NoChanges is = kept (ap ends_before_finish is)
-  still_commits other (outcomes.FullSchema device server) is = kept (ap ends_before_finish is)
-  still_commits other (outcomes.FullSequence usn) is = kept (ap ends_before_finish is)
-  still_commits other (outcomes.BadRow fault) is = kept (ap ends_before_finish is)
-  still_commits other (outcomes.BadCounts client server) is = kept (ap ends_before_finish is)
-  still_commits other (outcomes.ClockOff device server) is = kept (ap ends_before_finish is)
-  still_commits other (outcomes.OwnCheck fault) is = kept (ap ends_before_finish is)
-  still_commits other outcomes.Stopped is = kept (ap ends_before_finish is)
+  still_commits other outcomes.NoChanges is = kept_early (ap ends_before_finish is)
+  still_commits other (outcomes.FullSchema device server) is = kept_early (ap ends_before_finish is)
+  still_commits other (outcomes.FullSequence usn) is = kept_early (ap ends_before_finish is)
+  still_commits other (outcomes.BadRow fault) is = kept_early (ap ends_before_finish is)
+  still_commits other (outcomes.BadCounts client server) is = kept_early (ap ends_before_finish is)
+  still_commits other (outcomes.ClockOff device server) is = kept_early (ap ends_before_finish is)
+  still_commits other (outcomes.OwnCheck fault) is = kept_early (ap ends_before_finish is)
+  still_commits other outcomes.Stopped is = kept_early (ap ends_before_finish is)
   still_commits other (outcomes.Refused status word seen) is = committed_so
   still_commits other outcomes.Lost is = committed_so
   still_commits other outcomes.BadReply is = committed_so
-  still_commits other outcomes.TooManyChunks is = kept (ap ends_before_finish is)
+  still_commits other outcomes.TooManyChunks is = kept_early (ap ends_before_finish is)
   still_commits other outcomes.Keep is = committed_so
   still_commits other outcomes.Memory is = absurd (enough is)
 
@@ -242,7 +242,7 @@ lines_aside_others kind number name s t it = record {
   rest = it.rest;
 }
 
-lines_aside_finishes : (account : AccountState) (number : ℕ) (name : List ℕ) (s t : LabState) → Finishes account name (at_line number s) t → Finishes account name s t
+pub lines_aside_finishes : (account : AccountState) (number : ℕ) (name : List ℕ) (s t : LabState) → Finishes account name (at_line number s) t → Finishes account name s t
 lines_aside_finishes account number name s t it = record {
   joins = record {
     device = it.joins.device;

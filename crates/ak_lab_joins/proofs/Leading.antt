@@ -124,7 +124,7 @@ crosses_grow call session x y a b came it =
     turns_keep (Grows {X = CrossState}) keeps_growing (ActsOnce session) (λ one p q c d end acted. act_grows one.act one.line session p q c d end acted)
     (due call x.acts) (cross_state x.lab) (cross_state y.lab) a b came it.1
 
-lab_session_grows : (kind : SessionKind) (name : List ℕ) (s t : LabState) (crossed : List (List ℕ)) (outcome : Outcome) → EndsLabSession kind name s t crossed outcome
+pub lab_session_grows : (kind : SessionKind) (name : List ℕ) (s t : LabState) (crossed : List (List ℕ)) (outcome : Outcome) → EndsLabSession kind name s t crossed outcome
     → LogGrows s.server t.server
 lab_session_grows kind name s t crossed outcome ended =
     let runs = ended.runs in
@@ -165,12 +165,12 @@ said_grows (lines.Requests name) s t printed is = same_server s t (ap (λ (x : L
 lined : (number : ℕ) (s : LabState) (t : LoggedState) → LogGrows (at_line number s).server t → LogGrows s.server t
 lined number s t grows = record { growth = grows.growth; grown = grows.grown }
 
-line_grows : (number : ℕ) (line : Line) (s t : LabState) (printed : List (List ℕ)) → EndsAs number line s t (Accepted printed) → LogGrows s.server t.server
+pub line_grows : (number : ℕ) (line : Line) (s t : LabState) (printed : List (List ℕ)) → EndsAs number line s t (Accepted printed) → LogGrows s.server t.server
 line_grows number line s t printed (inl nothing) =
     lined number s t.server (nothing_came (at_line number s).server t.server (ap (λ (x : LabState). x.server) nothing.0))
 line_grows number line s t printed (inr (said, says, accepts)) = lined number s t.server (said_grows said (at_line number s) t printed accepts)
 
-all_go_grow : (number : ℕ) (all : List Line) (s t : LabState) (printed : List (List ℕ)) → AllGo number all s t printed → LogGrows s.server t.server
+pub all_go_grow : (number : ℕ) (all : List Line) (s t : LabState) (printed : List (List ℕ)) → AllGo number all s t printed → LogGrows s.server t.server
 all_go_grow number [] s t printed (same, nothing) = same_server s t (ap (λ (x : LabState). x.server) same)
 all_go_grow number (line ∷ more) s t printed (mid, first, others, ended, goes, is) =
     further s.server mid.server t.server (line_grows number line s mid first ended) (all_go_grow (number + 1) more mid t others goes)

@@ -1,6 +1,7 @@
 mod Alone
 mod Breaks
 mod BreaksPlanned
+mod CommitsShown
 mod Counts
 mod Crossed
 mod CrossedDevice
@@ -28,11 +29,17 @@ mod Reviews
 mod SchemasStay
 mod ScriptTransfers
 mod Servers
+mod ServingsTold
 mod Synced
 mod Syncs
+mod SyncsTold
 mod Transferred
 mod Transfers
+mod TriesTold
 mod Unfailed
 mod Unlike
 mod Unloaded
+mod Unserved
+mod UploadsTold
+mod WordsTold
 mod Worlds

@@ -58,32 +58,29 @@ unfolding first_of
 text_told word name text other is =
     append_cancel_left (word ++ codes " " ++ name ++ codes ": ") text other (ap first_of is)
 
--- a sync that finished, and what others that crossed it printed
-abbrev pub Ended : List ℕ → LabState → LabState → Type 0
-Ended name s t = (crossed : List (List ℕ)) × EndsSync name s t crossed outcomes.Finished
+-- a sync whose outcome has this text, and what others that crossed it printed
+abbrev pub EndedAs : List ℕ → List ℕ → LabState → LabState → Type 0
+EndedAs name text s t = (outcome : Outcome) × (crossed : List (List ℕ)) × EndsSync name s t crossed outcome × (outcome_text outcome ≡ Some text)
 
-sync_told : (name : List ℕ) (s t : LabState) → PlansNothing name s → Accepts (lines.Sync name) s t (sync_text name (codes "finished") ∷ []) → Ended name s t
-sync_told name s t plans (outcome, text, crossed, ends, told, is) =
-    let alone : sync_text name (codes "finished") ∷ [] ≡ sync_text name text ∷ [] =
-    is ∙ ap (λ (l : List (List ℕ)). l ++ sync_text name text ∷ []) (sync_uncrossed name s t crossed outcome ends plans) in (
-      crossed,
-      subst (λ (o : Outcome). EndsSync name s t crossed o)
-          (finished_told outcome (told ∙ ap Some (sym (text_told (codes "sync") name (codes "finished") text alone)))) ends,
-    )
+sync_told : (name text : List ℕ) (s t : LabState) → PlansNothing name s → Accepts (lines.Sync name) s t (sync_text name text ∷ []) → EndedAs name text s t
+sync_told name text s t plans (outcome, other, crossed, ends, told, is) =
+    let alone : sync_text name text ∷ [] ≡ sync_text name other ∷ [] =
+    is ∙ ap (λ (l : List (List ℕ)). l ++ sync_text name other ∷ []) (sync_uncrossed name s t crossed outcome ends plans) in
+    (outcome, crossed, ends, told ∙ ap Some (sym (text_told (codes "sync") name text other alone)))
 
-line_told : (number : ℕ) (line : Line) (name : List ℕ) (s t : LabState) → PlansNothing name s → Says line (lines.Sync name)
-    → EndsAs number line s t (Accepted (sync_text name (codes "finished") ∷ [])) → Ended name (at_line number s) t
-line_told number line name s t plans says (inl nothing) = absurd (skips_nothing line (lines.Sync name) says nothing.1.0)
-line_told number line name s t plans says (inr (said, others, accepts)) =
-    sync_told name (at_line number s) t plans
-    (subst (λ (it : LabLine). Accepts it (at_line number s) t (sync_text name (codes "finished") ∷ [])) (says_one line said (lines.Sync name) others says) accepts)
+pub line_told : (number : ℕ) (line : Line) (name text : List ℕ) (s t : LabState) → PlansNothing name s → Says line (lines.Sync name)
+    → EndsAs number line s t (Accepted (sync_text name text ∷ [])) → EndedAs name text (at_line number s) t
+line_told number line name text s t plans says (inl nothing) = absurd (skips_nothing line (lines.Sync name) says nothing.1.0)
+line_told number line name text s t plans says (inr (said, others, accepts)) =
+    sync_told name text (at_line number s) t plans
+    (subst (λ (it : LabLine). Accepts it (at_line number s) t (sync_text name text ∷ [])) (says_one line said (lines.Sync name) others says) accepts)
 
 -- ---- in a script
 pub printed_joins : LinesStep → (opening : Opening) (all : List Line) (earlier : List (List ℕ)) (line : Line) (name : List ℕ) (s t : LabState) → IsLabOpening opening
     → HasSession s → GoFresh opening all s earlier → PlansNothing name s → Says line (lines.Sync name)
     → EndsAs (length all + 1) line s t (Accepted (sync_text name (codes "finished") ∷ [])) → Finishes (account_opened opening) name s t
 printed_joins steps opening all earlier line name s t opens room goes plans says ends =
-    let told = line_told (length all + 1) line name s t plans says ends in
+    let told = line_told (length all + 1) line name (codes "finished") s t plans says ends in
     run_finishes steps opening all name s t outcomes.Finished
     (record {
       opens = opens;
@@ -91,8 +88,8 @@ printed_joins steps opening all earlier line name s t opens room goes plans says
       goes = (goes, inr (λ bad. absurd (not_checked bad)));
       room = room;
       plans = plans;
-      crossed = told.0;
-      comes = told.1;
+      crossed = told.1;
+      comes = subst (λ (o : Outcome). EndsSync name (at_line (length all + 1) s) t told.1 o) (finished_told told.0 told.3) told.2;
     }) refl
   where
     -- a sync that finished took no schema moment

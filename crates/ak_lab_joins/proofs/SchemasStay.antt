@@ -52,7 +52,7 @@ none_uploads who base step (ask ∷ more) all = ((λ now setback. no_upload ask 
 
 -- ---- what is committed
 -- what commits and is no upload is a finish
-finish_alone : (ask : Ask) → asks_commit ask ≡ true → asked_method ask ≢ methods.Upload → ask ≡ asks.Finish
+pub finish_alone : (ask : Ask) → asks_commit ask ≡ true → asked_method ask ≢ methods.Upload → ask ≡ asks.Finish
 finish_alone asks.Meta commits other = absurd (not_both commits refl)
 finish_alone (asks.Start min_usn lmod) commits other = absurd (not_both commits refl)
 finish_alone (asks.ApplyGraves ids) commits other = absurd (not_both commits refl)

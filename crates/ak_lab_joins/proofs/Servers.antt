@@ -8,7 +8,7 @@ use Rattle.ak_base.specs.Limits.{last_moment}
 use Rattle.ak_io.specs.Arrivals.{IsClockMoment}
 use Rattle.ak_keep.specs.Collections.{Collection}
 use Rattle.ak_lab_joins.proofs.Worlds.{IsView, StaysQuiet, quiet_after, views_are_quiet, views_of_none, world_grown}
-use Rattle.ak_lab_wires.proofs.Openings.{opening_is_committed}
+use Rattle.ak_openings.proofs.OpeningLaws.{openings_are_lawful}
 use Rattle.ak_lab_joins.specs.LabJoins.{IsLinkedServer, world_in}
 use Rattle.ak_lab.specs.LabRuns.{IsLabOpening}
 use Rattle.ak_lab.specs.LabSyncs.{with_fails}
@@ -113,7 +113,7 @@ first_moment = record { low = omega (arith, ints); high = omega (arith, ints) }
 
 pub opened_server : (opening : Opening) → IsLabOpening opening → IsLinkedServer lab_host (account_opened opening) 0 (begins_with lab_host opening)
 opened_server opening is =
-    let holds : IsCommitted (collection_in opening) = opening_is_committed (pos 1_700_000_000_000) opening first_moment is in
+    let holds : IsCommitted (collection_in opening) = openings_are_lawful (pos 1_700_000_000_000) opening first_moment is in
     record {
       host_is = refl;
       unused = λ key over. record {

@@ -1,6 +1,6 @@
 -- What a sync of a lab leaves on both sides, and that all devices are linked with the server then.
 use Rattle.std.specs.List.{All}
-use Rattle.std.specs.Prelude.{◌≡◌, ◌≢◌, ℕ, suc, ℤ, pos, ◌+ℤ◌, ◌<◌, ◌≤ℤ◌, ◌<ℤ◌, true, List, [], ◌∷◌, length, Option, Some}
+use Rattle.std.specs.Prelude.{◌≡◌, ◌≢◌, ℕ, suc, ℤ, pos, ◌+ℤ◌, ◌<◌, ◌≤ℤ◌, ◌<ℤ◌, true, List, [], ◌∷◌, ◌++◌, length, Option, Some}
 use Rattle.std.proofs.Common.{refl, sym, ap, subst, ◌∙◌, inl, inr, arith}
 use Rattle.std.proofs.lemmas.Int.{ints}
 use Rattle.std.proofs.lemmas.List.Elements.{All-nil, All-weaker}
@@ -14,7 +14,7 @@ use Rattle.ak_client.specs.declared.outcomes.Outcome.TheVariants as outcomes
 use Rattle.ak_device.specs.Devices.{advanced_moment, moments_raised}
 use Rattle.ak_edit.specs.Steps.{reversals_in}
 use Rattle.ak_edit.specs.Undos.{SuitsNow}
-use Rattle.ak_exchange.specs.Asked.{asker}
+use Rattle.ak_exchange.specs.Asked.{asker, asks_in}
 use Rattle.ak_exchange.specs.Phases.{holding}
 use Rattle.ak_faults.specs.Causes.{one_more}
 use Rattle.ak_io.specs.Arrivals.{GivesNext}
@@ -42,12 +42,14 @@ use Rattle.ak_keep.specs.Graves.{RowsByName}
 use Rattle.ak_merge.specs.Holdings.{AreNamed, IsSingle, SameContent, content_of, row_under}
 use Rattle.ak_merge.specs.Links.{AreLinked}
 use Rattle.ak_merge.specs.Undoing.{StepFits, StepsSuit}
+use Rattle.ak_messages.specs.declared.requests.Ask.{Ask}
 use Rattle.ak_protocol.proofs.ContentLaws.{some_of_all}
 use Rattle.ak_protocol.proofs.Syncs.{events_leave_unused}
 use Rattle.ak_protocol.specs.Accounts.{AccountState}
 use Rattle.ak_protocol.specs.Logs.{Commit, Log, World}
 use Rattle.ak_protocol.specs.Sessions.{IsMetaOrOther}
 use Rattle.ak_protocol.specs.Syncs.{IsUnused}
+use Rattle.ak_session.specs.Plans.{planned}
 use Rattle.ak_undo.specs.declared.steps.Step.{Step}
 use Rattle.ak_wires.specs.Wires.{WireState}
 
@@ -340,3 +342,10 @@ module _ {mishaps : List Mishap} (account : AccountState) (sessions : ℕ) (at d
   early_quiet early =
       syncs.quiet_if_early sync.ids account (log_in met) (log_in new) (keeping_of d) (keeping_of made) (health_over no_calls mishaps) sync.health first last
       (Some (device_at ∷ [])) outcome c sync.alone refl log_now known sync.ended.sync ended may early
+
+  -- what it asked is a front of its plan with a collection
+  pub asked_front : (base : Collection) × (rest : List Ask) × (asks_in sync.ended.sync.tries ++ rest ≡ planned c base)
+  asked_front =
+      let it = syncs.synced sync.ids account (log_in met) (log_in new) (keeping_of d) (keeping_of made) (health_over no_calls mishaps) sync.health first last
+      (Some (device_at ∷ [])) outcome c sync.alone refl log_now known sync.ended.sync ended may in
+      (it.base, it.front.0, it.front.1)

@@ -3,3 +3,4 @@ pub mod LabBreaks
 pub mod LabCrossings
 pub mod LabJoins
 pub mod LabMishaps
+pub mod LabWords

@@ -24,6 +24,7 @@ ghost use Rattle.ak_lab_joins.specs.LabJoins.{
   IsFinish,
   IsLevelFresh,
   IsLinkedLab,
+  KeepsCommitted,
   KeepsSides,
   KeepsTransferSides,
   PlansNothing,
@@ -59,7 +60,15 @@ ghost use Rattle.ak_lab_joins.specs.LabBreaks.{
   RunFaultsByBreaks,
   StandsSo,
 };
-ghost use Rattle.ak_lab_joins.specs.LabMishaps.{EndsInLosses, MeetsNoFault};
+ghost use Rattle.ak_lab_joins.specs.LabMishaps.{DisturbsNothing, EndsInLosses, LosesNothing, MeetsNoFault};
+ghost use Rattle.ak_lab_joins.specs.LabWords.{
+  GoesUnbroken,
+  PrintsCommit,
+  ServesNoCommit,
+  SyncCommitsAsTold,
+  UploadCommitsAsTold,
+  hides_commit,
+};
 ghost use Rattle.ak_lab.specs.LabPlans.{Resends};
 ghost use Rattle.ak_lab.specs.LabRuns.{AllGo, IsLabOpening, RunsLab};
 ghost use Rattle.ak_lab.specs.LabStates.{LabState, at_line, opened_lab};
@@ -213,6 +222,43 @@ pub fn other_transfers_keep_sides()
     ensures { (direction : Direction) (account : AccountState) (name : List ℕ) (s t : LabState) (outcome : Outcome)
         → IsLinkedLab account s → HasSession s → outcome ≢ outcomes.Finished → EndsTransfer direction name s t outcome
         → KeepsTransferSides direction account name s t outcome }
+{}
+
+/// If nothing comes between the calls of a sync and no break stands, its outcome tells whether the server committed, whatever is lost and
+/// repeated: if it finished, both sides hold the join, which was committed once, and else the server has committed what it had. Only two
+/// kinds of outcome don't tell it: `lost`, and that memory ran out.
+pub fn outcomes_tell_commits()
+    ensures syncs { (account : AccountState) (name : List ℕ) (s t : LabState) (crossed : List (List ℕ)) (outcome : Outcome)
+        → GoesUnbroken account name s → StandsSo false s → EndsSync name s t crossed outcome → hides_commit outcome ≡ false
+        → SyncCommitsAsTold account name s t outcome }
+    ensures unlost { (name : List ℕ) (s t : LabState) (crossed : List (List ℕ)) (outcome : Outcome) → LosesNothing name s
+        → EndsSync name s t crossed outcome → outcome ≢ outcomes.Lost }
+
+    // If nothing is lost or repeated, a refusal by a server that ran out of memory tells it too, and a break of the server makes no difference.
+    // So the printed line tells it: there is none if memory ran out on the device.
+    ensures undisturbed { (account : AccountState) (name : List ℕ) (s t : LabState) (crossed : List (List ℕ)) (outcome : Outcome)
+        → GoesUnbroken account name s → DisturbsNothing name s → EndsSync name s t crossed outcome → outcome ≢ outcomes.Memory
+        → SyncCommitsAsTold account name s t outcome }
+    ensures printed { (account : AccountState) (number : ℕ) (line : Line) (name text : List ℕ) (s t : LabState)
+        → GoesUnbroken account name s → DisturbsNothing name s → Says line (lines.Sync name)
+        → EndsAs number line s t (Accepted (sync_text name text ∷ [])) → PrintsCommit account name s t text }
+
+    // The messages of an upload are never lost and never repeated.
+    ensures uploads { (account : AccountState) (name : List ℕ) (s t : LabState) (outcome : Outcome) → IsLinkedLab account s → HasSession s
+        → EndsTransfer directions.Upload name s t outcome → outcome ≢ outcomes.Memory → UploadCommitsAsTold account name s t outcome }
+{}
+
+/// Whatever is lost, repeated, crossed and broken: if no finish and no upload was served, what the server has committed is as it was.
+pub fn only_served_requests_commit()
+    ensures sessions { (account : AccountState) (kind : SessionKind) (name : List ℕ) (s t : LabState) (crossed : List (List ℕ))
+        → (outcome : Outcome) → EndsLabSession kind name s t crossed outcome → ServesNoCommit s.server t.server
+        → KeepsCommitted (lab_world account s) (lab_world account t) }
+    ensures lines { (account : AccountState) (number : ℕ) (line : Line) (s t : LabState) (printed : List (List ℕ))
+        → EndsAs number line s t (Accepted printed) → ServesNoCommit s.server t.server
+        → KeepsCommitted (lab_world account s) (lab_world account t) }
+    ensures runs { (account : AccountState) (number : ℕ) (all : List Line) (s t : LabState) (printed : List (List ℕ))
+        → AllGo number all s t printed → ServesNoCommit s.server t.server
+        → KeepsCommitted (lab_world account s) (lab_world account t) }
 {}
 
 /// A sync that others may have crossed, by whole syncs and by requests of the log again: if it finished, its session committed once, over

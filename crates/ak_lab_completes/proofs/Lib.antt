@@ -1,0 +1,5 @@
+mod Beginning
+mod Coming
+mod Healing
+mod Printing
+mod Syncing
