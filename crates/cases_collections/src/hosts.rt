@@ -1,10 +1,10 @@
 use crate::requests::{forge, host_of, serve};
 use crate::views::{all, view, view_head};
-use ak_base::{HostKey, List, Text, cut};
+use ak_base::{HostKey, Text, cut};
 use ak_keep::{Keeper, Lookup};
 use ak_memory::MemoryKeeper;
 use ak_server::{AddFault, Server};
-use cases_keepers::{answer_of, value_of};
+use cases_keepers::{answer_of, calls_of};
 use cases_lines::Unread;
 use std::alloc::Global;
 use std::mem;
@@ -94,13 +94,4 @@ fn refused(alloc: Global, fault: AddFault) -> Result<String, Unread> {
         AddFault::Empty => Ok(String::from_str(alloc, "empty")?),
         AddFault::Memory => Err(Unread::Ended),
     }
-}
-
-fn calls_of(alloc: Global, text: &str) -> Result<List<u64>, Unread> {
-    let arguments = value_of(alloc, text)?;
-    let mut calls = List::new(alloc);
-    for call in arguments.as_array().ok_or(Unread::Bad)? {
-        calls.push(call.as_u64().ok_or(Unread::Bad)?)?;
-    }
-    Ok(calls)
 }

@@ -50,26 +50,12 @@ pub fn view_head(
 pub fn all(alloc: Global, server: &mut Server<MemoryKeeper>, rest: &str) -> Result<String, Unread> {
     let host = host_of(rest)?;
     let mut made = view_head(alloc, server, rest)?;
-    for table in tables() {
+    for table in Table::all() {
         made.push_str(" ")?;
         let page = server.view(host, table, 0, 1000);
         made.push_str(page_text(alloc, page)?.as_str())?;
     }
     Ok(made)
-}
-
-fn tables() -> [Table; 9] {
-    [
-        Table::Note,
-        Table::Card,
-        Table::Review,
-        Table::NoteType,
-        Table::Deck,
-        Table::Options,
-        Table::NoteGrave,
-        Table::CardGrave,
-        Table::DeckGrave,
-    ]
 }
 
 fn page_text(alloc: Global, page: Result<Option<List<Row>>, KeepFault>) -> Result<String, Unread> {

@@ -2,7 +2,7 @@ ghost use Rattle.std.specs.Prelude.{◌≡◌};
 ghost use Rattle.ak_wires.specs.Wires.{Called, said_after};
 ghost use Rattle.cases_syncs.specs.Intercepted.{health_over, state_over};
 
-use ak_messages::{Reply, Request, SanityReply};
+use ak_messages::{Reply, Request};
 use ak_wires::{Said, WireEnd, said_of};
 
 /// What a wire counts of its calls, and what the reply of the last one said. Each count stays at the last `u64`.
@@ -55,7 +55,7 @@ impl InterceptedCounts {
         ensures { result ≡ self.now.said }
     {
         match &self.said {
-            Some(said) => Some(copy_said(said)),
+            Some(said) => Some(said.copy()),
             None => None,
         }
     }
@@ -67,27 +67,5 @@ fn said_by(request: &Request, answer: &Result<Reply, WireEnd>) -> Option<Said>
     match answer {
         Ok(reply) => Some(said_of(request, reply)),
         Err(_) => None,
-    }
-}
-
-fn copy_said(said: &Said) -> Said
-    ensures { result ≡ said.now }
-{
-    Said {
-        session: said.session,
-        status: said.status,
-        word: said.word,
-        seen: said.seen,
-        meta: said.meta,
-        sanity: copy_sanity(&said.sanity),
-    }
-}
-
-fn copy_sanity(sanity: &Option<SanityReply>) -> Option<SanityReply>
-    ensures { result ≡ sanity.now }
-{
-    match sanity {
-        Some(reply) => Some(reply.copy()),
-        None => None,
     }
 }

@@ -3,14 +3,14 @@ ghost use Rattle.ak_io.specs.Arrivals.{IsClockMoment};
 
 use crate::shown::{all, sum};
 use ak_answers::whole_of;
-use ak_base::{List, SessionKey};
+use ak_base::SessionKey;
 use ak_keep::{KeepFault, Lookup};
 use ak_loops::{LoggedServer, LoopWire, NothingBetween, keeper_with};
 use ak_memory::MemoryKeeper;
 use ak_server_copies::view_all;
 use ak_wire::{Ask, Reply, Request, Whole, write_reply};
 use cases_accounts::{empty_account, host_key, moment_at};
-use cases_keepers::{answer_of, value_of};
+use cases_keepers::{answer_of, calls_of, value_of};
 use cases_lines::Unread;
 use std::alloc::Global;
 
@@ -85,15 +85,6 @@ fn moment_of(alloc: Global, rest: &str) -> Result<i64, Unread>
 {
     let arguments = value_of(alloc, rest)?;
     moment_at(&arguments, 0)
-}
-
-fn calls_of(alloc: Global, rest: &str) -> Result<List<u64>, Unread> {
-    let arguments = value_of(alloc, rest)?;
-    let mut calls = List::new(alloc);
-    for call in arguments.as_array().ok_or(Unread::Bad)? {
-        calls.push(call.as_u64().ok_or(Unread::Bad)?)?;
-    }
-    Ok(calls)
 }
 
 // ---- what the account holds

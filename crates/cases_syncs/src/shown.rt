@@ -7,25 +7,10 @@ use serde_json::Value;
 use sha1::Sha1;
 use std::alloc::Global;
 
-/// All tables, in the order in which their rows are printed.
-fn tables() -> [Table; 9] {
-    [
-        Table::Note,
-        Table::Card,
-        Table::Review,
-        Table::NoteType,
-        Table::Deck,
-        Table::Options,
-        Table::NoteGrave,
-        Table::CardGrave,
-        Table::DeckGrave,
-    ]
-}
-
 /// The head, and then the first 1,000 rows of each table.
 pub fn all(alloc: Global, keeper: &mut MemoryKeeper) -> Result<String, Unread> {
     let mut made = answer_of(alloc, keeper, "head", "")?;
-    for table in tables() {
+    for table in Table::all() {
         let page = keeper.page(table, 0, 1000);
         made.push_str(page_text(alloc, page)?.as_str())?;
     }
