@@ -146,7 +146,7 @@ fn add_account<M: MakeKeeper>(
 {
     match server.add(name, host, keeper) {
         Ok(()) => Ok(()),
-        // Listed accounts have keys of their own, and the keeper holds a collection: so this is want of memory.
+        // Listed accounts have keys of their own, and the keeper holds a collection: so memory ran out.
         Err((_, keeper)) => {
             maker.give_back(keeper);
             Err(KeepFault::Memory)

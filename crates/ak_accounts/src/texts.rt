@@ -18,7 +18,7 @@ const TEXT_LIMIT: usize = 1_048_576;
 pub fn read_accounts(alloc: Global, text: &[u8]) -> Result<List<ListedAccount>, AccountsFault>
     ensures ok { IfOk result (λ accounts. Lists text.now (map listing_of accounts)) }
 
-    // A text that lists accounts is refused only for want of memory.
+    // A text that lists accounts is refused only if memory runs out.
     ensures refused { IfErr result (λ fault.
         fault ≡ AccountsFault.Refused → (listings : List Listing) → Lists text.now listings → ⊥) }
 {

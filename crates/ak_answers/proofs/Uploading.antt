@@ -10,7 +10,7 @@ use Rattle.std.proofs.lemmas.Bool.{or_parts}
 use Rattle.std.proofs.lemmas.Int.{ints}
 use Rattle.std.proofs.lemmas.List.Elements.{All-from_recursion}
 use Rattle.ak_base.proofs.RowFacts.{name_of-with_usn}
-use Rattle.ak_base.specs.Heads.{IsHeadInRange, IsMoment, IsTagInRange, tag_names}
+use Rattle.ak_base.specs.Heads.{IsHeadInRange, IsMoment, IsTagInRange, tag_names, is_tag_name}
 use Rattle.ak_base.specs.Limits.{last_moment, last_stamp}
 use Rattle.ak_base.specs.Names.{name_cmp}
 use Rattle.ak_base.specs.Rows.{IsChecked, buried_of, name_of, with_usn}
@@ -31,7 +31,7 @@ use Rattle.ak_merge.proofs.CheckedRows.{checked_with_usn}
 use Rattle.ak_merge.proofs.TagLaws.{tags_stay_in_range, tags_stay_ordered}
 use Rattle.ak_messages.specs.declared.requests.Whole.{Whole}
 use Rattle.ak_session.specs.Closings.{moment_past}
-use Rattle.ak_session.specs.Refusals.{has_last_moment, has_no_next, has_twins, is_checked, is_conf_in_range, is_crt_in_range, is_tag_in_range, is_tag_name, is_whole_in_range, same_names}
+use Rattle.ak_session.specs.Refusals.{has_last_moment, has_no_next, has_twins, is_checked, is_conf_in_range, is_crt_in_range, is_tag_in_range, is_whole_in_range, same_names}
 use Rattle.ak_session.proofs.Ranges.{moment_fits, passed, settings_fit, tag_named, within}
 use Rattle.ak_answers.specs.Closings.{uploaded_head}
 

@@ -14,7 +14,7 @@ use Rattle.ak_session.specs.Closings.{moment_past}
 abbrev pub finished_moment : Basis → ℤ → ℤ
 finished_moment basis now = int_min (moment_past now basis.numbers.moment basis.live.moment) last_moment
 
--- the next number, at most the last one
+-- the next usn, at most the last one
 abbrev pub finished_usn : Basis → ℤ
 finished_usn basis = int_min (basis.numbers.usn +ℤ pos 1) last_head_usn
 

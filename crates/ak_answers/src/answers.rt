@@ -1,6 +1,6 @@
 // What an accepted request does to the session's tables, and what it is given.
 ghost use Rattle.std.specs.Prelude.{◌≡◌, true, false, IfOk, OnOk};
-ghost use Rattle.std.specs.Option.{option_map, unwrap_or};
+ghost use Rattle.std.specs.Option.{option_map};
 ghost use Rattle.ak_base.specs.Heads.{IsHeadInRange};
 ghost use Rattle.ak_keep.specs.Collections.{Rows};
 ghost use Rattle.ak_keep.specs.Keepers.{IsMarkedAt, KeepCause, WhereHeld, WhereTold, back, changed, is_marked, marked_here};
@@ -11,19 +11,20 @@ ghost use Rattle.ak_messages.specs.declared.requests.Ask.TheVariants as asks;
 ghost use Rattle.ak_answers.specs.Answers.{Answers, HasHead, HasNumbers, IsNextChunk, answered, changes_given, expects_mark, held_with, is_chunk, settings_unless_newer, tables_of};
 ghost use Rattle.ak_parts.specs.Takes.{MayBeTaken};
 ghost use Rattle.ak_session.specs.Asks.{brought};
-ghost use Rattle.ak_session.specs.Messages.{grave_ids, newer_of, settings_in};
+ghost use Rattle.ak_session.specs.Messages.{grave_ids, newer_of};
 ghost use Rattle.ak_session.specs.Slices.{wanted_graves};
 
 use crate::sanity::sanity_of;
 use crate::wholes::read_whole;
-use ak_base::{Conf, Head, Memory, Name};
+use ak_base::{Head, Memory, Name};
 use ak_keep::{KeepFault, Keeper, Numbers, Wanted};
 use ak_machine::Session;
 use ak_merge::{Side, take_tags};
 use ak_messages::{Ask, Changes, Chunk, Give, GraveIds, Newer};
 use ak_parts::{
-    Changed, changed_of, chunk_of, grave_ids, head_of, next_rows, take_changed_rows,
-    take_chunk_rows, take_given_graves, wanted_changes, wanted_graves, wanted_tags,
+    Changed, changed_of, chunk_of, grave_ids, head_of, next_rows, settings_after,
+    take_changed_rows, take_chunk_rows, take_given_graves, wanted_changes, wanted_graves,
+    wanted_tags,
 };
 use std::alloc::Global;
 
@@ -99,7 +100,7 @@ fn give_answer(give: Give, done: bool, given: Name) -> Answered
     Answered { give, done, given }
 }
 
-/// A start: the graves with at least the number are given, and the keeper is marked.
+/// A start: the graves with at least the usn are given, and the keeper is marked.
 #[tactic(auto, using(crate::proofs::Marking::back_stays))]
 fn start<K: Keeper>(alloc: Global, keeper: &mut K, min_usn: i64) -> Result<GraveIds, KeepFault>
     requires unmarked { is_marked (K.keeping keeper.old) ≡ false }
@@ -152,7 +153,7 @@ fn exchange_changes<K: Keeper>(
     Ok(given)
 }
 
-/// The server's changes: its rows and tags with at least the session's number, and its settings if it is the newer side.
+/// The server's changes: its rows and tags with at least the session's usn, and its settings if it is the newer side.
 fn changes_from<K: Keeper>(
     alloc: Global,
     keeper: &mut K,
@@ -236,17 +237,6 @@ fn head_with(head: Head, came: &Changes) -> Result<Head, Memory>
         conf,
         tags,
     })
-}
-
-/// The settings that came, or else the held ones.
-fn settings_after(newer: &Option<Newer>, conf: Conf, crt: i64) -> Result<(Conf, i64), Memory>
-    ensures conf { IfOk result (λ made. made.0 ≡ (unwrap_or (option_map settings_in newer.now) (record { conf = conf; crt = crt })).conf) }
-    ensures crt { IfOk result (λ made. made.1 ≡ (unwrap_or (option_map settings_in newer.now) (record { conf = conf; crt = crt })).crt) }
-{
-    match newer {
-        Some(newer) => Ok((newer.conf.copy()?, newer.crt)),
-        None => Ok((conf, crt)),
-    }
 }
 
 /// Gives the next rows.

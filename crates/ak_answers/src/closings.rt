@@ -2,7 +2,7 @@
 ghost use Rattle.std.specs.Int.{int_max};
 ghost use Rattle.std.specs.List.{All, IsDistinct};
 ghost use Rattle.std.specs.Ordering.{eq_by_cmp};
-ghost use Rattle.std.specs.Prelude.{◌≡◌, ◌≢◌, Err, ◌+ℤ◌, ◌≤ℤ◌, ◌++◌, pos, true, false, [], ◌∷◌, map, IfOk, OnOk};
+ghost use Rattle.std.specs.Prelude.{◌≡◌, ◌≢◌, Err, ◌+ℤ◌, ◌≤ℤ◌, pos, true, false, [], map, IfOk, OnOk};
 ghost use Rattle.ak_base.specs.Heads.{IsHeadInRange, tag_names};
 ghost use Rattle.ak_base.specs.Limits.{last_head_usn, last_moment};
 ghost use Rattle.ak_base.specs.Names.{name_cmp};
@@ -21,13 +21,14 @@ ghost use Rattle.ak_session.specs.Closings.{moment_past};
 ghost use Rattle.ak_session.specs.Refusals.{has_last_moment, has_no_next, has_twins, is_whole_in_range, same_names};
 
 use crate::answers::Basis;
-use ak_base::{Head, LAST_HEAD_USN, LAST_MOMENT, List, Memory, Row, Tag, Text};
+use ak_base::{Head, LAST_HEAD_USN, LAST_MOMENT, List, Memory, Row, Tag};
 use ak_keep::{KeepFault, Keeper, Numbers};
 use ak_merge::take_tags;
 use ak_messages::{Give, Whole};
+use ak_parts::{tag_names, uploaded_rows};
 use std::alloc::Global;
 
-/// A finish: the session's tables get the next number, and the greatest of now and the moments after the committed one
+/// A finish: the session's tables get the next usn, and the greatest of now and the moments after the committed one
 /// and the device's. It gives that moment, in milliseconds. It reads nothing, and takes no memory but what the keeper takes.
 pub fn finish<K: Keeper>(keeper: &mut K, basis: Basis, now: i64) -> Result<Give, KeepFault>
     requires clock { IsClockMoment now }
@@ -43,7 +44,7 @@ pub fn finish<K: Keeper>(keeper: &mut K, basis: Basis, now: i64) -> Result<Give,
     ensures cause { KeepCause (K.health keeper.old) (K.health keeper.new) result }
     ensures spares { K.spares_memory ≡ true → result ≢ Err WantOfMemory }
 {
-    // A start is refused at the last number and at the last moment, so a keeper that tells what it holds has neither.
+    // A start is refused at the last usn and at the last moment, so a keeper that tells what it holds has neither.
     let moment = finished_moment(&basis, now);
     let usn = finished_usn(&basis);
     keeper.set_moments(moment, basis.numbers.schema, usn, basis.numbers.last_sync)?;
@@ -59,7 +60,7 @@ fn finished_moment(basis: &Basis, now: i64) -> i64
     moment_past(now, basis.numbers.moment, basis.live.moment).min(LAST_MOMENT)
 }
 
-/// The next number, at most the last one.
+/// The next usn, at most the last one.
 fn finished_usn(basis: &Basis) -> i64
     requires { basis.now.numbers.usn ≤ℤ last_head_usn }
     ensures { result ≡ finished_usn basis.now }
@@ -67,7 +68,7 @@ fn finished_usn(basis: &Basis) -> i64
     (basis.numbers.usn + 1).min(LAST_HEAD_USN)
 }
 
-/// An upload: its rows but the graves, and its tags, all with the number 0, its settings, the number 1, and moments past
+/// An upload: its rows but the graves, and its tags, all with the usn 0, its settings, the usn 1, and moments past
 /// those of both. The moment of the last sync stays.
 pub fn upload<K: Keeper>(
     keeper: &mut K,
@@ -165,44 +166,10 @@ fn past_both(one: i64, other: i64) -> i64
     (one + 1).max(other + 1)
 }
 
-/// The rows but the graves, each with the number 0.
-fn uploaded_rows(alloc: Global, came: &[Row]) -> Result<List<Row>, Memory>
-    ensures { IfOk result (λ rows. rows ≡ uploaded_rows came.now) }
-{
-    let mut rows = List::new(alloc);
-    for row in came {
-        add_uploaded(&mut rows, row)?;
-    }
-    Ok(rows)
-}
-
-/// Adds a copy of the row with the number 0, unless it is a grave.
-fn add_uploaded(rows: &mut List<Row>, row: &Row) -> Result<(), Memory>
-    ensures { OnOk result (rows.new ≡ rows.old ++ uploaded_rows (row.now ∷ [])) }
-{
-    if row.buried().is_some() {
-        return Ok(());
-    }
-    let mut made = row.copy()?;
-    made.set_usn(0);
-    rows.push(made)
-}
-
-/// The tags by the bytes of their names, each with the number 0.
+/// The tags by the bytes of their names, each with the usn 0.
 fn uploaded_tags(alloc: Global, came: &[Tag]) -> Result<List<Tag>, Memory>
     ensures { IfOk result (λ tags. tags ≡ tags_taken (pos 0) (tag_names came.now) []) }
 {
-    let names = names_of(alloc, came)?;
+    let names = tag_names(alloc, came)?;
     take_tags(List::new(alloc), names.as_slice(), 0)
-}
-
-/// The names of the tags.
-fn names_of(alloc: Global, tags: &[Tag]) -> Result<List<Text>, Memory>
-    ensures { IfOk result (λ names. names ≡ tag_names tags.now) }
-{
-    let mut names = List::new(alloc);
-    for tag in tags {
-        names.push(tag.name.copy()?)?;
-    }
-    Ok(names)
 }

@@ -2,7 +2,8 @@
 ghost use Rattle.std.specs.Prelude.{◌≡◌, ◌&&◌, not, is_some};
 ghost use Rattle.ak_keep.specs.Readings.{ReadsBy};
 ghost use Rattle.ak_merge.specs.Soundness.{first_fault};
-ghost use Rattle.ak_session.specs.Answers.{counts_of, no_counts, same_counts, sanity_reply};
+ghost use Rattle.ak_session.specs.Answers.{counts_of, same_counts, sanity_reply};
+ghost use Rattle.ak_messages.specs.MessageForms.{no_counts};
 
 use ak_keep::{KeepFault, Readable};
 use ak_merge::check;

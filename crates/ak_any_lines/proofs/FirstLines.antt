@@ -1,10 +1,10 @@
 -- What goes before a line, by what the line says.
-use Rattle.std.specs.Prelude.{◌≡◌, ℤ, List, Option, Some, None, Result, Ok, Err}
+use Rattle.std.specs.Prelude.{◌≡◌, ◌⊎◌, ℤ, List, Option, Some, None, Result, Ok, Err}
 use Rattle.std.specs.Option.{MatchOption}
-use Rattle.std.proofs.Common.{refl, sym, subst}
+use Rattle.std.proofs.Common.{refl, sym, subst, inl, inr, ◌∙◌}
 use Rattle.std.proofs.lemmas.Option.{none-some}
 use Rattle.ak_any_lines.specs.AnyEnds.{AnswersGiven, AppliesToAny, EndsAfterFirst, EndsAnyLine, EndsSingle, given_in}
-use Rattle.ak_any_lines.specs.FirstThings.{EmptiesFirst, GoesFirst, GoesFirstBy, SendsFirst, SendsIfMoved, dropped_deck, moved_cards}
+use Rattle.ak_any_lines.specs.FirstThings.{EmptiesFirst, GoesFirst, SendsFirst, SendsIfMoved, dropped_deck, moved_cards}
 use Rattle.ak_desk_lines.specs.DeskStates.{DeskState}
 use Rattle.ak_desk_lines.specs.LineEnds.{AppliesFilters}
 use Rattle.ak_desk_lines.specs.declared.turns.Turn.{Turn}
@@ -18,51 +18,24 @@ use Rattle.ak_study.specs.declared.answers.CardAnswer.{CardAnswer}
 use Rattle.ak_texts.specs.declared.answers.DeskAnswer.{DeskAnswer}
 use Rattle.ak_texts.specs.declared.line_refusals.LineRefusal.{LineRefusal}
 
--- by what it drops or moves
-pub goes_first : (line : DeskLine) (at : ℤ) (before mid : DeskState) (first : Result (Unit {0}) DeskFault) → GoesFirstBy line at before mid first
-    → GoesFirst line at before mid first
-goes_first (lines.AddNote note_type deck fields) at before mid first goes = goes
-goes_first (lines.SetFields note fields) at before mid first goes = goes
-goes_first (lines.SetTags note tags) at before mid first goes = goes
-goes_first (lines.DeleteNotes notes) at before mid first goes = goes
-goes_first (lines.DeleteDeck deck) at before mid first goes = goes
-goes_first (lines.RenameDeck deck name) at before mid first goes = goes
-goes_first (lines.MoveCards deck cards) at before mid first goes = goes
-goes_first (lines.UseOptions deck options) at before mid first goes = goes
-goes_first (lines.SetSpread spread) at before mid first goes = goes
-goes_first (lines.AddDeck name) at before mid first goes = goes
-goes_first (lines.AddOptions options) at before mid first goes = goes
-goes_first (lines.SetOptions options) at before mid first goes = goes
-goes_first (lines.AddType note_type) at before mid first goes = goes
-goes_first (lines.EditType allow note_type fields templates) at before mid first goes = goes
-goes_first (lines.DeleteType allow note_type) at before mid first goes = goes
-goes_first (lines.DeleteOptions allow options) at before mid first goes = goes
-goes_first (lines.Answer card button taken) at before mid first goes = goes
-goes_first (lines.Next deck) at before mid first goes = goes
-goes_first (lines.Counts deck) at before mid first goes = goes
-goes_first (lines.Find search) at before mid first goes = goes
-goes_first (lines.Page card back) at before mid first goes = goes
-goes_first (lines.Mute filter) at before mid first goes = goes
-goes_first (lines.Suspend cards) at before mid first goes = goes
-goes_first (lines.Unsuspend cards) at before mid first goes = goes
-goes_first (lines.Bury cards) at before mid first goes = goes
-goes_first (lines.Flag value cards) at before mid first goes = goes
-goes_first lines.Undo at before mid first goes = goes
-goes_first lines.Check at before mid first goes = goes
-
 -- a line that drops a deck
 pub first_dropped : (line : DeskLine) (at : ℤ) (before mid : DeskState) (first : Result (Unit {0}) DeskFault) (deck : ℤ) → dropped_deck line ≡ Some deck
     → EmptiesFirst at deck before mid first → GoesFirst line at before mid first
 first_dropped line at before mid first deck is empties =
-    goes_first line at before mid first
-    (subst (λ (o : Option ℤ). MatchOption o (SendsIfMoved line at before mid first) (λ deck. EmptiesFirst at deck before mid first)) (sym is) empties)
+    subst (λ (o : Option ℤ). MatchOption o (SendsIfMoved line at before mid first) (λ deck. EmptiesFirst at deck before mid first)) (sym is) empties
 
 -- a line that drops none
 pub first_other : (line : DeskLine) (at : ℤ) (before mid : DeskState) (first : Result (Unit {0}) DeskFault) → dropped_deck line ≡ None
     → SendsIfMoved line at before mid first → GoesFirst line at before mid first
 first_other line at before mid first is sends =
-    goes_first line at before mid first
-    (subst (λ (o : Option ℤ). MatchOption o (SendsIfMoved line at before mid first) (λ deck. EmptiesFirst at deck before mid first)) (sym is) sends)
+    subst (λ (o : Option ℤ). MatchOption o (SendsIfMoved line at before mid first) (λ deck. EmptiesFirst at deck before mid first)) (sym is) sends
+
+-- nothing comes before a line that drops none and moves none
+nothing_first : (line : DeskLine) (at : ℤ) (before mid : DeskState) (first : Result (Unit {0}) DeskFault) → dropped_deck line ≡ None → moved_cards line ≡ None
+    → GoesFirst line at before mid first → (mid ≡ before) × (first ≡ Ok tt)
+nothing_first line at before mid first drops moves goes =
+    subst (λ (o : Option (List ℤ)). MatchOption o ((mid ≡ before) × (first ≡ Ok tt)) (λ cards. SendsFirst at cards before mid first)) moves
+    (subst (λ (o : Option ℤ). MatchOption o (SendsIfMoved line at before mid first) (λ deck. EmptiesFirst at deck before mid first)) drops goes)
 
 -- a line that moves cards
 pub sends_moved : (line : DeskLine) (at : ℤ) (before mid : DeskState) (first : Result (Unit {0}) DeskFault) (cards : List ℤ) → moved_cards line ≡ Some cards
@@ -102,99 +75,69 @@ refused_first : {A : Type 0} (fault : DeskFault) → ◌≡◌ {A = Result (Unit
 refused_first fault is = cc
 
 -- ---- filters
+-- nothing comes before the line, and it is no answer
+abbrev StandsAlone : DeskLine → Type 0
+StandsAlone line = (dropped_deck line ≡ None) × (moved_cards line ≡ None) × ((t : Turn) → given_in line t ≡ None)
+
+-- the line does nothing with the filters
+abbrev LeavesFilters : DeskLine → Type 0
+LeavesFilters line = (held : Keeping) (filters turned : List Meaning) (own : Result DeskAnswer DeskFault)
+    → (AppliesFilters line held filters turned own → turned ≡ filters) × (turned ≡ filters → AppliesFilters line held filters turned own)
+
+-- a page and `mute` do something with them: both stand alone
+alone_or_leaves : (line : DeskLine) → StandsAlone line ⊎ LeavesFilters line
+alone_or_leaves (lines.AddNote note_type deck fields) = inr (λ held filters turned own. (λ is. is, λ is. is))
+alone_or_leaves (lines.SetFields note fields) = inr (λ held filters turned own. (λ is. is, λ is. is))
+alone_or_leaves (lines.SetTags note tags) = inr (λ held filters turned own. (λ is. is, λ is. is))
+alone_or_leaves (lines.DeleteNotes notes) = inr (λ held filters turned own. (λ is. is, λ is. is))
+alone_or_leaves (lines.DeleteDeck deck) = inr (λ held filters turned own. (λ is. is, λ is. is))
+alone_or_leaves (lines.RenameDeck deck name) = inr (λ held filters turned own. (λ is. is, λ is. is))
+alone_or_leaves (lines.MoveCards deck cards) = inr (λ held filters turned own. (λ is. is, λ is. is))
+alone_or_leaves (lines.UseOptions deck options) = inr (λ held filters turned own. (λ is. is, λ is. is))
+alone_or_leaves (lines.SetSpread spread) = inr (λ held filters turned own. (λ is. is, λ is. is))
+alone_or_leaves (lines.AddDeck name) = inr (λ held filters turned own. (λ is. is, λ is. is))
+alone_or_leaves (lines.AddOptions options) = inr (λ held filters turned own. (λ is. is, λ is. is))
+alone_or_leaves (lines.SetOptions options) = inr (λ held filters turned own. (λ is. is, λ is. is))
+alone_or_leaves (lines.AddType note_type) = inr (λ held filters turned own. (λ is. is, λ is. is))
+alone_or_leaves (lines.EditType allow note_type fields templates) = inr (λ held filters turned own. (λ is. is, λ is. is))
+alone_or_leaves (lines.DeleteType allow note_type) = inr (λ held filters turned own. (λ is. is, λ is. is))
+alone_or_leaves (lines.DeleteOptions allow options) = inr (λ held filters turned own. (λ is. is, λ is. is))
+alone_or_leaves (lines.Answer card button taken) = inr (λ held filters turned own. (λ is. is, λ is. is))
+alone_or_leaves (lines.Next deck) = inr (λ held filters turned own. (λ is. is, λ is. is))
+alone_or_leaves (lines.Counts deck) = inr (λ held filters turned own. (λ is. is, λ is. is))
+alone_or_leaves (lines.Find search) = inr (λ held filters turned own. (λ is. is, λ is. is))
+alone_or_leaves (lines.Page card back) = inl (refl, refl, λ t. refl)
+alone_or_leaves (lines.Mute filter) = inl (refl, refl, λ t. refl)
+alone_or_leaves (lines.Suspend cards) = inr (λ held filters turned own. (λ is. is, λ is. is))
+alone_or_leaves (lines.Unsuspend cards) = inr (λ held filters turned own. (λ is. is, λ is. is))
+alone_or_leaves (lines.Bury cards) = inr (λ held filters turned own. (λ is. is, λ is. is))
+alone_or_leaves (lines.Flag value cards) = inr (λ held filters turned own. (λ is. is, λ is. is))
+alone_or_leaves lines.Undo = inr (λ held filters turned own. (λ is. is, λ is. is))
+alone_or_leaves lines.Check = inr (λ held filters turned own. (λ is. is, λ is. is))
+
 -- a line before which something was refused leaves them
 pub stopped_filters : (line : DeskLine) (at : ℤ) (before mid : DeskState) (fault : DeskFault) (filters : List Meaning) → GoesFirst line at before mid (Err fault)
     → AppliesFilters line before.keeping filters filters (Err fault)
-stopped_filters (lines.AddNote note_type deck fields) at before mid fault filters goes = refl
-stopped_filters (lines.SetFields note fields) at before mid fault filters goes = refl
-stopped_filters (lines.SetTags note tags) at before mid fault filters goes = refl
-stopped_filters (lines.DeleteNotes notes) at before mid fault filters goes = refl
-stopped_filters (lines.DeleteDeck deck) at before mid fault filters goes = refl
-stopped_filters (lines.RenameDeck deck name) at before mid fault filters goes = refl
-stopped_filters (lines.MoveCards deck cards) at before mid fault filters goes = refl
-stopped_filters (lines.UseOptions deck options) at before mid fault filters goes = refl
-stopped_filters (lines.SetSpread spread) at before mid fault filters goes = refl
-stopped_filters (lines.AddDeck name) at before mid fault filters goes = refl
-stopped_filters (lines.AddOptions options) at before mid fault filters goes = refl
-stopped_filters (lines.SetOptions options) at before mid fault filters goes = refl
-stopped_filters (lines.AddType note_type) at before mid fault filters goes = refl
-stopped_filters (lines.EditType allow note_type fields templates) at before mid fault filters goes = refl
-stopped_filters (lines.DeleteType allow note_type) at before mid fault filters goes = refl
-stopped_filters (lines.DeleteOptions allow options) at before mid fault filters goes = refl
-stopped_filters (lines.Answer card button taken) at before mid fault filters goes = refl
-stopped_filters (lines.Next deck) at before mid fault filters goes = refl
-stopped_filters (lines.Counts deck) at before mid fault filters goes = refl
-stopped_filters (lines.Find search) at before mid fault filters goes = refl
-stopped_filters (lines.Page card back) at before mid fault filters goes = refused_first fault goes.1
-stopped_filters (lines.Mute filter) at before mid fault filters goes = refused_first fault goes.1
-stopped_filters (lines.Suspend cards) at before mid fault filters goes = refl
-stopped_filters (lines.Unsuspend cards) at before mid fault filters goes = refl
-stopped_filters (lines.Bury cards) at before mid fault filters goes = refl
-stopped_filters (lines.Flag value cards) at before mid fault filters goes = refl
-stopped_filters lines.Undo at before mid fault filters goes = refl
-stopped_filters lines.Check at before mid fault filters goes = refl
+stopped_filters line at before mid fault filters goes =
+    elim (alone_or_leaves line) [
+      | inl alone ↦ refused_first fault (nothing_first line at before mid (Err fault) alone.0 alone.1 goes).1
+      | inr leaves ↦ (leaves before.keeping filters filters (Err fault)).1 refl
+    ]
 
 -- a line before which something was done makes of them what it does alone
 pub filters_then : (line : DeskLine) (at : ℤ) (before mid : DeskState) (filters turned : List Meaning) (own : Result DeskAnswer DeskFault) → GoesFirst line at before mid (Ok tt)
     → AppliesFilters line mid.keeping filters turned own → AppliesFilters line before.keeping filters turned own
-filters_then (lines.AddNote note_type deck fields) at before mid filters turned own goes applies = applies
-filters_then (lines.SetFields note fields) at before mid filters turned own goes applies = applies
-filters_then (lines.SetTags note tags) at before mid filters turned own goes applies = applies
-filters_then (lines.DeleteNotes notes) at before mid filters turned own goes applies = applies
-filters_then (lines.DeleteDeck deck) at before mid filters turned own goes applies = applies
-filters_then (lines.RenameDeck deck name) at before mid filters turned own goes applies = applies
-filters_then (lines.MoveCards deck cards) at before mid filters turned own goes applies = applies
-filters_then (lines.UseOptions deck options) at before mid filters turned own goes applies = applies
-filters_then (lines.SetSpread spread) at before mid filters turned own goes applies = applies
-filters_then (lines.AddDeck name) at before mid filters turned own goes applies = applies
-filters_then (lines.AddOptions options) at before mid filters turned own goes applies = applies
-filters_then (lines.SetOptions options) at before mid filters turned own goes applies = applies
-filters_then (lines.AddType note_type) at before mid filters turned own goes applies = applies
-filters_then (lines.EditType allow note_type fields templates) at before mid filters turned own goes applies = applies
-filters_then (lines.DeleteType allow note_type) at before mid filters turned own goes applies = applies
-filters_then (lines.DeleteOptions allow options) at before mid filters turned own goes applies = applies
-filters_then (lines.Answer card button taken) at before mid filters turned own goes applies = applies
-filters_then (lines.Next deck) at before mid filters turned own goes applies = applies
-filters_then (lines.Counts deck) at before mid filters turned own goes applies = applies
-filters_then (lines.Find search) at before mid filters turned own goes applies = applies
-filters_then (lines.Page card back) at before mid filters turned own goes applies =
-    subst (λ (s : DeskState). AppliesFilters (lines.Page card back) s.keeping filters turned own) goes.0 applies
-filters_then (lines.Mute filter) at before mid filters turned own goes applies = applies
-filters_then (lines.Suspend cards) at before mid filters turned own goes applies = applies
-filters_then (lines.Unsuspend cards) at before mid filters turned own goes applies = applies
-filters_then (lines.Bury cards) at before mid filters turned own goes applies = applies
-filters_then (lines.Flag value cards) at before mid filters turned own goes applies = applies
-filters_then lines.Undo at before mid filters turned own goes applies = applies
-filters_then lines.Check at before mid filters turned own goes applies = applies
+filters_then line at before mid filters turned own goes applies =
+    elim (alone_or_leaves line) [
+      | inl alone ↦ subst (λ (s : DeskState). AppliesFilters line s.keeping filters turned own) (nothing_first line at before mid (Ok tt) alone.0 alone.1 goes).0 applies
+      | inr leaves ↦ (leaves before.keeping filters turned own).1 ((leaves mid.keeping filters turned own).0 applies)
+    ]
 
 -- an answer does nothing with them
 pub answer_filters : (line : DeskLine) (t : Turn) (given : CardAnswer) (held : Keeping) (filters : List Meaning) (own : Result DeskAnswer DeskFault) → given_in line t ≡ Some given
     → AppliesFilters line held filters filters own
-answer_filters (lines.AddNote note_type deck fields) t given held filters own is = refl
-answer_filters (lines.SetFields note fields) t given held filters own is = refl
-answer_filters (lines.SetTags note tags) t given held filters own is = refl
-answer_filters (lines.DeleteNotes notes) t given held filters own is = refl
-answer_filters (lines.DeleteDeck deck) t given held filters own is = refl
-answer_filters (lines.RenameDeck deck name) t given held filters own is = refl
-answer_filters (lines.MoveCards deck cards) t given held filters own is = refl
-answer_filters (lines.UseOptions deck options) t given held filters own is = refl
-answer_filters (lines.SetSpread spread) t given held filters own is = refl
-answer_filters (lines.AddDeck name) t given held filters own is = refl
-answer_filters (lines.AddOptions options) t given held filters own is = refl
-answer_filters (lines.SetOptions options) t given held filters own is = refl
-answer_filters (lines.AddType note_type) t given held filters own is = refl
-answer_filters (lines.EditType allow note_type fields templates) t given held filters own is = refl
-answer_filters (lines.DeleteType allow note_type) t given held filters own is = refl
-answer_filters (lines.DeleteOptions allow options) t given held filters own is = refl
-answer_filters (lines.Answer card button taken) t given held filters own is = refl
-answer_filters (lines.Next deck) t given held filters own is = refl
-answer_filters (lines.Counts deck) t given held filters own is = refl
-answer_filters (lines.Find search) t given held filters own is = refl
-answer_filters (lines.Page card back) t given held filters own is = absurd (none-some given is)
-answer_filters (lines.Mute filter) t given held filters own is = absurd (none-some given is)
-answer_filters (lines.Suspend cards) t given held filters own is = refl
-answer_filters (lines.Unsuspend cards) t given held filters own is = refl
-answer_filters (lines.Bury cards) t given held filters own is = refl
-answer_filters (lines.Flag value cards) t given held filters own is = refl
-answer_filters lines.Undo t given held filters own is = refl
-answer_filters lines.Check t given held filters own is = refl
+answer_filters line t given held filters own is =
+    elim (alone_or_leaves line) [
+      | inl alone ↦ absurd (none-some given (sym (alone.2 t) ∙ is))
+      | inr leaves ↦ (leaves held filters filters own).1 refl
+    ]

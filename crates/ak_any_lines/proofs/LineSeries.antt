@@ -1,11 +1,11 @@
 -- Any line is a series of steps.
-use Rattle.std.specs.Prelude.{◌≡◌, ℤ, false, Bool, if◌then◌else◌, List, [], ◌∷◌, Some, None, Result, Ok, Err}
+use Rattle.std.specs.Prelude.{◌≡◌, ℤ, false, Bool, if◌then◌else◌, List, [], ◌∷◌, Option, Some, None, Result, Ok, Err}
 use Rattle.std.specs.Option.{MatchOption, option_map}
 use Rattle.std.proofs.Common.{inl, inr, refl, sym, ap, subst, ◌∙◌}
 use Rattle.std.proofs.lemmas.List.Elements.{All-nil}
 use Rattle.ak_any_lines.specs.AnyEnds.{AnswersGiven, EndsAfterFirst, EndsAnyLine, EndsSingle, ThenEnds, given_in}
 use Rattle.ak_any_lines.specs.FilteredCalls.{EndsCall}
-use Rattle.ak_any_lines.specs.FirstThings.{GoesFirst}
+use Rattle.ak_any_lines.specs.FirstThings.{EmptiesFirst, GoesFirst, SendsFirst, SendsIfMoved, dropped_deck, moved_cards}
 use Rattle.ak_any_lines.specs.LineSeries.{Clears, ClearsThrough, IsInSteps}
 use Rattle.ak_away_answers.specs.AwayAnswers.{EndsAnswer, EndsAnyAnswer, EndsAway, EndsEarly, EndsFromHome, IsRefusedAsWas}
 use Rattle.ak_away_answers.specs.EarlyAnswers.{IsEarly, early_edit}
@@ -45,7 +45,6 @@ use Rattle.ak_keep.specs.Marks as marks
 use Rattle.ak_keep.specs.Marks.{WithMark}
 use Rattle.ak_lines.specs.declared.any_lines.AnyLine.TheVariants as anys
 use Rattle.ak_lines.specs.declared.any_lines.AnyLine.{AnyLine}
-use Rattle.ak_lines.specs.declared.desk_lines.DeskLine.TheVariants as lines
 use Rattle.ak_lines.specs.declared.desk_lines.DeskLine.{DeskLine}
 use Rattle.ak_merge.specs.EditBuilding.{unedited, with_row}
 use Rattle.ak_merge.specs.Edits.{Admits, Edit, Reversal, advanced}
@@ -170,40 +169,23 @@ sent_first laws at cards c was mid sent told (inr (inl some)) =
 sent_first laws at cards c was mid sent told (inr (inr refused)) = unmoved at c was mid told (same_state was mid refused.same refused.kept)
 
 -- ---- what goes first
+sent_if_moved : (laws : AreAdmitted) (line : DeskLine) (at : ℤ) (c : Collection) (was mid : DeskState) (first : Result (Unit {0}) DeskFault) → IsTold was.keeping c
+    → SendsIfMoved line at was mid first → CameThrough at c was mid
+sent_if_moved laws line at c was mid first told sends =
+    elim (moved_cards line) as (λ (o : Option (List ℤ)). MatchOption o ((mid ≡ was) × (first ≡ Ok tt)) (λ cards. SendsFirst at cards was mid first) → CameThrough at c was mid) [
+      | None ↦ λ nothing. unmoved at c was mid told nothing.0
+      | Some cards ↦ λ goes. sent_first laws at cards c was mid goes.sent told
+          (told_here was.keeping c (λ d. EndsSending at cards d was.keeping mid.keeping was.steps mid.steps goes.sent) told goes.ends)
+    ] sends
+
 came_first : (laws : AreAdmitted) (line : DeskLine) (at : ℤ) (c : Collection) (was mid : DeskState) (first : Result (Unit {0}) DeskFault) → IsTold was.keeping c
     → GoesFirst line at was mid first → CameThrough at c was mid
-came_first laws (lines.AddNote note_type deck fields) at c was mid first told goes = unmoved at c was mid told goes.0
-came_first laws (lines.SetFields note fields) at c was mid first told goes = unmoved at c was mid told goes.0
-came_first laws (lines.SetTags note tags) at c was mid first told goes = unmoved at c was mid told goes.0
-came_first laws (lines.DeleteNotes notes) at c was mid first told goes = unmoved at c was mid told goes.0
-came_first laws (lines.DeleteDeck deck) at c was mid first told goes =
-    emptied_first laws at (filtered_below deck c.rows) c was mid first told
-    (told_here was.keeping c (λ d. EndsEmptied at (filtered_below deck d.rows) was.keeping mid.keeping was.steps mid.steps first) told goes.ends)
-came_first laws (lines.RenameDeck deck name) at c was mid first told goes = unmoved at c was mid told goes.0
-came_first laws (lines.MoveCards deck cards) at c was mid first told goes =
-    sent_first laws at cards c was mid goes.sent told
-    (told_here was.keeping c (λ d. EndsSending at cards d was.keeping mid.keeping was.steps mid.steps goes.sent) told goes.ends)
-came_first laws (lines.UseOptions deck options) at c was mid first told goes = unmoved at c was mid told goes.0
-came_first laws (lines.SetSpread spread) at c was mid first told goes = unmoved at c was mid told goes.0
-came_first laws (lines.AddDeck name) at c was mid first told goes = unmoved at c was mid told goes.0
-came_first laws (lines.AddOptions options) at c was mid first told goes = unmoved at c was mid told goes.0
-came_first laws (lines.SetOptions options) at c was mid first told goes = unmoved at c was mid told goes.0
-came_first laws (lines.AddType note_type) at c was mid first told goes = unmoved at c was mid told goes.0
-came_first laws (lines.EditType allow note_type fields templates) at c was mid first told goes = unmoved at c was mid told goes.0
-came_first laws (lines.DeleteType allow note_type) at c was mid first told goes = unmoved at c was mid told goes.0
-came_first laws (lines.DeleteOptions allow options) at c was mid first told goes = unmoved at c was mid told goes.0
-came_first laws (lines.Answer card button taken) at c was mid first told goes = unmoved at c was mid told goes.0
-came_first laws (lines.Next deck) at c was mid first told goes = unmoved at c was mid told goes.0
-came_first laws (lines.Counts deck) at c was mid first told goes = unmoved at c was mid told goes.0
-came_first laws (lines.Find search) at c was mid first told goes = unmoved at c was mid told goes.0
-came_first laws (lines.Page card back) at c was mid first told goes = unmoved at c was mid told goes.0
-came_first laws (lines.Mute filter) at c was mid first told goes = unmoved at c was mid told goes.0
-came_first laws (lines.Suspend cards) at c was mid first told goes = unmoved at c was mid told goes.0
-came_first laws (lines.Unsuspend cards) at c was mid first told goes = unmoved at c was mid told goes.0
-came_first laws (lines.Bury cards) at c was mid first told goes = unmoved at c was mid told goes.0
-came_first laws (lines.Flag value cards) at c was mid first told goes = unmoved at c was mid told goes.0
-came_first laws lines.Undo at c was mid first told goes = unmoved at c was mid told goes.0
-came_first laws lines.Check at c was mid first told goes = unmoved at c was mid told goes.0
+came_first laws line at c was mid first told goes =
+    elim (dropped_deck line) as (λ (o : Option ℤ). MatchOption o (SendsIfMoved line at was mid first) (λ deck. EmptiesFirst at deck was mid first) → CameThrough at c was mid) [
+      | None ↦ λ sends. sent_if_moved laws line at c was mid first told sends
+      | Some deck ↦ λ empties. emptied_first laws at (filtered_below deck c.rows) c was mid first told
+          (told_here was.keeping c (λ d. EndsEmptied at (filtered_below deck d.rows) was.keeping mid.keeping was.steps mid.steps first) told empties.ends)
+    ] goes
 
 -- ---- answers
 -- the answer of a card at home

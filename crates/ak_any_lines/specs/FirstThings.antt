@@ -29,14 +29,7 @@ pub record SendsFirst (at : ℤ) (cards : List ℤ) (before mid : DeskState) (fi
   pub listed : IfErr first IsEndFault
   pub stays : mid.keeping.headed ≡ before.keeping.headed
 
--- what came before a line ended so: before `drop` decks are emptied, before `move` cards are sent home, and before any other line
--- comes nothing
-abbrev pub GoesFirst : DeskLine → ℤ → DeskState → DeskState → Result (Unit {0}) DeskFault → Type 0
-GoesFirst (lines.DeleteDeck deck) at before mid first = EmptiesFirst at deck before mid first
-GoesFirst (lines.MoveCards deck cards) at before mid first = SendsFirst at cards before mid first
-GoesFirst line at before mid first = (mid ≡ before) × (first ≡ Ok tt)
-
--- ---- how it is found
+-- ---- what a line has before it
 -- the deck that a line drops, if it does
 abbrev pub dropped_deck : DeskLine → Option ℤ
 dropped_deck (lines.DeleteDeck deck) = Some deck
@@ -52,7 +45,8 @@ abbrev pub SendsIfMoved : DeskLine → ℤ → DeskState → DeskState → Resul
 SendsIfMoved line at before mid first =
     MatchOption (moved_cards line) ((mid ≡ before) × (first ≡ Ok tt)) (λ cards. SendsFirst at cards before mid first)
 
--- what goes first, by what a line drops or moves
-abbrev pub GoesFirstBy : DeskLine → ℤ → DeskState → DeskState → Result (Unit {0}) DeskFault → Type 0
-GoesFirstBy line at before mid first =
+-- what came before a line ended so: before `drop` decks are emptied, before `move` cards are sent home, and before any other line
+-- comes nothing
+abbrev pub GoesFirst : DeskLine → ℤ → DeskState → DeskState → Result (Unit {0}) DeskFault → Type 0
+GoesFirst line at before mid first =
     MatchOption (dropped_deck line) (SendsIfMoved line at before mid first) (λ deck. EmptiesFirst at deck before mid first)

@@ -95,8 +95,6 @@ fn send_first<K: Keeper>(desk: &mut Desk<K>, cards: &[i64], at: i64) -> Result<(
 fn sent(made: Result<bool, DeskFault>) -> Result<(), DeskFault>
     ensures { result ≡ without_value made }
 {
-    match made {
-        Ok(_) => Ok(()),
-        Err(fault) => Err(fault),
-    }
+    made?;
+    Ok(())
 }

@@ -1,5 +1,5 @@
 -- The ranges of a collection's head.
-use Rattle.std.specs.Prelude.{◌≡◌, ℕ, ℤ, pos, negsuc, ◌≤ℤ◌, ◌≤◌, List, [], ◌∷◌, map, length, ⊤}
+use Rattle.std.specs.Prelude.{◌≡◌, ℕ, ℤ, pos, negsuc, ◌≤ℤ◌, ◌≤◌, ◌&&◌, Bool, nat_le, List, [], ◌∷◌, map, length, ⊤}
 use Rattle.std.specs.List.{All}
 use Rattle.std.specs.List.Sorted.{IsStrictlySortedBy}
 use Rattle.std.specs.Cmp.Lexicographic.{slice_cmp}
@@ -32,6 +32,10 @@ pub record IsTagInRange (t : Tag) : Type 0 where
   pub some : 1 ≤ length t.name
   pub short : length t.name ≤ 512
   pub usn : IsWithin (negsuc 0) last_usn t.usn
+
+-- whether this is the name of a tag: it has 1 to 512 bytes
+abbrev pub is_tag_name : List ℕ → Bool
+is_tag_name name = nat_le 1 (length name) && nat_le (length name) 512
 
 -- the names of the tags
 abbrev pub tag_names : List Tag → List (List ℕ)

@@ -4,7 +4,7 @@ ghost use Rattle.ak_base.specs.Heads.{AreConfNumbersInRange, AreHeadNumbersInRan
 
 use crate::{
     FIRST_DAY, LAST_COUNT, LAST_DAY, LAST_HEAD_USN, LAST_MOMENT, LAST_STAMP, LAST_USN, List,
-    Memory, NAME_BYTES, OfConf, REST_BYTES, Rest, Text,
+    Memory, NAME_BYTES, OfConf, REST_BYTES, Rest, Text, copy_each,
 };
 
 /// The settings of a collection: the column `conf` of schema 11's `col`.
@@ -83,7 +83,7 @@ impl Head {
             usn: self.usn,
             last_sync: self.last_sync,
             conf: self.conf.copy()?,
-            tags: copy_tags(&self.tags)?,
+            tags: copy_each(&self.tags, |tag| tag.copy())?,
         })
     }
 }
@@ -170,15 +170,4 @@ fn is_within(number: i64, least: i64, most: i64) -> bool
     ensures { Decides result (IsWithin least most number) }
 {
     least <= number && number <= most
-}
-
-/// Equal tags of their own.
-fn copy_tags(tags: &List<Tag>) -> Result<List<Tag>, Memory>
-    ensures { IfOk result (λ made. made ≡ tags.now) }
-{
-    let mut made = List::new(tags.allocator());
-    for tag in tags.as_slice() {
-        made.push(tag.copy()?)?;
-    }
-    Ok(made)
 }

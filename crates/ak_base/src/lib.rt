@@ -44,7 +44,7 @@ pub use limits::{
     LAST_MOMENT, LAST_ORD, LAST_STAMP, LAST_USN, LONGEST_STEP, NAME_BYTES, REST_BYTES, TAGS_BYTES,
     TEXT_BYTES,
 };
-pub use lists::List;
+pub use lists::{List, copy_each};
 pub use names::{Name, Table};
 pub use note_types::{CardTemplate, FieldDef, NoteType};
 pub use notes::Note;
@@ -53,4 +53,4 @@ pub use paths::{is_in_subtree, next_part, path_parts};
 pub use rests::{OfConf, OfDeck, OfField, OfNoteType, OfOptions, OfTemplate, Owner, Rest};
 pub use reviews::Review;
 pub use rows::Row;
-pub use texts::Text;
+pub use texts::{Text, copy_texts};

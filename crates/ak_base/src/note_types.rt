@@ -3,7 +3,7 @@ ghost use Rattle.std.specs.Prelude.{◌≡◌, IfOk};
 use crate::columns::{code_fault, first_fault, id_fault, long_fault, stamp_fault};
 use crate::{
     LAST_USN, List, Memory, NAME_BYTES, OfField, OfNoteType, OfTemplate, REST_BYTES, Rest,
-    RowFault, TEXT_BYTES, Text,
+    RowFault, TEXT_BYTES, Text, copy_each,
 };
 
 /// A field that each note of a type has: an object of the key `flds`.
@@ -122,33 +122,11 @@ impl NoteType {
             name: self.name.copy()?,
             cloze: self.cloze,
             sortf: self.sortf,
-            fields: copy_fields(&self.fields)?,
-            templates: copy_templates(&self.templates)?,
+            fields: copy_each(&self.fields, |field| field.copy())?,
+            templates: copy_each(&self.templates, |template| template.copy())?,
             rest: self.rest.copy()?,
         })
     }
-}
-
-/// Equal fields of their own.
-fn copy_fields(fields: &List<FieldDef>) -> Result<List<FieldDef>, Memory>
-    ensures { IfOk result (λ made. made ≡ fields.now) }
-{
-    let mut made = List::new(fields.allocator());
-    for field in fields.as_slice() {
-        made.push(field.copy()?)?;
-    }
-    Ok(made)
-}
-
-/// Equal templates of their own.
-fn copy_templates(templates: &List<CardTemplate>) -> Result<List<CardTemplate>, Memory>
-    ensures { IfOk result (λ made. made ≡ templates.now) }
-{
-    let mut made = List::new(templates.allocator());
-    for template in templates.as_slice() {
-        made.push(template.copy()?)?;
-    }
-    Ok(made)
 }
 
 impl FieldDef {

@@ -1,7 +1,7 @@
-ghost use Rattle.std.specs.Prelude.{◌≡◌, IfOk};
+ghost use Rattle.std.specs.Prelude.{◌≡◌, map, IfOk};
 ghost use Rattle.std.specs.String.{string_bytes};
 
-use crate::Memory;
+use crate::{List, Memory};
 use std::alloc::Global;
 use std::marker::Model;
 
@@ -66,4 +66,15 @@ impl PartialEq for Text {
     fn eq(&self, other: &Text) -> bool {
         self.inner.as_str() == other.inner.as_str()
     }
+}
+
+/// The texts, copied.
+pub fn copy_texts(alloc: Global, texts: &[&str]) -> Result<List<Text>, Memory>
+    ensures { IfOk result (λ made. made ≡ map (λ text. text.now) texts.now) }
+{
+    let mut made = List::new(alloc);
+    for text in texts {
+        made.push(Text::of(alloc, text)?)?;
+    }
+    Ok(made)
 }

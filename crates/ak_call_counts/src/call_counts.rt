@@ -1,7 +1,7 @@
 ghost use Rattle.std.specs.Prelude.{◌≡◌, ◌≤◌};
 ghost use Rattle.ak_call_counts.specs.CallCounts.{counts_after, no_calls};
 
-use ak_messages::{Reply, Request, SanityReply};
+use ak_messages::{Reply, Request};
 use ak_wires::{Said, WireEnd, said_of};
 
 /// What a wire counts of its calls, and what the reply of the last one said. Each count stays at the last `u64`. It takes no memory.
@@ -34,7 +34,7 @@ impl CallCounts {
         ensures { result ≡ self.now.said }
     {
         match &self.said {
-            Some(said) => Some(copy_said(said)),
+            Some(said) => Some(said.copy()),
             None => None,
         }
     }
@@ -56,29 +56,5 @@ impl CallCounts {
             Ok(reply) => Some(said_of(request, reply)),
             Err(_) => None,
         };
-    }
-}
-
-/// An equal one of its own.
-fn copy_said(said: &Said) -> Said
-    ensures { result ≡ said.now }
-{
-    Said {
-        session: said.session,
-        status: said.status,
-        word: said.word,
-        seen: said.seen,
-        meta: said.meta,
-        sanity: copy_sanity(&said.sanity),
-    }
-}
-
-/// An equal one of its own.
-fn copy_sanity(sanity: &Option<SanityReply>) -> Option<SanityReply>
-    ensures { result ≡ sanity.now }
-{
-    match sanity {
-        Some(reply) => Some(reply.copy()),
-        None => None,
     }
 }

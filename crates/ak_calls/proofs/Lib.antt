@@ -10,4 +10,6 @@ pub mod RowRules
 pub mod Ids
 pub mod FreeIds
 pub mod NewNames
+pub mod Taking
+pub mod Adding
 pub mod MakingRows

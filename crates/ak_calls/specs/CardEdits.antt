@@ -6,8 +6,8 @@ use Rattle.ak_base.specs.declared.cards.Card.{Card}
 use Rattle.ak_base.specs.declared.names.Name.{Name}
 use Rattle.ak_base.specs.declared.names.Table.TheVariants as tables
 use Rattle.ak_base.specs.declared.rows.Row.{Row}
-use Rattle.ak_base.specs.declared.rows.Row.TheVariants as rows
 use Rattle.ak_calls.specs.Calls.{RefusesMissing, has_id}
+use Rattle.ak_calls.specs.RowsOfOneKind.{on_card}
 use Rattle.ak_edit.specs.Ends.{RefusesStamp}
 use Rattle.ak_edit.specs.Overlays.{Overlay, put_over}
 use Rattle.ak_edit.specs.Refusals.{OrElse, Refusal}
@@ -29,13 +29,7 @@ pub record KeepsCards (change : Card → Card) : Type 0 where
 -- ---- the rule
 -- a row changed in this way, if it is a card whose id meets the test
 abbrev pub changed_if : (ℤ → Bool) → (Card → Card) → Row → Row
-changed_if test change (rows.Card card) = rows.Card (if test card.id then change card else card)
-changed_if test change (rows.Note note) = rows.Note note
-changed_if test change (rows.Review review) = rows.Review review
-changed_if test change (rows.NoteType note_type) = rows.NoteType note_type
-changed_if test change (rows.Deck deck) = rows.Deck deck
-changed_if test change (rows.Options options) = rows.Options options
-changed_if test change (rows.Grave grave) = rows.Grave grave
+changed_if test change = on_card (λ (card : Card). if test card.id then change card else card)
 
 -- the edit that changes each of these cards in this way
 abbrev pub card_edit : (Card → Card) → List ℤ → Collection → Edit

@@ -9,7 +9,7 @@ ghost use Rattle.ak_csv.specs.declared.csv_faults.CsvFault.TheVariants as faults
 use crate::csv_faults::CsvFault;
 use crate::record_rules::RecordRules;
 use crate::rows::rows_of;
-use ak_base::{List, Memory, Text};
+use ak_base::{List, Memory, Text, copy_texts};
 use ak_imports::Record;
 use csv::{ByteRecord, StringRecord};
 use std::alloc::Global;
@@ -156,7 +156,7 @@ fn tags_between(alloc: Global, column: &str) -> Result<List<Text>, Memory>
         return Ok(List::new(alloc));
     }
     let words = words_of(alloc, column)?;
-    texts_of(alloc, words.as_slice())
+    copy_texts(alloc, words.as_slice())
 }
 
 /// The words between spaces, empty ones too.
@@ -165,15 +165,4 @@ fn words_of(alloc: Global, text: &str) -> Result<Vec<&str>, Memory>
 {
     let words: Vec<&str> = text.split(' ').collect(alloc)?;
     Ok(words)
-}
-
-/// Texts of their own of these.
-fn texts_of(alloc: Global, words: &[&str]) -> Result<List<Text>, Memory>
-    ensures { IfOk result (λ texts. texts ≡ map (λ word. word.now) words.now) }
-{
-    let mut texts = List::new(alloc);
-    for word in words {
-        texts.push(Text::of(alloc, word)?)?;
-    }
-    Ok(texts)
 }

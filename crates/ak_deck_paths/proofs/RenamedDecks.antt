@@ -24,7 +24,8 @@ use Rattle.ak_deck_paths.proofs.MakingDecks.{decks_once}
 use Rattle.ak_deck_paths.proofs.MovedDecks.{renaming_asked}
 use Rattle.ak_deck_paths.specs.ChangedDecks.{changed_over, decks_over}
 use Rattle.ak_keep.specs.Lookups.{decks_in}
-use Rattle.ak_deck_paths.specs.DeckPaths.{missing_above, path_at, path_of}
+use Rattle.ak_deck_paths.specs.DeckPaths.{missing_above}
+use Rattle.ak_calls.specs.DeckPaths.{path_at, path_of}
 use Rattle.ak_deck_paths.specs.NewDecks.{RefusesIds}
 use Rattle.ak_deck_paths.specs.Renames.{AreMadeAbove, DoesMove, IsChanged, IsChangedIn, IsMoved, RefusesChanged, RefusesOld, RefusesPaths, RefusesRename, RefusesToChange, RefusesToMove, renaming}
 use Rattle.ak_deck_paths.specs.declared.changed_decks.ChangedDecks.{ChangedDecks}

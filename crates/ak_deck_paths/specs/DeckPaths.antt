@@ -1,27 +1,15 @@
 -- Paths of decks: what is above one, which decks have one, and where the decks of a subtree go.
 use Rattle.std.specs.Prelude.{ℕ, ℤ, Bool, not, ◌&&◌, ◌==◌, if◌then◌else◌, List, [], ◌∷◌, ◌++◌, length, drop, filter, map, find, Option}
 use Rattle.std.specs.Cmp.Lexicographic.{pointwise}
-use Rattle.std.specs.FinMap.{get}
 use Rattle.std.specs.List.{list_any}
-use Rattle.std.specs.Option.{option_map, option_map_or}
+use Rattle.std.specs.Option.{option_map}
 use Rattle.ak_base.specs.Paths.{ancestors, is_in_subtree}
 use Rattle.ak_base.specs.declared.decks.Deck.{Deck}
-use Rattle.ak_base.specs.declared.names.Table.TheVariants as tables
 use Rattle.ak_base.specs.declared.rows.Row.{Row}
-use Rattle.ak_base.specs.declared.rows.Row.TheVariants as rows
+use Rattle.ak_calls.specs.RowsOfOneKind.{on_deck}
 use Rattle.ak_keep.specs.Collections.{Rows}
-use Rattle.ak_keep.specs.Lookups.{as_deck}
-use Rattle.ak_merge.specs.Holdings.{name_in}
 
 -- ---- the decks that are held
--- the path of a deck: its name. Other rows have the empty one
-abbrev pub path_of : Row → List ℕ
-path_of row = option_map_or (λ (deck : Deck). deck.name) (as_deck row) []
-
--- the path of the deck of this id, and the empty one if it is not held
-abbrev pub path_at : Rows → ℤ → List ℕ
-path_at held id = option_map_or path_of (get held (name_in tables.Deck id)) []
-
 -- whether two paths are the same
 abbrev pub same_path : List ℕ → List ℕ → Bool
 same_path one other = pointwise ◌==◌ one other
@@ -76,13 +64,7 @@ moved_decks old new decks = map (moved_deck old new) (filter (is_under old) deck
 
 -- a row after the subtree moved: its decks have their new paths, and any other row is as it was
 abbrev pub renamed : List ℕ → List ℕ → Row → Row
-renamed old new (rows.Deck deck) = rows.Deck (if is_under old deck then moved_deck old new deck else deck)
-renamed old new (rows.Note note) = rows.Note note
-renamed old new (rows.Card card) = rows.Card card
-renamed old new (rows.Review review) = rows.Review review
-renamed old new (rows.NoteType note_type) = rows.NoteType note_type
-renamed old new (rows.Options options) = rows.Options options
-renamed old new (rows.Grave grave) = rows.Grave grave
+renamed old new = on_deck (λ (deck : Deck). if is_under old deck then moved_deck old new deck else deck)
 
 -- whether a deck is outside the subtree and has the new path of one of these decks that move
 abbrev pub is_in_way : List ℕ → List Deck → Deck → Bool

@@ -15,7 +15,8 @@ use Rattle.ak_merge.specs.Holdings.{name_in, row_under}
 use Rattle.ak_deck_paths.specs.Additions.{RefusesFirst}
 use Rattle.ak_deck_paths.specs.ChangedDecks.{IsPathFault, with_decks}
 use Rattle.ak_keep.specs.Lookups.{decks_in}
-use Rattle.ak_deck_paths.specs.DeckPaths.{is_below, is_in_way, missing_above, moved_decks, path_at, renamed}
+use Rattle.ak_deck_paths.specs.DeckPaths.{is_below, is_in_way, missing_above, moved_decks, renamed}
+use Rattle.ak_calls.specs.DeckPaths.{path_at}
 use Rattle.ak_deck_paths.specs.GivenPaths.{RefusesPath}
 use Rattle.ak_deck_paths.specs.NewDecks.{AreNewDecks, RefusesIds}
 use Rattle.ak_deck_paths.specs.declared.changed_decks.ChangedDecks.{ChangedDecks}

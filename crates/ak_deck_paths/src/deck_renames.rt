@@ -2,7 +2,7 @@ ghost use Rattle.std.specs.Prelude.{◌≡◌, true, false, None, IfErr, IfOk, O
 ghost use Rattle.ak_edit.specs.Refusals.{AnswersBy, DeskCause};
 ghost use Rattle.ak_keep.specs.Keepers.{WhereHeld, WhereTold, is_marked};
 ghost use Rattle.ak_base.specs.declared.names.Table.TheVariants as tables;
-ghost use Rattle.ak_deck_paths.specs.DeckPaths.{moved_decks, path_of};
+ghost use Rattle.ak_deck_paths.specs.DeckPaths.{moved_decks};
 ghost use Rattle.ak_deck_paths.specs.Additions.{IsUseFault};
 ghost use Rattle.ak_deck_paths.specs.ChangedDecks.{IsPathFault};
 ghost use Rattle.ak_deck_paths.specs.GivenPaths.{path_fault};
@@ -13,8 +13,8 @@ use crate::deck_paths::{is_below, missing_above, moved_decks};
 use crate::given_paths::check_path;
 use crate::held_decks::id_in_way;
 use crate::made_decks::new_decks;
-use ak_base::{Deck, Name, Row, Table};
-use ak_calls::held_row;
+use ak_base::{Deck, Name, Table};
+use ak_calls::{held_row, path_of};
 use ak_edit::DeskFault;
 use ak_keep::{Keeper, read_decks};
 use ak_undo::UndoList;
@@ -68,16 +68,6 @@ fn deck_name(id: i64) -> Name
     Name {
         table: Table::Deck,
         id,
-    }
-}
-
-/// The path of a deck: its name. Other rows have the empty one.
-fn path_of(row: &Row) -> &str
-    ensures { result.now ≡ path_of row.now }
-{
-    match row {
-        Row::Deck(deck) => deck.name.as_str(),
-        _ => "",
     }
 }
 

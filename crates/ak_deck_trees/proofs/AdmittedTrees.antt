@@ -7,7 +7,8 @@ use Rattle.ak_base.specs.declared.names.Table.TheVariants as tables
 use Rattle.ak_base.specs.declared.rows.Row.{Row}
 use Rattle.ak_base.specs.declared.rows.Row.TheVariants as rows
 use Rattle.ak_deck_trees.specs.DeckDeletions.{deck_deletion}
-use Rattle.ak_deck_trees.specs.Trees.{goes_with, path_at}
+use Rattle.ak_deck_trees.specs.Trees.{goes_with}
+use Rattle.ak_calls.specs.DeckPaths.{path_at}
 use Rattle.ak_keep.specs.Collections.{Collection, Rows}
 use Rattle.ak_merge.proofs.EditBuildingLaws.{unedited_is_admitted}
 use Rattle.ak_merge.proofs.Sweeps.{sweeps_are_admitted}

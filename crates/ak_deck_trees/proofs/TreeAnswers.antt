@@ -13,7 +13,8 @@ use Rattle.ak_calls.specs.Calls.{DoesEdit, EndsEdit, IsMissingFault, RefusesAbse
 use Rattle.ak_deck_trees.proofs.SweptRows.{swept-append}
 use Rattle.ak_deck_trees.proofs.TreeRules.{tree_deletion_of, tree_deletion_rows}
 use Rattle.ak_deck_trees.specs.DeckDeletions.{IsDeckDeletionFault, IsTreeDeletionFault, RefusesDeckDeletion, RefusesDefault, RefusesTreeDeletion, deck_deletion, swept, swept_one, tree_deletion, without_rows_of, without_tree}
-use Rattle.ak_deck_trees.specs.Trees.{goes_with, path_at, path_of}
+use Rattle.ak_deck_trees.specs.Trees.{goes_with}
+use Rattle.ak_calls.specs.DeckPaths.{path_at, path_of}
 use Rattle.ak_edit.specs.Ends.{AnswersEnd, FinishedBy, IsFinished, IsHeldRightly, RefusesEnd, RefusesRow, RefusesStamp}
 use Rattle.ak_edit.specs.Overlays.{Overlay, edit_of, unchanged}
 use Rattle.ak_edit.specs.Refusals.{AnswersBy, IsEndFault}

@@ -1,34 +1,16 @@
 -- What belongs to the subtree of a deck: the decks whose paths begin with its path, part by part, their cards, and the notes
 -- that have no other cards.
-use Rattle.std.specs.Prelude.{ℕ, ℤ, Bool, false, not, ◌&&◌, List, [], Option}
-use Rattle.std.specs.FinMap.{get}
+use Rattle.std.specs.Prelude.{ℕ, ℤ, Bool, false, not, ◌&&◌, List, Option}
 use Rattle.std.specs.List.{list_all}
 use Rattle.std.specs.Option.{option_map_or}
 use Rattle.ak_base.specs.Paths.{is_in_subtree}
 use Rattle.ak_base.specs.declared.cards.Card.{Card}
 use Rattle.ak_base.specs.declared.decks.Deck.{Deck}
-use Rattle.ak_base.specs.declared.names.Table.TheVariants as tables
 use Rattle.ak_base.specs.declared.rows.Row.{Row}
 use Rattle.ak_base.specs.declared.rows.Row.TheVariants as rows
 use Rattle.ak_keep.specs.Collections.{Rows, cards_of}
 use Rattle.ak_keep.specs.Lookups.{card_at, deck_at}
-use Rattle.ak_merge.specs.Holdings.{name_in}
 use Rattle.ak_merge.specs.Soundness.{is_empty}
-
--- ---- paths
--- the path of a deck: its name. Other rows have none
-abbrev pub path_of : Row → List ℕ
-path_of (rows.Deck deck) = deck.name
-path_of (rows.Note note) = []
-path_of (rows.Card card) = []
-path_of (rows.Review review) = []
-path_of (rows.NoteType note_type) = []
-path_of (rows.Options options) = []
-path_of (rows.Grave grave) = []
-
--- the path of the deck of this id, and the empty one if it is not held
-abbrev pub path_at : Rows → ℤ → List ℕ
-path_at held id = option_map_or path_of (get held (name_in tables.Deck id)) []
 
 -- ---- the subtree of a path
 -- whether a deck of this id is held and is in the subtree

@@ -5,9 +5,9 @@ ghost use Rattle.ak_deck_trees.specs.Trees.{goes_with};
 ghost use Rattle.ak_edit.specs.Refusals.{AnswersBy, DeskCause};
 ghost use Rattle.ak_keep.specs.Keepers.{KeepCause, WhereTold, is_marked};
 
-use crate::trees::{goes_with, is_in_tree, path_of};
+use crate::trees::{goes_with, is_in_tree};
 use ak_base::{Name, Row, Table};
-use ak_calls::held_row;
+use ak_calls::{held_row, path_of};
 use ak_edit::{Change, DeskFault};
 use ak_keep::{KeepFault, Keeper, Walk};
 use ak_undo::UndoList;

@@ -1,22 +1,12 @@
 // What belongs to the subtree of a deck.
 ghost use Rattle.std.specs.Prelude.{◌≡◌};
 ghost use Rattle.std.specs.List.{list_all};
-ghost use Rattle.ak_deck_trees.specs.Trees.{are_in_tree, goes_with, is_card_in_tree, is_held_in_tree, is_in_tree, path_of};
+ghost use Rattle.ak_deck_trees.specs.Trees.{are_in_tree, goes_with, is_card_in_tree, is_held_in_tree, is_in_tree};
 ghost use Rattle.ak_keep.specs.Collections.{cards_of};
 ghost use Rattle.ak_keep.specs.Readings.{ReadsBy};
 
 use ak_base::{Card, Note, Row, is_in_subtree};
 use ak_keep::{KeepFault, Lookup, card_at, deck_at};
-
-/// The path of a deck: its name. Other rows have the empty one.
-pub(crate) fn path_of(row: &Row) -> &str
-    ensures { result.now ≡ path_of row.now }
-{
-    match row {
-        Row::Deck(deck) => deck.name.as_str(),
-        _ => "",
-    }
-}
 
 /// Whether a row goes with the subtree of a path: a deck of it, a card in such a deck, or a note that has cards and all of
 /// them there.

@@ -6,9 +6,9 @@ use Rattle.ak_base.specs.declared.errors.RowFault.{RowFault}
 use Rattle.ak_base.specs.declared.names.Table.TheVariants as tables
 use Rattle.ak_base.specs.declared.option_groups.Options.{Options}
 use Rattle.ak_base.specs.declared.rows.Row.{Row}
-use Rattle.ak_base.specs.declared.rows.Row.TheVariants as rows
 use Rattle.ak_calls.specs.Calls.{IsMissingFault, RefusesAbsent}
 use Rattle.ak_calls.specs.RowEdits.{row_change, row_edit}
+use Rattle.ak_calls.specs.RowsOfOneKind.{on_deck}
 use Rattle.ak_edit.specs.Ends.{RefusesStamp}
 use Rattle.ak_edit.specs.Refusals.{IsEndFault, OrElse, Refusal}
 use Rattle.ak_edit.specs.declared.desk_faults.DeskFault.{DeskFault}
@@ -20,13 +20,7 @@ use Rattle.ak_merge.specs.Holdings.{name_in, row_under}
 -- ---- the options of a deck
 -- the row with these options, if it is a deck
 abbrev pub using_options : ℤ → Row → Row
-using_options options (rows.Deck deck) = rows.Deck (record deck { options = options })
-using_options options (rows.Note note) = rows.Note note
-using_options options (rows.Card card) = rows.Card card
-using_options options (rows.Review review) = rows.Review review
-using_options options (rows.NoteType note_type) = rows.NoteType note_type
-using_options options (rows.Options group) = rows.Options group
-using_options options (rows.Grave grave) = rows.Grave grave
+using_options options = on_deck (λ (deck : Deck). record deck { options = options })
 
 -- the edit that gives these options to this deck
 abbrev pub options_use : ℤ → ℤ → Collection → Edit

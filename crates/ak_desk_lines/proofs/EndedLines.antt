@@ -19,7 +19,7 @@ use Rattle.ak_keep.specs.Keepers.{Keeping, WhereHeld, WhereTold}
 use Rattle.ak_keep.specs.Marks.{WithMark}
 use Rattle.ak_lines.specs.declared.desk_lines.DeskLine.{DeskLine}
 use Rattle.ak_merge.specs.Edits.{Edit}
-use Rattle.ak_options.proofs.Taking.{cause_too, err_too, ok_too}
+use Rattle.ak_calls.proofs.Taking.{cause_too, err_too, ok_too}
 use Rattle.ak_texts.specs.declared.answers.DeskAnswer.{DeskAnswer}
 use Rattle.ak_texts.specs.declared.answers.DeskAnswer.TheVariants as answers
 use Rattle.ak_undo.specs.declared.steps.Step.{Step}

@@ -6,7 +6,7 @@ use Rattle.ak_base.specs.declared.decks.Deck.{Deck}
 use Rattle.ak_base.specs.declared.heads.Head.{Head}
 use Rattle.ak_calls.specs.CardEdits.{card_edit}
 use Rattle.ak_deck_paths.specs.Additions.{AreAdded, addition}
-use Rattle.ak_deck_paths.specs.DeckPaths.{path_at}
+use Rattle.ak_calls.specs.DeckPaths.{path_at}
 use Rattle.ak_deck_paths.specs.Renames.{AreMadeAbove, renaming}
 use Rattle.ak_deck_trees.proofs.AdmittedTrees.{deck_deletions_are_admitted}
 use Rattle.ak_deck_trees.specs.DeckDeletions.{deck_deletion}

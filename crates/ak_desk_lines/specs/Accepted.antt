@@ -9,9 +9,10 @@ use Rattle.ak_base.specs.declared.names.Table.TheVariants as tables
 use Rattle.ak_base.specs.declared.note_types.NoteType.{NoteType}
 use Rattle.ak_base.specs.declared.notes.Note.{Note}
 use Rattle.ak_base.specs.declared.option_groups.Options.{Options}
+use Rattle.ak_calls.specs.Additions.{IsNewRow}
 use Rattle.ak_calls.specs.CardEdits.{card_edit}
 use Rattle.ak_deck_paths.specs.Additions.{IsAdded as IsAddedDeck}
-use Rattle.ak_deck_paths.specs.DeckPaths.{path_at}
+use Rattle.ak_calls.specs.DeckPaths.{path_at}
 use Rattle.ak_deck_paths.specs.Renames.{IsMoved}
 use Rattle.ak_deck_trees.specs.DeckDeletions.{deck_deletion}
 use Rattle.ak_decks.specs.DeckOptions.{options_use}
@@ -37,7 +38,7 @@ use Rattle.ak_notes.specs.declared.additions.Added.{Added}
 use Rattle.ak_notes.specs.declared.additions.NewNote.{NewNote}
 use Rattle.ak_notes.specs.declared.note_edits.NoteEdit.{NoteEdit}
 use Rattle.ak_options.specs.OptionDeletions.{options_deletion}
-use Rattle.ak_options.specs.OptionGroups.{IsNewGroup, options_addition, options_change}
+use Rattle.ak_options.specs.OptionGroups.{options_addition, options_change}
 use Rattle.ak_options.specs.Spreads.{spreading}
 use Rattle.ak_queue.specs.Nexts.{next_in}
 use Rattle.ak_queue.specs.Queues.{counts_in}
@@ -54,7 +55,7 @@ use Rattle.ak_study.specs.DayStarts.{HasStarted}
 use Rattle.ak_study.specs.declared.answers.CardAnswer.{CardAnswer}
 use Rattle.ak_texts.specs.declared.answers.DeskAnswer.{DeskAnswer}
 use Rattle.ak_texts.specs.declared.answers.DeskAnswer.TheVariants as answers
-use Rattle.ak_types.specs.TypeAdditions.{IsNewType, given_addition}
+use Rattle.ak_types.specs.TypeAdditions.{given_addition}
 use Rattle.ak_types.specs.TypeDeletions.{type_deletion}
 use Rattle.ak_types.specs.TypeEdits.{IsTypeEdited}
 use Rattle.ak_types.specs.declared.type_edits.TypeEdit.{TypeEdit}
@@ -148,13 +149,13 @@ RenamesDeck at deck path c before after =
 -- a group of options was added, and its id is answered
 abbrev pub AddsOptions : ℤ → Options → Collection → DeskState → DeskState → DeskAnswer → Type 0
 AddsOptions at options c before after answer =
-    (id : ℤ) × IsNewGroup at id c × Edits at (options_addition options id) c before after
+    (id : ℤ) × IsNewRow at tables.Options id c × Edits at (options_addition options id) c before after
     × (answer ≡ answers.PutOptions id)
 
 -- a note type was added, and its id is answered
 abbrev pub AddsType : ℤ → NoteType → Collection → DeskState → DeskState → DeskAnswer → Type 0
 AddsType at note_type c before after answer =
-    (id : ℤ) × IsNewType at id c × Edits at (given_addition note_type id) c before after
+    (id : ℤ) × IsNewRow at tables.NoteType id c × Edits at (given_addition note_type id) c before after
     × (answer ≡ answers.AddedType id)
 
 -- the note type of its id became this one

@@ -8,8 +8,6 @@ use ak_texts::DeskAnswer;
 pub(crate) fn finished(made: Result<(), DeskFault>) -> Result<DeskAnswer, DeskFault>
     ensures { result ≡ answer_with done_answer made }
 {
-    match made {
-        Ok(()) => Ok(DeskAnswer::Done),
-        Err(fault) => Err(fault),
-    }
+    made?;
+    Ok(DeskAnswer::Done)
 }

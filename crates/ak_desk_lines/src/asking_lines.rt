@@ -49,14 +49,12 @@ pub(crate) fn answer_card<K: Keeper>(
 pub fn answered(made: Result<Card, DeskFault>) -> Result<DeskAnswer, DeskFault>
     ensures { result ≡ answer_with card_answer made }
 {
-    match made {
-        Ok(card) => Ok(DeskAnswer::Answered {
-            queue: card.queue,
-            due: card.due,
-            interval: card.ivl,
-        }),
-        Err(fault) => Err(fault),
-    }
+    let card = made?;
+    Ok(DeskAnswer::Answered {
+        queue: card.queue,
+        due: card.due,
+        interval: card.ivl,
+    })
 }
 
 /// `next`: starts the day, and then gives the next card of a deck.

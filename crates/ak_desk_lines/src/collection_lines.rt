@@ -43,8 +43,5 @@ pub(crate) fn check_all<K: Keeper>(desk: &mut Desk<K>, turn: Turn) -> Result<Des
 fn checked(made: Result<Option<CheckFault>, DeskFault>) -> Result<DeskAnswer, DeskFault>
     ensures { result ≡ answer_with answers.Checked made }
 {
-    match made {
-        Ok(fault) => Ok(DeskAnswer::Checked(fault)),
-        Err(fault) => Err(fault),
-    }
+    Ok(DeskAnswer::Checked(made?))
 }

@@ -35,10 +35,7 @@ pub(crate) fn add_deck<K: Keeper>(
 fn added_deck(made: Result<i64, DeskFault>) -> Result<DeskAnswer, DeskFault>
     ensures { result ≡ answer_with answers.AddedDeck made }
 {
-    match made {
-        Ok(deck) => Ok(DeskAnswer::AddedDeck(deck)),
-        Err(fault) => Err(fault),
-    }
+    Ok(DeskAnswer::AddedDeck(made?))
 }
 
 /// `drop`: deletes a deck with its subtree.

@@ -1,4 +1,4 @@
-ghost use Rattle.std.specs.Prelude.{◌≡◌, map, IfOk};
+ghost use Rattle.std.specs.Prelude.{◌≡◌, IfOk};
 ghost use Rattle.ak_desk.specs.Desks.{IsIdle};
 ghost use Rattle.ak_desk_lines.specs.Accepted.{IsChangeOf, answer_with, note_answer, other_fields, other_tags};
 ghost use Rattle.ak_desk_lines.specs.LineEnds.{EndsAt};
@@ -13,7 +13,7 @@ ghost use Rattle.ak_base.specs.declared.names.Table.TheVariants as tables;
 
 use crate::answers::finished;
 use crate::turns::Turn;
-use ak_base::{List, Memory, Name, Note, Table, Text};
+use ak_base::{List, Memory, Name, Note, Table, Text, copy_texts};
 use ak_desk::Desk;
 use ak_edit::DeskFault;
 use ak_keep::{Keeper, note_at};
@@ -50,13 +50,11 @@ pub(crate) fn add_note<K: Keeper>(
 fn noted(made: Result<Added, DeskFault>) -> Result<DeskAnswer, DeskFault>
     ensures { result ≡ answer_with note_answer made }
 {
-    match made {
-        Ok(added) => Ok(DeskAnswer::AddedNote {
-            note: added.note,
-            cards: added.cards,
-        }),
-        Err(fault) => Err(fault),
-    }
+    let added = made?;
+    Ok(DeskAnswer::AddedNote {
+        note: added.note,
+        cards: added.cards,
+    })
 }
 
 /// `fields`: gives a note other fields. It keeps its tags.
@@ -93,10 +91,7 @@ fn fields_edit<K: Keeper>(
     ensures missing { MissesIn K.Lookup keeper.old result (λ rows. note_at rows note) (name_in tables.Note note) }
     ensures cause { DeskCause (K.health keeper.old) (K.health keeper.new) result }
 {
-    let held = match held_note(keeper, note) {
-        Ok(held) => held,
-        Err(fault) => return Err(fault),
-    };
+    let held = held_note(keeper, note)?;
     let tags = tags_of(alloc, &held)?;
     Ok(NoteEdit {
         note: held.id,
@@ -138,10 +133,7 @@ fn tags_edit<K: Keeper>(
     ensures missing { MissesIn K.Lookup keeper.old result (λ rows. note_at rows note) (name_in tables.Note note) }
     ensures cause { DeskCause (K.health keeper.old) (K.health keeper.new) result }
 {
-    let held = match held_note(keeper, note) {
-        Ok(held) => held,
-        Err(fault) => return Err(fault),
-    };
+    let held = held_note(keeper, note)?;
     let fields = fields_of(alloc, &held)?;
     Ok(NoteEdit {
         note: held.id,
@@ -187,7 +179,7 @@ fn tags_of(alloc: Global, note: &Note) -> Result<List<Text>, Memory>
     ensures { IfOk result (λ tags. tags ≡ tags_in note.now.tags) }
 {
     let tags = note.tag_list(alloc)?;
-    texts_of(alloc, tags.as_slice())
+    copy_texts(alloc, tags.as_slice())
 }
 
 /// The fields of the note.
@@ -195,16 +187,5 @@ fn fields_of(alloc: Global, note: &Note) -> Result<List<Text>, Memory>
     ensures { IfOk result (λ fields. fields ≡ fields_in note.now.flds) }
 {
     let fields = note.field_list(alloc)?;
-    texts_of(alloc, fields.as_slice())
-}
-
-/// The texts, copied.
-fn texts_of(alloc: Global, texts: &[&str]) -> Result<List<Text>, Memory>
-    ensures { IfOk result (λ made. made ≡ map (λ text. text.now) texts.now) }
-{
-    let mut made = List::new(alloc);
-    for text in texts {
-        made.push(Text::of(alloc, text)?)?;
-    }
-    Ok(made)
+    copy_texts(alloc, fields.as_slice())
 }

@@ -35,10 +35,7 @@ pub(crate) fn add_options<K: Keeper>(
 fn added_options(made: Result<i64, DeskFault>) -> Result<DeskAnswer, DeskFault>
     ensures { result ≡ answer_with answers.PutOptions made }
 {
-    match made {
-        Ok(id) => Ok(DeskAnswer::PutOptions(id)),
-        Err(fault) => Err(fault),
-    }
+    Ok(DeskAnswer::PutOptions(made?))
 }
 
 /// `options` with any other id: puts the group in place of the one of its id.
@@ -61,10 +58,8 @@ pub(crate) fn set_options<K: Keeper>(
 fn put_options(id: i64, made: Result<(), DeskFault>) -> Result<DeskAnswer, DeskFault>
     ensures { result ≡ answer_with (λ _. answers.PutOptions id) made }
 {
-    match made {
-        Ok(()) => Ok(DeskAnswer::PutOptions(id)),
-        Err(fault) => Err(fault),
-    }
+    made?;
+    Ok(DeskAnswer::PutOptions(id))
 }
 
 /// `unoptions`: deletes a group.

@@ -34,10 +34,7 @@ pub(crate) fn add_type<K: Keeper>(
 fn added_type(made: Result<i64, DeskFault>) -> Result<DeskAnswer, DeskFault>
     ensures { result ≡ answer_with answers.AddedType made }
 {
-    match made {
-        Ok(id) => Ok(DeskAnswer::AddedType(id)),
-        Err(fault) => Err(fault),
-    }
+    Ok(DeskAnswer::AddedType(made?))
 }
 
 /// `retype`: puts a note type in place of the one of its id.

@@ -42,10 +42,7 @@ pub(crate) fn find_cards<K: Keeper>(
 fn found(made: Result<List<i64>, DeskFault>) -> Result<DeskAnswer, DeskFault>
     ensures { result ≡ answer_with answers.Found made }
 {
-    match made {
-        Ok(cards) => Ok(DeskAnswer::Found(cards)),
-        Err(fault) => Err(fault),
-    }
+    Ok(DeskAnswer::Found(made?))
 }
 
 /// The cards that meet a search on the day of a moment in milliseconds.
@@ -91,10 +88,7 @@ pub(crate) fn show_page<K: Keeper>(
 fn shown(made: Result<Text, DeskFault>) -> Result<DeskAnswer, DeskFault>
     ensures { result ≡ answer_with answers.Page made }
 {
-    match made {
-        Ok(text) => Ok(DeskAnswer::Page(text)),
-        Err(fault) => Err(fault),
-    }
+    Ok(DeskAnswer::Page(made?))
 }
 
 /// `mute`: drops the first filter of that name. The desk and the turn are for the clauses alone; the desk is as it was.

@@ -1,4 +1,4 @@
--- What the desk answers when a keeper, a template or a page refuses: want of memory has one form.
+-- What the desk answers when a keeper, a template or a page refuses: running out of memory has one form.
 use Rattle.ak_keep.specs.declared.keepers.KeepFault.{KeepFault}
 use Rattle.ak_keep.specs.declared.keepers.KeepFault.TheVariants as kept
 use Rattle.ak_template.specs.declared.faces.PageFault.{PageFault}

@@ -18,7 +18,7 @@ ghost use Rattle.ak_edit.specs.declared.desk_faults.DeskFault.TheVariants as fau
 use crate::desk_faults::DeskFault;
 use crate::ends::{Plan, advanced_moment, commit, head_of, test_made};
 use crate::plans::{Moment, Write, advanced, advanced_stamp, made_row, push_write};
-use ak_base::{Head, List, Memory, Row, Tag};
+use ak_base::{Head, Memory, Row, copy_each};
 use ak_keep::{KeepFault, Keeper};
 use ak_undo::{Before, Step, UndoList};
 use std::alloc::Global;
@@ -157,17 +157,6 @@ fn undo_head(step: &Step, head: &Head, now: Moment) -> Result<Head, Memory>
     let mut made = head.copy()?;
     made.moment = advanced_moment(head, now);
     made.conf = step.head.copy()?;
-    made.tags = copy_tags(&step.tags)?;
-    Ok(made)
-}
-
-/// Equal tags of their own.
-fn copy_tags(tags: &List<Tag>) -> Result<List<Tag>, Memory>
-    ensures { IfOk result (λ made. made ≡ tags.now) }
-{
-    let mut made = List::new(tags.allocator());
-    for tag in tags.as_slice() {
-        made.push(tag.copy()?)?;
-    }
+    made.tags = copy_each(&step.tags, |tag| tag.copy())?;
     Ok(made)
 }

@@ -129,7 +129,7 @@ came_unfinished it = asks_chunk it.ask && brings_unfinished it.answer
 abbrev pub AreTooMany : List TriedAsk → Type 0
 AreTooMany tries = (40_000 ≤ count_by came_unfinished tries) ⊎ (39_999 ≤ count_by sends_unfinished (asks_in tries))
 
--- why an exchange stopped, by what was tried. A keeper's fault and want of memory may come at any time; the reasons that are none here come
+-- why an exchange stopped, by what was tried. A keeper's fault, and memory that runs out, may come at any time; the reasons that are none here come
 -- before an exchange
 abbrev pub StopsFor : {kind : WireKind} → List TriedAsk → WireState kind → Stop → Type 0
 StopsFor tries wire (stops.BadRow fault) = IsCheckedLast tries (stops.BadRow fault) wire

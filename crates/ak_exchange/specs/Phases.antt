@@ -47,7 +47,7 @@ holding c = all_known (record { current = held_by c; mark = None })
 abbrev pub marked_at : Collection → Keeping
 marked_at c = all_known (record { current = held_by c; mark = Some (held_by c) })
 
--- a keeper once something came to it, which was taken with the server's number
+-- a keeper once something came to it, which was taken with the server's usn
 abbrev pub HasReceived : ℤ → Keeping → Keeping → Type 0
 HasReceived usn before now = (came : Received) × (now ≡ changed (received usn came) before)
 

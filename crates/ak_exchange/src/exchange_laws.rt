@@ -8,7 +8,7 @@ ghost use Rattle.ak_session.specs.Replies.{all_replied};
 ghost use Rattle.ak_session.specs.Sessions.{MaySync};
 
 /// If a device and a server may sync, what the device sent up to its sanity check is all that it had to send: each row and
-/// each tag that had no number has the server's then.
+/// each tag that had no usn has the server's then.
 #[tactic(auto, using(crate::proofs::SentRows::held_settled))]
 pub fn all_is_settled()
     ensures { (c s : Collection) → MaySync c s → IsSettledTo s.head.usn

@@ -20,7 +20,7 @@ use ak_device::{
     take_graves, unsent_changes,
 };
 use ak_keep::{Keeper, Wanted};
-use ak_messages::{Ask, Chunk, SanityReply};
+use ak_messages::{Ask, Chunk, MOST_ENTRIES, SanityReply};
 use ak_parts::{counts_of, wanted_graves};
 use ak_wires::{Wire, ask_changes, ask_chunk, ask_graves, ask_moment, ask_nothing, ask_sanity};
 use std::alloc::Global;
@@ -99,7 +99,7 @@ fn exchange_chunks<K: Keeper, W: Wire>(
     push(alloc, keeper, wire, envelopes, met)
 }
 
-/// Tells the server the device's number and moment, and takes the graves that it gives.
+/// Tells the server the device's usn and moment, and takes the graves that it gives.
 pub fn start<K: Keeper, W: Wire>(
     keeper: &mut K,
     wire: &mut W,
@@ -167,7 +167,7 @@ fn send_parts<K: Keeper, W: Wire>(
     ensures stays { IsMarkedAt (back (K.keeping keeper.old)) (K.keeping keeper.new) }
     ensures keeper { HasCauseOf stops.Keep (K.health keeper.old) (K.health keeper.new) result }
 {
-    let parts = graves.len().div_ceil(250);
+    let parts = graves.len().div_ceil(MOST_ENTRIES as usize);
     for part in 0..parts {
         send_part(alloc, keeper, wire, envelopes, met, graves, part)?;
     }

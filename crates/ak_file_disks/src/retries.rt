@@ -1,11 +1,9 @@
 ghost use Rattle.std.specs.Io.{ReadsAtMost};
 
+use ak_io::TRIES;
 use std::fs::File;
 use std::io::{self, Error, ErrorKind};
 use std::os::unix::fs::FileExt;
-
-/// How many times in a row a read is made again that a signal interrupted.
-const TRIES: u32 = 1000;
 
 /// A read at this place, made again if a signal interrupted it.
 pub fn read_retrying(file: &File, place: u64, into: &mut [u8]) -> io::Result<usize>

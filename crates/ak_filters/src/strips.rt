@@ -15,8 +15,8 @@ pub fn strip(alloc: Global, text: &str) -> Result<Text, Memory>
     ensures length { IfOk result (λ made. length made ≤ length text.now) }
 {
     let kept = remove_pieces(alloc, text)?;
-    let made = put_spaces(alloc, &kept)?;
-    Text::of(alloc, &made)
+    let made = put_spaces(alloc, kept)?;
+    Ok(Text::from(made))
 }
 
 /// The text before its first piece, and the text after it. A `<` with no `>` after it begins no piece.
@@ -56,8 +56,28 @@ fn around_space(text: &str) -> Option<(&str, &str)>
     }
 }
 
-/// The text with a space for each `&nbsp;`.
-fn put_spaces(alloc: Global, text: &str) -> Result<String, Memory>
+/// The text with a space for each `&nbsp;`. Most texts have none, and stay as they are.
+fn put_spaces(alloc: Global, text: String) -> Result<String, Memory>
+    ensures { IfOk result (λ made. string_bytes made ≡ spaced 0 (string_bytes text)) }
+{
+    if has_space(&text) {
+        return put_each_space(alloc, &text);
+    }
+    Ok(text)
+}
+
+/// Whether a `&nbsp;` is in the text.
+fn has_space(text: &str) -> bool
+    ensures { result ≡ false → spaced 0 text.now ≡ text.now }
+{
+    match around_space(text) {
+        Some(_) => true,
+        None => false,
+    }
+}
+
+/// A text of its own, with a space for each `&nbsp;`.
+fn put_each_space(alloc: Global, text: &str) -> Result<String, Memory>
     ensures { IfOk result (λ made. string_bytes made ≡ spaced 0 text.now) }
 {
     let mut made = String::new(alloc);

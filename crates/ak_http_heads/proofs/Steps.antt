@@ -182,7 +182,7 @@ pub grown_by : (old now new : Option (List ℕ)) (before : List ℕ) (byte : ℕ
 grown_by old now new before byte items shown took taken pushed is =
     subst (Consumes old new) (sym pushed ∙ sym is) (one_more old now new before byte took taken)
 
--- the same of an answer that is told to be want of memory
+-- the same of an answer that is told to be that memory ran out
 pub no_memory : (old new : Option (List ℕ)) (bytes : List ℕ) (result : Result Head HeadFault) → Consumes old new bytes
     → IsErrAnd result (λ fault. fault ≡ faults.Memory) → ReadsHeadFrom old new result
 no_memory old new bytes (Ok asked) took told = absurd told

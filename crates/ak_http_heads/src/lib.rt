@@ -14,3 +14,4 @@ pub use laws::{
     bytes_are_read_in_one_way, heads_are_unique, heads_ask_or_are_refused, routes_are_named,
     tests_come_in_order, values_have_one_form,
 };
+pub use parses::MOST_FIELDS;

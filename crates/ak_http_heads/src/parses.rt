@@ -9,7 +9,7 @@ use httparse::{EMPTY_HEADER, Request, Status};
 use matchit::Router;
 
 /// The most fields of a head.
-const MOST_FIELDS: usize = 64;
+pub const MOST_FIELDS: usize = 64;
 
 /// Reads the head at the front of bytes: None if it may still come to its end, and `Refusal::Head` if these are the
 /// first bytes of no head, whatever follows.

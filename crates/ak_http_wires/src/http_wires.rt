@@ -1,10 +1,11 @@
 use crate::exchanges::exchange;
-use crate::request_texts::{method_of, request_text};
+use crate::request_texts::request_text;
 use ak_base::{Memory, Text};
 use ak_call_counts::CallCounts;
 use ak_io::{End, Failed};
 use ak_links::Dial;
 use ak_messages::{Reply, Request};
+use ak_parts::asked_method;
 use ak_wires::{Said, Wire, WireEnd};
 use std::alloc::Global;
 
@@ -61,7 +62,7 @@ impl<D: Dial> HttpWire<D> {
             self.alloc,
             &mut link,
             text.as_str(),
-            method_of(&request.ask),
+            asked_method(&request.ask),
         )
     }
 }

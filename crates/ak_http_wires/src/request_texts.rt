@@ -3,7 +3,8 @@ ghost use Rattle.ak_session.specs.Requests.{asked_method};
 ghost use Rattle.ak_http_wires.specs.RequestTexts.{envelope_lines, first_lines, request_http, request_http_of, session_text};
 
 use ak_base::{HostKey, Memory, SessionKey, Text};
-use ak_messages::{Ask, Method, Request};
+use ak_messages::{Ask, Request};
+use ak_parts::asked_method;
 use ak_wire::write_request;
 use std::alloc::Global;
 use std::str;
@@ -36,7 +37,7 @@ fn text_of(alloc: Global, host_name: &str, request: &Request, body: &str) -> Res
 fn first_lines(alloc: Global, host_name: &str, ask: &Ask) -> Result<Text, Memory>
     ensures { IfOk result (λ text. text ≡ first_lines host_name.now (asked_method ask.now)) }
 {
-    let method = method_of(ask).name();
+    let method = asked_method(ask).name();
     let text = format!(in alloc; "POST /sync/{method} HTTP/1.1\r\nHost: {host_name}\r\n")?;
     Ok(Text::from(text))
 }
@@ -54,24 +55,6 @@ fn envelope_lines(alloc: Global, request: &Request) -> Result<Text, Memory>
         "X-Anki-Key: {key}\r\nX-Anki-Session: {session}\r\nX-Anki-Step: {step}\r\nX-Anki-Base: {base}\r\n"
     )?;
     Ok(Text::from(text))
-}
-
-/// The method of what is asked.
-pub(crate) fn method_of(ask: &Ask) -> Method
-    ensures { result ≡ asked_method ask.now }
-{
-    match ask {
-        Ask::Meta => Method::Meta,
-        Ask::Start { .. } => Method::Start,
-        Ask::ApplyGraves(_) => Method::ApplyGraves,
-        Ask::ApplyChanges(_) => Method::ApplyChanges,
-        Ask::Chunk => Method::Chunk,
-        Ask::ApplyChunk(_) => Method::ApplyChunk,
-        Ask::SanityCheck2(_) => Method::SanityCheck2,
-        Ask::Finish => Method::Finish,
-        Ask::Upload(_) => Method::Upload,
-        Ask::Download => Method::Download,
-    }
 }
 
 /// The 16 digits of a session.

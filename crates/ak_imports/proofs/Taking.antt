@@ -301,7 +301,7 @@ pub exits : {T : Type 0} (result : Result T DeskFault) (fault : DeskFault) (P : 
 exits (Ok value) fault P is so = tt
 exits (Err other) fault P is so = subst P (sym is) so
 
--- want of memory is not a fault of the keeper
+-- running out of memory is not a fault of the keeper
 pub memory_cause : {T : Type 0} (a b : Health) (result : Result T DeskFault) → GoesOn a b → IsErrAnd result (λ (other : DeskFault). other ≡ faults.Memory) → DeskCause {T = T} a b result
 memory_cause a b (Ok value) goes is = absurd is
 memory_cause a b (Err fault) goes is = record { goes = goes; failed = λ failed. absurd (cc); unfailed = λ _ failed. absurd (cc) }

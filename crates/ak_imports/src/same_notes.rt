@@ -1,11 +1,10 @@
 // Whether a note has the texts of a record already.
-ghost use Rattle.std.specs.Prelude.{◌≡◌, map, Decides, IfOk, Some};
+ghost use Rattle.std.specs.Prelude.{◌≡◌, Decides, IfOk, Some};
 ghost use Rattle.ak_imports.specs.SameNotes.{IsSame, IsSameFound};
 
-use ak_base::{List, Memory, Note, Text};
+use ak_base::{List, Memory, Note, Text, copy_texts};
 use ak_calls::stored_tags;
 use ak_notes::NoteEdit;
-use std::alloc::Global;
 
 /// Whether the note, if there is one, has these texts.
 pub(crate) fn is_same(found: &Option<Note>, edit: &NoteEdit) -> Result<bool, Memory>
@@ -23,20 +22,9 @@ fn has_texts(note: &Note, edit: &NoteEdit) -> Result<bool, Memory>
 {
     let alloc = edit.fields.allocator();
     let words = note.field_list(alloc)?;
-    let fields = texts_of(alloc, words.as_slice())?;
+    let fields = copy_texts(alloc, words.as_slice())?;
     let tags = stored_tags(alloc, edit.tags.as_slice())?;
     Ok(are_equal(&fields, &edit.fields) && is_equal(&note.tags, &tags))
-}
-
-/// Texts of their own of these.
-fn texts_of(alloc: Global, words: &[&str]) -> Result<List<Text>, Memory>
-    ensures { IfOk result (λ texts. texts ≡ map (λ word. word.now) words.now) }
-{
-    let mut texts = List::new(alloc);
-    for word in words {
-        texts.push(Text::of(alloc, word)?)?;
-    }
-    Ok(texts)
 }
 
 /// Whether the lists of texts are equal.

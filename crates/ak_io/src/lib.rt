@@ -19,6 +19,6 @@ pub use endings::{ScriptEnd, print_refusal};
 pub use lines::{INPUT_LIMIT, LINE_LIMIT, Line};
 pub use memory::{MemorySink, MemorySource};
 pub use readers::{LineReader, ReadFault};
-pub use streams::{StdSink, StdSource};
+pub use streams::{StdSink, StdSource, TRIES};
 pub use traits::{End, Failed, Sink, Source};
 pub use writes::{print_line, write_all};

@@ -8,8 +8,8 @@ use crate::traits::{End, Failed, Sink, Source};
 use std::io::{Error, ErrorKind, Read, Write};
 use std::marker::Model;
 
-/// How many times in a row a signal may interrupt a read or a write.
-const TRIES: u32 = 1000;
+/// How many times in a row a call is made again that a signal interrupted.
+pub const TRIES: u32 = 1000;
 
 /// A source over a reader of std.
 #[derive(Drop)]

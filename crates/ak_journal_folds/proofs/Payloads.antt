@@ -5,7 +5,8 @@ use Rattle.std.specs.declared.alloc.Global.{Global}
 use Rattle.std.specs.Prelude.{Result, Err}
 use Rattle.ak_journal_folds.specs.declared.folds.FoldFault.{FoldFault}
 use Rattle.ak_journal_folds.specs.declared.folds.FoldFault.TheVariants.{NotOfForm}
-use Rattle.ak_journal_folds.specs.Folds.{IsFirstOther, bytes_of_each}
+use Rattle.ak_journal_folds.specs.Folds.{IsFirstOther}
+use Rattle.ak_base.specs.Bytes.{bytes_of_each}
 use Rattle.ak_journal_rows.proofs.Folds.{one_more}
 use Rattle.ak_journal_rows.specs.Changes.{after_change, nothing_held}
 use Rattle.ak_journal_rows.specs.Texts.{IsPayloadOf, LeadTo}
@@ -61,6 +62,6 @@ first_other payloads i place payload held within is same led other = record {
 pub place_told : {T : Type 0} (one other : ℕ) → ◌≡◌ {A = Result T FoldFault} (Err (NotOfForm one)) (Err (NotOfForm other)) → one ≡ other
 place_told one other is = cc
 
--- a payload that is not of the form is not refused for want of memory
+-- a payload that is not of the form is not refused because memory ran out
 pub not_memory : (fault : ChangeFault) → fault ≡ changes.NotOfForm → fault ≡ changes.Memory → ⊥
 not_memory fault one other = cc

@@ -1,8 +1,8 @@
 -- What payloads make of a collection, and where they are refused.
-use Rattle.std.specs.Prelude.{◌≡◌, ℕ, true, List, [], ◌∷◌, ◌++◌, length, map, Vec, Option}
+use Rattle.std.specs.Prelude.{◌≡◌, ℕ, true, List, [], ◌∷◌, ◌++◌, length, Option}
 use Rattle.std.specs.FinMap.{empty}
 use Rattle.std.specs.Option.{option_or}
-use Rattle.std.specs.declared.alloc.Global.{Global}
+use Rattle.ak_base.specs.Bytes.{bytes_of_each}
 use Rattle.ak_base.specs.declared.heads.Head.{Head}
 use Rattle.ak_base.specs.declared.names.Name.{Name}
 use Rattle.ak_base.specs.declared.rows.Row.{Row}
@@ -12,10 +12,6 @@ use Rattle.ak_keep.specs.MemoryKeepers.{MemoryState}
 use Rattle.ak_journal_rows.specs.Changes.{all_cut, all_put, nothing_held}
 use Rattle.ak_journal_rows.specs.Texts.{IsPayloadOf, LeadTo}
 use Rattle.ak_journal_rows.specs.declared.changes.Change.{Change}
-
--- the bytes of each
-abbrev pub bytes_of_each : List (Vec ℕ Global) → List (List ℕ)
-bytes_of_each payloads = map (λ (payload : Vec ℕ Global). payload.items) payloads
 
 -- the payload at this place is that of no change; those before it lead to a collection
 pub record IsFirstOther (place : ℕ) (payloads : List (List ℕ)) : Type 0 where

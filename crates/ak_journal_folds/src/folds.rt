@@ -1,5 +1,6 @@
 ghost use Rattle.std.specs.Prelude.{◌≡◌, ℕ, [], None, Err, IfOk};
-ghost use Rattle.ak_journal_folds.specs.Folds.{IsFirstOther, bytes_of_each};
+ghost use Rattle.ak_journal_folds.specs.Folds.{IsFirstOther};
+ghost use Rattle.ak_base.specs.Bytes.{bytes_of_each};
 ghost use Rattle.ak_journal_rows.specs.Changes.{nothing_held};
 ghost use Rattle.ak_journal_rows.specs.Texts.{LeadTo};
 

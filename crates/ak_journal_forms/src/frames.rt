@@ -1,6 +1,6 @@
 ghost use Rattle.std.specs.Prelude.{◌≡◌, ℕ, Err, IfOk};
 ghost use Rattle.ak_journal_forms.specs.Frames.{IsDamagedAt, StandsTo, frames_length};
-ghost use Rattle.ak_journal_forms.specs.Payloads.{bytes_of_each};
+ghost use Rattle.ak_base.specs.Bytes.{bytes_of_each};
 
 use crate::gates::read_gate;
 use ak_disks::{part, rest};

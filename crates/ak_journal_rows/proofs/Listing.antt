@@ -43,7 +43,7 @@ module _ {A : Type 0} (json : A → Data) (fits : A → Type 0) where
       on (one, fit, value, rest) =
           subst (λ (read_so_far : List A). IsReadTo entries read_so_far ds) (sym (is ∙ ap (λ (last : A). so_far ++ last ∷ []) (read one fit value))) rest
 
-  -- what refuses it is want of memory
+  -- what refuses it is that memory ran out
   pub read_fails : (entries so_far : List A) (fault : ChangeFault) (d : Data) (ds all : Items) → ((one : A) → fits one → d ≡ json one → fault ≡ Memory)
       → all ≡ item d ds → IsReadTo entries so_far all → fault ≡ Memory
   read_fails entries so_far fault d ds all read these to = on (next_read entries so_far d ds (subst (IsReadTo entries so_far) these to))

@@ -97,7 +97,7 @@ read_on tags so_far new made name d ms all read is these to = on (next_read tags
     on (tag, fit, key, value, rest) =
         subst (λ (read_so_far : List Tag). IsReadTo tags read_so_far ms) (sym (is ∙ ap (λ (last : Tag). so_far ++ last ∷ []) (read tag fit key value))) rest
 
--- what refuses it is want of memory
+-- what refuses it is that memory ran out
 pub read_fails : (tags so_far : List Tag) (fault : ChangeFault) (name : List ℕ) (d : Data) (ms all : Members)
     → ((tag : Tag) → IsTagInRange tag → name ≡ tag.name → d ≡ integer tag.usn → fault ≡ Memory) → all ≡ member name d ms → IsReadTo tags so_far all → fault ≡ Memory
 read_fails tags so_far fault name d ms all read these to = on (next_read tags so_far name d ms (subst (IsReadTo tags so_far) these to))

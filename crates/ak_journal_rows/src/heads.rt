@@ -29,10 +29,7 @@ pub(crate) fn read_head(alloc: Global, value: &Value) -> Result<Option<Head>, Ch
     if value.is_null() {
         return Ok(None);
     }
-    match read_some(alloc, value) {
-        Ok(head) => Ok(Some(head)),
-        Err(fault) => Err(fault),
-    }
+    Ok(Some(read_some(alloc, value)?))
 }
 
 /// The head of which this is the object.

@@ -7,7 +7,7 @@ use Rattle.std.specs.declared.alloc.Global.{Global}
 use Rattle.ak_journal_folds.specs.Folds.{IsFirstOther}
 use Rattle.ak_journal_forms.proofs.Places.{length-more}
 use Rattle.ak_journal_forms.specs.Frames.{frames_length}
-use Rattle.ak_journal_forms.specs.Payloads.{bytes_of_each}
+use Rattle.ak_base.specs.Bytes.{bytes_of_each}
 use Rattle.ak_journals.specs.declared.openings.JournalFault.{JournalFault}
 use Rattle.ak_journals.specs.declared.openings.JournalFault.TheVariants.{Damaged}
 use Rattle.ak_journal_tables.specs.Holdings.{IsOtherOf}

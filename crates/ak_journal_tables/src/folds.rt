@@ -1,6 +1,6 @@
 ghost use Rattle.std.specs.Prelude.{◌≡◌, ◌≤◌, ◌<◌, ◌^◌, ℕ, [], length, take, None, Err, IfOk};
 ghost use Rattle.ak_journal_forms.specs.Frames.{frames_length};
-ghost use Rattle.ak_journal_forms.specs.Payloads.{bytes_of_each};
+ghost use Rattle.ak_base.specs.Bytes.{bytes_of_each};
 ghost use Rattle.ak_journal_rows.specs.Changes.{nothing_held};
 ghost use Rattle.ak_journal_rows.specs.Texts.{LeadTo};
 ghost use Rattle.ak_journal_tables.specs.Holdings.{IsOtherOf};

@@ -3,7 +3,7 @@ ghost use Rattle.std.specs.Option.{ForSome};
 ghost use Rattle.ak_faults.specs.Causes.{HasCauseOf, Rose};
 ghost use Rattle.ak_disks.specs.Disks.{Elapses, NoMore, Only};
 ghost use Rattle.ak_journal_forms.specs.Frames.{IsDamagedAt, StandsFor, StandsTo, frames_length};
-ghost use Rattle.ak_journal_forms.specs.Payloads.{bytes_of_each};
+ghost use Rattle.ak_base.specs.Bytes.{bytes_of_each};
 ghost use Rattle.ak_journals.specs.Journals.{IsInOrder, kept};
 ghost use Rattle.ak_journals.specs.Moments.{LeavesOnly};
 

@@ -204,7 +204,7 @@ one_row_read table d a b x y = x.kept ∙ ap (kept_row d) (one_row table d x.sto
 in_and_out : (table : Table) (d : Data) (a b : Row) (fault : RowFault) → a ≡ b → stored_check table d a ≡ Ok tt → stored_check table d b ≡ Err fault → ⊥
 in_and_out table d a b fault e good bad = let same : stored_check table d a ≡ stored_check table d b = ap (stored_check table d) e in cc
 
--- a value that is read is refused for out of memory alone
+-- a value that is read is refused only if memory runs out
 pub read_or_refused : (table : Table) (d : Data) (row : Row) (fault : JsonFault) → ReadsRow table d row → RefusesRow table d fault → fault ≡ faults.Memory
 read_or_refused table d row faults.NotJson x y = absurd y
 read_or_refused table d row (faults.Missing text) x y = let none : form_refusal table d ≡ None = x.form in cc

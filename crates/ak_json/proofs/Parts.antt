@@ -1,4 +1,4 @@
--- Where an object of a list has no fault, its rest is refused for out of memory alone.
+-- Where an object of a list has no fault, its rest is refused only if memory runs out.
 use Rattle.std.proofs.Common.{◌≡◌, ℕ, List, Bool, true, false, not, ◌&&◌, ◌||◌, Option, Some, None, refl, ap, subst}
 use Rattle.ak_base.proofs.Optional.{second_none}
 use Rattle.std.specs.Prelude.{if◌then◌else◌, unwrap_or, option_map}

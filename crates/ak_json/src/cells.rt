@@ -113,7 +113,7 @@ pub(crate) fn steps_at(
 }
 
 /// The numbers of a list of whole numbers.
-fn integers(alloc: Global, values: &[Value]) -> Result<List<i64>, Memory>
+pub fn integers(alloc: Global, values: &[Value]) -> Result<List<i64>, Memory>
     ensures { IfOk result (λ numbers. numbers ≡ integers (items_view values.now)) }
 {
     let mut numbers = List::new(alloc);

@@ -74,7 +74,7 @@ impl Kind {
 }
 
 /// Whether there is a whole number from the least to the most.
-fn is_within(least: i64, most: i64, number: Option<i64>) -> bool
+pub fn is_within(least: i64, most: i64, number: Option<i64>) -> bool
     ensures { result ≡ is_within least most number }
 {
     match number {

@@ -18,4 +18,4 @@ pub use lookups::{
     options_of_deck, type_of_note,
 };
 pub use readables::{Lookup, Readable};
-pub use walks::Walk;
+pub use walks::{PAGE, Walk};

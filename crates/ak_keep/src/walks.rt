@@ -9,8 +9,8 @@ use crate::keepers::KeepFault;
 use crate::readables::Readable;
 use ak_base::{List, Name, Row, Table};
 
-/// How many rows are read at a time.
-const PAGE: usize = 1000;
+/// How many rows of a table are read at a time.
+pub const PAGE: usize = 1000;
 
 /// A walk over the rows of a table, by ascending id and page by page.
 #[derive(Clone, Copy, Debug)]

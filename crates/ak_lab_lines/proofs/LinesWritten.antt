@@ -13,7 +13,8 @@ use Rattle.ak_base.specs.Cuts.{begins, has, front, behind}
 use Rattle.ak_base.specs.Decimals.{number_of}
 use Rattle.ak_base.specs.Heads.{IsWithin}
 use Rattle.ak_base.specs.declared.names.Table.TheVariants as tables
-use Rattle.ak_lines.specs.Reading.{is_word, number_in, next_number}
+use Rattle.ak_lines.specs.Reading.{number_in, next_number}
+use Rattle.ak_search.specs.Terms.{is_word}
 use Rattle.ak_lines.proofs.Numerals.{number_written}
 use Rattle.ak_lines.proofs.Spaces.{cut_back}
 use Rattle.ak_lab_lines.specs.LabLines.{filled, word_of, next_word, is_device_name, side_of, shown_of, negated, signed_number, clock_line, device_line, shift_line, reviews_of, review_line, do_line, sync_line, lost_of, lose_line, repeat_line, another_word, cross_line, replay_line, resend_line, break_line, transfer_line, show_line, count_line, requests_line, line_of, lab_line_of}

@@ -6,7 +6,8 @@ use Rattle.std.specs.List.{list_all}
 use Rattle.ak_base.specs.Cuts.{begins, has, front, behind}
 use Rattle.ak_base.specs.Decimals.{number_of}
 use Rattle.ak_base.specs.declared.names.Table.TheVariants as tables
-use Rattle.ak_lines.specs.Reading.{is_word, number_in, next_number}
+use Rattle.ak_lines.specs.Reading.{number_in, next_number}
+use Rattle.ak_search.specs.Terms.{is_word}
 use Rattle.ak_lab_lines.specs.declared.lab_lines.Direction.{Direction}
 use Rattle.ak_lab_lines.specs.declared.lab_lines.Direction.TheVariants as directions
 use Rattle.ak_lab_lines.specs.declared.lab_lines.LabLine.{LabLine}

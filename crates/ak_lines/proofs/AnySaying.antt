@@ -16,7 +16,8 @@ use Rattle.ak_lines.specs.AnyReading.{ReadsAny, ReadsFiltered, ReadsSingle, Refu
 use Rattle.ak_lines.specs.Contents.{InJson}
 use Rattle.ak_lines.specs.DeskLines.{HasNoForm, RefusesEnd, RefusesLine, SaysLine}
 use Rattle.ak_lines.specs.FilterPlans.{IsFilterPlan}
-use Rattle.ak_lines.specs.Reading.{form_of, is_word, number_in}
+use Rattle.ak_lines.specs.Reading.{form_of, number_in}
+use Rattle.ak_search.specs.Terms.{is_word}
 use Rattle.ak_lines.specs.Verbs.{any_id}
 use Rattle.ak_lines.specs.declared.any_lines.AnyLine.{AnyLine}
 use Rattle.ak_lines.specs.declared.any_lines.AnyLine.TheVariants as lines

@@ -11,11 +11,12 @@ use Rattle.ak_base.specs.Heads.{IsWithin}
 use Rattle.ak_lines.specs.declared.verbs.Verb.{Verb}
 use Rattle.ak_lines.specs.declared.verbs.Verb.TheVariants as verbs
 use Rattle.ak_lines.specs.LineForms.{Tail, Nothing, Ids, AnyText, LineForm, tail_words, words_of, AreInRanges, AreIds, HasOne, EndsAs, HasForm}
-use Rattle.ak_lines.specs.Reading.{is_word, verb_of, allowed_verb_of, number_in, next_number, numbers_of, ids_of, Arguments, only, with_number, side_of, ending_in, arguments_before, arguments_alone, arguments_in, line_form, verb_form, form_of}
+use Rattle.ak_lines.specs.Reading.{verb_of, allowed_verb_of, number_in, next_number, numbers_of, ids_of, Arguments, only, with_number, side_of, ending_in, arguments_before, arguments_alone, arguments_in, line_form, verb_form, form_of}
+use Rattle.ak_search.specs.Terms.{is_word}
 use Rattle.ak_lines.specs.Verbs.{verb_text, may_allow, Range, any_id, ranges_of, Ending, AtOnce, WithIds, WithSide, WithText, ending_of}
 use Rattle.ak_lines.proofs.Numerals.{number_read, number_spaceless}
 use Rattle.ak_lines.proofs.Spaces.{is_spaceless, IsCut, cut_at}
-use Rattle.ak_lines.proofs.VerbWords.{verb_spaceless}
+use Rattle.ak_lines.proofs.VerbWords.{are_small, verb_spaceless}
 
 abbrev pub digits : List ℤ → List (List ℕ)
 digits = map signed_decimal
@@ -24,11 +25,6 @@ digits = map signed_decimal
 pub join_cons : (word : List ℕ) (words : List (List ℕ)) → 0 < length words → join_with_byte 32 (word ∷ words) ≡ word ++ (32 ∷ join_with_byte 32 words)
 join_cons word [] h = absurd (omega (arith, h))
 join_cons word (second ∷ words) h = refl
-
--- the numbers of ranges fit 64 bits
-abbrev pub are_small : List Range → Bool
-are_small [] = true
-are_small (range ∷ ranges) = nat_lt range.1 (2 ^ 64) && are_small ranges
 
 pub small_first : (range : Range) (ranges : List Range) → are_small (range ∷ ranges) ≡ true → (range.1 < 2 ^ 64) × (are_small ranges ≡ true)
 small_first range ranges h = let p = and_parts (nat_lt range.1 (2 ^ 64)) (are_small ranges) h in (ltb-true _ _ p.0, p.1)

@@ -12,12 +12,13 @@ use Rattle.ak_base.specs.Heads.{IsWithin}
 use Rattle.ak_lines.specs.declared.verbs.Verb.{Verb}
 use Rattle.ak_lines.specs.declared.verbs.Verb.TheVariants as verbs
 use Rattle.ak_lines.specs.LineForms.{Tail, Nothing, Ids, AnyText, LineForm, tail_words, allow_words, words_of, AreInRanges, AreIds, HasOne, EndsAs, HasForm}
-use Rattle.ak_lines.specs.Reading.{is_word, verb_of, lone_verb_of, allowed_verb_of, number_in, next_number, numbers_of, ids_of, Arguments, only, with_number, side_of, ending_in, arguments_before, arguments_alone, arguments_in, line_form, verb_form, lone_form, allowed_words_form, allowed_form, words_form, form_of}
+use Rattle.ak_lines.specs.Reading.{verb_of, lone_verb_of, allowed_verb_of, number_in, next_number, numbers_of, ids_of, Arguments, only, with_number, side_of, ending_in, arguments_before, arguments_alone, arguments_in, line_form, verb_form, lone_form, allowed_words_form, allowed_form, words_form, form_of}
+use Rattle.ak_search.specs.Terms.{is_word}
 use Rattle.ak_lines.specs.Verbs.{verb_text, may_allow, Range, any_id, ranges_of, Ending, AtOnce, WithIds, WithSide, WithText, ending_of}
-use Rattle.ak_lines.proofs.FormsRead.{digits, join_cons, are_small, small_first}
+use Rattle.ak_lines.proofs.FormsRead.{digits, join_cons, small_first}
 use Rattle.ak_lines.proofs.Numerals.{number_written}
 use Rattle.ak_lines.proofs.Spaces.{cut_back}
-use Rattle.ak_lines.proofs.VerbWords.{verb_named, lone_named, allowed_named, allowed_may}
+use Rattle.ak_lines.proofs.VerbWords.{are_small, small, verb_named, lone_named, allowed_named, allowed_may}
 
 pub map_some : {A B P : Type 0} (f : A → B) (o : Option A) (y : B) → option_map f o ≡ Some y → ((x : A) → o ≡ Some x → f x ≡ y → P) → P
 map_some f None y h goes = grind (arith, h)
@@ -128,35 +129,6 @@ arguments_written ranges WithSide text a s h = before_written ranges WithSide te
 arguments_written ranges WithText text a s h = before_written ranges WithText text a s h
 
 -- ---- lines
-small : (verb : Verb) → are_small (ranges_of verb) ≡ true
-small verbs.Note = refl
-small verbs.Fields = refl
-small verbs.Tags = refl
-small verbs.Delete = refl
-small verbs.Drop = refl
-small verbs.Rename = refl
-small verbs.Move = refl
-small verbs.Adopt = refl
-small verbs.Spread = refl
-small verbs.Deck = refl
-small verbs.Options = refl
-small verbs.Type = refl
-small verbs.Retype = refl
-small verbs.Untype = refl
-small verbs.Unoptions = refl
-small verbs.Answer = refl
-small verbs.Next = refl
-small verbs.Counts = refl
-small verbs.Find = refl
-small verbs.Page = refl
-small verbs.Mute = refl
-small verbs.Suspend = refl
-small verbs.Unsuspend = refl
-small verbs.Bury = refl
-small verbs.Flag = refl
-small verbs.Undo = refl
-small verbs.Check = refl
-
 not_true_allow : (verb : Verb) → false ≡ true → may_allow verb ≡ true
 not_true_allow verb h = absurd (grind (arith, h))
 

@@ -25,37 +25,9 @@ use Rattle.ak_lines.specs.DeskLines.{HasVerb, HasIds, HasTexts, HasOptions, HasS
 use Rattle.ak_lines.specs.LineForms.{LineForm, HasForm, Tail, Nothing, Ids, AnyText, end_text}
 use Rattle.ak_lines.specs.Reading.{form_of}
 use Rattle.ak_lines.proofs.FormsRead.{form_read}
+use Rattle.ak_lines.proofs.VerbWords.{verb_code}
 
 -- ---- verbs differ
-abbrev verb_code : Verb → ℕ
-verb_code verbs.Note = 0
-verb_code verbs.Fields = 1
-verb_code verbs.Tags = 2
-verb_code verbs.Delete = 3
-verb_code verbs.Drop = 4
-verb_code verbs.Rename = 5
-verb_code verbs.Move = 6
-verb_code verbs.Adopt = 7
-verb_code verbs.Spread = 8
-verb_code verbs.Deck = 9
-verb_code verbs.Options = 10
-verb_code verbs.Type = 11
-verb_code verbs.Retype = 12
-verb_code verbs.Untype = 13
-verb_code verbs.Unoptions = 14
-verb_code verbs.Answer = 15
-verb_code verbs.Next = 16
-verb_code verbs.Counts = 17
-verb_code verbs.Find = 18
-verb_code verbs.Page = 19
-verb_code verbs.Suspend = 20
-verb_code verbs.Unsuspend = 21
-verb_code verbs.Bury = 22
-verb_code verbs.Flag = 23
-verb_code verbs.Undo = 24
-verb_code verbs.Check = 25
-verb_code verbs.Mute = 26
-
 -- the verb of a line
 abbrev verb_in : DeskLine → Verb
 verb_in (lines.AddNote note_type deck fields) = verbs.Note

@@ -1,4 +1,4 @@
--- Faults, and want of memory beside them.
+-- Faults, and memory that runs out beside them.
 use Rattle.std.proofs.Common.{◌≡◌, Option, Some, None, option_map, inr, sym, ap, subst, ◌∙◌}
 use Rattle.std.specs.Option.{MatchOption}
 use Rattle.serde_json.specs.Data.{Data}

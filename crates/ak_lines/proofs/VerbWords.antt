@@ -1,10 +1,11 @@
 -- Verbs and their words.
-use Rattle.std.proofs.Common.{◌≡◌, ℕ, ◌==◌, List, Option, Some, None, true, false, if◌then◌else◌, refl, sym, ap, ◌∙◌}
+use Rattle.std.proofs.Common.{◌≡◌, ℕ, ◌^◌, ◌==◌, nat_lt, Bool, ◌&&◌, List, [], ◌∷◌, Option, Some, None, true, false, if◌then◌else◌, refl, sym, ap, ◌∙◌}
 use Rattle.std.specs.Prelude.{codes}
 use Rattle.std.specs.Cmp.Lexicographic.{pointwise, bytes_decides}
 use Rattle.std.proofs.lemmas.Option.{same_Some}
-use Rattle.ak_lines.specs.Verbs.{verb_text, may_allow}
-use Rattle.ak_lines.specs.Reading.{is_word, verb_of, lone_verb_of, allowed_verb_of}
+use Rattle.ak_lines.specs.Verbs.{Range, may_allow, ranges_of, verb_text}
+use Rattle.ak_lines.specs.Reading.{verb_of, lone_verb_of, allowed_verb_of}
+use Rattle.ak_search.specs.Terms.{is_word}
 use Rattle.ak_lines.specs.declared.verbs.Verb.{Verb}
 use Rattle.ak_lines.specs.declared.verbs.Verb.TheVariants as verbs
 use Rattle.ak_lines.proofs.Spaces.{is_spaceless}
@@ -37,6 +38,71 @@ verb_spaceless verbs.Bury = refl
 verb_spaceless verbs.Flag = refl
 verb_spaceless verbs.Undo = refl
 verb_spaceless verbs.Check = refl
+
+-- the numbers of ranges fit 64 bits
+abbrev pub are_small : List Range → Bool
+are_small [] = true
+are_small (range ∷ ranges) = nat_lt range.1 (2 ^ 64) && are_small ranges
+
+-- those of each verb do
+pub small : (verb : Verb) → are_small (ranges_of verb) ≡ true
+small verbs.Note = refl
+small verbs.Fields = refl
+small verbs.Tags = refl
+small verbs.Delete = refl
+small verbs.Drop = refl
+small verbs.Rename = refl
+small verbs.Move = refl
+small verbs.Adopt = refl
+small verbs.Spread = refl
+small verbs.Deck = refl
+small verbs.Options = refl
+small verbs.Type = refl
+small verbs.Retype = refl
+small verbs.Untype = refl
+small verbs.Unoptions = refl
+small verbs.Answer = refl
+small verbs.Next = refl
+small verbs.Counts = refl
+small verbs.Find = refl
+small verbs.Page = refl
+small verbs.Mute = refl
+small verbs.Suspend = refl
+small verbs.Unsuspend = refl
+small verbs.Bury = refl
+small verbs.Flag = refl
+small verbs.Undo = refl
+small verbs.Check = refl
+
+-- verbs have codes of their own
+abbrev pub verb_code : Verb → ℕ
+verb_code verbs.Note = 0
+verb_code verbs.Fields = 1
+verb_code verbs.Tags = 2
+verb_code verbs.Delete = 3
+verb_code verbs.Drop = 4
+verb_code verbs.Rename = 5
+verb_code verbs.Move = 6
+verb_code verbs.Adopt = 7
+verb_code verbs.Spread = 8
+verb_code verbs.Deck = 9
+verb_code verbs.Options = 10
+verb_code verbs.Type = 11
+verb_code verbs.Retype = 12
+verb_code verbs.Untype = 13
+verb_code verbs.Unoptions = 14
+verb_code verbs.Answer = 15
+verb_code verbs.Next = 16
+verb_code verbs.Counts = 17
+verb_code verbs.Find = 18
+verb_code verbs.Page = 19
+verb_code verbs.Suspend = 20
+verb_code verbs.Unsuspend = 21
+verb_code verbs.Bury = 22
+verb_code verbs.Flag = 23
+verb_code verbs.Undo = 24
+verb_code verbs.Check = 25
+verb_code verbs.Mute = 26
 
 -- the word is that of the first verb, or it is read among the others
 first_or_other : (word : List ℕ) (first verb : Verb) (others : Option Verb) → (others ≡ Some verb → verb_text verb ≡ word)

@@ -6,7 +6,8 @@ use Rattle.ak_lines.specs.Contents.{InJson, RefusesJson}
 use Rattle.ak_lines.specs.DeskLines.{RefusesLine, SaysLine}
 use Rattle.ak_lines.specs.Faults.{OrMemory}
 use Rattle.ak_lines.specs.FilterPlans.{IsFilterPlan, RefusesFilterPlan}
-use Rattle.ak_lines.specs.Reading.{is_word, number_in}
+use Rattle.ak_lines.specs.Reading.{number_in}
+use Rattle.ak_search.specs.Terms.{is_word}
 use Rattle.ak_lines.specs.Verbs.{any_id}
 use Rattle.ak_lines.specs.declared.any_lines.AnyLine.{AnyLine}
 use Rattle.ak_lines.specs.declared.any_lines.AnyLine.TheVariants as lines

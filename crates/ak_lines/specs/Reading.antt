@@ -1,6 +1,5 @@
 -- How the form of a line is found: word by word.
 use Rattle.std.specs.Prelude.{◌≡◌, ℕ, nat_lt, ℤ, pos, Bool, true, false, ◌==◌, if◌then◌else◌, List, [], ◌∷◌, Option, Some, None, option_and_then, option_map, codes}
-use Rattle.std.specs.Cmp.Lexicographic.{pointwise}
 use Rattle.std.specs.List.{slice_split}
 use Rattle.std.specs.Option.{MatchOption, option_or}
 use Rattle.ak_base.specs.Cuts.{has, front, behind}
@@ -15,10 +14,7 @@ use Rattle.ak_lines.specs.DeskLines.{MeansLine}
 use Rattle.ak_lines.specs.Faults.{OrMemory}
 use Rattle.ak_lines.specs.LineForms.{LineForm, Tail, Nothing, Ids, AnyText, end_text}
 use Rattle.ak_lines.specs.Verbs.{Range, any_id, ranges_of, Ending, AtOnce, WithIds, WithSide, WithText, ending_of, content_of}
-
--- the text is the word
-abbrev pub is_word : List ℕ → List ℕ → Bool
-is_word text word = pointwise ◌==◌ text word
+use Rattle.ak_search.specs.Terms.{is_word}
 
 -- ---- verbs by their words
 -- a verb of studying and looking, by its word

@@ -61,10 +61,7 @@ fn read_single(alloc: Global, line: &str) -> Result<AnyLine, LineFault>
     ensures range { IfOk result IsAnyInRange }
     ensures err { IfErr result (RefusesLine line.now) }
 {
-    match read_single_line(alloc, line) {
-        Ok(line) => Ok(AnyLine::Single(line)),
-        Err(fault) => Err(fault),
-    }
+    Ok(AnyLine::Single(read_single_line(alloc, line)?))
 }
 
 /// The verb of a line about filtered decks, and what follows the space after it. None for any other line.

@@ -9,10 +9,10 @@ pub enum LineFault {
     /// It has the words of no line of the table, or a number out of its range.
     BadLine,
     /// Its words are those of a line, but the JSON at its end is none, or not that of the value that it
-    /// needs. The fault inside is never its own want of memory.
+    /// needs. The fault inside never says that memory ran out.
     Json(JsonFault),
-    /// Its words are those of a `find` line, but what follows is no search. The fault inside is never its own
-    /// want of memory.
+    /// Its words are those of a `find` line, but what follows is no search. The fault inside never says
+    /// that memory ran out.
     Search(SearchFault),
     /// Out of memory.
     Memory,

@@ -4,7 +4,7 @@ ghost use Rattle.ak_loops.specs.declared.logs.Logged.TheVariants as logged;
 
 use crate::filled_keepers::keeper_with;
 use crate::logs::{Entry, Log, Logged, Trouble, trouble_of};
-use ak_base::{Head, HostKey, List, Memory, Row, Table, Text};
+use ak_base::{Head, HostKey, List, Memory, Row, Table, Text, copy_each};
 use ak_keep::KeepFault;
 use ak_memory::MemoryKeeper;
 use ak_messages::{Reply, Request};
@@ -196,20 +196,9 @@ impl LoggedServer {
 fn copy_opening(opening: &Opening) -> Result<Opening, Memory>
     ensures { IfOk result (λ made. made ≡ opening.now) }
 {
-    let rows = copy_rows(&opening.rows)?;
+    let rows = copy_each(&opening.rows, |row| row.copy())?;
     let head = opening.head.copy()?;
     Ok(Opening { rows, head })
-}
-
-/// An equal list of rows of its own.
-fn copy_rows(rows: &List<Row>) -> Result<List<Row>, Memory>
-    ensures { IfOk result (λ made. made ≡ rows.now) }
-{
-    let mut made = List::new(rows.allocator());
-    for row in rows.as_slice() {
-        made.push(row.copy()?)?;
-    }
-    Ok(made)
 }
 
 /// Makes room for one more.

@@ -70,7 +70,7 @@ is_bad_check live ask = false
 abbrev pub reply_to : Collection → SessionSummary → Ask → Reply
 reply_to committed live ask = if is_download ask then download_reply committed else granted (answer_to committed live ask)
 
--- what a finish commits: the session's tables with the next number, at the greatest of now and the moments after the committed one
+-- what a finish commits: the session's tables with the next usn, at the greatest of now and the moments after the committed one
 -- and the device's
 abbrev pub finished_tables : Collection → SessionSummary → ℤ → Collection
 finished_tables committed live now = record {

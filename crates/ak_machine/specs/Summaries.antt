@@ -28,7 +28,7 @@ pub record SessionSummary : Type 0 where
   pub done : Bool
   -- how many chunks it gave
   pub chunks : ℕ
-  -- the number from which on it is given rows, and the moment of the device's last change, which its start told
+  -- the usn from which on it is given rows, and the moment of the device's last change, which its start told
   pub least_usn : ℤ
   pub moment : ℤ
   -- what its requests made of the committed collection so far
@@ -61,7 +61,7 @@ abbrev pub account_summary : AccountState → AccountSummary
 account_summary s = record { committed = s.committed; live = option_map (session_summary s.committed) s.live; kept = s.kept }
 
 -- ---- one request more
--- the number from which on a session is given rows, if this is the first request that it accepts
+-- the usn from which on a session is given rows, if this is the first request that it accepts
 abbrev pub told_usn : Ask → ℤ
 told_usn (asks.Start min_usn lmod) = min_usn
 told_usn ask = pos 0

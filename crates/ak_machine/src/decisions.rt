@@ -11,13 +11,14 @@ ghost use Rattle.ak_machine.specs.Serving.{has_next_step, objection_to, session_
 ghost use Rattle.ak_session.specs.Requests.{is_upload};
 
 use crate::objections::{
-    Cause, may_follow, method_of, objection_to_changes, objection_to_chunk, objection_to_graves,
+    Cause, may_follow, objection_to_changes, objection_to_chunk, objection_to_graves,
     objection_to_start, objection_to_upload,
 };
 use crate::sessions::Session;
 use ak_base::Memory;
 use ak_keep::Numbers;
 use ak_messages::{Ask, Request, Word};
+use ak_parts::asked_method;
 
 /// The last step of a session.
 const LAST_STEP: u64 = 9_223_372_036_854_775_807;
@@ -100,7 +101,7 @@ fn objection_to(held: &Numbers, live: &Session, ask: &Ask) -> Result<Option<Caus
         ≡ objection_to (numbered held.now c) (session_seen tables live.now) ask.now) }
     ensures spares { is_upload ask.now ≡ false → IsOk result }
 {
-    if !may_follow(live, method_of(ask)) {
+    if !may_follow(live, asked_method(ask)) {
         return Ok(Some(Cause::Method));
     }
     match ask {

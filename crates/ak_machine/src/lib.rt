@@ -9,7 +9,7 @@ mod sessions;
 mod summary_laws;
 
 pub use decisions::{Declined, refusal_of};
-pub use objections::Cause;
+pub use objections::{Cause, are_checked, has_twin_rows};
 pub use replies::{declined_reply, granted, meta_reply, setback_reply, unknown_key};
 pub use sessions::{Kept, Session};
 pub use summary_laws::summaries_serve_alike;

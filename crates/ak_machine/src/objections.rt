@@ -12,12 +12,12 @@ ghost use Rattle.ak_keep.specs.HeadNumbers.{numbered};
 ghost use Rattle.ak_machine.specs.Decisions.{objection_in};
 ghost use Rattle.ak_session.specs.NextMethods.{methods_after};
 ghost use Rattle.ak_session.specs.Refusals.{first_objection, start_tests, grave_tests, change_tests, chunk_tests, upload_tests, is_checked, is_tag_in_range, is_whole_in_range, has_last_moment, has_twins, same_names, same_tags, has_no_next};
-ghost use Rattle.ak_session.specs.Requests.{asked_method, same_method};
+ghost use Rattle.ak_session.specs.Requests.{same_method};
 
 use crate::sessions::Session;
 use ak_base::{LAST_HEAD_USN, LAST_MOMENT, LAST_STAMP, LAST_USN, Memory, Name, Row, Tag};
 use ak_keep::Numbers;
-use ak_messages::{Ask, Changes, Chunk, GraveIds, MOST_ENTRIES, Method, Whole};
+use ak_messages::{Changes, Chunk, GraveIds, MOST_ENTRIES, Method, Whole};
 use ak_parts::{
     are_changes_in_range, are_graves_in_range, are_rows_checked, is_between, is_conf_in_range,
     is_tag_name,
@@ -30,9 +30,9 @@ use std::collections::BTreeSet;
 pub enum Cause {
     /// Its method may not come next.
     Method,
-    /// It asks for rows from a number on that is below 0 or over the server's.
+    /// It asks for rows from a usn on that is below 0 or over the server's.
     Usn,
-    /// A number or a moment after the last one would be past its range.
+    /// A usn or a moment after the last one would be past its range.
     Sequence,
     /// It has over 250 entries.
     Rows,
@@ -85,7 +85,7 @@ pub fn objection_to_start(held: &Numbers, min_usn: &i64, lmod: &i64) -> Option<C
     None
 }
 
-/// Whether the server's number is the last one, or a moment of either side is.
+/// Whether the server's usn is the last one, or a moment of either side is.
 fn has_no_number(held: &Numbers, lmod: i64) -> bool
     ensures { result ≡ (int_eq held.now.usn last_head_usn || has_no_next held.now.moment || has_no_next lmod) }
 {
@@ -172,7 +172,7 @@ fn is_whole_in_range(whole: &Whole) -> bool
 }
 
 /// Whether each of these rows passes its check.
-fn are_checked(rows: &[Row]) -> bool
+pub fn are_checked(rows: &[Row]) -> bool
     ensures { result ≡ list_all is_checked rows.now }
 {
     rows.iter().all(|row| row.check().is_ok())
@@ -186,7 +186,7 @@ fn are_tags_in_range(tags: &[Tag]) -> bool
 }
 
 /// Whether two of these rows share a name.
-fn has_twin_rows(alloc: Global, rows: &[Row]) -> Result<bool, Memory>
+pub fn has_twin_rows(alloc: Global, rows: &[Row]) -> Result<bool, Memory>
     ensures { IfOk result (λ found. found ≡ has_twins same_names rows.now) }
 {
     let mut names = BTreeSet::new(alloc);
@@ -227,24 +227,6 @@ fn add_tag_name<'a>(names: &mut BTreeSet<&'a str>, name: &'a str) -> Result<bool
         ≡ cond (eq_by_cmp (slice_cmp nat_cmp) name.now other) true (list_any (λ key. eq_by_cmp (slice_cmp nat_cmp) other key.now) names.old.keys)) }
 {
     Ok(!names.insert(name)?)
-}
-
-/// The method of what is asked.
-pub fn method_of(ask: &Ask) -> Method
-    ensures { result ≡ asked_method ask.now }
-{
-    match ask {
-        Ask::Meta => Method::Meta,
-        Ask::Start { .. } => Method::Start,
-        Ask::ApplyGraves(_) => Method::ApplyGraves,
-        Ask::ApplyChanges(_) => Method::ApplyChanges,
-        Ask::Chunk => Method::Chunk,
-        Ask::ApplyChunk(_) => Method::ApplyChunk,
-        Ask::SanityCheck2(_) => Method::SanityCheck2,
-        Ask::Finish => Method::Finish,
-        Ask::Upload(_) => Method::Upload,
-        Ask::Download => Method::Download,
-    }
 }
 
 /// Whether the moment after this one is past the last one.

@@ -13,9 +13,9 @@ ghost use Rattle.ak_machine.specs.Summaries.{told_moment, told_usn, with_request
 ghost use Rattle.ak_session.specs.Asks.{brought};
 ghost use Rattle.ak_session.specs.Requests.{is_download, method_place, same_method};
 
-use crate::objections::method_of;
 use ak_base::{Memory, Name, Table};
 use ak_messages::{Ask, Method, Reply, Request};
+use ak_parts::asked_method;
 
 /// What is remembered of a live session, apart from its tables.
 #[derive(Clone, Copy, Debug)]
@@ -28,7 +28,7 @@ pub struct Session {
     /// Whether that request was a chunk after which no more come in its direction.
     pub done: bool,
     pub chunks: u64,
-    /// The number from which on it is given rows.
+    /// The usn from which on it is given rows.
     pub least_usn: i64,
     /// The moment of the device's last change, in milliseconds.
     pub moment: i64,
@@ -75,7 +75,7 @@ impl Session {
             ≡ record (with_request (session_seen tables self.now) ask.now) { done = done } }
         ensures given { result.given ≡ given }
     {
-        let method = method_of(ask);
+        let method = asked_method(ask);
         Session {
             key: self.key,
             last: self.last + 1,
@@ -108,7 +108,7 @@ fn chunks_after(chunks: u64, method: Method) -> u64
     }
 }
 
-/// The number that a first request tells.
+/// The usn that a first request tells.
 fn told_usn(ask: &Ask) -> i64
     ensures { result ≡ told_usn ask.now }
 {
@@ -142,7 +142,7 @@ impl Kept {
         Ok(Kept {
             key: request.session.0,
             step: request.step,
-            method: method_of(&request.ask),
+            method: asked_method(&request.ask),
             reply,
         })
     }
@@ -153,7 +153,7 @@ impl Kept {
     {
         self.key == request.session.0
             && self.step == request.step
-            && method_place(self.method) == method_place(method_of(&request.ask))
+            && method_place(self.method) == method_place(asked_method(&request.ask))
     }
 }
 

@@ -44,10 +44,8 @@ pub(crate) fn do_day<K: Keeper>(
     ensures stays { (K.keeping keeper.new).headed ≡ (K.keeping keeper.old).headed }
     ensures cause { DeskCause (K.health keeper.old) (K.health keeper.new) result }
 {
-    match answer_cards(keeper, undo, plan) {
-        Ok(()) => add_notes(keeper, undo, plan),
-        Err(fault) => Err(fault),
-    }
+    answer_cards(keeper, undo, plan)?;
+    add_notes(keeper, undo, plan)
 }
 
 /// Answers the first cards by their ids.
@@ -89,10 +87,8 @@ fn answer_one<K: Keeper>(
     ensures cause { DeskCause (K.health keeper.old) (K.health keeper.new) result }
 {
     let given = given_answer(plan, number);
-    match answer(keeper, undo, &given, answer_moment(number)) {
-        Ok(_) => Ok(()),
-        Err(fault) => Err(fault),
-    }
+    answer(keeper, undo, &given, answer_moment(number))?;
+    Ok(())
 }
 
 /// How the card of this number is answered.
@@ -175,10 +171,8 @@ fn add_one<K: Keeper>(
     ensures cause { DeskCause (K.health keeper.old) (K.health keeper.new) result }
 {
     let new = new_note(undo.allocator(), plan, number)?;
-    match add_note(keeper, undo, &new, ADDITION_MOMENT) {
-        Ok(_) => Ok(()),
-        Err(fault) => Err(fault),
-    }
+    add_note(keeper, undo, &new, ADDITION_MOMENT)?;
+    Ok(())
 }
 
 /// The new note of this number.

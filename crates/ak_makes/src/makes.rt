@@ -10,6 +10,7 @@ use ak_base::{Memory, Text};
 use ak_client::Outcome;
 use ak_io::Sink;
 use ak_made_collections::{MakePlan, REVIEWS_OF_A_CARD, cards_before};
+use ak_messages::MOST_ENTRIES;
 use ak_outcomes::outcome_text;
 use ak_sync_runs::print_ending;
 use std::alloc::Global;
@@ -22,9 +23,6 @@ const UNTOLD: u8 = 8;
 
 /// How many calls a sync makes that has fewer than 250 rows to send.
 const LEAST_CALLS: u64 = 7;
-
-/// How many rows go in a chunk.
-const CHUNK: u64 = 250;
 
 /// Makes the collection of the plan, does a day of work on it and syncs it, and prints what the server holds then and in how many calls. It
 /// answers the status for it: 0, 5 if the output failed, and 8 if nothing is printed. Nothing is stored.
@@ -75,7 +73,7 @@ fn is_expected(plan: MakePlan, measured: &Measured) -> bool
 fn call_count(plan: MakePlan) -> u64
     ensures { result ≡ call_count plan.size.notes }
 {
-    LEAST_CALLS + (2 * answer_count(plan.size.notes) + 2 * NEW_NOTES) / CHUNK
+    LEAST_CALLS + (2 * answer_count(plan.size.notes) + 2 * NEW_NOTES) / MOST_ENTRIES
 }
 
 /// Whether a sync is finished.

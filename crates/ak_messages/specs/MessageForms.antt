@@ -6,6 +6,7 @@ use Rattle.ak_messages.specs.declared.replies.Give.{Give}
 use Rattle.ak_messages.specs.declared.replies.Give.TheVariants as gives
 use Rattle.ak_messages.specs.declared.requests.Chunk.{Chunk}
 use Rattle.ak_messages.specs.declared.requests.GraveIds.{GraveIds}
+use Rattle.ak_messages.specs.declared.requests.SanityCounts.{SanityCounts}
 
 -- how many rows a chunk has, over its lists
 abbrev pub chunk_entries : Chunk → ℕ
@@ -28,3 +29,7 @@ is_given_to methods.Finish (gives.Moment m) = true
 is_given_to methods.Upload (gives.Uploaded m s) = true
 is_given_to methods.Download (gives.Whole w) = true
 is_given_to method give = false
+
+-- the counts of a sanity check that is good
+abbrev pub no_counts : SanityCounts
+no_counts = record { cards = 0; notes = 0; reviews = 0; graves = 0; models = 0; decks = 0; options = 0 }

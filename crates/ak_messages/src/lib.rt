@@ -2,7 +2,6 @@
 #![tactic(auto)]
 
 mod laws;
-mod lists;
 mod methods;
 mod replies;
 mod requests;

@@ -13,7 +13,7 @@ pub struct Reply {
     /// 200 if the server did what was asked, else 400 to 503.
     pub status: u16,
     pub word: Word,
-    /// What the server has seen: a moment, a step or a number, by the word; 0 where it has nothing to tell.
+    /// What the server has seen: a moment, a step or a usn, by the word; 0 where it has nothing to tell.
     pub seen: i64,
     pub give: Give,
 }

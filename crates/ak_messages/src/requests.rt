@@ -1,10 +1,9 @@
 ghost use Rattle.std.specs.Prelude.{◌≡◌, IfOk};
 ghost use Rattle.ak_messages.specs.MessageForms.{chunk_entries, grave_entries};
 
-use crate::lists::copy_each;
 use ak_base::{
     Card, Conf, Deck, HostKey, List, Memory, Note, NoteType, Options, Review, Row, SessionKey, Tag,
-    Text,
+    Text, copy_each,
 };
 
 /// The most rows of one chunk, and the most ids of graves that one request brings, over their lists together.

@@ -4,4 +4,3 @@ pub mod Changing
 pub mod Defaults
 pub mod Deleting
 pub mod Spreading
-pub mod Taking

@@ -2,8 +2,10 @@
 use Rattle.std.specs.Prelude.{◌≡◌, ◌⊎◌, ℤ, pos, Bool, false, if◌then◌else◌, List, [], ◌∷◌}
 use Rattle.std.specs.Ordering.{int_eq}
 use Rattle.ak_base.specs.declared.names.Table.TheVariants as tables
+use Rattle.ak_base.specs.declared.decks.Deck.{Deck}
 use Rattle.ak_base.specs.declared.rows.Row.{Row}
 use Rattle.ak_base.specs.declared.rows.Row.TheVariants as rows
+use Rattle.ak_calls.specs.RowsOfOneKind.{on_deck}
 use Rattle.ak_edit.specs.Ends.{RefusesStamp}
 use Rattle.ak_edit.specs.Overlays.{Overlay, put_over}
 use Rattle.ak_edit.specs.Refusals.{IsEndFault, OrElse, Refusal}
@@ -28,13 +30,7 @@ has_options options (rows.Grave grave) = false
 
 -- the row with options 1, if it is a deck
 abbrev pub with_default : Row → Row
-with_default (rows.Deck deck) = rows.Deck (record deck { options = pos 1 })
-with_default (rows.Note note) = rows.Note note
-with_default (rows.Card card) = rows.Card card
-with_default (rows.Review review) = rows.Review review
-with_default (rows.NoteType note_type) = rows.NoteType note_type
-with_default (rows.Options group) = rows.Options group
-with_default (rows.Grave grave) = rows.Grave grave
+with_default = on_deck (λ (deck : Deck). record deck { options = pos 1 })
 
 -- the row as it is without these options: a deck that has them goes back to options 1
 abbrev pub without_options : ℤ → Row → Row

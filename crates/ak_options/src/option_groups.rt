@@ -1,15 +1,15 @@
 ghost use Rattle.std.specs.Prelude.{◌≡◌, true, false, IfErr, IfOk, OnOk};
 ghost use Rattle.ak_base.specs.OptionGroups.{IsCheckedOptions};
-ghost use Rattle.ak_base.specs.declared.rows.Row.TheVariants as rows;
+ghost use Rattle.ak_base.specs.declared.names.Table.TheVariants as tables;
+ghost use Rattle.ak_calls.specs.Additions.{AddsBy};
 ghost use Rattle.ak_calls.specs.Calls.{EditsBy};
-ghost use Rattle.ak_calls.specs.RowEdits.{RefusesRowEdit, row_edit};
-ghost use Rattle.ak_edit.specs.Refusals.{AnswersBy, DeskCause, IsEndFault};
+ghost use Rattle.ak_edit.specs.Refusals.{AnswersBy, DeskCause};
 ghost use Rattle.ak_keep.specs.Collections.{IsId};
 ghost use Rattle.ak_keep.specs.Keepers.{is_marked};
-ghost use Rattle.ak_options.specs.OptionGroups.{AddsBy, IsAdditionFault, IsChangeFault, RefusesAddition, RefusesChange, RefusesGiven, RefusesNewGroup, as_given, group_addition, options_addition, options_change, with_id};
+ghost use Rattle.ak_options.specs.OptionGroups.{IsAdditionFault, IsChangeFault, RefusesAddition, RefusesChange, RefusesGiven, RefusesNewGroup, as_given, group_addition, options_addition, options_change, with_id};
 
 use ak_base::{Name, Options, Row, Table};
-use ak_calls::{edit_row, held_row, new_name};
+use ak_calls::{add_row, edit_row, held_row, new_name};
 use ak_edit::DeskFault;
 use ak_keep::Keeper;
 use ak_undo::UndoList;
@@ -55,7 +55,7 @@ pub fn add_options<K: Keeper>(
 ) -> Result<i64, DeskFault>
     requires unmarked { is_marked (K.keeping keeper.old) ≡ false }
     requires held { (K.keeping keeper.old).headed.current ≡ true }
-    ensures adds { AddsBy K.Lookup keeper.old keeper.new steps.old steps.new result at
+    ensures adds { AddsBy K.Lookup keeper.old keeper.new steps.old steps.new result at tables.Options
         (options_addition options) (RefusesAddition at options) }
     ensures range { IfOk result IsId }
     ensures listed { IfErr result IsAdditionFault }
@@ -80,7 +80,7 @@ fn add_group<K: Keeper>(
     requires unmarked { is_marked (K.keeping keeper.old) ≡ false }
     requires held { (K.keeping keeper.old).headed.current ≡ true }
     requires checked { IsCheckedOptions (as_given group) }
-    ensures adds { AddsBy K.Lookup keeper.old keeper.new steps.old steps.new result at
+    ensures adds { AddsBy K.Lookup keeper.old keeper.new steps.old steps.new result at tables.Options
         (group_addition group) (RefusesNewGroup at group) }
     ensures range { IfOk result IsId }
     ensures listed { IfErr result IsAdditionFault }
@@ -90,31 +90,7 @@ fn add_group<K: Keeper>(
         Ok(name) => name,
         Err(fault) => return Err(fault),
     };
-    put_group(keeper, steps, with_id(group, name.id), at)
-}
-
-/// Puts a group that is in its ranges, and gives its id.
-fn put_group<K: Keeper>(
-    keeper: &mut K,
-    steps: &mut UndoList,
-    group: Options,
-    at: i64,
-) -> Result<i64, DeskFault>
-    requires unmarked { is_marked (K.keeping keeper.old) ≡ false }
-    requires held { (K.keeping keeper.old).headed.current ≡ true }
-    requires checked { IsCheckedOptions (as_given group) }
-    ensures id { IfOk result (λ id. id ≡ group.id) }
-    ensures edits { EditsBy K.Lookup keeper.old keeper.new steps.old steps.new result at
-        (row_edit (rows.Options group)) (RefusesRowEdit at (rows.Options group)) }
-    ensures listed { IfErr result IsEndFault }
-    ensures cause { DeskCause (K.health keeper.old) (K.health keeper.new) result }
-{
-    let id = group.id;
-    match edit_row(keeper, steps, Row::Options(group), at) {
-        Ok(()) => {}
-        Err(fault) => return Err(fault),
-    }
-    Ok(id)
+    add_row(keeper, steps, Row::Options(with_id(group, name.id)), at)
 }
 
 /// The group as a call takes it: its stamp and its update sequence number are not looked at.

@@ -1,11 +1,13 @@
-ghost use Rattle.std.specs.Prelude.{◌≡◌, ◌∷◌, ◌++◌, ◌+ℤ◌, ◌≤ℤ◌, pos, [], IfOk, OnOk, codes, map};
+ghost use Rattle.std.specs.Prelude.{◌≡◌, ◌∷◌, ◌++◌, ◌+ℤ◌, ◌≤ℤ◌, pos, [], IfOk, OnOk, codes};
 ghost use Rattle.std.specs.List.{join_by};
 ghost use Rattle.ak_base.specs.Cards.{IsCheckedCard};
 ghost use Rattle.ak_base.specs.NoteTexts.{fields_in, tags_in};
 ghost use Rattle.ak_base.specs.Paths.{parts_of};
 ghost use Rattle.ak_pages.specs.CardFaces.{card_face, deck_name, last_part, named, told_of};
 
-use ak_base::{Card, CardTemplate, Deck, List, Memory, Note, NoteType, Text, path_parts};
+use ak_base::{
+    Card, CardTemplate, Deck, List, Memory, Note, NoteType, Text, copy_texts, path_parts,
+};
 use ak_cardgen::face_of;
 use ak_template::{Face, Pair};
 use std::alloc::Global;
@@ -36,18 +38,7 @@ fn field_texts(alloc: Global, note: &Note) -> Result<List<Text>, Memory>
     ensures { IfOk result (λ texts. texts ≡ fields_in note.now.flds) }
 {
     let fields = note.field_list(alloc)?;
-    texts_of(alloc, fields.as_slice())
-}
-
-/// The texts, copied.
-fn texts_of(alloc: Global, texts: &[&str]) -> Result<List<Text>, Memory>
-    ensures { IfOk result (λ made. made ≡ map (λ text. text.now) texts.now) }
-{
-    let mut made = List::new(alloc);
-    for text in texts {
-        made.push(Text::of(alloc, text)?)?;
-    }
-    Ok(made)
+    copy_texts(alloc, fields.as_slice())
 }
 
 /// The tags of the note with one space between.

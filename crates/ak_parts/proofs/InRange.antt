@@ -7,7 +7,7 @@ use Rattle.std.proofs.Common.{refl, arith}
 use Rattle.std.proofs.lemmas.Int.{ints}
 use Rattle.std.proofs.lemmas.List.Elements.{All-from_recursion}
 use Rattle.ak_base.specs.Columns.{id_fault, code_fault}
-use Rattle.ak_base.specs.Heads.{IsConfInRange, IsWithin}
+use Rattle.ak_base.specs.Heads.{IsConfInRange, IsWithin, is_tag_name}
 use Rattle.ak_base.specs.Limits.{last_id, last_stamp}
 use Rattle.ak_base.specs.Rows.{IsChecked}
 use Rattle.ak_base.specs.declared.rows.Row.{Row}
@@ -21,7 +21,7 @@ use Rattle.ak_messages.specs.declared.requests.Newer.{Newer}
 use Rattle.ak_parts.specs.Takes.{MayBeTaken}
 use Rattle.ak_session.proofs.Ranges.{all_append, all_front, all_mapped, all_pass, all_rest, passed, settings_fit, tag_named, within}
 use Rattle.ak_session.specs.Messages.{change_rows, chunk_rows, grave_with, graves_from, settings_in}
-use Rattle.ak_session.specs.Refusals.{are_changes_in_range, is_checked, is_conf_in_range, is_crt_in_range, is_id, is_newer_in_range, is_tag_name}
+use Rattle.ak_session.specs.Refusals.{are_changes_in_range, is_checked, is_conf_in_range, is_crt_in_range, is_id, is_newer_in_range}
 use Rattle.ak_session.specs.Replies.{replied}
 
 -- ---- graves

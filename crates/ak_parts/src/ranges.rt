@@ -4,7 +4,8 @@ ghost use Rattle.std.specs.List.{list_all};
 ghost use Rattle.std.specs.Option.{option_map_or};
 ghost use Rattle.ak_base.specs.declared.rows.Row.TheVariants as rows;
 ghost use Rattle.ak_session.specs.Messages.{chunk_rows, change_rows};
-ghost use Rattle.ak_session.specs.Refusals.{is_between, is_checked, is_conf_in_range, is_id, is_newer_in_range, are_changes_in_range, is_tag_name};
+ghost use Rattle.ak_session.specs.Refusals.{is_between, is_checked, is_conf_in_range, is_id, is_newer_in_range, are_changes_in_range};
+ghost use Rattle.ak_base.specs.Heads.{is_tag_name};
 
 use ak_base::{
     Card, Conf, Deck, FIRST_DAY, LAST_COUNT, LAST_DAY, LAST_ID, LAST_STAMP, NAME_BYTES, Note,

@@ -71,7 +71,7 @@ fn append_pages(rows: &mut Vec<Row>, one: List<Row>, other: List<Row>) -> Result
     append_page(rows, other)
 }
 
-/// The names of the tags whose number is wanted, in their order.
+/// The names of the tags whose usn is wanted, in their order.
 pub fn wanted_tags(alloc: Global, tags: &[Tag], want: &Wanted) -> Result<List<Text>, Memory>
     ensures { IfOk result (λ names. names ≡ wanted_tags want.now tags.now) }
 {

@@ -1,4 +1,4 @@
-// The rows that one message brings, taken by the rule of a sync for a side, with one number. A refusal leaves the keeper marked,
+// The rows that one message brings, taken by the rule of a sync for a side, with one usn. A refusal leaves the keeper marked,
 // with some of them taken.
 ghost use Rattle.std.specs.Prelude.{◌≡◌, pos, true, OnOk};
 ghost use Rattle.std.specs.List.{All};

@@ -7,10 +7,7 @@ ghost use Rattle.ak_parts.specs.Walks.{ahead, most_pages};
 
 use crate::lists::append_page;
 use ak_base::{List, Name, Row, Table};
-use ak_keep::{KeepFault, Keeper, Wanted};
-
-/// How many rows are read at a time.
-const PAGE: usize = 1000;
+use ak_keep::{KeepFault, Keeper, PAGE, Wanted};
 
 /// A walk over the wanted rows of a table, by ascending id and page by page.
 #[derive(Clone, Copy, Debug)]

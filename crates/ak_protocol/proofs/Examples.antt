@@ -77,7 +77,7 @@ came request = Asked request (pos 9) Undisturbed
 -- ---- a sync crossed by another one
 -- The device 7 synced over the moment 4, and its sync was committed at 5; the device 8 begins a sync over 5, and is at its step 3 when all
 -- requests of 7 come again. The meta of 7 drops the session of 8, and the others are refused, since their base is past: so 8 is
--- refused for want of a session, and nothing is committed.
+-- refused since there is no session, and nothing is committed.
 module _ (host : HostKey) (c : Collection) (live : Option SessionState) (kept : Option KeptReply) (least lmod : ℤ) (changes : Changes) (chunk : Chunk) (counts : SanityCounts) where
   abbrev all_of : ℕ → ℤ → List Event
   all_of key base =
@@ -286,7 +286,7 @@ module _ (host : HostKey) (c : Collection) (r1 r2 r3 r4 : Request) (counts : San
 -- ---- two devices and a replay
 -- The device 7 had five requests accepted over the moment 5, from its start to its sanity check, so its finish is accepted. The device 8 greets and starts over what was
 -- committed then. All seven requests of 7 come again: the meta drops the session of 8, the others are refused. The next request of 8 is refused
--- for want of a session, and there is one commit, of 7.
+-- since there is no session, and there is one commit, of 7.
 module _ (host : HostKey) (c : Collection) (r2 r3 r4 : Request) (sanity : Reply) (changes : Changes) (chunk : Chunk) (counts : SanityCounts) where
   abbrev base : Collection
   base = at_5 c

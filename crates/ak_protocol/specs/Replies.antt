@@ -28,10 +28,10 @@ pub data Refusal : Type 0 where
   NoSession : Refusal
   -- its step is not the one after the last, which is this
   WrongStep : (last : ℕ) → Refusal
-  -- its session, whose last step is this, refuses it, over a committed collection with this number
+  -- its session, whose last step is this, refuses it, over a committed collection with this usn
   Objected : (why : Objection) → (last : ℕ) → (usn : ℤ) → Refusal
 
--- the reply to a request that its session refuses, after this last step and over this number of the server's
+-- the reply to a request that its session refuses, after this last step and over this usn of the server's
 abbrev pub objected : Objection → ℕ → ℤ → Reply
 objected MayNotCome last usn = declined 409 words.Step (pos last)
 objected WrongUsn last usn = declined 409 words.Usn usn
@@ -59,7 +59,7 @@ keeper_failed = declined 503 words.Keeper (pos 0)
 abbrev pub out_of_memory : Reply
 out_of_memory = declined 500 words.Memory (pos 0)
 
--- the reply to a meta, by the head of the committed collection and the moment of the serving: both moments, the second, the number
+-- the reply to a meta, by the head of the committed collection and the moment of the serving: both moments, the second, the usn
 -- that the next sync gives, no media, no text for the user, and the sync may go on
 abbrev pub meta_reply : Head → ℤ → MetaReply
 meta_reply head now = record {
@@ -72,7 +72,7 @@ meta_reply head now = record {
   cont = true;
 }
 
--- a collection as it is sent: all of its rows by table and id, graves too, with their numbers, and its head but for the moment of
+-- a collection as it is sent: all of its rows by table and id, graves too, with their usns, and its head but for the moment of
 -- its last sync
 abbrev pub whole_of : Collection → Whole
 whole_of c = record {

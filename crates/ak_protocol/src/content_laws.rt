@@ -129,7 +129,7 @@ pub fn growths_keep_links()
 {}
 
 /// If nothing comes in between of the requests of a sync, each once or several times in a row, and no setback, its finish
-/// commits the join: for a device that is linked with the server, if the join is sound and no number
+/// commits the join: for a device that is linked with the server, if the join is sound and no usn
 /// is at its last value.
 pub fn undisturbed_syncs_commit()
     ensures { (who : Asker) (c : Collection) (w : World) (meta : Request) (events : List Event)

@@ -7,11 +7,8 @@ ghost use Rattle.ak_loops.specs.Entries.{health_in};
 ghost use Rattle.ak_server_copies.specs.Copies.{IsViewed, committed_in, most_pages, rows_to_come};
 
 use ak_base::{List, Name, Row, Table};
-use ak_keep::KeepFault;
+use ak_keep::{KeepFault, PAGE};
 use ak_loops::LoggedServer;
-
-/// How many rows are viewed at a time.
-const PAGE: usize = 1000;
 
 /// Views of the rows of a table, by ascending id and page by page.
 #[derive(Clone, Copy, Debug)]

@@ -47,7 +47,7 @@ impl From<Memory> for WordsFault {
 pub fn server_words(alloc: Global, words: &[String]) -> Result<ServerWords, WordsFault>
     ensures ok { IfOk result (Says (texts_of words.now)) }
 
-    // Words that are taken are refused only for want of memory.
+    // Words that are taken are refused only if memory runs out.
     ensures usage { IfErr result (λ fault. fault ≡ WordsFault.Usage → fault_of ankid (texts_of words.now) ≢ []) }
 {
     let matches = matches_in(alloc, words)?;

@@ -11,7 +11,7 @@ use Rattle.std.proofs.lemmas.List.{length-append, length-map, length-take}
 use Rattle.std.proofs.lemmas.List.Folds.{list_all-append}
 use Rattle.ak_base.specs.Columns.{id_fault}
 use Rattle.ak_base.specs.Graves.{grave_faults}
-use Rattle.ak_base.specs.Heads.{IsWithin, IsConfInRange, IsHeadInRange, IsTagInRange}
+use Rattle.ak_base.specs.Heads.{IsWithin, IsConfInRange, IsHeadInRange, IsTagInRange, is_tag_name}
 use Rattle.ak_base.specs.Limits.{last_id, last_usn, last_head_usn, last_stamp, last_moment}
 use Rattle.ak_base.specs.Rows.{IsChecked}
 use Rattle.ak_base.specs.declared.errors.RowFault.TheVariants.{IdRange}
@@ -28,7 +28,7 @@ use Rattle.ak_messages.specs.MessageForms.{chunk_entries, grave_entries}
 use Rattle.ak_messages.specs.declared.requests.GraveIds.{GraveIds}
 use Rattle.ak_session.specs.Messages.{grave_ids, grave_with, graves_from, chunk_of, chunk_rows, newer_of}
 use Rattle.ak_session.specs.Objections.{Objection}
-use Rattle.ak_session.specs.Refusals.{is_between, is_id, is_checked, is_tag_name, is_conf_in_range, is_newer_in_range, is_tag_in_range, has_no_next, test, first_objection}
+use Rattle.ak_session.specs.Refusals.{is_between, is_id, is_checked, is_conf_in_range, is_newer_in_range, is_tag_in_range, has_no_next, test, first_objection}
 use Rattle.ak_session.specs.Slices.{slice}
 use Rattle.ak_session.proofs.Ranges.{all_front, all_rest, within, passed, tag_named, settings_fit}
 

@@ -32,7 +32,8 @@ use Rattle.ak_messages.specs.declared.requests.Ask.{Ask}
 use Rattle.ak_messages.specs.declared.requests.Ask.TheVariants as asks
 use Rattle.ak_messages.specs.declared.requests.Request.{Request}
 use Rattle.ak_messages.specs.declared.requests.SanityCounts.{SanityCounts}
-use Rattle.ak_session.specs.Answers.{counts_of, same_counts, is_good, no_counts, sanity_reply, answer_to, is_bad_check}
+use Rattle.ak_session.specs.Answers.{counts_of, same_counts, is_good, sanity_reply, answer_to, is_bad_check}
+use Rattle.ak_messages.specs.MessageForms.{no_counts}
 use Rattle.ak_session.specs.Asks.{asks_of, brought, all_brought, fold_of}
 use Rattle.ak_session.specs.Closings.{of_finish, closed_by}
 use Rattle.ak_session.specs.Contents.{folded, refusal, answer, ends, closed}

@@ -14,7 +14,7 @@ use Rattle.ak_messages.specs.declared.requests.Ask.{Ask}
 use Rattle.ak_messages.specs.declared.requests.Ask.TheVariants as asks
 use Rattle.ak_messages.specs.declared.requests.Newer.{Newer}
 use Rattle.ak_messages.specs.declared.requests.Request.{Request}
-use Rattle.ak_session.specs.Answers.{no_counts}
+use Rattle.ak_messages.specs.MessageForms.{no_counts}
 use Rattle.ak_session.specs.Contents.{refusal, closed}
 use Rattle.ak_session.specs.Objections.{MayNotCome, WrongUsn, NoNumber, TooManyRows, WrongRow, WrongNewer}
 use Rattle.ak_session.specs.Refusals.{is_conf_in_range}

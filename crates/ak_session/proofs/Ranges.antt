@@ -7,7 +7,7 @@ use Rattle.std.proofs.Common.{refl, sym, subst, ◌∙◌, arith}
 use Rattle.std.proofs.lemmas.Int.{ints, int_max_is}
 use Rattle.std.proofs.lemmas.Option.{none-some}
 use Rattle.std.specs.Cmp.{first_so, second_so}
-use Rattle.ak_base.specs.Heads.{IsWithin, IsMoment, IsConfInRange}
+use Rattle.ak_base.specs.Heads.{IsWithin, IsMoment, IsConfInRange, is_tag_name}
 use Rattle.ak_base.specs.Limits.{last_stamp, last_id, last_moment}
 use Rattle.ak_base.specs.Columns.{id_fault, code_fault}
 use Rattle.ak_base.specs.Rows.{IsChecked, check_of}
@@ -28,7 +28,7 @@ use Rattle.ak_session.specs.Messages.{grave_with, graves_from, chunk_rows, chang
 use Rattle.ak_session.specs.Answers.{is_device_newer}
 use Rattle.ak_session.specs.Objections.{Objection, TooManyRows, WrongRow, WrongNewer}
 use Rattle.ak_messages.specs.MessageForms.{chunk_entries, grave_entries}
-use Rattle.ak_session.specs.Refusals.{is_between, is_id, is_checked, is_tag_name, is_conf_in_range, is_crt_in_range, is_newer_in_range, has_no_next, Test, test, are_changes_in_range, wrong_newer, first_objection, tests_of}
+use Rattle.ak_session.specs.Refusals.{is_between, is_id, is_checked, is_conf_in_range, is_crt_in_range, is_newer_in_range, has_no_next, Test, test, are_changes_in_range, wrong_newer, first_objection, tests_of}
 
 -- ---- tests
 pub not_both : {b : Bool} → b ≡ true → b ≡ false → ⊥

@@ -7,6 +7,7 @@ use Rattle.ak_keep.specs.declared.keepers.Wanted.TheVariants.{From}
 use Rattle.ak_merge.specs.Commits.{Received, settings_of}
 use Rattle.ak_merge.specs.Exchanges.{wanted_tags}
 use Rattle.ak_merge.specs.Soundness.{first_fault}
+use Rattle.ak_messages.specs.MessageForms.{no_counts}
 use Rattle.ak_messages.specs.declared.methods.Method.TheVariants as methods
 use Rattle.ak_messages.specs.declared.replies.Give.{Give}
 use Rattle.ak_messages.specs.declared.replies.Give.TheVariants as gives
@@ -24,7 +25,7 @@ use Rattle.ak_session.specs.Requests.{asked_method, same_method}
 abbrev pub is_device_newer : Collection → List Ask → Bool
 is_device_newer committed accepted = int_lt committed.head.moment (device_moment accepted)
 
--- the server's changes before it takes the device's: its rows and tags with at least the least number, and its settings if it is
+-- the server's changes before it takes the device's: its rows and tags with at least the least usn, and its settings if it is
 -- the newer side
 abbrev pub server_changes : Collection → List Ask → Received
 server_changes committed accepted =
@@ -39,7 +40,7 @@ server_changes committed accepted =
 abbrev pub chunk_count : List Ask → ℕ
 chunk_count accepted = length (filter (λ (ask : Ask). same_method (asked_method ask) methods.Chunk) accepted)
 
--- the rows that the server gives by chunks: those of the fold with at least the least number
+-- the rows that the server gives by chunks: those of the fold with at least the least usn
 abbrev pub server_rows : Collection → List Ask → List Row
 server_rows committed accepted = wanted_in_chunks (From (least_usn accepted)) (fold_of committed accepted).rows
 
@@ -90,10 +91,6 @@ same_counts a b =
 -- a sanity check is good if the rows have no fault of the basic check and the counts sent are theirs
 abbrev pub is_good : Rows → SanityCounts → Bool
 is_good held counts = not (is_some (first_fault held)) && same_counts counts (counts_of held)
-
--- seven zeros
-abbrev pub no_counts : SanityCounts
-no_counts = record { cards = 0; notes = 0; reviews = 0; graves = 0; models = 0; decks = 0; options = 0 }
 
 -- the reply to a sanity check: a good one has no fault and no counts, a bad one the first fault, if there is one, and both counts
 abbrev pub sanity_reply : Rows → SanityCounts → SanityReply

@@ -13,7 +13,7 @@ abbrev pub asks_of : List Request → List Ask
 asks_of = map (λ (request : Request). request.ask)
 
 -- ---- the start
--- the number from which on the session is given rows and tags, which its start tells. A start is the first that a session accepts
+-- the usn from which on the session is given rows and tags, which its start tells. A start is the first that a session accepts
 abbrev pub least_usn : List Ask → ℤ
 least_usn (asks.Start min_usn lmod ∷ more) = min_usn
 least_usn accepted = pos 0
@@ -47,7 +47,7 @@ all_brought [] = nothing
 all_brought (ask ∷ more) = and_then (brought ask) (all_brought more)
 
 -- ---- the fold
--- the collection that the requests make of the committed one: it takes what each brings, by the rule of a sync, with the number of
+-- the collection that the requests make of the committed one: it takes what each brings, by the rule of a sync, with the usn of
 -- the committed head. A start, a chunk, a sanity check, a finish and a download leave it
 abbrev pub fold_of : Collection → List Ask → Collection
 fold_of committed [] = committed

@@ -15,7 +15,7 @@ use Rattle.ak_session.specs.Asks.{device_moment, fold_of}
 abbrev pub moment_past : ℤ → ℤ → ℤ → ℤ
 moment_past now one other = int_max now (int_max (one +ℤ pos 1) (other +ℤ pos 1))
 
--- what a finish commits: the fold with the next number, at the greatest of now and the moments after the committed one and
+-- what a finish commits: the fold with the next usn, at the greatest of now and the moments after the committed one and
 -- the device's
 abbrev pub of_finish : Collection → List Ask → ℤ → Collection
 of_finish committed accepted now =
@@ -28,7 +28,7 @@ of_finish committed accepted now =
       };
     }
 
--- what an upload commits: its rows but the graves, and its tags, all with the number 0, its settings, the number 1, and
+-- what an upload commits: its rows but the graves, and its tags, all with the usn 0, its settings, the usn 1, and
 -- moments past those of both. The moment of the last sync stays
 abbrev pub of_upload : Collection → Whole → ℤ → Collection
 of_upload committed whole now =

@@ -2,9 +2,9 @@
 pub data Objection : Type 0 where
   -- its method may not come next
   MayNotCome : Objection
-  -- it asks for rows from a number on that is under 0 or over the server's
+  -- it asks for rows from a usn on that is under 0 or over the server's
   WrongUsn : Objection
-  -- the number after the server's, or a moment after the last one of a side, would be past its range
+  -- the usn after the server's, or a moment after the last one of a side, would be past its range
   NoNumber : Objection
   -- it has over 250 entries
   TooManyRows : Objection

@@ -19,12 +19,12 @@ use Rattle.ak_session.specs.Slices.{wanted_graves, wanted_changes, wanted_in_chu
 use Rattle.ak_merge.specs.declared.sides.Side.TheVariants.{Device}
 
 -- ---- the device in between
--- the rows that the device holds once it took what the server gave for these requests, with the server's number
+-- the rows that the device holds once it took what the server gave for these requests, with the server's usn
 abbrev pub device_rows : Collection → Collection → List Ask → Rows
 device_rows c s asked = all_taken Device s.head.usn (all_given s asked).rows c.rows
 
 -- ---- the parts, each with all that comes before it
--- the start: the device's number and the moment of its last change
+-- the start: the device's usn and the moment of its last change
 abbrev pub planned_start : Collection → List Ask
 planned_start c = asks.Start c.head.usn c.head.moment ∷ []
 

@@ -4,6 +4,7 @@ use Rattle.std.specs.Cmp.Lexicographic.{pointwise}
 use Rattle.std.specs.List.{list_any, list_all}
 use Rattle.std.specs.Option.{option_map, option_map_or}
 use Rattle.std.specs.Ordering.{int_eq, eq_by_cmp}
+use Rattle.ak_base.specs.Heads.{is_tag_name}
 use Rattle.ak_base.specs.Limits.{last_id, last_usn, last_head_usn, last_stamp, last_moment}
 use Rattle.ak_base.specs.Names.{name_cmp}
 use Rattle.ak_base.specs.Rows.{check_of, name_of}
@@ -36,10 +37,6 @@ is_id = is_between (pos 1) last_id
 -- a row passes its check: each column is in its range
 abbrev pub is_checked : Row → Bool
 is_checked row = is_ok (check_of row)
-
--- the name of a tag: 1 to 512 bytes
-abbrev pub is_tag_name : List ℕ → Bool
-is_tag_name name = nat_le 1 (length name) && nat_le (length name) 512
 
 -- a tag with a name and an update sequence number in their ranges
 abbrev pub is_tag_in_range : Tag → Bool
@@ -86,7 +83,7 @@ pub record Test : Type 0 where
 abbrev pub test : Bool → Objection → Test
 test finds why = record { finds = finds; why = why }
 
--- a start: its number is from 0 to the server's. The server's number is not the last one, and neither side's moment is
+-- a start: its usn is from 0 to the server's. The server's usn is not the last one, and neither side's moment is
 abbrev pub start_tests : Collection → ℤ → ℤ → List Test
 start_tests committed min_usn lmod =
     test (not (is_between (pos 0) committed.head.usn min_usn)) WrongUsn

@@ -35,7 +35,7 @@ pub record MaySync (c s : Collection) : Type 0 where
   pub head : IsHeadInRange c.head
   pub committed : IsCommitted s
 
--- no number of either side is the last one: the server's next number and the moments after both are in their ranges
+-- no usn of either side is the last one: the server's next usn and the moments after both are in their ranges
 pub record HaveRoom (c s : Collection) : Type 0 where
   pub usn : s.head.usn <ℤ last_head_usn
   pub moment : c.head.moment <ℤ last_moment

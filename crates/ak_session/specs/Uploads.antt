@@ -12,8 +12,8 @@ use Rattle.ak_messages.specs.declared.requests.Whole.{Whole}
 abbrev pub is_plain : Row → Bool
 is_plain row = not (is_some (buried_of row))
 
--- a device's collection as it is uploaded: its rows but the graves, its tags, and its head but for the number, which is 0, and the
--- moment of the last sync. The server gives each row and tag the number 0
+-- a device's collection as it is uploaded: its rows but the graves, its tags, and its head but for the usn, which is 0, and the
+-- moment of the last sync. The server gives each row and tag the usn 0
 abbrev pub whole_to_send : Collection → Whole
 whole_to_send c = record {
   rows = filter is_plain (map (λ entry. entry.1) (entries c.rows));
@@ -25,7 +25,7 @@ whole_to_send c = record {
   tags = c.head.tags;
 }
 
--- what stands under each name but the graves', with the number 0
+-- what stands under each name but the graves', with the usn 0
 abbrev pub without_graves : RowsByName → RowsByName
 without_graves at name =
     option_and_then (λ (row : Row). if is_some (buried_of row) then None else Some (with_usn row (pos 0))) (at name)

@@ -16,8 +16,8 @@ ghost use Rattle.ak_session.specs.Contents.{folded, answer};
 ghost use Rattle.ak_session.specs.Messages.{grave_ids, chunk_of, changes_of};
 ghost use Rattle.ak_session.specs.Slices.{wanted_graves, wanted_changes, wanted_in_chunks, slice, slices, joined_parts, filled_slices, slices_until_short};
 
-/// A start is given the graves with at least the number that it tells. Changes are given the note types, decks,
-/// options and tags with at least that number of what the session made so far, and its settings unless the device was
+/// A start is given the graves with at least the usn that it tells. Changes are given the note types, decks,
+/// options and tags with at least that usn of what the session made so far, and its settings unless the device was
 /// changed last.
 pub fn starts_and_changes_are_given()
     ensures start { (committed : Collection) (start : Request) (min_usn lmod : ℤ) → start.ask ≡ asks.Start min_usn lmod
@@ -33,7 +33,7 @@ pub fn starts_and_changes_are_given()
 {}
 
 /// Each chunk that is asked after a start is given the next slice of one list: the reviews, then the cards, then the
-/// notes of what the session made, with at least the number that the start tells. Chunks leave the list as it is.
+/// notes of what the session made, with at least the usn that the start tells. Chunks leave the list as it is.
 pub fn chunks_are_slices()
     ensures next { (committed : Collection) (start : Request) (accepted : List Request) (request : Request)
         → (min_usn lmod : ℤ) → start.ask ≡ asks.Start min_usn lmod → request.ask ≡ asks.Chunk

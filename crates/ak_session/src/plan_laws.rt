@@ -16,7 +16,7 @@ ghost use Rattle.ak_session.specs.Requests.{asks_commit};
 ghost use Rattle.ak_session.specs.Sessions.{MaySync, HaveRoom};
 
 /// A sync asks at most 8 requests, its meta counted, and one more for each 250 of the graves that the device did not
-/// send yet, of the reviews, cards and notes of the server with at least the device's number, and of those that the
+/// send yet, of the reviews, cards and notes of the server with at least the device's usn, and of those that the
 /// device did not send yet.
 pub fn plans_are_short()
     ensures { (who : Asker) (c s : Collection) → pos 0 ≤ℤ s.head.usn
@@ -45,7 +45,7 @@ pub fn plans_end_with_their_finish()
         → (request.ask ≡ asks.Finish) × (asks_of before ≡ planned_check c s) × (after ≡ []) }
 {}
 
-/// A session accepts each request of a sync, if no number of either side is the last one. It is not over before the
+/// A session accepts each request of a sync, if no usn of either side is the last one. It is not over before the
 /// finish if the join is sound.
 pub fn plans_are_accepted()
     ensures allowed { (who : Asker) (c s : Collection) (before : List Request)

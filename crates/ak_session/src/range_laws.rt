@@ -1,13 +1,13 @@
 // The ranges that a session tests.
 ghost use Rattle.std.specs.Prelude.{ℕ, ℤ, List};
 ghost use Rattle.std.specs.Bool.{Decides};
-ghost use Rattle.ak_base.specs.Heads.{IsConfInRange, IsTagInRange, IsWithin};
+ghost use Rattle.ak_base.specs.Heads.{IsConfInRange, IsTagInRange, IsWithin, is_tag_name};
 ghost use Rattle.ak_base.specs.Rows.{IsChecked};
 ghost use Rattle.ak_base.specs.declared.heads.Conf.{Conf};
 ghost use Rattle.ak_base.specs.declared.heads.Tag.{Tag};
 ghost use Rattle.ak_base.specs.declared.rows.Row.{Row};
 ghost use Rattle.ak_merge.specs.Tags.{IsTagName};
-ghost use Rattle.ak_session.specs.Refusals.{is_between, is_checked, is_conf_in_range, is_tag_in_range, is_tag_name};
+ghost use Rattle.ak_session.specs.Refusals.{is_between, is_checked, is_conf_in_range, is_tag_in_range};
 
 /// Each test of a session finds exactly what is in its range.
 pub fn ranges_are_tested()

@@ -2,11 +2,9 @@ ghost use Rattle.std.specs.Prelude.{◌≡◌, ◌<◌, IfOk};
 ghost use Rattle.std.specs.Io.{ReadsAtMost, WritesAtMost};
 ghost use Rattle.std.specs.Io.KnownBytes.{ReadConsumes, WriteAppends};
 
+use ak_io::TRIES;
 use std::io::{self, Error, ErrorKind, Read, Write};
 use std::net::OpenListener;
-
-/// How many times in a row a call is made again that failed for a reason which passes.
-const TRIES: u32 = 1000;
 
 /// A read, made again if a signal interrupted it.
 pub fn read_retrying<S: Read>(stream: &mut S, into: &mut [u8]) -> io::Result<usize>

@@ -7,13 +7,11 @@ use crate::statements::{UPDATE_DECKS, UPDATE_MODELS, UPDATE_OPTIONS};
 use crate::writes::run;
 use ak_base::{List, Memory, Row, Table, Text};
 use ak_json::{read_row, read_text, write_row, write_text};
+use ak_keep::PAGE;
 use ak_memory::MarkedRows;
 use serde_json::{Map, Value};
 use sqlite::{Alter, Transaction};
 use std::alloc::Global;
-
-/// How many rows are read at a time.
-const PAGE: usize = 1000;
 
 /// A column of `col` whose object has the rows of a table.
 #[derive(Clone, Copy, Debug)]

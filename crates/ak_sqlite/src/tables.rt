@@ -141,7 +141,7 @@ fn write_through<S: Alter>(
     }
 }
 
-/// The count of faults after a refusal. Want of memory is none.
+/// The count of faults after a refusal. Running out of memory is no fault.
 fn faults_after(faults: u64, fault: FileFault) -> u64
     ensures failed { fault ≡ Failed → result ≡ one_more faults }
     ensures memory { fault ≡ WantOfMemory → result ≡ faults }

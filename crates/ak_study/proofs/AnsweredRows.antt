@@ -24,6 +24,7 @@ use Rattle.ak_base.specs.declared.notes.Note.{Note}
 use Rattle.ak_base.specs.declared.rows.Row.{Row}
 use Rattle.ak_base.specs.declared.rows.Row.TheVariants as rows
 use Rattle.ak_calls.proofs.Overlaying.{put_under, rest_of}
+use Rattle.ak_calls.specs.RowsOfOneKind.{on_card}
 use Rattle.ak_edit.specs.Overlays.{Overlay, edit_of, put_over, row_over, tag_over, unchanged}
 use Rattle.ak_keep.proofs.RowsByName.{same_of_tied}
 use Rattle.ak_keep.specs.Collections.{Collection, Rows, rows_past}
@@ -187,16 +188,6 @@ note_stands held a note named is =
     ((ap (get held) bears ∙ there), ap (λ (n : Name). n.id) bears)
 
 -- ---- under each name
--- a row changed by this function, if it is a card
-abbrev on_card : (Card → Card) → Row → Row
-on_card f (rows.Card card) = rows.Card (f card)
-on_card f (rows.Note note) = rows.Note note
-on_card f (rows.Review review) = rows.Review review
-on_card f (rows.NoteType note_type) = rows.NoteType note_type
-on_card f (rows.Deck deck) = rows.Deck deck
-on_card f (rows.Options options) = rows.Options options
-on_card f (rows.Grave grave) = rows.Grave grave
-
 -- a name is not that of the row, if nothing stands under it
 not_there : (held : Rows) (q key : Name) (row : Row) → get held q ≡ None → get held key ≡ Some row → eq_by_cmp name_cmp q key ≡ false
 not_there held q key row none there =

@@ -9,6 +9,7 @@ use Rattle.ak_base.specs.declared.heads.Head.{Head}
 use Rattle.ak_base.specs.declared.names.Table.TheVariants as tables
 use Rattle.ak_base.specs.declared.rows.Row.{Row}
 use Rattle.ak_base.specs.declared.rows.Row.TheVariants as rows
+use Rattle.ak_calls.specs.RowsOfOneKind.{on_card}
 use Rattle.ak_edit.specs.Ends.{IsFinished, RefusesStamp}
 use Rattle.ak_edit.specs.Overlays.{Overlay, conf_over}
 use Rattle.ak_edit.specs.Refusals.{Refusal}
@@ -28,13 +29,7 @@ IsInDay at = IsWithin (pos 0) (pos 4_294_967_294_999) at
 -- ---- the rule
 -- a row that is buried no more, if it is a card
 abbrev pub unburied_row : Row → Row
-unburied_row (rows.Card card) = rows.Card (unburied card)
-unburied_row (rows.Note note) = rows.Note note
-unburied_row (rows.Review review) = rows.Review review
-unburied_row (rows.NoteType note_type) = rows.NoteType note_type
-unburied_row (rows.Deck deck) = rows.Deck deck
-unburied_row (rows.Options options) = rows.Options options
-unburied_row (rows.Grave grave) = rows.Grave grave
+unburied_row = on_card unburied
 
 -- the settings of a collection whose buried cards came back on this day
 abbrev pub begun_on : Day → Conf → Conf

@@ -23,6 +23,7 @@ use ak_keep::{KeepFault, Keeper, Lookup, Numbers, Readable, Wanted};
 use ak_memory::MemoryKeeper;
 use std::alloc::Global;
 use std::marker::Model;
+use std::mem;
 use std::rt::HostRuntime;
 
 /// A keeper that stores its collection in tables. All of it is held in memory too, and is read from there; the
@@ -110,6 +111,21 @@ impl<T: Tables> TableKeeper<T> {
             touched,
         } = self;
         drop(memory);
+        drop(touched);
+        tables
+    }
+
+    /// The tables, given back at the end of a program. The rows are not freed one by one: their memory goes with the
+    /// program's.
+    pub fn end(self) -> T
+        ensures { result ≡ self.tables }
+    {
+        let TableKeeper {
+            tables,
+            memory,
+            touched,
+        } = self;
+        mem::forget(memory);
         drop(touched);
         tables
     }

@@ -22,7 +22,7 @@ pub(crate) fn memory_of(alloc: Global, read: StoredCollection) -> Result<MemoryK
     ensures kept { IfOk result (λ keeper. keeper.kept ≡ record { current = loaded read; mark = None }) }
     ensures obeys { IfOk result (λ keeper. keeper.fails ≡ []) }
 
-    // Only a collection is taken, and it is refused only for want of memory.
+    // Only a collection is taken, and it is refused only if memory runs out.
     ensures good { IfOk result (λ keeper. IsCollection read) }
     ensures failed { result ≡ Err Failed → IsCollection read → ⊥ }
 {

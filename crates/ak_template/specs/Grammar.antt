@@ -19,7 +19,7 @@ pub record IsTemplate (text : List ℕ) (tree : Tree) : Type 0 where
 
 -- ---- the fault of a text that has no tree
 
--- the number of a fault among the refusals; want of memory is no fault of a text
+-- the number of a fault among the refusals; running out of memory is no fault of a text
 abbrev pub fault_number : TemplateFault → ℕ
 fault_number (faults.Unclosed place) = 1
 fault_number (faults.WrongClose place) = 2
@@ -80,7 +80,7 @@ fault_in sections (piece ∷ pieces) = option_or (fault_at sections piece) (faul
 
 -- ---- what a call answers that reads a text
 
--- a refusal is for want of memory, or it is this fault
+-- a refusal is that memory ran out, or it is this fault
 abbrev pub RefusesAs : {A : Type 0} → Option TemplateFault → Result A TemplateFault → Type 0
 RefusesAs found result = IfErr result (λ fault. (fault ≡ faults.Memory) ⊎ (found ≡ Some fault))
 
@@ -94,7 +94,7 @@ abbrev pub AddsTag : List Step → List Step → List ℕ → ℕ → List ℕ �
 AddsTag old new words place inside =
     (front : ℕ) (others : List Piece) → old ++ steps_in (with_tag front words place inside others) ≡ new ++ steps_in others
 
--- a refusal is for want of memory, or it is the fault of the tag at this place
+-- a refusal is that memory ran out, or it is the fault of the tag at this place
 abbrev pub RefusesTag : {A : Type 0} → List Opened → List ℕ → ℕ → List ℕ → Result A TemplateFault → Type 0
 RefusesTag sections words place inside result =
     IfErr result (λ fault. (fault ≡ faults.Memory) ⊎ ((front : ℕ) (others : List Piece) → fault_in sections (with_tag front words place inside others) ≡ Some fault))

@@ -180,7 +180,7 @@ pub record TurnedSome (names : List (List ℕ)) (old new : List Meaning) : Type 
 abbrev pub Makes : {X : Type 0} → (X → Meaning) → List X → List X → (List Meaning → Page) → Result (List ℕ) PageFault → Type 0
 Makes meant old new making result = IfOk result (λ made. making (map meant old) ≡ (Ok made, map meant new))
 
--- a refusal is for want of memory, or it is the page's fault, and the filters are those at that place
+-- a refusal is that memory ran out, or it is the page's fault, and the filters are those at that place
 abbrev pub Refuses : {X : Type 0} {A : Type 0} → (X → Meaning) → List X → List X → (List Meaning → Page) → Result A PageFault → Type 0
 Refuses meant old new making result = IfErr result (λ fault. (fault ≡ Memory) ⊎ (making (map meant old) ≡ (Err fault, map meant new)))
 

@@ -31,7 +31,7 @@ pub fn no_fault_with_tree()
     ensures { (text : List ℕ) (tree : Tree) → IsTemplate text tree → first_fault text ≡ None }
 {}
 
-/// The first fault of a text is one of the text, never want of memory, and it is inside the text.
+/// The first fault of a text is one of the text, never that memory ran out, and it is inside the text.
 pub fn faults_are_of_the_text()
     ensures { (text : List ℕ) (fault : TemplateFault) → first_fault text ≡ Some fault → IsFaultOf text fault }
 {}

@@ -23,7 +23,7 @@ pub fn render(
     // The page of the template's tree, and the filters after it.
     ensures ok { MakesPage (λ b. meaning b) filters.old.items filters.new.items face.now template.now result }
 
-    // Any refusal but want of memory is the first fault along the page, and the filters are those at that place.
+    // Any refusal but that memory ran out is the first fault along the page, and the filters are those at that place.
     ensures fault { RefusesPage (λ b. meaning b) filters.old.items filters.new.items face.now template.now result }
 
     // If memory ran out, some first ones of the filters that the page shows were applied, and no other.

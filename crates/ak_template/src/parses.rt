@@ -15,7 +15,7 @@ pub fn parse(alloc: Global, text: &str) -> Result<Template, TemplateFault>
     // The text has the tree of the template.
     ensures tree { IfOk result (λ template. (tree : Tree) × IsTemplate text.now tree × (template.steps ≡ tree_steps tree)) }
 
-    // A text that has a tree is refused for want of memory alone.
+    // A text that has a tree is refused only if memory runs out.
     ensures only { (tree : Tree) → IsTemplate text.now tree → IfErr result (λ fault. fault ≡ faults.Memory) }
 
     // The place of any other refusal is inside the text.

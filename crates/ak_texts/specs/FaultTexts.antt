@@ -62,7 +62,7 @@ page_fault_text pages.Memory = None
 abbrev pub field_count_text : ℕ → ℕ → List ℕ
 field_count_text want got = codes "fields " ++ decimal got ++ codes ", wanted " ++ decimal want
 
--- of a call of the desk. A keeper that failed, and want of memory, end the run and have no text
+-- of a call of the desk. A keeper that failed, and memory that ran out, end the run and have no text
 abbrev pub desk_fault_text : DeskFault → Option (List ℕ)
 desk_fault_text (desks.NoSuch name) = Some (codes "no such " ++ name_text name)
 desk_fault_text (desks.FieldCount want got) = Some (field_count_text want got)

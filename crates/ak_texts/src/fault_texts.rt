@@ -12,8 +12,8 @@ use ak_search::SearchFault;
 use ak_template::{PageFault, TemplateFault};
 use std::alloc::Global;
 
-/// The text of a refusal of the desk, without the number of its line. None for a keeper that failed and for
-/// want of memory: these end a run and have a status in place of a text.
+/// The text of a refusal of the desk, without the number of its line. None if a keeper failed or memory
+/// ran out: these end a run and have a status in place of a text.
 pub fn write_desk_fault(alloc: Global, fault: &DeskFault) -> Result<Option<Text>, Memory>
     ensures { IfOk result (λ text. text ≡ desk_fault_text fault.now) }
 {
@@ -153,7 +153,7 @@ fn text_after(alloc: Global, words: &str, name: &str) -> Result<Option<Text>, Me
     Ok(Some(text))
 }
 
-/// The text of a refusal of a text that is no line of the desk. None for want of memory.
+/// The text of a refusal of a text that is no line of the desk. None if memory ran out.
 pub fn write_line_fault(alloc: Global, fault: &LineFault) -> Result<Option<Text>, Memory>
     ensures { IfOk result (λ text. text ≡ line_fault_text fault.now) }
 {

@@ -90,7 +90,7 @@ abbrev pub HasUploaded : {kind : WireKind} → Ids → SyncOutside kind → Sync
 HasUploaded ids before after = WhereBegun ids before after
     (λ c account log now. (base : Collection) × IsUploaded (asker ids) c base account now after.keeping)
 
--- the device holds what was committed where the download was served, graves and numbers too, with the last sync at its moment
+-- the device holds what was committed where the download was served, graves and usns too, with the last sync at its moment
 abbrev pub HasDownloaded : {kind : WireKind} → Ids → SyncOutside kind → SyncOutside kind → Type 0
 HasDownloaded ids before after = WhereBegun ids before after
     (λ c account log now. IsDownloaded (asker ids) account log now after.keeping)

@@ -160,7 +160,7 @@ upload_errand spares before left = record {
 }
 
 -- what an upload of a device's collection c leaves in place of what was committed: its content without the graves, each row and tag with the
--- number 0, the number 1, and moments past those of both
+-- usn 0, the usn 1, and moments past those of both
 pub record HoldsUpload (c base after : Collection) : Type 0 where
   pub replaces : IsUploadOf (whole_brought (whole_to_send c)) base after
   pub rows : (name : Name) → row_under after name ≡ without_graves (row_under c) name
@@ -251,7 +251,7 @@ pub record IsServedOver (who : Asker) (account : AccountState) (old now : Log) (
   pub grown : now ≡ with_growth old (front ++ Asked request at setback ∷ rest)
   pub place : (world_at who account (with_growth old front)).state.committed ≡ base
 
--- what a download leaves if it reports that it is finished: the device holds what was committed where it was served, graves and numbers too, with
+-- what a download leaves if it reports that it is finished: the device holds what was committed where it was served, graves and usns too, with
 -- the last sync at its moment
 pub record IsDownloaded (who : Asker) (account : AccountState) (old now : Log) (left : Keeping) : Type 0 where
   pub base : Collection

@@ -1,16 +1,12 @@
 // The two requests that carry a whole collection: each is tried, and its reply is read by its form.
-ghost use Rattle.std.specs.Prelude.{◌≡◌, pos, ok_or};
+ghost use Rattle.std.specs.Prelude.{◌≡◌};
 ghost use Rattle.ak_exchange.specs.Asked.{asker, request_at};
 ghost use Rattle.ak_transfers.specs.Forms.{uploaded_in, whole_in};
-ghost use Rattle.ak_wires.specs.Forms.{is_moment};
-ghost use Rattle.ak_wires.specs.Tries.{Answered, granted_by, granted_in, in_form};
-ghost use Rattle.ak_wires.specs.declared.asks.Unanswered.TheVariants as unanswered;
+ghost use Rattle.ak_wires.specs.Tries.{Answered, granted_in, in_form};
 
-use ak_base::LAST_MOMENT;
 use ak_exchange::Ids;
-use ak_messages::{Ask, Give, Reply, Request, Whole};
-use ak_parts::is_between;
-use ak_wires::{Unanswered, Wire, WireEnd, try_thrice};
+use ak_messages::{Ask, Give, Request, Whole};
+use ak_wires::{Unanswered, Wire, granted_in, in_form, is_moment, try_thrice};
 
 /// The moments of what an upload committed, in milliseconds.
 #[derive(Clone, Copy, Debug, PartialEq, Eq)]
@@ -40,8 +36,8 @@ pub(crate) fn ask_upload<W: Wire>(
     ensures { Answered (W.health wire.old) (W.health wire.new) (W.state wire.old) (W.state wire.new)
         request.now uploaded_in result }
 {
-    let answer = try_thrice(wire, request);
-    uploaded_of(answer)
+    let give = granted_in(try_thrice(wire, request))?;
+    in_form(uploaded_in(&give))
 }
 
 /// Asks a download, and answers the whole collection that it gives.
@@ -49,28 +45,8 @@ pub(crate) fn ask_whole<W: Wire>(wire: &mut W, request: &Request) -> Result<Whol
     ensures { Answered (W.health wire.old) (W.health wire.new) (W.state wire.old) (W.state wire.new)
         request.now whole_in result }
 {
-    let answer = try_thrice(wire, request);
-    whole_of(answer)
-}
-
-/// What the answer to an upload comes to.
-fn uploaded_of(answer: Result<Reply, WireEnd>) -> Result<UploadMoments, Unanswered>
-    ensures { result ≡ in_form uploaded_in (granted_in answer) }
-{
-    match granted_in(answer) {
-        Ok(give) => in_form(uploaded_in(&give)),
-        Err(why) => Err(why),
-    }
-}
-
-/// What the answer to a download comes to.
-fn whole_of(answer: Result<Reply, WireEnd>) -> Result<Whole, Unanswered>
-    ensures { result ≡ in_form whole_in (granted_in answer) }
-{
-    match granted_in(answer) {
-        Ok(give) => in_form(whole_in(give)),
-        Err(why) => Err(why),
-    }
+    let give = granted_in(try_thrice(wire, request))?;
+    in_form(whole_in(give))
 }
 
 /// The moments of what an upload committed, if both are in their ranges.
@@ -95,48 +71,5 @@ fn whole_in(give: Give) -> Option<Whole>
     match give {
         Give::Whole(whole) => Some(whole),
         _other => None,
-    }
-}
-
-/// Whether this is a moment, in milliseconds.
-fn is_moment(moment: i64) -> bool
-    ensures { result ≡ is_moment moment }
-{
-    is_between(moment, 0, LAST_MOMENT)
-}
-
-/// What an answer grants, or why it grants nothing.
-fn granted_in(answer: Result<Reply, WireEnd>) -> Result<Give, Unanswered>
-    ensures { result ≡ granted_in answer }
-{
-    match answer {
-        Ok(reply) => granted_by(reply),
-        Err(WireEnd::Failed) => Err(Unanswered::Lost),
-        Err(WireEnd::BadReply) => Err(Unanswered::BadReply),
-        Err(WireEnd::Memory) => Err(Unanswered::Memory),
-    }
-}
-
-/// What a reply grants: its status is 200.
-fn granted_by(reply: Reply) -> Result<Give, Unanswered>
-    ensures { result ≡ granted_by reply }
-{
-    if reply.status == 200 {
-        return Ok(reply.give);
-    }
-    Err(Unanswered::Refused {
-        status: reply.status,
-        word: reply.word,
-        seen: reply.seen,
-    })
-}
-
-/// What was given in its form. What is not in its form is a bad reply.
-fn in_form<T>(part: Option<T>) -> Result<T, Unanswered>
-    ensures { result ≡ ok_or part unanswered.BadReply }
-{
-    match part {
-        Some(part) => Ok(part),
-        None => Err(Unanswered::BadReply),
     }
 }

@@ -1,5 +1,5 @@
 // What a device sends of its own collection in an upload, and what it puts in its place before it asks.
-ghost use Rattle.std.specs.Prelude.{◌≡◌, ◌+◌, ◌++◌, ◌∷◌, [], true, pos, filter, IfOk, OnOk};
+ghost use Rattle.std.specs.Prelude.{◌≡◌, ◌+◌, ◌++◌, ◌∷◌, [], true, filter, IfOk, OnOk};
 ghost use Rattle.ak_answers.specs.Wholes.{rows_in};
 ghost use Rattle.ak_base.specs.Heads.{IsHeadInRange, tag_names};
 ghost use Rattle.ak_base.specs.Names.{table_place};
@@ -9,11 +9,11 @@ ghost use Rattle.ak_merge.specs.Commits.{uploaded_rows};
 ghost use Rattle.ak_session.specs.Uploads.{is_plain, whole_to_send};
 ghost use Rattle.ak_transfers.specs.UploadParts.{MayBePut, MayBePutBefore, all_rows, plain_rows, prepared, prepared_head, whole_sent_with};
 
-use ak_base::{Head, List, Memory, Row, Table, Tag, Text};
+use ak_base::{Head, List, Memory, Row, Table};
 use ak_keep::{KeepFault, Keeper, Walk};
 use ak_merge::take_tags;
 use ak_messages::Whole;
-use ak_parts::{append_page, head_of};
+use ak_parts::{append_page, head_of, tag_names, uploaded_rows};
 use std::alloc::Global;
 
 /// Puts what an upload leaves in place of all that is held, but for the moments that the server gives, and answers what is to
@@ -111,36 +111,13 @@ fn add_plain(rows: &mut List<Row>, row: Row) -> Result<(), Memory>
     rows.push(row)
 }
 
-/// Copies of the rows but the graves, each with the number 0.
-fn uploaded_rows(alloc: Global, sent: &[Row]) -> Result<List<Row>, Memory>
-    ensures { IfOk result (λ rows. rows ≡ uploaded_rows sent.now) }
-{
-    let mut rows = List::new(alloc);
-    for row in sent {
-        add_uploaded(&mut rows, row)?;
-    }
-    Ok(rows)
-}
-
-/// Adds a copy of the row with the number 0, unless it is a grave.
-fn add_uploaded(rows: &mut List<Row>, row: &Row) -> Result<(), Memory>
-    ensures { OnOk result (rows.new ≡ rows.old ++ uploaded_rows (row.now ∷ [])) }
-{
-    if row.buried().is_some() {
-        return Ok(());
-    }
-    let mut made = row.copy()?;
-    made.set_usn(0);
-    rows.push(made)
-}
-
-/// The head of what an upload leaves, until the server told the moments: the next number is 1, and each tag has the number 0.
+/// The head of what an upload leaves, until the server told the moments: the next usn is 1, and each tag has the usn 0.
 fn prepared_head(alloc: Global, head: &Head) -> Result<Head, Memory>
     requires { IsHeadInRange head.now }
     ensures made { IfOk result (λ made. made ≡ prepared_head head.now) }
     ensures range { IfOk result IsHeadInRange }
 {
-    let names = names_of(alloc, head.tags.as_slice())?;
+    let names = tag_names(alloc, head.tags.as_slice())?;
     let tags = take_tags(List::new(alloc), names.as_slice(), 0)?;
     let conf = head.conf.copy()?;
     Ok(Head {
@@ -152,15 +129,4 @@ fn prepared_head(alloc: Global, head: &Head) -> Result<Head, Memory>
         conf,
         tags,
     })
-}
-
-/// The names of the tags.
-fn names_of(alloc: Global, tags: &[Tag]) -> Result<List<Text>, Memory>
-    ensures { IfOk result (λ names. names ≡ tag_names tags.now) }
-{
-    let mut names = List::new(alloc);
-    for tag in tags {
-        names.push(tag.name.copy()?)?;
-    }
-    Ok(names)
 }

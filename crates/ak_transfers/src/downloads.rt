@@ -14,8 +14,7 @@ ghost use Rattle.ak_transfers.specs.UploadParts.{MayBePut};
 use crate::asks::{ask_whole, first_request};
 use crate::forms::{Held, held_of};
 use crate::greetings::greet;
-use crate::outcomes::outcome_of;
-use ak_client::Outcome;
+use ak_client::{Outcome, outcome_of};
 use ak_exchange::{Ids, Stop};
 use ak_io::Clock;
 use ak_keep::{KeepFault, Keeper, keep_or_back};
@@ -24,7 +23,7 @@ use ak_undo::UndoList;
 use ak_wires::Wire;
 use std::alloc::Global;
 
-/// Downloads the committed collection: the device then holds it, with its graves and numbers, and with the last sync at its
+/// Downloads the committed collection: the device then holds it, with its graves and usns, and with the last sync at its
 /// moment. The undo list is emptied before the first message. Whatever ends it, the keeper is not marked then.
 pub fn download_over<K: Keeper, W: Wire, C: Clock>(
     keeper: &mut K,

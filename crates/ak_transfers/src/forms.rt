@@ -1,20 +1,18 @@
 // What a whole collection must pass before a device holds it.
-ghost use Rattle.std.specs.List.{All, IsDistinct, list_all, list_any};
+ghost use Rattle.std.specs.List.{All, IsDistinct};
 ghost use Rattle.std.specs.Ordering.{eq_by_cmp};
-ghost use Rattle.std.specs.Prelude.{◌≡◌, cond, true, map, IfOk, IfErr, OnOk, Decides, ◌⊎◌};
+ghost use Rattle.std.specs.Prelude.{◌≡◌, map, IfOk, IfErr, Decides, ◌⊎◌};
 ghost use Rattle.ak_base.specs.Heads.{IsHeadInRange};
 ghost use Rattle.ak_base.specs.Names.{name_cmp};
 ghost use Rattle.ak_base.specs.Rows.{IsChecked, name_of};
-ghost use Rattle.ak_base.specs.declared.names.Name.{Name as Named};
 ghost use Rattle.ak_exchange.specs.declared.stops.Stop.TheVariants as stops;
-ghost use Rattle.ak_session.specs.Refusals.{has_twins, is_checked, same_names};
 ghost use Rattle.ak_transfers.specs.Forms.{MayBeHeld, downloaded_head};
 
-use ak_base::{Head, List, Memory, Name, Row};
+use ak_base::{Head, List, Memory, Row};
 use ak_exchange::Stop;
+use ak_machine::{are_checked, has_twin_rows};
 use ak_messages::Whole;
 use std::alloc::Global;
-use std::collections::BTreeSet;
 
 /// The rows and the head of a whole collection that a device may hold. The last sync is at its moment.
 #[derive(Drop)]
@@ -68,33 +66,4 @@ fn may_be_held(alloc: Global, held: &Held) -> Result<bool, Memory>
         return Ok(false);
     }
     Ok(!has_twin_rows(alloc, held.rows.as_slice())?)
-}
-
-/// Whether each of these rows passes its check.
-fn are_checked(rows: &[Row]) -> bool
-    ensures { result ≡ list_all is_checked rows.now }
-{
-    rows.iter().all(|row| row.check().is_ok())
-}
-
-/// Whether two of these rows share a name.
-fn has_twin_rows(alloc: Global, rows: &[Row]) -> Result<bool, Memory>
-    ensures { IfOk result (λ found. found ≡ has_twins same_names rows.now) }
-{
-    let mut names = BTreeSet::new(alloc);
-    for row in rows {
-        if add_name(&mut names, row.name())? {
-            return Ok(true);
-        }
-    }
-    Ok(false)
-}
-
-/// Adds a name, and answers whether it was there already.
-fn add_name(names: &mut BTreeSet<Name>, name: Name) -> Result<bool, Memory>
-    ensures found { IfOk result (λ found. found ≡ list_any (eq_by_cmp name_cmp name) names.old.keys) }
-    ensures added { OnOk result ((other : Named) → list_any (eq_by_cmp name_cmp other) names.new.keys
-        ≡ cond (eq_by_cmp name_cmp name other) true (list_any (eq_by_cmp name_cmp other) names.old.keys)) }
-{
-    Ok(!names.insert(name)?)
 }

@@ -7,7 +7,6 @@ mod device_rows;
 mod downloads;
 mod forms;
 mod greetings;
-mod outcomes;
 mod uploads;
 
 pub use downloads::download_over;

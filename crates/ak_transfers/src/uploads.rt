@@ -1,13 +1,11 @@
-ghost use Rattle.std.specs.Prelude.{◌≡◌, [], true, false, List, IfOk, IfErr, OnOk, OnErr, None, Some, ◌⊎◌};
+ghost use Rattle.std.specs.Prelude.{◌≡◌, [], true, false, List, IfOk, OnErr, None};
 ghost use Rattle.ak_base.specs.Heads.{IsMoment};
 ghost use Rattle.ak_client.specs.Outcomes.{HasLostThrice, HasOutcomeCause, ShowsRefusal, outcome_of};
 ghost use Rattle.ak_client.specs.declared.outcomes.Outcome.TheVariants as outcomes;
-ghost use Rattle.ak_exchange.specs.Stops.{keep_stop};
 ghost use Rattle.ak_exchange.specs.declared.stops.Stop.TheVariants as stops;
 ghost use Rattle.ak_faults.specs.Causes.{GoesOn, HasCauseOf};
 ghost use Rattle.ak_keep.specs.Keepers.{IsMarkedAt, WhereTold, back, is_marked};
 ghost use Rattle.ak_merge.specs.Soundness.{first_fault};
-ghost use Rattle.ak_merge.specs.declared.checks.CheckFault.{CheckFault};
 ghost use Rattle.ak_messages.specs.declared.requests.Ask.{Ask as Asked};
 ghost use Rattle.ak_transfers.specs.Transfers.{IsTransfer, IsUpload, MayAsk, StaysUnlessFinished, may_end_upload, upload_errand};
 ghost use Rattle.ak_transfers.specs.UploadParts.{Sends};
@@ -15,19 +13,17 @@ ghost use Rattle.ak_transfers.specs.UploadParts.{Sends};
 use crate::asks::{UploadMoments, ask_upload, first_request};
 use crate::device_rows::prepare;
 use crate::greetings::greet;
-use crate::outcomes::outcome_of;
-use ak_client::Outcome;
+use ak_client::{Outcome, outcome_of, test_rows};
 use ak_device::commit_at;
 use ak_exchange::{Ids, Stop};
 use ak_io::Clock;
-use ak_keep::{KeepFault, Keeper};
-use ak_merge::{CheckFault, check};
+use ak_keep::Keeper;
 use ak_messages::Ask;
 use ak_undo::UndoList;
 use ak_wires::Wire;
 use std::alloc::Global;
 
-/// Uploads the device's collection: the server commits it without its graves, with the number 1 and a new schema moment, and
+/// Uploads the device's collection: the server commits it without its graves, with the usn 1 and a new schema moment, and
 /// the device then holds what the server does, with the last sync at its moment. The undo list is emptied before the first
 /// message. Whatever ends it, the keeper is not marked then.
 pub fn upload_over<K: Keeper, W: Wire, C: Clock>(
@@ -102,21 +98,6 @@ fn upload_device<K: Keeper, W: Wire, C: Clock>(
     upload_met(alloc, keeper, wire, ids, meta.moment)
 }
 
-/// Whether the device's own collection is sound.
-fn test_rows<K: Keeper>(keeper: &mut K) -> Result<(), Stop>
-    ensures sound { OnOk result (WhereTold (K.keeping keeper.old) (λ h. first_fault h.rows ≡ None)) }
-    ensures same { K.keeping keeper.new ≡ K.keeping keeper.old }
-    ensures fault { IfErr result (λ stop. ((fault : KeepFault) × (stop ≡ keep_stop fault))
-        ⊎ ((fault : CheckFault) × (stop ≡ stops.OwnCheck fault)
-        × WhereTold (K.keeping keeper.old) (λ h. first_fault h.rows ≡ Some fault))) }
-    ensures keeper { HasCauseOf stops.Keep (K.health keeper.old) (K.health keeper.new) result }
-{
-    match check(keeper)? {
-        Some(fault) => Err(Stop::OwnCheck(fault)),
-        None => Ok(()),
-    }
-}
-
 /// Uploads a device that may go on: what it puts in place is between a mark and a commit.
 fn upload_met<K: Keeper, W: Wire>(
     alloc: Global,
@@ -139,7 +120,7 @@ fn upload_met<K: Keeper, W: Wire>(
 {
     keeper.mark()?;
     match send(alloc, keeper, wire, ids, moment) {
-        // The number is the one after 0. From here on memory runs out only if these calls of the keeper take some.
+        // The usn is the one after 0. From here on memory runs out only if these calls of the keeper take some.
         Ok(told) => Ok(commit_at(keeper, told.moment, told.schema, 0)?),
         Err(stop) => {
             keeper.back();

@@ -1,4 +1,3 @@
-pub mod Taking
 pub mod Adding
 pub mod Deleting
 pub mod UsedTypes

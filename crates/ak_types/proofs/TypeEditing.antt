@@ -36,7 +36,7 @@ use Rattle.ak_notes.specs.declared.lacking_notes.MissingCards.{MissingCards}
 use Rattle.ak_notes.specs.declared.lacking_notes.NextCards.{NextCards}
 use Rattle.ak_types.proofs.MissingAll.{all_once}
 use Rattle.ak_types.proofs.RetypedNames.{retyped_asked, retyped_rest}
-use Rattle.ak_types.proofs.Taking.{err_too, ok_too, outside_held}
+use Rattle.ak_calls.proofs.Taking.{err_too, ok_too, outside_held}
 use Rattle.ak_types.specs.GivenTypes.{as_given}
 use Rattle.ak_types.specs.RetypedCards.{AreAllMissing, AreLacking, IsLackingWith, IsRetypedBy, RefusesAllIds, notes_of}
 use Rattle.ak_types.specs.RetypedRows.{is_dropped, retyped}

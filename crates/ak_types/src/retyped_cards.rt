@@ -56,16 +56,12 @@ fn add_missing<K: Keeper>(
     ensures cause { DeskCause (K.health keeper.old) (K.health keeper.new) result }
 {
     let MissingCards { cards, next } = made;
-    match missing_cards(keeper, note, next) {
-        Ok(own) => {
-            let all = appended(cards, own.cards)?;
-            Ok(MissingCards {
-                cards: all,
-                next: own.next,
-            })
-        }
-        Err(fault) => Err(fault),
-    }
+    let own = missing_cards(keeper, note, next)?;
+    let all = appended(cards, own.cards)?;
+    Ok(MissingCards {
+        cards: all,
+        next: own.next,
+    })
 }
 
 /// The cards of both lists.

@@ -1,17 +1,16 @@
 ghost use Rattle.std.specs.Prelude.{◌≡◌, true, false, IfErr, IfOk};
 ghost use Rattle.ak_base.specs.NoteTypes.{IsCheckedNoteType};
-ghost use Rattle.ak_base.specs.declared.rows.Row.TheVariants as rows;
-ghost use Rattle.ak_calls.specs.Calls.{EditsBy};
-ghost use Rattle.ak_calls.specs.RowEdits.{RefusesRowEdit, row_edit};
-ghost use Rattle.ak_edit.specs.Refusals.{DeskCause, IsEndFault};
+ghost use Rattle.ak_base.specs.declared.names.Table.TheVariants as tables;
+ghost use Rattle.ak_calls.specs.Additions.{AddsBy};
+ghost use Rattle.ak_edit.specs.Refusals.{DeskCause};
 ghost use Rattle.ak_keep.specs.Collections.{IsId};
 ghost use Rattle.ak_keep.specs.Keepers.{is_marked};
 ghost use Rattle.ak_types.specs.GivenTypes.{as_given};
-ghost use Rattle.ak_types.specs.TypeAdditions.{AddsBy, IsAdditionFault, RefusesNewType, RefusesTypeAddition, given_addition, type_addition};
+ghost use Rattle.ak_types.specs.TypeAdditions.{IsAdditionFault, RefusesNewType, RefusesTypeAddition, given_addition, type_addition};
 
 use crate::given_types::{as_given, check_given, check_sides, with_id};
 use ak_base::{NoteType, Row, Table};
-use ak_calls::{edit_row, new_name};
+use ak_calls::{add_row, new_name};
 use ak_edit::DeskFault;
 use ak_keep::Keeper;
 use ak_undo::UndoList;
@@ -27,7 +26,7 @@ pub fn add_note_type<K: Keeper>(
 ) -> Result<i64, DeskFault>
     requires unmarked { is_marked (K.keeping keeper.old) ≡ false }
     requires held { (K.keeping keeper.old).headed.current ≡ true }
-    ensures adds { AddsBy K.Lookup keeper.old keeper.new steps.old steps.new result at
+    ensures adds { AddsBy K.Lookup keeper.old keeper.new steps.old steps.new result at tables.NoteType
         (given_addition note_type) (RefusesTypeAddition at note_type) }
     ensures range { IfOk result IsId }
     ensures listed { IfErr result IsAdditionFault }
@@ -52,7 +51,7 @@ fn add_type<K: Keeper>(
     requires unmarked { is_marked (K.keeping keeper.old) ≡ false }
     requires held { (K.keeping keeper.old).headed.current ≡ true }
     requires checked { IsCheckedNoteType (as_given note_type) }
-    ensures adds { AddsBy K.Lookup keeper.old keeper.new steps.old steps.new result at
+    ensures adds { AddsBy K.Lookup keeper.old keeper.new steps.old steps.new result at tables.NoteType
         (type_addition note_type) (RefusesNewType at note_type) }
     ensures range { IfOk result IsId }
     ensures listed { IfErr result IsAdditionFault }
@@ -66,29 +65,10 @@ fn add_type<K: Keeper>(
         Ok(()) => {}
         Err(fault) => return Err(fault),
     }
-    put_type(keeper, steps, with_id(note_type, name.id), at)
-}
-
-/// Puts a type that is in its ranges, and gives its id.
-fn put_type<K: Keeper>(
-    keeper: &mut K,
-    steps: &mut UndoList,
-    note_type: NoteType,
-    at: i64,
-) -> Result<i64, DeskFault>
-    requires unmarked { is_marked (K.keeping keeper.old) ≡ false }
-    requires held { (K.keeping keeper.old).headed.current ≡ true }
-    requires checked { IsCheckedNoteType (as_given note_type) }
-    ensures id { IfOk result (λ id. id ≡ note_type.id) }
-    ensures edits { EditsBy K.Lookup keeper.old keeper.new steps.old steps.new result at
-        (row_edit (rows.NoteType note_type)) (RefusesRowEdit at (rows.NoteType note_type)) }
-    ensures listed { IfErr result IsEndFault }
-    ensures cause { DeskCause (K.health keeper.old) (K.health keeper.new) result }
-{
-    let id = note_type.id;
-    match edit_row(keeper, steps, Row::NoteType(note_type), at) {
-        Ok(()) => {}
-        Err(fault) => return Err(fault),
-    }
-    Ok(id)
+    add_row(
+        keeper,
+        steps,
+        Row::NoteType(with_id(note_type, name.id)),
+        at,
+    )
 }

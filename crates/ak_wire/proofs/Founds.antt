@@ -5,6 +5,7 @@ use Rattle.std.specs.Option.{is_some, option_map, option_map_or, option_or}
 use Rattle.serde_json.specs.Data.{Data, null, boolean, number, string, array, object, Items, no_items, item, Members, no_members, member}
 use Rattle.serde_json.specs.Find.{get, at, as_bool, as_str, as_array, as_object, as_number, as_u64}
 use Rattle.ak_base.specs.declared.heads.Tag.{Tag}
+use Rattle.ak_json.specs.Cells.{integers}
 use Rattle.ak_json.specs.Kinds.{integer_of, is_within}
 use Rattle.ak_wire.specs.Faults.{ReadsEach}
 use Rattle.ak_wire.specs.Forms.{Form}
@@ -12,8 +13,9 @@ use Rattle.ak_wire.specs.Found.{HasInteger, HasBool, HasText, HasWord, Under, At
 use Rattle.ak_messages.specs.declared.replies.Word.TheVariants as words
 use Rattle.ak_wire.specs.Keys.{key_text}
 use Rattle.ak_wire.specs.Words.{word_of}
-use Rattle.ak_wire.specs.Kinds.{holds, is_status, is_list, is_after, ids_after, are_tag_names, is_tag_name, are_tags}
-use Rattle.ak_wire.specs.Values.{found_fault, key_fault, first_key_fault, object_key_fault, told, first_fault, object_fault, integer_under, bool_under, text_under, value_under, items_of, items_under, integers, ids_under, texts, tags_of, tags_under}
+use Rattle.ak_wire.specs.Kinds.{holds, is_status, is_list, is_after, ids_after, are_tag_names, are_tags}
+use Rattle.ak_base.specs.Heads.{is_tag_name}
+use Rattle.ak_wire.specs.Values.{found_fault, key_fault, first_key_fault, object_key_fault, told, first_fault, object_fault, integer_under, bool_under, text_under, value_under, items_of, items_under, ids_under, texts, tags_of, tags_under}
 use Rattle.ak_wire.specs.declared.keys.Key.{Key}
 use Rattle.ak_wire.specs.declared.kinds.Kind.{Kind}
 use Rattle.ak_wire.specs.declared.kinds.Kind.TheVariants as kinds

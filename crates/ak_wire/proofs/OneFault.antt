@@ -32,7 +32,7 @@ use Rattle.ak_wire.specs.declared.wire_faults.WireFault.{WireFault}
 use Rattle.ak_wire.specs.declared.wire_faults.WireFault.TheVariants as wires
 use Rattle.ak_wire.proofs.Exact.{one_each, one_value}
 
--- ---- what is read is refused for out of memory alone
+-- ---- what is read is refused only if memory runs out
 
 -- what refuses a value that is read is out of memory
 abbrev pub Excludes : {A : Type 0} → (Data → A → Type 0) → (Data → WireFault → Type 0) → Type 0

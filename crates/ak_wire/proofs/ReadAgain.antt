@@ -9,7 +9,7 @@ use Rattle.serde_json.specs.Data.{Data, boolean, number, unsigned, string, array
 use Rattle.serde_json.specs.Events.{items_len}
 use Rattle.serde_json.specs.Find.{get, at, as_i64, as_array, as_object, as_str, of_integer}
 use Rattle.serde_json.specs.View.{items_of}
-use Rattle.ak_base.specs.Heads.{IsWithin}
+use Rattle.ak_base.specs.Heads.{IsWithin, is_tag_name, IsMoment}
 use Rattle.ak_base.specs.Rows.{IsChecked, name_of}
 use Rattle.ak_base.specs.declared.names.Table.{Table}
 use Rattle.ak_base.specs.declared.names.Table.TheVariants as tables
@@ -47,11 +47,12 @@ use Rattle.ak_wire.specs.Faults.{ReadsEach}
 use Rattle.ak_wire.specs.Forms.{Form, start_form, holds_chunk_form, holds_changes_form, holds_counts_form, graves_form, chunk_form, changes_form, newer_form, meta_form, status_form, bad_form, moment_form, uploaded_form, refused_form}
 use Rattle.ak_wire.specs.Found.{Under, AtPlace, ReadsList, IsInteger, IsText, ReadsCounts}
 use Rattle.ak_wire.specs.Keys.{key_text}
-use Rattle.ak_wire.specs.Kinds.{holds, number_at, is_after, ids_after, is_tag_name, are_tag_names, are_counts, are_seven_counts, is_count, is_fault}
+use Rattle.ak_wire.specs.Kinds.{holds, number_at, is_after, ids_after, are_tag_names, are_counts, are_seven_counts, is_count, is_fault}
 use Rattle.ak_wire.specs.Parts.{ReadsNote, ReadsCard, ReadsReview, ReadsNoteType, ReadsDeck, ReadsOptions}
 use Rattle.ak_wire.specs.Replies.{ReadsMeta, is_good, sanity_fault, good_check, ReadsFault, ReadsBad, ReadsSanity, ReadsCheck, ReadsGive, ReadsGranted, ReadsRefused, ReadsEither, ReadsReplyIn}
 use Rattle.ak_wire.specs.Requests.{ReadsAsk, apply_graves_fault}
-use Rattle.ak_wire.specs.Sent.{FitsWord, IsMoment, AscendAfter, GravesAscend, AreGravesSent, AreChecked, IsChunkSent, IsNewerSent, AreNames, AreChangesSent, IsCount, AreCountsSent, IsSent, IsMetaSent, IsId, IsFaultSent, IsCheckSent, IsGiven, IsGrantSent, IsRefusalSent, IsEitherSent, IsReplySent}
+use Rattle.ak_wire.specs.Sent.{FitsWord, AscendAfter, GravesAscend, AreGravesSent, AreChecked, IsChunkSent, IsNewerSent, AreNames, AreChangesSent, IsCount, AreCountsSent, IsSent, IsMetaSent, IsFaultSent, IsCheckSent, IsGiven, IsGrantSent, IsRefusalSent, IsEitherSent, IsReplySent}
+use Rattle.ak_keep.specs.Collections.{IsId}
 use Rattle.ak_wire.specs.Values.{found_fault, key_fault, first_key_fault, told, first_fault, object_fault}
 use Rattle.ak_wire.specs.Words.{word_text, word_of}
 use Rattle.ak_wire.specs.Written.{object_of, array_of, ids_json, graves_json, chunk_json, newer_pairs, decks_json, changes_json, count_json, counts_json, ask_json, meta_json, check_json, sanity_json, give_json, reply_json}

@@ -12,7 +12,7 @@ use Rattle.serde_json.specs.Find.{get, as_i64, of_integer}
 use Rattle.serde_json.specs.View.{items_of}
 use Rattle.ak_base.specs.Columns.{code_fault}
 use Rattle.ak_base.specs.Graves.{grave_faults, grave_table}
-use Rattle.ak_base.specs.Heads.{IsTagInRange}
+use Rattle.ak_base.specs.Heads.{IsTagInRange, is_tag_name}
 use Rattle.ak_base.specs.Names.{table_place}
 use Rattle.ak_base.specs.Rows.{IsChecked, name_of}
 use Rattle.ak_base.specs.declared.graves.Grave.{Grave}
@@ -32,7 +32,7 @@ use Rattle.ak_wire.specs.Faults.{ReadsEach}
 use Rattle.ak_wire.specs.Forms.{upload_form, download_form}
 use Rattle.ak_wire.specs.Found.{Under, IsInteger, ReadsMembers, ReadsTags}
 use Rattle.ak_wire.specs.Keys.{key_text}
-use Rattle.ak_wire.specs.Kinds.{is_tag_name, are_tags}
+use Rattle.ak_wire.specs.Kinds.{are_tags}
 use Rattle.ak_wire.specs.Sent.{AreChecked, is_of, rows_of, joined, EachAscends, ComesBefore, TagsAscend, IsWholeSent, IsUploadSent, IsDownloadSent}
 use Rattle.ak_wire.specs.Wholes.{upload_tables, download_tables, listed_code, goes_with, items_for, rows_after, ReadsTable, ReadsRowsOf, ReadsTables, ReadsParts, ReadsUpload, ReadsDownload}
 use Rattle.ak_wire.specs.Written.{with_members, object_of, is_under, rows_under, tag_pairs, tags_json, upload_json, download_json}

@@ -7,7 +7,7 @@ use Rattle.ak_json.specs.declared.faults.JsonFault.TheVariants as faults
 use Rattle.ak_wire.specs.declared.wire_faults.WireFault.{WireFault}
 use Rattle.ak_wire.specs.declared.wire_faults.WireFault.TheVariants.{Json, TooManyRows, RowOrder, Memory}
 
--- a fault of JSON as one of a message; want of memory stays one of its own
+-- a fault of JSON as one of a message; running out of memory stays one of its own
 abbrev pub of_json : JsonFault → WireFault
 of_json faults.NotJson = Json faults.NotJson
 of_json (faults.Missing text) = Json (faults.Missing text)

@@ -1,7 +1,8 @@
 -- What stands under the keys of messages.
-use Rattle.std.specs.Prelude.{◌==◌, ℕ, ℤ, pos, negsuc, int_le, int_lt, nat_le, length, List, [], ◌∷◌, codes, Bool, true, false, ◌&&◌, ◌||◌, not, Option, Some, None, option_and_then}
+use Rattle.std.specs.Prelude.{◌==◌, ℕ, ℤ, pos, negsuc, int_le, int_lt, nat_le, List, [], ◌∷◌, codes, Bool, true, false, ◌&&◌, ◌||◌, not, Option, Some, None, option_and_then}
 use Rattle.std.specs.Option.{is_some, option_map_or}
 use Rattle.std.specs.Cmp.Lexicographic.{pointwise}
+use Rattle.ak_base.specs.Heads.{is_tag_name}
 use Rattle.serde_json.specs.Data.{Data, Items, no_items, item, Members, no_members, member}
 use Rattle.serde_json.specs.Find.{at, as_null, as_number, as_u64, as_str, as_bool, as_array, as_object}
 use Rattle.ak_json.specs.Kinds.{integer_of, is_within}
@@ -68,10 +69,6 @@ is_fault d = is_some (as_null d) || is_fault_row d
 -- a text of `ok` or `bad`
 abbrev pub is_status : List ℕ → Bool
 is_status text = pointwise ◌==◌ text (codes "ok") || pointwise ◌==◌ text (codes "bad")
-
--- the name of a tag: 1 to 512 bytes
-abbrev pub is_tag_name : List ℕ → Bool
-is_tag_name name = nat_le 1 (length name) && nat_le (length name) 512
 
 -- the values are names of tags
 abbrev pub are_tag_names : Items → Bool

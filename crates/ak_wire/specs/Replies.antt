@@ -3,6 +3,7 @@ use Rattle.std.specs.Prelude.{◌≡◌, ◌==◌, ℕ, ℤ, pos, List, [], code
 use Rattle.std.specs.Option.{option_or, is_some}
 use Rattle.std.specs.Cmp.Lexicographic.{pointwise}
 use Rattle.std.specs.Ordering.{int_eq}
+use Rattle.ak_messages.specs.MessageForms.{no_counts}
 use Rattle.serde_json.specs.Data.{Data, null}
 use Rattle.serde_json.specs.Find.{as_array}
 use Rattle.ak_merge.specs.declared.checks.CheckFault.{CheckFault}
@@ -71,10 +72,6 @@ ReadsFault d (Some (checks.CardNoNote id)) = BeginsWith (pos 1) id d
 ReadsFault d (Some (checks.NoteNoCard id)) = BeginsWith (pos 2) id d
 ReadsFault d (Some (checks.NoteNoType id)) = BeginsWith (pos 3) id d
 ReadsFault d (Some (checks.CardNoTemplate id)) = BeginsWith (pos 4) id d
-
--- no rows at all
-abbrev pub no_counts : SanityCounts
-no_counts = record { cards = 0; notes = 0; reviews = 0; graves = 0; models = 0; decks = 0; options = 0 }
 
 -- a good check tells nothing else
 abbrev pub good_check : SanityReply

@@ -3,13 +3,14 @@ use Rattle.std.specs.Prelude.{◌≡◌, ◌≤◌, ◌==◌, ℕ, ℤ, pos, neg
 use Rattle.std.specs.Cmp.Lexicographic.{slice_cmp}
 use Rattle.std.specs.Ordering.{nat_cmp}
 use Rattle.std.specs.declared.cmp.Ordering.TheVariants.{Less}
-use Rattle.ak_base.specs.Heads.{IsWithin, IsTagInRange, AreConfNumbersInRange}
+use Rattle.ak_base.specs.Heads.{IsWithin, IsTagInRange, AreConfNumbersInRange, IsMoment}
 use Rattle.ak_base.specs.Names.{table_place}
 use Rattle.ak_base.specs.Rows.{IsChecked, name_of}
 use Rattle.ak_base.specs.declared.heads.Tag.{Tag}
 use Rattle.ak_base.specs.declared.names.Table.{Table}
 use Rattle.ak_base.specs.declared.rows.Row.{Row}
 use Rattle.ak_base.specs.declared.rows.Row.TheVariants as rows
+use Rattle.ak_keep.specs.Collections.{IsId}
 use Rattle.ak_merge.specs.declared.checks.CheckFault.{CheckFault}
 use Rattle.ak_merge.specs.declared.checks.CheckFault.TheVariants as checks
 use Rattle.ak_messages.specs.MessageForms.{chunk_entries, grave_entries}
@@ -37,10 +38,6 @@ use Rattle.ak_wire.specs.declared.keys.Key.{Key}
 -- a number fits 64 bits with its sign
 abbrev pub FitsWord : ℤ → Type 0
 FitsWord z = IsWithin (negsuc 9_223_372_036_854_775_807) (pos 9_223_372_036_854_775_807) z
-
--- a moment in milliseconds
-abbrev pub IsMoment : ℤ → Type 0
-IsMoment z = IsWithin (pos 0) (pos 4_294_967_295_999) z
 
 -- ids ascend, none twice, the first over the one before it
 abbrev pub AscendAfter : Option ℤ → List ℤ → Type 0
@@ -172,10 +169,6 @@ pub record IsMetaSent (m : MetaReply) : Type 0 where
   pub moment : IsMoment m.moment
   pub usn : IsWithin (pos 0) (pos 2_147_483_646) m.usn
   pub musn : FitsWord m.musn
-
--- an id of a row
-abbrev pub IsId : ℤ → Type 0
-IsId id = IsWithin (pos 1) (pos 9_007_199_254_740_991) id
 
 -- the fault of a collection names a row
 abbrev pub IsFaultSent : Option CheckFault → Type 0

@@ -4,6 +4,7 @@ use Rattle.std.specs.Option.{is_some, option_map, option_or}
 use Rattle.serde_json.specs.Data.{Data, Items, no_items, item, Members, no_members, member}
 use Rattle.serde_json.specs.Find.{get, at, as_number, as_u64, as_str, as_bool, as_array, as_object}
 use Rattle.ak_base.specs.declared.heads.Tag.{Tag}
+use Rattle.ak_json.specs.Cells.{integers}
 use Rattle.ak_json.specs.Kinds.{integer_of}
 use Rattle.ak_messages.specs.declared.requests.SanityCounts.{SanityCounts}
 use Rattle.ak_wire.specs.Faults.{missing, wrong_kind}
@@ -71,11 +72,6 @@ items_of found = unwrap_or (option_and_then as_array found) no_items
 -- the values of the list under a key
 abbrev pub items_under : List ℕ → Data → Items
 items_under key d = items_of (get key d)
-
--- the numbers of a list of whole numbers
-abbrev pub integers : Items → List ℤ
-integers no_items = []
-integers (item d ds) = unwrap_or (integer_of d) (pos 0) ∷ integers ds
 
 -- the ids of the list under a key
 abbrev pub ids_under : List ℕ → Data → List ℤ

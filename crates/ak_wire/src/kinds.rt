@@ -1,10 +1,11 @@
 ghost use Rattle.std.specs.Prelude.{◌≡◌};
 ghost use Rattle.serde_json.specs.View.{view, items_view, members_view};
-ghost use Rattle.ak_json.specs.Kinds.{is_within};
-ghost use Rattle.ak_wire.specs.Kinds.{holds, is_after, are_ids, number_at, is_list, is_count, is_nothing_due, are_seven_counts, are_counts, is_fault, is_tag_name, are_tag_names, are_tags};
+ghost use Rattle.ak_wire.specs.Kinds.{holds, is_after, are_ids, number_at, is_list, is_count, is_nothing_due, are_seven_counts, are_counts, is_fault, are_tag_names, are_tags};
+ghost use Rattle.ak_base.specs.Heads.{is_tag_name};
 
 use crate::words::word_of;
 use ak_base::{LAST_ID, LAST_USN, NAME_BYTES};
+use ak_json::is_within;
 use serde_json::{Map, Value};
 
 /// The last count: counts are kept with a sign.
@@ -77,16 +78,6 @@ impl Kind {
                 None => false,
             },
         }
-    }
-}
-
-/// Whether there is a number, and it is from the least to the most.
-fn is_within(least: i64, most: i64, number: Option<i64>) -> bool
-    ensures { result ≡ is_within least most number }
-{
-    match number {
-        Some(number) => least <= number && number <= most,
-        None => false,
     }
 }
 

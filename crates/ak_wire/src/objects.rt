@@ -4,13 +4,13 @@ ghost use Rattle.serde_json.specs.Find.{at, as_str};
 ghost use Rattle.ak_json.specs.Kinds.{integer_of};
 ghost use Rattle.ak_wire.specs.Faults.{OrMemory, Is};
 ghost use Rattle.ak_wire.specs.Keys.{key_text};
-ghost use Rattle.ak_wire.specs.Values.{told, key_fault, first_key_fault, object_key_fault, first_fault, object_fault, integer_under, bool_under, text_under, value_under, items_of, items_under, ids_under, integers, texts, counts_under, count_at, tags_of, tags_under};
+ghost use Rattle.ak_wire.specs.Values.{told, key_fault, first_key_fault, object_key_fault, first_fault, object_fault, integer_under, bool_under, text_under, value_under, items_of, items_under, ids_under, texts, counts_under, count_at, tags_of, tags_under};
 
 use crate::WireFault;
 use crate::keys::Key;
 use crate::kinds::Kind;
 use ak_base::{List, Memory, Tag, Text};
-use ak_json::JsonFault;
+use ak_json::{JsonFault, integers};
 use ak_messages::SanityCounts;
 use serde_json::{Map, Value};
 use std::alloc::Global;
@@ -193,17 +193,6 @@ pub(crate) fn ids_under(alloc: Global, key: Key, value: &Value) -> Result<List<i
     ensures { IfOk result (λ ids. ids ≡ ids_under (key_text key) (view value.now)) }
 {
     integers(alloc, items_under(key, value))
-}
-
-/// The numbers of a list of whole numbers.
-fn integers(alloc: Global, values: &[Value]) -> Result<List<i64>, Memory>
-    ensures { IfOk result (λ numbers. numbers ≡ integers (items_view values.now)) }
-{
-    let mut numbers = List::new(alloc);
-    for value in values {
-        numbers.push(value.as_i64().unwrap_or(0))?;
-    }
-    Ok(numbers)
 }
 
 /// The texts of a list of texts.

@@ -17,7 +17,7 @@ use ak_json::read_text;
 use serde_json::Value;
 use std::alloc::Global;
 
-/// The value of a body. One whose tree would take over 4 GiB is told as want of memory.
+/// The value of a body. One whose tree would take over 4 GiB is told as if memory ran out.
 pub(crate) fn read_body(alloc: Global, body: &[u8]) -> Result<Value, WireFault>
     ensures ok { IfOk result (λ value. IsJsonOf body.now (view value)) }
     ensures within { IfOk result (λ value. IsWithinBudget body.now) }

@@ -4,8 +4,8 @@ use ak_json::JsonFault;
 /// Why a body was not read as a message.
 #[derive(Debug, PartialEq, Drop)]
 pub enum WireFault {
-    /// The bytes are no JSON, a key is missing, or a value or a row is not of its form. The fault inside is
-    /// never its own want of memory.
+    /// The bytes are no JSON, a key is missing, or a value or a row is not of its form. The fault inside
+    /// never says that memory ran out.
     Json(JsonFault),
     /// A chunk, or the graves of a request, has so many entries in its lists together: more than 250.
     TooManyRows(u64),

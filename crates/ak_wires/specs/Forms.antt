@@ -22,7 +22,7 @@ abbrev pub is_moment : ℤ → Bool
 is_moment = is_between (pos 0) last_moment
 
 -- ---- a meta
--- both moments and the number of a meta are in the ranges of a head
+-- both moments and the usn of a meta are in the ranges of a head
 abbrev pub is_meta_in_range : MetaReply → Bool
 is_meta_in_range meta = is_moment meta.scm && is_moment meta.moment && is_between (pos 0) last_head_usn meta.usn
 

@@ -27,8 +27,8 @@ pub fn ask_meta<W: Wire>(wire: &mut W, request: &Request) -> Result<MetaSaid, Un
     ensures { Answered (W.health wire.old) (W.health wire.new) (W.state wire.old) (W.state wire.new)
         request.now meta_in result }
 {
-    let answer = try_thrice(wire, request);
-    meta_of(answer)
+    let give = granted_in(try_thrice(wire, request))?;
+    in_form(meta_in(&give))
 }
 
 /// Asks for what is given as the ids of graves.
@@ -36,8 +36,8 @@ pub fn ask_graves<W: Wire>(wire: &mut W, request: &Request) -> Result<GraveIds, 
     ensures { Answered (W.health wire.old) (W.health wire.new) (W.state wire.old) (W.state wire.new)
         request.now graves_in result }
 {
-    let answer = try_thrice(wire, request);
-    graves_of(answer)
+    let give = granted_in(try_thrice(wire, request))?;
+    in_form(graves_in(give))
 }
 
 /// Asks what is given nothing.
@@ -45,8 +45,8 @@ pub fn ask_nothing<W: Wire>(wire: &mut W, request: &Request) -> Result<(), Unans
     ensures { Answered (W.health wire.old) (W.health wire.new) (W.state wire.old) (W.state wire.new)
         request.now nothing_in result }
 {
-    let answer = try_thrice(wire, request);
-    nothing_of(answer)
+    let give = granted_in(try_thrice(wire, request))?;
+    in_form(nothing_in(&give))
 }
 
 /// Asks for changes.
@@ -54,8 +54,8 @@ pub fn ask_changes<W: Wire>(wire: &mut W, request: &Request) -> Result<Changes, 
     ensures { Answered (W.health wire.old) (W.health wire.new) (W.state wire.old) (W.state wire.new)
         request.now changes_in result }
 {
-    let answer = try_thrice(wire, request);
-    changes_of(answer)
+    let give = granted_in(try_thrice(wire, request))?;
+    in_form(changes_in(give))
 }
 
 /// Asks for a chunk. One that has no row is done.
@@ -63,8 +63,8 @@ pub fn ask_chunk<W: Wire>(wire: &mut W, request: &Request) -> Result<Chunk, Unan
     ensures { Answered (W.health wire.old) (W.health wire.new) (W.state wire.old) (W.state wire.new)
         request.now chunk_in result }
 {
-    let answer = try_thrice(wire, request);
-    chunk_of(answer)
+    let give = granted_in(try_thrice(wire, request))?;
+    in_form(chunk_in(give))
 }
 
 /// Asks for a sanity check. A reply that is not good shows a fault or two counts that differ.
@@ -72,8 +72,8 @@ pub fn ask_sanity<W: Wire>(wire: &mut W, request: &Request) -> Result<SanityRepl
     ensures { Answered (W.health wire.old) (W.health wire.new) (W.state wire.old) (W.state wire.new)
         request.now verdict_in result }
 {
-    let answer = try_thrice(wire, request);
-    verdict_of(answer)
+    let give = granted_in(try_thrice(wire, request))?;
+    in_form(verdict_in(&give))
 }
 
 /// Asks a finish, and answers the new moment, in milliseconds.
@@ -81,82 +81,12 @@ pub fn ask_moment<W: Wire>(wire: &mut W, request: &Request) -> Result<i64, Unans
     ensures { Answered (W.health wire.old) (W.health wire.new) (W.state wire.old) (W.state wire.new)
         request.now moment_in result }
 {
-    let answer = try_thrice(wire, request);
-    moment_of(answer)
-}
-
-/// What the answer to a meta comes to.
-fn meta_of(answer: Result<Reply, WireEnd>) -> Result<MetaSaid, Unanswered>
-    ensures { result ≡ in_form meta_in (granted_in answer) }
-{
-    match granted_in(answer) {
-        Ok(give) => in_form(meta_in(&give)),
-        Err(why) => Err(why),
-    }
-}
-
-/// What the answer comes to where the ids of graves are to be given.
-fn graves_of(answer: Result<Reply, WireEnd>) -> Result<GraveIds, Unanswered>
-    ensures { result ≡ in_form graves_in (granted_in answer) }
-{
-    match granted_in(answer) {
-        Ok(give) => in_form(graves_in(give)),
-        Err(why) => Err(why),
-    }
-}
-
-/// What the answer comes to where nothing is to be given.
-fn nothing_of(answer: Result<Reply, WireEnd>) -> Result<(), Unanswered>
-    ensures { result ≡ in_form nothing_in (granted_in answer) }
-{
-    match granted_in(answer) {
-        Ok(give) => in_form(nothing_in(&give)),
-        Err(why) => Err(why),
-    }
-}
-
-/// What the answer comes to where changes are to be given.
-fn changes_of(answer: Result<Reply, WireEnd>) -> Result<Changes, Unanswered>
-    ensures { result ≡ in_form changes_in (granted_in answer) }
-{
-    match granted_in(answer) {
-        Ok(give) => in_form(changes_in(give)),
-        Err(why) => Err(why),
-    }
-}
-
-/// What the answer comes to where a chunk is to be given.
-fn chunk_of(answer: Result<Reply, WireEnd>) -> Result<Chunk, Unanswered>
-    ensures { result ≡ in_form chunk_in (granted_in answer) }
-{
-    match granted_in(answer) {
-        Ok(give) => in_form(chunk_in(give)),
-        Err(why) => Err(why),
-    }
-}
-
-/// What the answer to a sanity check comes to.
-fn verdict_of(answer: Result<Reply, WireEnd>) -> Result<SanityReply, Unanswered>
-    ensures { result ≡ in_form verdict_in (granted_in answer) }
-{
-    match granted_in(answer) {
-        Ok(give) => in_form(verdict_in(&give)),
-        Err(why) => Err(why),
-    }
-}
-
-/// What the answer to a finish comes to.
-fn moment_of(answer: Result<Reply, WireEnd>) -> Result<i64, Unanswered>
-    ensures { result ≡ in_form moment_in (granted_in answer) }
-{
-    match granted_in(answer) {
-        Ok(give) => in_form(moment_in(&give)),
-        Err(why) => Err(why),
-    }
+    let give = granted_in(try_thrice(wire, request))?;
+    in_form(moment_in(&give))
 }
 
 /// What an answer grants, or why it grants nothing.
-fn granted_in(answer: Result<Reply, WireEnd>) -> Result<Give, Unanswered>
+pub fn granted_in(answer: Result<Reply, WireEnd>) -> Result<Give, Unanswered>
     ensures { result ≡ granted_in answer }
 {
     match answer {
@@ -182,7 +112,7 @@ fn granted_by(reply: Reply) -> Result<Give, Unanswered>
 }
 
 /// What was given in its form. What is not in its form is a bad reply.
-fn in_form<T>(part: Option<T>) -> Result<T, Unanswered>
+pub fn in_form<T>(part: Option<T>) -> Result<T, Unanswered>
     ensures { result ≡ ok_or part unanswered.BadReply }
 {
     match part {

@@ -14,7 +14,7 @@ use ak_parts::{
     are_changes_in_range, are_graves_in_range, are_rows_checked, is_between, is_id, same_counts,
 };
 
-/// What the reply to a meta says, if both moments and the number are in their ranges.
+/// What the reply to a meta says, if both moments and the usn are in their ranges.
 pub(crate) fn meta_in(give: &Give) -> Option<MetaSaid>
     ensures { result ≡ meta_in give.now }
 {
@@ -24,7 +24,7 @@ pub(crate) fn meta_in(give: &Give) -> Option<MetaSaid>
     }
 }
 
-/// Whether both moments and the number of a meta are in the ranges of a head.
+/// Whether both moments and the usn of a meta are in the ranges of a head.
 fn is_meta_in_range(meta: &MetaReply) -> bool
     ensures { result ≡ is_meta_in_range meta.now }
 {
@@ -184,7 +184,7 @@ fn shows_cause(reply: &SanityReply) -> bool
 }
 
 /// Whether this is a moment, in milliseconds.
-fn is_moment(moment: i64) -> bool
+pub fn is_moment(moment: i64) -> bool
     ensures { result ≡ is_moment moment }
 {
     is_between(moment, 0, LAST_MOMENT)

@@ -10,7 +10,9 @@ mod wires;
 
 pub use asks::{
     Unanswered, ask_changes, ask_chunk, ask_graves, ask_meta, ask_moment, ask_nothing, ask_sanity,
+    granted_in, in_form,
 };
+pub use forms::is_moment;
 pub use said::said_of;
 pub use tries::try_thrice;
 pub use wires::{MetaSaid, Said, Wire, WireEnd};

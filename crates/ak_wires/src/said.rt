@@ -19,6 +19,32 @@ pub fn said_of(request: &Request, reply: &Reply) -> Said
     }
 }
 
+impl Said {
+    /// An equal one of its own. It takes no memory.
+    pub fn copy(&self) -> Said
+        ensures { result ≡ self.now }
+    {
+        Said {
+            session: self.session,
+            status: self.status,
+            word: self.word,
+            seen: self.seen,
+            meta: self.meta,
+            sanity: copy_sanity(&self.sanity),
+        }
+    }
+}
+
+/// An equal reply of its own.
+fn copy_sanity(sanity: &Option<SanityReply>) -> Option<SanityReply>
+    ensures { result ≡ sanity.now }
+{
+    match sanity {
+        Some(reply) => Some(reply.copy()),
+        None => None,
+    }
+}
+
 /// What the reply to a meta says, if it was granted and has its form.
 fn meta_said(ask: &Ask, reply: &Reply) -> Option<MetaSaid>
     ensures { result ≡ meta_said ask.now reply.now }

@@ -23,7 +23,7 @@ use ak_sqlite::SqliteKeeper;
 use std::env::Env;
 use std::io::ErrorKind;
 use std::process::ExitCode;
-use std::{env, io};
+use std::{env, io, mem};
 
 // The file `-` is an empty collection in memory, which ends with the program, and `journal:PATH` a journal; the server `-` is none.
 fn main(rt: HostRuntime) -> ExitCode {
@@ -81,15 +81,20 @@ fn run_over<I: Source, O: Sink>(
     input: &mut I,
     out: &mut O,
 ) -> Result<u8, KeepFault> {
+    // A keeper is not freed row by row at the end: its memory goes with the program's.
     if file == "-" {
         let mut keeper = MemoryKeeper::new(rt.alloc());
-        return Ok(run_with(rt, &mut keeper, server, words, input, out)?);
+        let status = run_with(rt, &mut keeper, server, words, input, out)?;
+        mem::forget(keeper);
+        return Ok(status);
     }
     if let Some(path) = journal_of(file) {
         return run_over_journal(rt, (path, server), words, input, out);
     }
     let mut keeper = SqliteKeeper::over_file(rt, file)?;
-    Ok(run_with(rt, &mut keeper, server, words, input, out)?)
+    let status = run_with(rt, &mut keeper, server, words, input, out)?;
+    drop(keeper.end());
+    Ok(status)
 }
 
 /// The same over the journal in the file at a path.
@@ -101,7 +106,11 @@ fn run_over_journal<I: Source, O: Sink>(
     out: &mut O,
 ) -> Result<u8, KeepFault> {
     match open(rt.alloc(), FileDisk::open(rt, path)) {
-        Ok(mut keeper) => Ok(run_with(rt, &mut keeper, server, words, input, out)?),
+        Ok(mut keeper) => {
+            let status = run_with(rt, &mut keeper, server, words, input, out)?;
+            drop(keeper.end());
+            Ok(status)
+        }
         Err((JournalFault::Damaged(place), _disk)) => Ok(print_damaged(rt.alloc(), place, out)?),
         Err((JournalFault::Failed, _disk)) => Err(KeepFault::Failed),
         Err((JournalFault::Memory, _disk)) => Err(KeepFault::Memory),

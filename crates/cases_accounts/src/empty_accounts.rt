@@ -4,10 +4,10 @@ ghost use Rattle.ak_keep.specs.Keepers.{all_known, is_marked};
 ghost use Rattle.ak_loops.specs.Entries.{collection_in};
 ghost use Rattle.ak_merge.specs.Commits.{IsCommitted};
 
-use ak_base::{Conf, Head, HostKey, List, Memory, Rest, Text};
+use ak_base::{Head, HostKey, List, Text};
 use ak_loops::{LoggedServer, keeper_with};
 use ak_memory::MemoryKeeper;
-use ak_openings::Opening;
+use ak_openings::{Opening, opening_conf};
 use cases_lines::Unread;
 use std::alloc::Global;
 
@@ -46,7 +46,7 @@ fn empty_opening(alloc: Global, at: i64) -> Result<Opening, Unread>
         schema: at,
         usn: 1,
         last_sync: 0,
-        conf: settings(alloc)?,
+        conf: opening_conf(alloc)?,
         tags: List::new(alloc),
     };
     opening_of(alloc, head)
@@ -64,16 +64,5 @@ fn opening_of(alloc: Global, head: Head) -> Result<Opening, Unread>
     Ok(Opening {
         rows: List::new(alloc),
         head,
-    })
-}
-
-fn settings(alloc: Global) -> Result<Conf, Memory> {
-    Ok(Conf {
-        new_spread: 0,
-        collapse: 1_200,
-        day_learn_first: false,
-        next_pos: 1,
-        last_unburied: 0,
-        rest: Rest::empty(alloc)?,
     })
 }

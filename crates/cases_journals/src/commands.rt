@@ -3,8 +3,7 @@ use crate::disks::filled;
 use crate::files::answer_of_file;
 use crate::images::tallied;
 use crate::refusals::after_fails;
-use crate::words::bytes_text;
-use cases_lines::{Answers, Unread};
+use cases_lines::{Answers, Unread, bytes_text};
 use std::alloc::Global;
 use std::rt::HostRuntime;
 

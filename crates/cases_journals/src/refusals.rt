@@ -1,10 +1,10 @@
 use crate::disks::{failing_disk, tears_by};
 use crate::stories::{Story, tell};
-use crate::words::{bytes_text, number_of, opened_text, payload_text, texts_of};
+use crate::words::{number_of, opened_text, payload_text, texts_of};
 use ak_base::{List, cut};
 use ak_disks::MemoryDisk;
 use ak_io::End;
-use cases_lines::Unread;
+use cases_lines::{Unread, bytes_text};
 use std::alloc::Global;
 
 /// `fails CALLS LEFT PAYLOADS`: what is kept and what is under way if these calls fail, how many failed, and the file.

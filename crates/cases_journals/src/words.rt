@@ -41,16 +41,6 @@ pub fn payload_text(payload: &[u8]) -> &str {
     }
 }
 
-/// How many bytes there are, and each of them.
-pub fn bytes_text(alloc: Global, bytes: &[u8]) -> Result<String, Unread> {
-    let count = bytes.len();
-    let mut made = format!(in alloc; "{count} bytes:")?;
-    for byte in bytes {
-        made.push_str(format!(in alloc; " {byte}")?.as_str())?;
-    }
-    Ok(made)
-}
-
 /// The payloads of a text, a bar between them; none if it is empty.
 pub fn texts_of(alloc: Global, text: &str) -> Result<Vec<&str>, Unread> {
     let mut texts = Vec::new(alloc);

@@ -9,4 +9,4 @@ mod related;
 
 pub use faults::{failed, name_text};
 pub use keepers::{answer_of_keeper, row_of, value_of};
-pub use memory::answer_of;
+pub use memory::{answer_of, calls_of};

@@ -31,7 +31,8 @@ fn fail(alloc: Global, keeper: &mut MemoryKeeper, rest: &str) -> Result<String, 
     Ok(String::from_str(alloc, "ok")?)
 }
 
-fn calls_of(alloc: Global, rest: &str) -> Result<List<u64>, Unread> {
+/// The calls that are to fail, by `[CALL, ..]`.
+pub fn calls_of(alloc: Global, rest: &str) -> Result<List<u64>, Unread> {
     let arguments = value_of(alloc, rest)?;
     calls_in(alloc, &arguments)
 }

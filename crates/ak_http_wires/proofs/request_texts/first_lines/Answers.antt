@@ -8,4 +8,4 @@ pub returns : goal.returns
 returns c =
     c.from.ensures
     ∙ first_shown _ (codes "POST /sync/") c.name-method.result.now _ (codes " HTTP/1.1\r\nHost: ") c.args.host_name.now (codes "\r\n")
-    c.in_ok-text.ensures.ok (c.name-method.ensures ∙ ap name_of c.method_of.ensures)
+    c.in_ok-text.ensures.ok (c.name-method.ensures ∙ ap name_of c.asked_method.ensures)

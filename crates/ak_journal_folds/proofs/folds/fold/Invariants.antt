@@ -1,5 +1,6 @@
 use Rattle.std.proofs.Common.{◌≡◌, take}
-use Rattle.ak_journal_folds.specs.Folds.{IsReady, bytes_of_each}
+use Rattle.ak_journal_folds.specs.Folds.{IsReady}
+use Rattle.ak_base.specs.Bytes.{bytes_of_each}
 use Rattle.ak_journal_rows.specs.Changes.{nothing_held}
 use Rattle.ak_journal_rows.specs.Texts.{LeadTo}
 use Rattle.ak_journal_folds.proofs.folds.fold.Given as goal

@@ -3,7 +3,7 @@ use Rattle.std.specs.Prelude.{Vec}
 use Rattle.std.specs.declared.alloc.Global.{Global}
 use Rattle.std.proofs.lemmas.List.{map_push}
 use Rattle.ak_journal_forms.specs.Frames.{AreFrames, IsOpen}
-use Rattle.ak_journal_forms.specs.Payloads.{bytes_of_each}
+use Rattle.ak_base.specs.Bytes.{bytes_of_each}
 use Rattle.ak_journal_forms.proofs.Places.{gate_place}
 use Rattle.ak_journal_forms.proofs.Readings.{one_more, more_within}
 use Rattle.ak_journal_forms.proofs.frames.read_frames.Goals as goal

@@ -1,6 +1,6 @@
 use Rattle.std.proofs.Common.{◌≤◌, ◌-◌, length, take}
 use Rattle.ak_journal_forms.specs.Frames.{AreFrames}
-use Rattle.ak_journal_forms.specs.Payloads.{bytes_of_each}
+use Rattle.ak_base.specs.Bytes.{bytes_of_each}
 use Rattle.ak_journal_forms.proofs.frames.read_frames.Given as goal
 
 abbrev pub invariant-loop-size : goal.invariant-loop-size

@@ -1,6 +1,6 @@
 use Rattle.std.proofs.Common.{◌≡◌, take}
 use Rattle.ak_journal_forms.specs.Frames.{frames_length}
-use Rattle.ak_journal_forms.specs.Payloads.{bytes_of_each}
+use Rattle.ak_base.specs.Bytes.{bytes_of_each}
 use Rattle.ak_journal_tables.proofs.folds.frames_size.Given as goal
 
 -- the frames of the payloads so far

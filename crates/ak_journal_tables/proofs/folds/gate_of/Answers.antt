@@ -1,7 +1,7 @@
 use Rattle.std.proofs.Common.{List, Vec, ℕ, ap, arith}
 use Rattle.std.specs.declared.alloc.Global.{Global}
 use Rattle.ak_journal_forms.specs.Frames.{frames_length}
-use Rattle.ak_journal_forms.specs.Payloads.{bytes_of_each}
+use Rattle.ak_base.specs.Bytes.{bytes_of_each}
 use Rattle.ak_journal_tables.proofs.Gates.{front_within}
 use Rattle.ak_journal_tables.proofs.folds.gate_of.Goals as goal
 

@@ -2,7 +2,7 @@ use Rattle.std.proofs.Common.{◌⊎◌, inl, inr, ℕ, List, Vec, ap, sym, subs
 use Rattle.std.specs.declared.alloc.Global.{Global}
 use Rattle.std.specs.Prelude.{Err}
 use Rattle.ak_journal_forms.specs.Frames.{frames_length}
-use Rattle.ak_journal_forms.specs.Payloads.{bytes_of_each}
+use Rattle.ak_base.specs.Bytes.{bytes_of_each}
 use Rattle.ak_journal_rows.specs.Changes.{nothing_held}
 use Rattle.ak_journal_rows.specs.Texts.{LeadTo}
 use Rattle.ak_journals.specs.Moments.{LeavesOnly}

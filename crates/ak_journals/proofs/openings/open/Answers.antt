@@ -1,6 +1,6 @@
 use Rattle.std.proofs.Common.{sym, ◌∙◌}
 use Rattle.std.proofs.lemmas.Bool.{false≢true}
-use Rattle.ak_journal_forms.specs.Payloads.{bytes_of_each}
+use Rattle.ak_base.specs.Bytes.{bytes_of_each}
 use Rattle.ak_journals.proofs.Moments.{leaves_only}
 use Rattle.ak_journals.proofs.ReadFiles.{read_order, read_kept}
 use Rattle.ak_journals.proofs.openings.open.Goals as goal

@@ -12,8 +12,8 @@ use Rattle.ak_machine.proofs.decisions.objection_to.Goals as goal
 pub returns-in-Start-clause-why : goal.returns-in-Start-clause-why
 returns-in-Start-clause-why c = λ k tables.
     objected_by (numbered c.args.held.now k) (session_seen tables c.args.live.now) c.args.ask.now (asks.Start c.in-Start.min_usn c.in-Start.lmod)
-    c.method_of.result c.may_follow.result (option_map objection_in c.objection_to_start.result)
-    c.in-Start.is c.method_of.ensures c.may_follow.ensures c.if-not-may_follow.false (c.objection_to_start.ensures k)
+    c.asked_method.result c.may_follow.result (option_map objection_in c.objection_to_start.result)
+    c.in-Start.is c.asked_method.ensures c.may_follow.ensures c.if-not-may_follow.false (c.objection_to_start.ensures k)
 
 pub returns-in-Upload-clause-why : goal.returns-in-Upload-clause-why
 returns-in-Upload-clause-why c = λ k tables.
@@ -21,6 +21,6 @@ returns-in-Upload-clause-why c = λ k tables.
     (λ why. option_map objection_in why ≡ first_objection (upload_tests (numbered c.args.held.now k) c.in-Upload.whole))
     (λ why. option_map objection_in why ≡ objection_to (numbered c.args.held.now k) (session_seen tables c.args.live.now) c.args.ask.now)
     (λ why found. objected_by (numbered c.args.held.now k) (session_seen tables c.args.live.now) c.args.ask.now (asks.Upload c.in-Upload.whole)
-    c.method_of.result c.may_follow.result (option_map objection_in why)
-    c.in-Upload.is c.method_of.ensures c.may_follow.ensures c.if-not-may_follow.false found)
+    c.asked_method.result c.may_follow.result (option_map objection_in why)
+    c.in-Upload.is c.asked_method.ensures c.may_follow.ensures c.if-not-may_follow.false found)
     (c.objection_to_upload.ensures k)

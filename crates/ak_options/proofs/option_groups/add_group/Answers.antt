@@ -1,7 +1,8 @@
 use Rattle.std.proofs.Common.{ℤ, w64, SFits}
 use Rattle.std.proofs.lemmas.Int.{to_z-of_z}
-use Rattle.ak_options.proofs.Adding.{checked_with_id, group_ended, group_full, group_listed, id_in_range, id_in_w64}
-use Rattle.ak_options.proofs.Taking.{later_cause}
+use Rattle.ak_calls.proofs.Adding.{id_in_range, id_in_w64}
+use Rattle.ak_options.proofs.Adding.{checked_with_id, group_ended, group_full, group_listed}
+use Rattle.ak_calls.proofs.Taking.{later_cause}
 use Rattle.ak_options.proofs.option_groups.add_group.Goals as goal
 
 pub returns-in-Err-clause-adds : goal.returns-in-Err-clause-adds
@@ -10,8 +11,8 @@ returns-in-Err-clause-adds g c =
     group_full (g.K.Lookup.keeping c.args.keeper.now) (g.K.Lookup.keeping c.new_name.new.keeper) c.args.at c.args.group c.in-Err.fault c.args.steps.now c.new_name.ensures.same
     (rw (to_z-of_z w64 c.args.at at) at c.in-Err.ensures.refused)
 
-pub put_group-requires-clause-checked : goal.put_group-requires-clause-checked
-put_group-requires-clause-checked g c =
+pub add_row-requires-clause-checked : goal.add_row-requires-clause-checked
+add_row-requires-clause-checked g c =
     let id : ℤ = c.in-Ok.name.id in
     let fits : SFits w64 id = id_in_w64 id c.in-Ok.ensures.range in
     rw (c.with_id.ensures, to_z-of_z w64 id fits) (checked_with_id c.args.group id c.in-Ok.ensures.range c.requires.checked)
@@ -22,19 +23,19 @@ returns-clause-adds g c =
     let fits : SFits w64 id = id_in_w64 id c.in-Ok.ensures.range in
     let at : SFits w64 c.args.at = c.ranges.at in
     let same = c.new_name.ensures.same in
-    group_ended (g.K.Lookup.keeping c.args.keeper.now) (g.K.Lookup.keeping c.put_group.new.keeper) c.args.at c.args.group c.in-Ok.name c.args.steps.now c.put_group.new.steps c.put_group.result
+    group_ended (g.K.Lookup.keeping c.args.keeper.now) (g.K.Lookup.keeping c.add_row.new.keeper) c.args.at c.args.group c.in-Ok.name c.args.steps.now c.add_row.new.steps c.add_row.result
     c.in-Ok.ensures.table (rw (to_z-of_z w64 c.args.at at) at c.in-Ok.ensures.new) (rw (to_z-of_z w64 c.args.at at) at c.in-Ok.ensures.refused)
-    (rw (c.with_id.ensures, to_z-of_z w64 id fits) at c.put_group.ensures.id)
-    (rw (same, c.with_id.ensures, to_z-of_z w64 id fits, to_z-of_z w64 c.args.at at) at c.put_group.ensures.edits)
+    (rw (c.with_id.ensures, to_z-of_z w64 id fits) at c.add_row.ensures.id)
+    (rw (same, c.with_id.ensures, to_z-of_z w64 id fits, to_z-of_z w64 c.args.at at) at c.add_row.ensures.edits)
 
 pub returns-clause-range : goal.returns-clause-range
 returns-clause-range g c =
     let id : ℤ = c.in-Ok.name.id in
     let fits : SFits w64 id = id_in_w64 id c.in-Ok.ensures.range in
-    id_in_range c.put_group.result id c.in-Ok.ensures.range (rw (c.with_id.ensures, to_z-of_z w64 id fits) at c.put_group.ensures.id)
+    id_in_range c.add_row.result id c.in-Ok.ensures.range (rw (c.with_id.ensures, to_z-of_z w64 id fits) at c.add_row.ensures.id)
 
 pub returns-clause-listed : goal.returns-clause-listed
-returns-clause-listed g c = group_listed c.put_group.result c.put_group.ensures.listed
+returns-clause-listed g c = group_listed c.add_row.result c.add_row.ensures.listed
 
 pub returns-clause-cause : goal.returns-clause-cause
-returns-clause-cause g c = later_cause _ _ _ c.put_group.result c.new_name.ensures.cause.goes c.put_group.ensures.cause
+returns-clause-cause g c = later_cause _ _ _ c.add_row.result c.new_name.ensures.cause.goes c.add_row.ensures.cause

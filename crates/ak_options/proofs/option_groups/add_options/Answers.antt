@@ -1,7 +1,6 @@
 use Rattle.std.proofs.Common.{w64, SFits}
 use Rattle.std.proofs.lemmas.Int.{to_z-of_z}
-use Rattle.ak_options.proofs.Adding.{addition_ended, addition_given}
-use Rattle.ak_options.proofs.Taking.{given_cause}
+use Rattle.ak_options.proofs.Adding.{addition_ended, addition_given, given_cause}
 use Rattle.ak_options.proofs.option_groups.add_options.Goals as goal
 
 pub returns-in-Err-clause-adds : goal.returns-in-Err-clause-adds

@@ -41,7 +41,7 @@ returns-in_err-test_clocks g c =
     c.in_ok-meta.meta c.now-at.result _
     (subst (λ (request : Request). Answered (g.W.End.health c.args.wire.now) (g.W.End.health c.ask_meta.new.wire) (g.W.Wire.state c.args.wire.now) (g.W.Wire.state c.ask_meta.new.wire) request meta_in (Ok c.in_ok-meta.meta)) c.meta_request-request.ensures c.in_ok-meta.ensures)
     c.now-at.ensures.given (to_z-of_z w64 c.second_of-second.result fits ∙ second)
-    c.in_err-test_clocks.field-0.0 c.in_err-test_clocks.ensures)
+    c.in_err-test_clocks.field-0.0 c.in_err-test_clocks.ensures.stop)
 
 pub returns : goal.returns
 returns g c =
@@ -54,4 +54,4 @@ returns g c =
     c.in_ok-meta.meta c.now-at.result _
     (subst (λ (request : Request). Answered (g.W.End.health c.args.wire.now) (g.W.End.health c.ask_meta.new.wire) (g.W.Wire.state c.args.wire.now) (g.W.Wire.state c.ask_meta.new.wire) request meta_in (Ok c.in_ok-meta.meta)) c.meta_request-request.ensures c.in_ok-meta.ensures)
     c.now-at.ensures.given (to_z-of_z w64 c.second_of-second.result fits ∙ second)
-    c.in_ok-test_clocks.ensures
+    c.in_ok-test_clocks.ensures.stop

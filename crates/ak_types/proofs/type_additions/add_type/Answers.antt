@@ -1,7 +1,8 @@
 use Rattle.std.proofs.Common.{ℤ, w64, SFits}
 use Rattle.std.proofs.lemmas.Int.{to_z-of_z}
-use Rattle.ak_types.proofs.Adding.{checked_with_id, end_listed, id_in_range, id_in_w64, id_listed, side_listed, type_ended, type_full, type_unread, unread}
-use Rattle.ak_types.proofs.Taking.{later_cause, no_cause}
+use Rattle.ak_calls.proofs.Adding.{id_in_range, id_in_w64}
+use Rattle.ak_types.proofs.Adding.{checked_with_id, end_listed, id_listed, side_listed, type_ended, type_full, type_unread, unread}
+use Rattle.ak_calls.proofs.Taking.{later_cause, no_cause}
 use Rattle.ak_types.proofs.type_additions.add_type.Goals as goal
 
 pub returns-in-Err-clause-adds : goal.returns-in-Err-clause-adds
@@ -25,8 +26,8 @@ returns-in-Err-check_sides-clause-listed g c = side_listed c.in-Err-check_sides.
 pub returns-in-Err-check_sides-clause-cause : goal.returns-in-Err-check_sides-clause-cause
 returns-in-Err-check_sides-clause-cause g c = no_cause _ _ c.in-Err-check_sides.fault c.new_name.ensures.cause.goes (unread c.in-Err-check_sides.fault c.in-Err-check_sides.ensures.listed)
 
-pub put_type-requires-clause-checked : goal.put_type-requires-clause-checked
-put_type-requires-clause-checked g c =
+pub add_row-requires-clause-checked : goal.add_row-requires-clause-checked
+add_row-requires-clause-checked g c =
     let id : ℤ = c.in-Ok.name.id in
     let fits : SFits w64 id = id_in_w64 id c.in-Ok.ensures.range in
     rw (c.with_id.ensures, to_z-of_z w64 id fits) (checked_with_id c.args.note_type id c.in-Ok.ensures.range c.requires.checked)
@@ -37,19 +38,19 @@ returns-clause-adds g c =
     let fits : SFits w64 id = id_in_w64 id c.in-Ok.ensures.range in
     let at : SFits w64 c.args.at = c.ranges.at in
     let same = c.new_name.ensures.same in
-    type_ended (g.K.Lookup.keeping c.args.keeper.now) (g.K.Lookup.keeping c.put_type.new.keeper) c.args.at c.args.note_type c.in-Ok.name tt c.args.steps.now c.put_type.new.steps c.put_type.result
+    type_ended (g.K.Lookup.keeping c.args.keeper.now) (g.K.Lookup.keeping c.add_row.new.keeper) c.args.at c.args.note_type c.in-Ok.name tt c.args.steps.now c.add_row.new.steps c.add_row.result
     c.in-Ok-check_sides.ensures.answers c.in-Ok.ensures.table (rw (to_z-of_z w64 c.args.at at) at c.in-Ok.ensures.new) (rw (to_z-of_z w64 c.args.at at) at c.in-Ok.ensures.refused)
-    (rw (c.with_id.ensures, to_z-of_z w64 id fits) at c.put_type.ensures.id)
-    (rw (same, c.with_id.ensures, to_z-of_z w64 id fits, to_z-of_z w64 c.args.at at) at c.put_type.ensures.edits)
+    (rw (c.with_id.ensures, to_z-of_z w64 id fits) at c.add_row.ensures.id)
+    (rw (same, c.with_id.ensures, to_z-of_z w64 id fits, to_z-of_z w64 c.args.at at) at c.add_row.ensures.edits)
 
 pub returns-clause-range : goal.returns-clause-range
 returns-clause-range g c =
     let id : ℤ = c.in-Ok.name.id in
     let fits : SFits w64 id = id_in_w64 id c.in-Ok.ensures.range in
-    id_in_range c.put_type.result id c.in-Ok.ensures.range (rw (c.with_id.ensures, to_z-of_z w64 id fits) at c.put_type.ensures.id)
+    id_in_range c.add_row.result id c.in-Ok.ensures.range (rw (c.with_id.ensures, to_z-of_z w64 id fits) at c.add_row.ensures.id)
 
 pub returns-clause-listed : goal.returns-clause-listed
-returns-clause-listed g c = end_listed c.put_type.result c.put_type.ensures.listed
+returns-clause-listed g c = end_listed c.add_row.result c.add_row.ensures.listed
 
 pub returns-clause-cause : goal.returns-clause-cause
-returns-clause-cause g c = later_cause _ _ _ c.put_type.result c.new_name.ensures.cause.goes c.put_type.ensures.cause
+returns-clause-cause g c = later_cause _ _ _ c.add_row.result c.new_name.ensures.cause.goes c.add_row.ensures.cause

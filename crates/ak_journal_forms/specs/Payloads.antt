@@ -1,7 +1,0 @@
--- Payloads as they are held in memory.
-use Rattle.std.specs.Prelude.{ℕ, List, map, Vec}
-use Rattle.std.specs.declared.alloc.Global.{Global}
-
--- the bytes of each
-abbrev pub bytes_of_each : List (Vec ℕ Global) → List (List ℕ)
-bytes_of_each payloads = map (λ (payload : Vec ℕ Global). payload.items) payloads
