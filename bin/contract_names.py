@@ -1,10 +1,12 @@
-"""The names of the functions in crates/*/src/ and of the clauses of their contracts, read off the text of the sources, and where each stands."""
+"""The names of the functions in crates/*/src/ and of the clauses of their contracts, read off the text of the sources, where each stands, and how long it is."""
 import functools
 import glob
 import os
 import re
 
 TOP = os.path.dirname(os.path.dirname(os.path.realpath(__file__)))
+BEGINS = re.compile(r"(?m)^\s*(?:pub(?:\([^)]*\))? )?(?:const |final )*fn (\w+)|^\s*(?:ensures\*?|requires)(?: (\w+))? *\{")
+STRING = re.compile(r'"(?:[^"\\]|\\.)*"')
 FUNCTION = re.compile(r"\s*(?:pub(?:\([^)]*\))? )?(?:const |final )*fn (\w+)")
 CLAUSE = re.compile(r"\s*ensures\*?(?: (\w+))? *\{")
 
@@ -23,6 +25,35 @@ def contracts(top=TOP):
                     function = found.setdefault((crate, begins[1]), {})
                 elif clause and function is not None:
                     function.setdefault(clause[1], f"{place}:{number}")
+    return found
+
+
+def end_of(text, place):
+    """The place behind the brace that closes the one before this place. A brace in a string is none."""
+    depth = 1
+    while depth:
+        if text[place] == '"':
+            place = STRING.match(text, place).end()
+            continue
+        depth += {"{": 1, "}": -1}.get(text[place], 0)
+        place += 1
+    return place
+
+
+def lengths(top=TOP):
+    """How many characters each clause has, its white space as single spaces, by its crate, its function and its name."""
+    found = {}
+    for path in sorted(glob.glob(f"{top}/crates/*/src/**/*.rt", recursive=True)):
+        crate, function = os.path.relpath(path, top).split("/")[1], ""
+        with open(path, encoding="utf-8") as file:
+            text = file.read()
+        for begins in BEGINS.finditer(text):
+            if begins[1]:
+                function = begins[1]
+                continue
+            clause = " ".join(text[begins.start() : end_of(text, begins.end())].split())
+            key = (f"{crate}::{function}", begins[2] or "")
+            found[key] = max(len(clause), found.get(key, 0))
     return found
 
 

@@ -10,8 +10,14 @@ import edit_files
 import gate_tool
 from edit_files import pairs_of, text_of
 
-# What is said of a proof file that names what an edit took away, and of what cites that file.
-NAMES = re.compile(r"has no field|is not in scope|has no `|was not admitted|projects from a record")
+# What is said of a proof file that names what an edit took away, and of what cites that file. (A remark on a shown text says that a name "is not in scope here".)
+NAMES = re.compile(r"has no (?:field|constructor|member)|is not in scope(?! here, so)|has no `|was not admitted|projects from a record")
+# What is said of an answer whose goal the edit took away, with the answer's name.
+GONE = re.compile(r"error: `([^`]+)`: .*(?:`(?:[^`]*\.)?\1` is not in scope|has no (?:\w+ )?`\1`)")
+# What is said of a goal that no answer and no tactic proves, with its name.
+OPEN = re.compile(r"note: (?:\./)?src/\S+: it is not proved that .*?(?:\(`([^`]+)`\)|\Z)")
+# The words that goals of a loop or a call end in; any other begins with what it is about.
+ENDS = ("requires", "init", "preserved", "smaller")
 # What is said of a function that calls one without a proof.
 CALLS = re.compile(r"it calls .*")
 HEAD = r"(?:pub(?:\(\w+\))? )?"
@@ -69,30 +75,56 @@ def waits(told, function):
     return any(not is_within(it, function) for it in names)
 
 
+def lines_of(said):
+    """Returns what a check says as lines: one that begins with two spaces belongs to the line before it."""
+    return re.sub(r"\n {2,}", " ", said).split("\n")
+
+
+def about(goal):
+    """Returns what a goal's name says of its kind, without the names of the code, and the clause that it is of, if it tells it."""
+    parts, _, clause = re.sub(r"(?:-\d+)+\Z", "", goal).partition("-clause-")
+    words = parts.split("-")
+    return words[-1] if words[-1] in ENDS else words[0], clause
+
+
+def may_be_one(answer, goal):
+    """Tells whether an answer without a goal may be for this open one, which an edit gave another name: they are of one kind, or it is a loop's invariant."""
+    (kind, clause), (other, of_other) = about(answer), about(goal)
+    return kind in ("invariant", "decreases") or not goal or kind == other and (clause == of_other or not clause or not of_other)
+
+
+def folder_of(crate, function):
+    """Returns a pattern of the folder below proofs/ of a function, or of the cycle of calls that has its name."""
+    *path, name = re.sub(rf"\A{crate.name}::", "", function).split("::")
+    # (a function of a type is told without its module)
+    return ("" if function.startswith(f"{crate.name}::") else r"(?:\S+/)?") + "".join(f"{re.escape(it)}/" for it in path) + rf"\+?{re.escape(name)}"
+
+
 def judged(crate, said, function):
     """Returns whether a check's words mean that an edit in a function was refused, and why; None if nothing is told of it or of its closures, or it waits."""
-    told, own, block = [], [], []
-    folder = re.sub(rf"\A{crate.name}::", "", function).replace("::", "/")
-    for line in said.split("\n"):
+    told, own, block, lines = [], [], [], lines_of(said)
+    errors = [line for line in lines if re.match(rf"(?:\./)?proofs/{folder_of(crate, function)}/\S+: error", line)]
+    gone = [found[1] for found in map(GONE.search, errors) if found]
+    for line in lines:
         found = re.match(r"fn (\S+): (.*)", line)
         if found and is_within(found[1], function):
             told.append(found[2])
-            own += [it for it in block if it.startswith("note: src/") and "not proved" in it]
+            goals = [it for it in map(OPEN.match, block) if it]
+            own += [it.string for it in goals if not any(may_be_one(answer, it[1] or "") for answer in gone)]
         block = [] if found else [*block, line]
-        if re.match(rf"(\./)?proofs/(\S+/)?{folder}/\S+: error", line) and not NAMES.search(line):
-            own.append(line)
+    own += [line for line in errors if not NAMES.search(line)]
     if told and all(it.startswith("proved") for it in told):
         return False, "NOT REFUSED: its function is still proved with this edit"
     # (one that calls another edited one of its round is tried by itself, whatever is told of it)
     if waits(told, function):
         return None
+    if told and all(it.startswith("could not tell") for it in told):
+        return True, "refused, as it must be (only by a limit of the prover, which gave no verdict)"
     if own:
         return True, f"refused, as it must be: {own[0][:160]}"
-    if any(it.startswith("could not tell") for it in told):
-        return True, "refused, as it must be (only by a limit of the prover, which gave no verdict)"
     if not told or any("it calls" in it for it in told):
         return None
-    return True, f"refused, as it must be (only since a proof names what it takes away: change a value and keep the names): {told[0][:100]}"
+    return True, f"refused, as it must be (only since a proof names what it takes away: change a value and keep the names): {(errors or told)[0][:160]}"
 
 
 def try_round(crate, edits, seed):
@@ -102,7 +134,8 @@ def try_round(crate, edits, seed):
     said, results = crate.check(texts, functions, seed).stdout if texts else "", []
     for edit, mine in edits:
         told = [judged(crate, said, it) for it in mine]
-        refused = next((it for it in told if it and it[0]), None)
+        # (of an edit in several functions the one refusal that is not "only" for its names or a limit, if there is one)
+        refused = min((it for it in told if it and it[0]), key=lambda it: "(only " in it[1], default=None)
         best = refused or (told[0] if told and all(told) else None)
         if best:
             results.append((best[0], f"must-fail {crate.name}/{os.path.basename(edit)}: {best[1]}"))
