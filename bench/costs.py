@@ -32,8 +32,7 @@ import try_server  # noqa: E402
 LEAST = 0.001
 CLOZE, FIRST_DECK, FIRST_CARD = 2, 1_400_000_000_000, made.FIRST_ID
 # What grows faster than n log n is known to: words for it, and what it grows with.
-KNOWN = {"a sanity check with long templates": "notes and cards x bytes of their types", "`check` with long templates": "notes and cards x bytes of their types",
-         "`find` of as many ids": "cards x ids", "`find` of as many terms": "cards x terms", "`rename` of half the decks": "decks outside x decks moved",
+KNOWN = {"`find` of as many ids": "cards x ids", "`find` of as many terms": "cards x terms", "`rename` of half the decks": "decks outside x decks moved",
          "`drop` of as many filtered decks": "filtered decks x cards"}
 # What was measured of one thing: the processor time in seconds, and n.
 Cost = collections.namedtuple("Cost", "seconds entries")

@@ -196,7 +196,7 @@ class Verdicts(unittest.TestCase):
 
     def test_each_that_is_known_is_measured(self):
         desk = {name for name, *_ in costs.works_of(20)}
-        self.assertEqual({"a sanity check with long templates"}, set(costs.KNOWN) - desk)
+        self.assertEqual(set(), set(costs.KNOWN) - desk)
 
     def test_words_out_of_range_are_refused(self):
         for words in (["--size", "0"], ["--size", "201"], ["--runs", "0"], ["client"]):
