@@ -1,2 +1,3 @@
 pub mod KeptCollections
 pub mod LabEnds
+pub mod Telling

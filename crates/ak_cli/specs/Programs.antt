@@ -126,6 +126,6 @@ command_status commands.WriteFailed = 5
 command_status commands.KeeperFailed = 6
 command_status commands.Memory = 8
 
--- the status is this one; or it is 5, if the output counted a fault meanwhile
+-- the status is this one; or it is 5, if the output counted a fault meanwhile; or 6 or 4, for the keeper or the input, whose counts rose then
 abbrev pub Tells : ℕ → Health → Health → ℕ → Type 0
-Tells wanted before now status = (status ≡ wanted) ⊎ (status ≡ 5) × (before.faults < now.faults)
+Tells wanted before now status = (status ≡ wanted) ⊎ (status ≡ 5) × (before.faults < now.faults) ⊎ (status ≡ 6) ⊎ (status ≡ 4)

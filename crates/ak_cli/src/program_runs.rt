@@ -7,7 +7,7 @@ ghost use Rattle.ak_io.specs.Scripts.{AppendsPart};
 ghost use Rattle.ak_keep.specs.Keepers.{is_marked};
 
 use crate::program_commands::{ProgramCommand, command_of};
-use crate::statuses::{USAGE, WRITE_FAILED, command_status, status_of};
+use crate::statuses::{KEEPER_FAILED, READ_FAILED, USAGE, WRITE_FAILED, command_status, status_of};
 use ak_csv_runs::{run_export, run_import};
 use ak_desk_runs::{init_collection, run_desk};
 use ak_filters::FieldFilter;
@@ -39,8 +39,8 @@ pub fn run<I: Source, O: Sink, K: Keeper, W: Wire, C: Clock, R: Chance>(
     requires unmarked { is_marked (K.keeping keeper.old) ≡ false }
     requires empty { log.old.entries ≡ [] }
 
-    // What the command does and prints, and the status that tells it: 5 in its place if the output counted a fault meanwhile,
-    // also one that only a flush met. Of words that name no command `usage` is printed.
+    // What the command does and prints, and the status that tells it: 5, 6 or 4 in its place if the output, the keeper or the input
+    // counted a fault meanwhile, also one that the command did not tell. Of words that name no command `usage` is printed.
     ensures ends { (status : ℕ) × EndsBy K.spares_memory (command_of words.now) status
         (program_outside (I.left input.old) (O.written out.old) (K.keeping keeper.old) (W.health wire.old) (W.state wire.old)
         (C.to_come clock.old) (R.to_come chance.old) log.old.entries (map (λ b. meaning b) filters.old.items))
@@ -48,6 +48,8 @@ pub fn run<I: Source, O: Sink, K: Keeper, W: Wire, C: Clock, R: Chance>(
         (C.to_come clock.new) (R.to_come chance.new) log.new.entries (map (λ b. meaning b) filters.new.items))
         × Tells status (O.health out.old) (O.health out.new) result }
     ensures faulted { (O.health out.old).faults < (O.health out.new).faults → result ≡ 5 }
+    ensures failed_keeper { (K.health keeper.old).faults < (K.health keeper.new).faults → (result ≡ 6) ⊎ (result ≡ 5) }
+    ensures failed_input { (I.health input.old).faults < (I.health input.new).faults → (result ≡ 4) ⊎ (result ≡ 5) ⊎ (result ≡ 6) }
 
     // What it leaves alone: also, an input or a keeper that is not used counts no fault.
     ensures leaves { LeavesBy (command_of words.now)
@@ -71,21 +73,25 @@ pub fn run<I: Source, O: Sink, K: Keeper, W: Wire, C: Clock, R: Chance>(
     ensures keeps { GoesOn (K.health keeper.old) (K.health keeper.new) }
     ensures lose { result ≡ 7 → Rose (W.health wire.old) (W.health wire.new) }
 {
-    let before = out.faults();
+    let read = input.faults();
+    let kept = keeper.faults();
+    let printed = out.faults();
     let status = run_words(
         alloc, words, input, out, keeper, wire, clock, chance, log, filters,
     );
-    told(before, out.faults(), status)
+    let after_input = told(read, input.faults(), status, READ_FAILED);
+    let after_keeper = told(kept, keeper.faults(), after_input, KEEPER_FAILED);
+    told(printed, out.faults(), after_keeper, WRITE_FAILED)
 }
 
-/// The status, or 5 if the output counted a fault meanwhile.
-fn told(before: u64, now: u64, status: u8) -> u8
-    ensures rose { before < now → result ≡ 5 }
+/// The status, or this code if an end counted a fault meanwhile.
+fn told(before: u64, now: u64, status: u8, code: u8) -> u8
+    ensures rose { before < now → result ≡ code }
     ensures kept { now ≤ before → result ≡ status }
-    ensures either { (result ≡ status) ⊎ (result ≡ 5) × (before < now) }
+    ensures either { (result ≡ status) ⊎ (result ≡ code) × (before < now) }
 {
     if before < now {
-        return WRITE_FAILED;
+        return code;
     }
     status
 }
@@ -201,5 +207,5 @@ pub fn print_usage<O: Sink>(out: &mut O) -> u8
         Ok(()) => USAGE,
         Err(Failed) => WRITE_FAILED,
     };
-    told(before, out.faults(), printed)
+    told(before, out.faults(), printed, WRITE_FAILED)
 }
