@@ -1,13 +1,13 @@
 -- What a sync takes of its clock, and what it leaves on the device, by how it ends.
 use Rattle.std.specs.Prelude.{◌≡◌, ℕ, zero, suc, ◌≤◌, ℤ, Bool, true, false, List, Option}
-use Rattle.std.proofs.Common.{refl, sym, ap, subst, arith}
+use Rattle.std.proofs.Common.{refl, sym, ap, subst, inl, arith}
 use Rattle.ak_client.specs.Endings.{IsOfGreeting}
 use Rattle.ak_client.specs.Outcomes.{is_told_by_meta, outcome_at}
 use Rattle.ak_client.specs.Syncs.{EndsAt, HasGiven, HasRaised, IsFairEnd, KeepsDevice, TakesMoments, ends_before_finish, fewest_moments, most_moments}
 use Rattle.ak_client.specs.declared.outcomes.Outcome.{Outcome}
 use Rattle.ak_client.specs.declared.outcomes.Outcome.TheVariants as outcomes
 use Rattle.ak_exchange.specs.Asked.{TriedAsk}
-use Rattle.ak_exchange.specs.Grants.{AreTooMany, StopsFor}
+use Rattle.ak_exchange.specs.Grants.{AllGranted, AreTooMany, StopsFor}
 use Rattle.ak_exchange.specs.Phases.{IsFairStop}
 use Rattle.ak_exchange.specs.Stops.{comes_before_finish, keep_stop, shows_bad_check, wire_stop}
 use Rattle.ak_exchange.specs.declared.stops.Stop.{Stop}
@@ -83,12 +83,12 @@ module _ {kind : WireKind} (tries : List TriedAsk) (now : WireState kind) where
   stop_ends stops.Lost is = is
   stop_ends stops.BadReply is = is
   stop_ends stops.TooManyChunks is = is
-  stop_ends stops.Keep is = tt
-  stop_ends stops.Memory is = tt
+  stop_ends stops.Keep is = is
+  stop_ends stops.Memory is = is
 
-  pub fault_ends : (fault : KeepFault) → EndsAt tries now (outcome_at (keep_stop fault))
-  fault_ends faults.Failed = tt
-  fault_ends faults.Memory = tt
+  pub fault_ends : (fault : KeepFault) → AllGranted tries → EndsAt tries now (outcome_at (keep_stop fault))
+  fault_ends faults.Failed all = all
+  fault_ends faults.Memory all = inl all
 
 -- what an exchange stops for is not told by the meta
 pub stop_told : {kind : WireKind} (tries : List TriedAsk) (wire : WireState kind) (stop : Stop) → StopsFor tries wire stop → is_told_by_meta (outcome_at stop) ≡ false

@@ -12,7 +12,7 @@ use Rattle.ak_client.specs.Syncs.{ArePlain, EndsAt, LacksMemoryEarly, ends_befor
 use Rattle.ak_client.specs.declared.outcomes.Outcome.{Outcome}
 use Rattle.ak_client.specs.declared.outcomes.Outcome.TheVariants as outcomes
 use Rattle.ak_device.proofs.Receiving.{received_nothing}
-use Rattle.ak_exchange.proofs.Stopping.{ends_then, granted_but_last, granted_then, part_stops, rows_then}
+use Rattle.ak_exchange.proofs.Stopping.{bad_check_granted, ends_then, granted_but_last, granted_then, part_stops, rows_then}
 use Rattle.ak_exchange.proofs.Tried.{asked_then, asks_append, few_more, few_none, few_then}
 use Rattle.ak_exchange.specs.Asked.{Talk, TriedAsk, asker, asks_in}
 use Rattle.ak_exchange.specs.Grants.{AllGranted, EndsUnanswered, StopsUnanswered}
@@ -159,7 +159,7 @@ module _ {kind : WireKind} (ids : Ids) (met : Met) (before mid : Keeping) (h0 h1
     rows = rows_then ex.tries fin.tries ex.rows fin.rows;
     ends = (
       granted_then ex.tries fin.tries result ex.granted fin.granted,
-      part_stops ex.tries fin.tries w2 result fin.ends,
+      part_stops ex.tries fin.tries w2 result ex.granted fin.ends,
       before_commit between ex.tries fin.tries result ex.plain fin.why,
     );
     told = λ c s account is_met reached marked.
@@ -201,7 +201,7 @@ asked_nothing spares ids met before left h w fault = record {
   graves_most = no_graves before;
   few = few_none 40_000 39_999 (5 + 0);
   rows = tt;
-  ends = (λ is. tt, fault_ends [] w fault, fault_told fault, λ spared is. inl tt);
+  ends = (λ is. tt, fault_ends [] w fault tt, fault_told fault, λ spared is. inl tt);
   told = λ c s account is_met reached holds. record {
     shown = record { reached = reached; front = λ may. (planned c s, refl) };
     early = λ early. tt;
@@ -255,7 +255,7 @@ module _ {kind : WireKind} (spares : Bool) (ids : Ids) (met : Met) (before marke
       subst (λ (r : Result (Unit {0}) Stop). Ends spares ids met before left h0 h1 w0 w1 (outcome_of r)) (sym same)
       (ends_with (Err stop) (outcome_at (keep_stop fault)) ex (
         λ is. absurd (not_finished (keep_stop fault) is),
-        fault_ends ex.tries w1 fault,
+        fault_ends ex.tries w1 fault (bad_check_granted ex.tries w1 stop bad ex.granted ex.ends.1),
         fault_told fault,
         λ spared out. inl (bad_plain ex.tries stop ex.ends.2 bad),
       ) (λ c s account is_met it. record {
@@ -270,7 +270,7 @@ module _ {kind : WireKind} (spares : Bool) (ids : Ids) (met : Met) (before marke
       → Ends spares ids met before left h0 h1 w0 w1 (outcome_at (keep_stop fault))
   ends_refused moment fault never ex = ends_with (Ok moment) (outcome_at (keep_stop fault)) ex (
     λ is. absurd (not_finished (keep_stop fault) is),
-    fault_ends ex.tries w1 fault,
+    fault_ends ex.tries w1 fault ex.ends.0,
     fault_told fault,
     λ spared out. absurd (never spared (memory_fault fault out)),
   ) (λ c s account is_met it. record {

@@ -13,7 +13,7 @@ use Rattle.ak_client.specs.Outcomes.{outcome_at}
 use Rattle.ak_client.specs.Syncs.{EndsAt, meta_tried}
 use Rattle.ak_exchange.proofs.Stopping.{unanswered_stops, was_granted, was_not_granted}
 use Rattle.ak_exchange.specs.Asked.{AreTried, TriedAsk, asker}
-use Rattle.ak_exchange.specs.Grants.{IsGranted}
+use Rattle.ak_exchange.specs.Grants.{AllGranted, IsGranted}
 use Rattle.ak_exchange.specs.Stops.{wire_stop}
 use Rattle.ak_exchange.specs.declared.envelopes.Ids.{Ids}
 use Rattle.ak_exchange.specs.declared.stops.Stop.{Stop}
@@ -158,11 +158,11 @@ head_ends tries now meta head unchanged stop = by unchanged (not (int_eq head.sc
     by false false true is = is_so (stops.FullSequence meta.usn) tt is
     by false false false is = absurd (none-some stop is)
 
-device_ends : {kind : WireKind} (tries : List TriedAsk) (now : WireState kind) (meta : MetaSaid) (keeping : Keeping) (stop : Stop) → EndsAtDevice meta keeping stop
-    → EndsAt tries now (outcome_at stop)
-device_ends tries now meta keeping stop (inl (fault, is)) = subst (λ (s : Stop). EndsAt tries now (outcome_at s)) (sym is) (fault_ends tries now fault)
-device_ends tries now meta keeping stop (inr (head, unchanged, found, inl is)) = head_ends tries now meta head unchanged stop is
-device_ends tries now meta keeping stop (inr (head, unchanged, found, inr (pass, unsound))) = subst (λ (s : Stop). EndsAt tries now (outcome_at s)) (sym unsound.1) tt
+device_ends : {kind : WireKind} (tries : List TriedAsk) (now : WireState kind) (meta : MetaSaid) (keeping : Keeping) (stop : Stop) → AllGranted tries
+    → EndsAtDevice meta keeping stop → EndsAt tries now (outcome_at stop)
+device_ends tries now meta keeping stop all (inl (fault, is)) = subst (λ (s : Stop). EndsAt tries now (outcome_at s)) (sym is) (fault_ends tries now fault all)
+device_ends tries now meta keeping stop all (inr (head, unchanged, found, inl is)) = head_ends tries now meta head unchanged stop is
+device_ends tries now meta keeping stop all (inr (head, unchanged, found, inr (pass, unsound))) = subst (λ (s : Stop). EndsAt tries now (outcome_at s)) (sym unsound.1) tt
 
 pub greeting_ends : {kind : WireKind} (ids : Ids) (h0 h1 : Health) (w0 w1 : WireState kind) (old new : Option (List ℤ)) (keeping : Keeping) (stop : Stop)
     → (it : IsGreeting ids h0 h1 w0 w1 old new keeping (Err stop)) → EndsAt (meta_tried it.heard.answer ∷ []) w1 (outcome_at stop)
@@ -174,7 +174,8 @@ greeting_ends ids h0 h1 w0 w1 old new keeping stop it = by it.answer refl it.end
         (stop_ends (meta_tried it.heard.answer ∷ []) w1 (wire_stop why) (unanswered_stops (meta_tried it.heard.answer ∷ []) w1 (meta_tried it.heard.answer) why ([], refl)
         (was_not_granted meta_in asks.Meta (λ give. refl) it.heard.answer why (sym it.heard.came ∙ is))))
     by (Ok meta) is (at, given, inl stopped) = clock_ends (meta_tried it.heard.answer ∷ []) w1 meta (second_of at) stop stopped
-    by (Ok meta) is (at, given, inr (pass, ends)) = device_ends (meta_tried it.heard.answer ∷ []) w1 meta keeping stop ends
+    by (Ok meta) is (at, given, inr (pass, ends)) =
+        device_ends (meta_tried it.heard.answer ∷ []) w1 meta keeping stop (meta_granted ids h0 h1 w0 w1 it.answer meta it.heard is, tt) ends
 
 -- a greeting that stops
 pub greets_stop : {kind : WireKind} (ids : Ids) (before now : Health) (was is : WireState kind) (result : Result MetaSaid Unanswered) (stop : Stop)

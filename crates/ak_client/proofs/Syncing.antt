@@ -21,7 +21,7 @@ use Rattle.ak_client.specs.Syncs.{CommitsAtMostOnce, EndsAt, IsCommittedIn, IsFa
 use Rattle.ak_client.specs.declared.outcomes.Outcome.{Outcome}
 use Rattle.ak_client.specs.declared.outcomes.Outcome.TheVariants as outcomes
 use Rattle.ak_exchange.proofs.Replying.{requests_count}
-use Rattle.ak_exchange.proofs.Stopping.{but_last_then, checked_then, ends_then, many_then}
+use Rattle.ak_exchange.proofs.Stopping.{but_last_then, checked_then, ends_then, many_then, memory_then}
 use Rattle.ak_exchange.proofs.Tried.{few_none, tried_then}
 use Rattle.ak_exchange.specs.Asked.{AreTried, TriedAsk, answers_in, asker, asks_in}
 use Rattle.ak_exchange.specs.Grants.{AreTooMany, IsGranted}
@@ -284,23 +284,24 @@ module _ (ids : Ids) (met : Met) (c s : Collection) (account : AccountState) (as
 told_of : (keeping : Keeping) (c : Collection) (P : Holding → Type 0) → keeping ≡ holding c → WhereTold keeping P → P (held_by c)
 told_of keeping c P is told = subst (λ (k : Keeping). WhereTold k P) is told
 
--- what was tried last is so with the meta before it
-ends_after : {kind : WireKind} (first : TriedAsk) (tries : List TriedAsk) (wire : WireState kind) (outcome : Outcome) → EndsAt tries wire outcome → EndsAt (first ∷ tries) wire outcome
-ends_after first tries wire outcomes.Finished ends = tt
-ends_after first tries wire outcomes.NoChanges ends = tt
-ends_after first tries wire (outcomes.FullSchema device server) ends = tt
-ends_after first tries wire (outcomes.FullSequence usn) ends = tt
-ends_after first tries wire (outcomes.BadRow fault) ends = checked_then (first ∷ []) tries (stops.BadRow fault) wire ends
-ends_after first tries wire (outcomes.BadCounts client server) ends = checked_then (first ∷ []) tries (stops.BadCounts client server) wire ends
-ends_after first tries wire (outcomes.ClockOff device server) ends = tt
-ends_after first tries wire (outcomes.OwnCheck fault) ends = tt
-ends_after first tries wire outcomes.Stopped ends = tt
-ends_after first tries wire (outcomes.Refused status word seen) ends = ends_then (first ∷ []) tries (unanswered.Refused status word seen) ends
-ends_after first tries wire outcomes.Lost ends = ends_then (first ∷ []) tries unanswered.Lost ends
-ends_after first tries wire outcomes.BadReply ends = ends_then (first ∷ []) tries unanswered.BadReply ends
-ends_after first tries wire outcomes.TooManyChunks ends = many_then (first ∷ []) tries ends
-ends_after first tries wire outcomes.Keep ends = tt
-ends_after first tries wire outcomes.Memory ends = tt
+-- what was tried last is so with the meta before it, which was granted
+ends_after : {kind : WireKind} (first : TriedAsk) (tries : List TriedAsk) (wire : WireState kind) (outcome : Outcome) → IsGranted first
+    → EndsAt tries wire outcome → EndsAt (first ∷ tries) wire outcome
+ends_after first tries wire outcomes.Finished granted ends = tt
+ends_after first tries wire outcomes.NoChanges granted ends = tt
+ends_after first tries wire (outcomes.FullSchema device server) granted ends = tt
+ends_after first tries wire (outcomes.FullSequence usn) granted ends = tt
+ends_after first tries wire (outcomes.BadRow fault) granted ends = checked_then (first ∷ []) tries (stops.BadRow fault) wire ends
+ends_after first tries wire (outcomes.BadCounts client server) granted ends = checked_then (first ∷ []) tries (stops.BadCounts client server) wire ends
+ends_after first tries wire (outcomes.ClockOff device server) granted ends = tt
+ends_after first tries wire (outcomes.OwnCheck fault) granted ends = tt
+ends_after first tries wire outcomes.Stopped granted ends = tt
+ends_after first tries wire (outcomes.Refused status word seen) granted ends = ends_then (first ∷ []) tries (unanswered.Refused status word seen) ends
+ends_after first tries wire outcomes.Lost granted ends = ends_then (first ∷ []) tries unanswered.Lost ends
+ends_after first tries wire outcomes.BadReply granted ends = ends_then (first ∷ []) tries unanswered.BadReply ends
+ends_after first tries wire outcomes.TooManyChunks granted ends = many_then (first ∷ []) tries ends
+ends_after first tries wire outcomes.Keep granted ends = (granted, ends)
+ends_after first tries wire outcomes.Memory granted ends = memory_then (first ∷ []) tries (granted, tt) ends
 
 pub went_on : {kind : WireKind} (spares : Bool) (ids : Ids) (met : Met) (before kept left : Keeping) (h0 h1 h2 : Health) (w0 w1 w2 : WireState kind) (old_moments new_moments : Option (List ℤ)) (read : Keeping)
     (outcome : Outcome) → IsGreeting ids h0 h1 w0 w1 old_moments new_moments read (Ok met) → GreetsTold ids w0.log w1.log (Ok met) → WhereTold before (λ h. IsReady h met)
@@ -322,7 +323,7 @@ went_on spares ids met before kept left h0 h1 h2 w0 w1 w2 old_moments new_moment
       graves_most = subst (λ (k : Keeping). AreGraveRequests k ends.graves) same ends.graves_most;
       few = ends.few;
       rows = ends.rows;
-      ends = ends_after (meta_tried it.heard.answer) ends.tries w2 outcome ends.ends.1;
+      ends = ends_after (meta_tried it.heard.answer) ends.tries w2 outcome granted ends.ends.1;
       told = λ old told.
           let first = tried_grows (meta_of ids ∷ []) (it.heard.answer ∷ []) h0 h1 w0 w1 old first_tried told in
           let then_on = tried_grows list (answers_in ends.tries) h1 h2 w1 w2 first.now ends.tried first.is in (

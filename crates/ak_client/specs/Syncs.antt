@@ -8,7 +8,7 @@ use Rattle.ak_client.specs.declared.outcomes.Outcome.{Outcome}
 use Rattle.ak_client.specs.declared.outcomes.Outcome.TheVariants as outcomes
 use Rattle.ak_device.specs.Devices.{RaisesMoments}
 use Rattle.ak_exchange.specs.Asked.{AreFew, AreTried, TriedAsk, answers_in, asker, asks_in}
-use Rattle.ak_exchange.specs.Grants.{AllGranted, AllGrantedButLast, AreTooMany, EndsUnanswered, IsCheckedLast, SendsRows}
+use Rattle.ak_exchange.specs.Grants.{AllGranted, AllGrantedButLast, AreTooMany, EndsForMemory, EndsUnanswered, IsCheckedLast, SendsRows}
 use Rattle.ak_exchange.specs.Phases.{AreGraveRequests, HasTenMillionRows, holding}
 use Rattle.ak_exchange.specs.declared.envelopes.Ids.{Ids}
 use Rattle.ak_exchange.specs.Stops.{keep_stop}
@@ -199,8 +199,8 @@ CommitsAloneTold who told_before told_now = (old now : Log) (account : AccountSt
 abbrev pub meta_tried : Result Reply WireEnd → TriedAsk
 meta_tried answer = record { ask = asks.Meta; answer = answer }
 
--- why a sync ended after what it tried: at a bad sanity check, at what was not granted, or at too many chunks. The other reasons are told
--- by the meta, the clock and the keeper
+-- why a sync ended after what it tried: at a bad sanity check, at what was not granted, or at too many chunks. The keeper fails only in what the
+-- device does itself, so all that was tried was granted. The other reasons are told by the meta, the clock and the device
 abbrev pub EndsAt : {kind : WireKind} → List TriedAsk → WireState kind → Outcome → Type 0
 EndsAt tries now outcomes.Finished = ⊤
 EndsAt tries now outcomes.NoChanges = ⊤
@@ -215,8 +215,8 @@ EndsAt tries now (outcomes.Refused status word seen) = EndsUnanswered tries (una
 EndsAt tries now outcomes.Lost = EndsUnanswered tries unanswered.Lost
 EndsAt tries now outcomes.BadReply = EndsUnanswered tries unanswered.BadReply
 EndsAt tries now outcomes.TooManyChunks = AreTooMany tries
-EndsAt tries now outcomes.Keep = ⊤
-EndsAt tries now outcomes.Memory = ⊤
+EndsAt tries now outcomes.Keep = AllGranted tries
+EndsAt tries now outcomes.Memory = EndsForMemory tries
 
 -- what a sync does over any keeper and wire, whose health and state go from the one to the other
 pub record IsSync {kind : WireKind} (ids : Ids) (before left : Keeping) (health_before health_now : Health) (old now : WireState kind)

@@ -99,7 +99,7 @@ finishes_unasked {kind} was now result full is health wire envelopes = record {
   few = few_none 0 0 1;
   granted = none_granted result;
   rows = tt;
-  ends = refused_stops [] now.wire result (by_memory result is);
+  ends = refused_stops now.wire result (by_memory result is);
   late = late_memory result is;
   why = stopped_unasked was result full is;
   leads = λ c s account earlier has. (
@@ -177,7 +177,8 @@ module _ {kind : WireKind} (was now : Talk kind) (given : Result ℤ Unanswered)
     few = finish_few;
     rows = (tt, tt);
     granted = one_but_last tried_finish result (λ (stop : Stop). stop ≡ wire_stop why) is;
-    ends = refused_after_stops (tried_finish ∷ []) now.wire tried_finish given result ([], refl)
+    ends = refused_after_stops now.wire tried_finish given result
+        (λ moment was_so. (was_granted moment_in asks.Finish (λ give. refl) at.call.answer moment (sym at.call.came ∙ was_so)).granted)
         (λ other was_so. was_not_granted moment_in asks.Finish (λ give. refl) at.call.answer other (sym at.call.came ∙ was_so)) (by_wire given result why came is);
     late = late_wire result why is;
     why = stopped_unanswered was (tried_finish ∷ []) result why

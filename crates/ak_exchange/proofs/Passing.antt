@@ -1,17 +1,17 @@
 -- A part of a sync leads from one place of its plan to another.
 use Rattle.std.specs.List.{AllByRecursion}
-use Rattle.std.specs.Prelude.{◌≡◌, ℕ, ◌+◌, ◌≤◌, ℤ, ◌&&◌, Bool, true, false, is_some, if◌then◌else◌, List, [], ◌∷◌, ◌++◌, Option, Some, Result, Ok, Err, IsErrAnd, IfOk, IfErr, OnOk, ◌⊎◌}
+use Rattle.std.specs.Prelude.{◌≡◌, ℕ, ◌+◌, ◌≤◌, ℤ, ◌&&◌, Bool, true, false, is_some, if◌then◌else◌, List, [], ◌∷◌, ◌++◌, Option, Some, Result, Ok, Err, IsErrAnd, IfOk, IfErr, OnOk}
 use Rattle.std.proofs.Common.{refl, sym, ap, subst, ◌∙◌, append_assoc, append-nil, inl, inr}
 use Rattle.std.proofs.lemmas.List.{length-append}
 use Rattle.std.proofs.lemmas.List.Elements.{filter-append}
 use Rattle.ak_exchange.proofs.Replying.{replies_go_on}
 use Rattle.ak_exchange.proofs.Stepping.{asks_one}
-use Rattle.ak_exchange.proofs.Stopping.{IsKept, IsRefused, IsRefusedAfter, all_but_last, all_granted, granted_shows, granted_then, none_granted, not_ok, ok-err, one_but_last, part_stops, quiet_stops, refused_after_is_fair, refused_after_stops, refusal_shows, refused_is_fair, refused_stops, rows_then, spoilt, unless_map, unless_then, was_granted, was_not_granted}
+use Rattle.ak_exchange.proofs.Stopping.{IsKept, IsRefused, IsRefusedAfter, StopsAfter, all_but_last, all_granted, granted_shows, granted_then, none_granted, not_ok, one_but_last, part_stops, quiet_stops, refused_after_is_fair, refused_after_stops, refusal_shows, refused_is_fair, refused_stops, rows_then, spoilt, unless_map, unless_then, was_granted, was_not_granted}
 use Rattle.ak_exchange.proofs.Tried.{asked_none, asked_then, asks_append, few_more, few_none, few_then}
 use Rattle.ak_exchange.specs.Asked.{AreAsked, AreFew, AreTried, Talk, TriedAsk, asker, asks_in, request_at}
-use Rattle.ak_exchange.specs.Grants.{AreGranted, AreTooMany, IsGranted, IsLast, IsNotGranted, SendsRows, StopsFor, are_granted, granted_of, grants, is_in_form}
+use Rattle.ak_exchange.specs.Grants.{AreGranted, AreTooMany, IsGranted, IsNotGranted, SendsRows, StopsFor, are_granted, granted_of, grants, is_in_form}
 use Rattle.ak_exchange.specs.Phases.{Advances, HasAsked, HasExchanged, HasTenMillionRows, IsAt, IsFairStop, IsLeft, IsMet, IsReached, Place, UnlessHalfDone, all_came_by, came_by, marked_at}
-use Rattle.ak_exchange.specs.Stops.{is_keep_or_memory, wire_stop}
+use Rattle.ak_exchange.specs.Stops.{is_keep_or_memory}
 use Rattle.ak_exchange.specs.declared.envelopes.Envelopes.{Envelopes}
 use Rattle.ak_exchange.specs.declared.envelopes.Met.{Met}
 use Rattle.ak_exchange.specs.declared.stops.Stop.{Stop}
@@ -66,7 +66,7 @@ stays_here pulled pushed others from to met before after was now result on healt
   granted = none_granted result;
   rows = tt;
   plain = tt;
-  ends = refused_stops [] now.wire result is;
+  ends = refused_stops now.wire result is;
   device = spoilt [] result (HasExchanged met.meta.usn [] before after) refl is;
   leads = λ c s account earlier met_is at. (
     subst (λ (l : List Ask). IsLeft c s account (asker was.envelopes.ids) l now) (sym (append-nil earlier))
@@ -114,7 +114,7 @@ exchanged_refused : {T G : Type 0} (usn : ℤ) (it : TriedAsk) (given : Result G
     → ((g : G) → given ≡ Ok g → IsGranted it) → ((why : Unanswered) → given ≡ Err why → IsNotGranted it why) → IsKept given k0 k1 → IsRefusedAfter given result
     → UnlessHalfDone (it ∷ []) result (HasExchanged usn (it ∷ []) k0 k1)
 exchanged_refused {G = G} usn it given k0 k1 (Ok x) so not_so kept is = absurd is
-exchanged_refused {G = G} usn it given k0 k1 (Err stop) so not_so kept is = by given refl is
+exchanged_refused {G = G} usn it given k0 k1 (Err stop) so not_so kept is = by is
   where
     own : Bool
     own = is_keep_or_memory stop
@@ -123,11 +123,9 @@ exchanged_refused {G = G} usn it given k0 k1 (Err stop) so not_so kept is = by g
     shown g was quiet =
         ap (λ (b : Bool). b && are_granted (it ∷ [])) quiet ∙ ap (λ (b : Bool). b && true) (granted_shows it (so g was))
 
-    by : (r : Result G Unanswered) → given ≡ r → (own ≡ true) ⊎ ((why : Unanswered) × (given ≡ Err why) × (stop ≡ wire_stop why))
-        → (own && are_granted (it ∷ [])) ≡ false → HasExchanged usn (it ∷ []) k0 k1
-    by (Ok g) was (inl quiet) whole = absurd (not_both (shown g was quiet) whole)
-    by (Ok g) was (inr (why, came, same)) whole = absurd (ok-err g why (sym was ∙ came))
-    by (Err why) was shows whole = exchanged_none usn it why k0 k1 (not_so why was) (kept why was)
+    by : StopsAfter given stop → (own && are_granted (it ∷ [])) ≡ false → HasExchanged usn (it ∷ []) k0 k1
+    by (inl (g, was, quiet)) whole = absurd (not_both (shown g was quiet) whole)
+    by (inr (why, was, same)) whole = exchanged_none usn it why k0 k1 (not_so why was) (kept why was)
 
 -- whether a head is held stays
 pub advances_held : {kind : WireKind} {T : Type 0} (p q o : ℕ) (from to : Place) (met : Met) (k0 k1 : Keeping) (t0 t1 : Talk kind) (result : Result T Stop)
@@ -150,7 +148,7 @@ advances_then p q o p2 q2 o2 from mid to met k0 k1 k2 t0 t1 t2 x result one two 
   granted = granted_then one.tries two.tries result one.granted two.granted;
   rows = rows_then one.tries two.tries one.rows two.rows;
   plain = subst (AllByRecursion IsPlain) (sym (asks_append one.tries two.tries)) (all_append IsPlain (asks_in one.tries) (asks_in two.tries) one.plain two.plain);
-  ends = part_stops one.tries two.tries t2.wire result two.ends;
+  ends = part_stops one.tries two.tries t2.wire result one.granted two.ends;
   device = unless_then one.tries two.tries result (HasExchanged met.meta.usn (one.tries ++ two.tries) k0 k2) one.granted
       (unless_map two.tries result (HasExchanged met.meta.usn two.tries k1 k2) (HasExchanged met.meta.usn (one.tries ++ two.tries) k0 k2)
       (exchanged_then met.meta.usn one.tries two.tries k0 k1 k2 one.device) two.device);
@@ -309,7 +307,7 @@ advances_left {U = U} p q o from mid to met k0 k1 k2 t0 t1 x result is one =
   where
     each : (r : Result U Stop) → IsRefused r → IsErrAnd r (StopsFor one.tries t1.wire)
     each (Ok y) is = is
-    each (Err stop) is = quiet_stops one.tries t1.wire stop is
+    each (Err stop) is = quiet_stops one.tries t1.wire stop one.granted is
 
 -- a part that went well, and asked for too much
 pub advances_many : {kind : WireKind} {T U : Type 0} (p q o : ℕ) (from mid to : Place) (met : Met) (k0 k1 k2 : Keeping) (t0 t1 : Talk kind) (x : T)
@@ -362,9 +360,6 @@ module _ {kind : WireKind} {G : Type 0} (was now : Talk kind) (ask : Ask) (it : 
     envelopes = envelopes;
   }
 
-  abbrev pub last_one : IsLast tried_one (tried_one ∷ [])
-  last_one = ([], refl)
-
   module _ (later : is_meta ask ≡ false) (reads : is_download ask ≡ false) (plain : asks_commit ask ≡ false) where
     -- the sync is still under way, and what its reply gives is what the session answers
     pub shown_one : (c s : Collection) (account : AccountState) (asked : List Ask) (place : Place) → HasAsked c s account asked place was
@@ -403,9 +398,6 @@ module _ {kind : WireKind} {G : Type 0} (was now : Talk kind) (ask : Ask) (it : 
         abbrev IsTaken : Give → Keeping → Type 0
         IsTaken give after = (mid : Keeping) × (mid ≡ changed (received met.meta.usn (replied give)) before) × (after ≡ changed (settled_by met.meta.usn ask) mid)
 
-        abbrev Why : Stop → Type 0
-        Why stop = (is_keep_or_memory stop ≡ true) ⊎ ((why : Unanswered) × (given ≡ Err why) × (stop ≡ wire_stop why))
-
         -- the part was refused once it had asked this
         pub refused_after : {T : Type 0} (to : Place) (after : Keeping) (result : Result T Stop) → IsKept given before after → IsRefusedAfter given result
             → Advances p q o from to met before after was now result
@@ -413,16 +405,17 @@ module _ {kind : WireKind} {G : Type 0} (was now : Talk kind) (ask : Ask) (it : 
           tries = tried_one ∷ [];
           asked = asked_one;
           few = few;
-          granted = one_but_last tried_one result Why is;
+          granted = one_but_last tried_one result (StopsAfter given) is;
           rows = (sends, tt);
           plain = (plain, tt);
-          ends = refused_after_stops (tried_one ∷ []) now.wire tried_one given result last_one
+          ends = refused_after_stops now.wire tried_one given result
+              (λ g came. (was_granted part ask form call.answer g (sym call.came ∙ came)).granted)
               (λ why came. was_not_granted part ask form call.answer why (sym call.came ∙ came)) is;
           device = exchanged_refused met.meta.usn tried_one given before after result
               (λ g came. (was_granted part ask form call.answer g (sym call.came ∙ came)).granted)
               (λ why came. was_not_granted part ask form call.answer why (sym call.came ∙ came)) kept is;
           leads = λ c s account earlier met_is at.
-              (left_one c s account earlier met_is at, not_ok result Why (IsAt c s account (earlier ++ ask ∷ []) to after now) is, refused_after_is_fair c s given result is);
+              (left_one c s account earlier met_is at, not_ok result (StopsAfter given) (IsAt c s account (earlier ++ ask ∷ []) to after now) is, refused_after_is_fair c s given result is);
         }
 
         -- it was given this, the device took it, and that leads to a place

@@ -1,12 +1,12 @@
 -- Why a part of a sync stopped, and what it was granted before.
 use Rattle.std.specs.List.{AllByRecursion}
-use Rattle.std.specs.Prelude.{◌≡◌, ◌≢◌, ◌==◌, ◌&&◌, ℕ, ◌≤◌, Bool, true, false, is_some, cond, if◌then◌else◌, List, [], ◌∷◌, ◌++◌, count_by, Option, Some, None, Result, Ok, Err, IsErrAnd, IfErr, OnOk, ok_or, ◌⊎◌}
+use Rattle.std.specs.Prelude.{◌≡◌, ◌≢◌, ◌==◌, ◌&&◌, ℕ, ◌≤◌, Bool, true, false, is_some, cond, if◌then◌else◌, List, [], ◌∷◌, ◌++◌, count_by, Option, Some, None, Result, Ok, Err, IsErrAnd, IfErr, OnOk, ok_or, ◌⊎◌, ◌↔◌}
 use Rattle.std.proofs.Common.{refl, sym, ap, subst, ◌∙◌, inl, inr, append_assoc, arith}
 use Rattle.std.proofs.lemmas.List.Sums.{sum_by-append}
 use Rattle.ak_exchange.proofs.Faults.{IsUnkept}
 use Rattle.ak_exchange.proofs.Tried.{asks_append}
 use Rattle.ak_exchange.specs.Asked.{TriedAsk, asks_in, sends_unfinished}
-use Rattle.ak_exchange.specs.Grants.{AllGranted, AllGrantedButLast, AreGranted, AreTooMany, EndsUnanswered, IsCheckedLast, IsGranted, IsLast, IsNotGranted, SendsRows, StopsFor, are_granted, came_unfinished, grants, is_in_form}
+use Rattle.ak_exchange.specs.Grants.{AllGranted, AllGrantedButLast, AreGranted, AreTooMany, EndsForMemory, EndsUnanswered, IsCheckedLast, IsGranted, IsLast, IsNotGranted, SendsRows, StopsFor, are_granted, came_unfinished, grants, is_in_form}
 use Rattle.ak_exchange.specs.Phases.{IsFairStop, UnlessHalfDone}
 use Rattle.ak_exchange.specs.Stops.{check_stop, is_keep, is_keep_or_memory, keep_stop, shows_bad_check, verdict_of, wire_stop}
 use Rattle.ak_exchange.specs.declared.stops.Stop.{Stop}
@@ -33,9 +33,14 @@ use Rattle.ak_wires.specs.declared.wires.WireEnd.TheVariants as ends
 abbrev pub IsRefused : {T : Type 0} → Result T Stop → Type 0
 IsRefused result = IsErrAnd result (λ (stop : Stop). is_keep_or_memory stop ≡ true)
 
--- or because what it asked was not granted
+-- a part stopped though what it asked was granted, or because it was not
+abbrev pub StopsAfter : {G : Type 0} → Result G Unanswered → Stop → Type 0
+StopsAfter {G} given stop = ((g : G) × (given ≡ Ok g) × (is_keep_or_memory stop ≡ true))
+    ⊎ ((why : Unanswered) × (given ≡ Err why) × (stop ≡ wire_stop why))
+
+-- and was refused so
 abbrev pub IsRefusedAfter : {T G : Type 0} → Result G Unanswered → Result T Stop → Type 0
-IsRefusedAfter given result = IsErrAnd result (λ (stop : Stop). (is_keep_or_memory stop ≡ true) ⊎ ((why : Unanswered) × (given ≡ Err why) × (stop ≡ wire_stop why)))
+IsRefusedAfter given result = IsErrAnd result (StopsAfter given)
 
 refused_as : {T : Type 0} (result : Result T Stop) (why : Stop) → is_keep_or_memory why ≡ true → IsErrAnd result (λ (stop : Stop). stop ≡ why) → IsRefused result
 refused_as (Ok x) why quiet is = is
@@ -51,13 +56,13 @@ by_keeper result fault is = refused_as result (keep_stop fault) (each fault) is
     each faults.Failed = refl
     each faults.Memory = refl
 
-pub keeper_after : {T G : Type 0} (given : Result G Unanswered) (result : Result T Stop) (fault : KeepFault) → IsErrAnd result (λ (stop : Stop). stop ≡ keep_stop fault)
-    → IsRefusedAfter given result
-keeper_after given result fault is = weaker result (by_keeper result fault is)
+pub keeper_after : {T G : Type 0} (given : Result G Unanswered) (result : Result T Stop) (fault : KeepFault) (g : G) → given ≡ Ok g
+    → IsErrAnd result (λ (stop : Stop). stop ≡ keep_stop fault) → IsRefusedAfter given result
+keeper_after given result fault g was is = weaker result (by_keeper result fault is)
   where
     weaker : {T : Type 0} (r : Result T Stop) → IsRefused r → IsRefusedAfter given r
     weaker (Ok x) quiet = quiet
-    weaker (Err stop) quiet = inl quiet
+    weaker (Err stop) quiet = inl (g, was, quiet)
 
 pub by_wire : {T G : Type 0} (given : Result G Unanswered) (result : Result T Stop) (why : Unanswered) → given ≡ Err why
     → IsErrAnd result (λ (stop : Stop). stop ≡ wire_stop why) → IsRefusedAfter given result
@@ -69,39 +74,43 @@ not_ok (Ok x) Q P is = absurd is
 not_ok (Err e) Q P is = tt
 
 -- ---- what a refusal says
-pub quiet_stops : {kind : WireKind} (tries : List TriedAsk) (wire : WireState kind) (stop : Stop) → is_keep_or_memory stop ≡ true → StopsFor tries wire stop
-quiet_stops tries wire stops.Keep quiet = tt
-quiet_stops tries wire stops.Memory quiet = tt
-quiet_stops tries wire stops.NoChanges quiet = absurd (grind (arith, quiet))
-quiet_stops tries wire (stops.FullSchema device server) quiet = absurd (grind (arith, quiet))
-quiet_stops tries wire (stops.FullSequence usn) quiet = absurd (grind (arith, quiet))
-quiet_stops tries wire (stops.BadRow fault) quiet = absurd (grind (arith, quiet))
-quiet_stops tries wire (stops.BadCounts client server) quiet = absurd (grind (arith, quiet))
-quiet_stops tries wire (stops.ClockOff device server) quiet = absurd (grind (arith, quiet))
-quiet_stops tries wire (stops.OwnCheck fault) quiet = absurd (grind (arith, quiet))
-quiet_stops tries wire stops.Stopped quiet = absurd (grind (arith, quiet))
-quiet_stops tries wire (stops.Refused status word seen) quiet = absurd (grind (arith, quiet))
-quiet_stops tries wire stops.Lost quiet = absurd (grind (arith, quiet))
-quiet_stops tries wire stops.BadReply quiet = absurd (grind (arith, quiet))
-quiet_stops tries wire stops.TooManyChunks quiet = absurd (grind (arith, quiet))
+pub quiet_stops : {kind : WireKind} (tries : List TriedAsk) (wire : WireState kind) (stop : Stop) → AllGranted tries → is_keep_or_memory stop ≡ true
+    → StopsFor tries wire stop
+quiet_stops tries wire stops.Keep all quiet = all
+quiet_stops tries wire stops.Memory all quiet = inl all
+quiet_stops tries wire stops.NoChanges all quiet = absurd (grind (arith, quiet))
+quiet_stops tries wire (stops.FullSchema device server) all quiet = absurd (grind (arith, quiet))
+quiet_stops tries wire (stops.FullSequence usn) all quiet = absurd (grind (arith, quiet))
+quiet_stops tries wire (stops.BadRow fault) all quiet = absurd (grind (arith, quiet))
+quiet_stops tries wire (stops.BadCounts client server) all quiet = absurd (grind (arith, quiet))
+quiet_stops tries wire (stops.ClockOff device server) all quiet = absurd (grind (arith, quiet))
+quiet_stops tries wire (stops.OwnCheck fault) all quiet = absurd (grind (arith, quiet))
+quiet_stops tries wire stops.Stopped all quiet = absurd (grind (arith, quiet))
+quiet_stops tries wire (stops.Refused status word seen) all quiet = absurd (grind (arith, quiet))
+quiet_stops tries wire stops.Lost all quiet = absurd (grind (arith, quiet))
+quiet_stops tries wire stops.BadReply all quiet = absurd (grind (arith, quiet))
+quiet_stops tries wire stops.TooManyChunks all quiet = absurd (grind (arith, quiet))
 
-pub refused_stops : {kind : WireKind} {T : Type 0} (tries : List TriedAsk) (wire : WireState kind) (result : Result T Stop) → IsRefused result → IfErr result (StopsFor tries wire)
-refused_stops tries wire (Ok x) is = tt
-refused_stops tries wire (Err stop) is = quiet_stops tries wire stop is
+-- nothing was asked
+pub refused_stops : {kind : WireKind} {T : Type 0} (wire : WireState kind) (result : Result T Stop) → IsRefused result → IfErr result (StopsFor [] wire)
+refused_stops wire (Ok x) is = tt
+refused_stops wire (Err stop) is = quiet_stops [] wire stop tt is
 
 pub unanswered_stops : {kind : WireKind} (tries : List TriedAsk) (wire : WireState kind) (it : TriedAsk) (why : Unanswered) → IsLast it tries → IsNotGranted it why
     → StopsFor tries wire (wire_stop why)
 unanswered_stops tries wire it unanswered.Lost last is = (it, last, is)
 unanswered_stops tries wire it unanswered.BadReply last is = (it, last, is)
 unanswered_stops tries wire it (unanswered.Refused status word seen) last is = (it, last, is)
-unanswered_stops tries wire it unanswered.Memory last is = tt
+unanswered_stops tries wire it unanswered.Memory last is = inr (it, last, is)
 
-pub refused_after_stops : {kind : WireKind} {T G : Type 0} (tries : List TriedAsk) (wire : WireState kind) (it : TriedAsk) (given : Result G Unanswered) (result : Result T Stop)
-    → IsLast it tries → ((why : Unanswered) → given ≡ Err why → IsNotGranted it why) → IsRefusedAfter given result → IfErr result (StopsFor tries wire)
-refused_after_stops tries wire it given (Ok x) last so is = tt
-refused_after_stops tries wire it given (Err stop) last so (inl quiet) = quiet_stops tries wire stop quiet
-refused_after_stops tries wire it given (Err stop) last so (inr (why, came, is)) =
-    subst (StopsFor tries wire) (sym is) (unanswered_stops tries wire it why last (so why came))
+-- this was asked, and nothing else
+pub refused_after_stops : {kind : WireKind} {T G : Type 0} (wire : WireState kind) (it : TriedAsk) (given : Result G Unanswered) (result : Result T Stop)
+    → ((g : G) → given ≡ Ok g → IsGranted it) → ((why : Unanswered) → given ≡ Err why → IsNotGranted it why) → IsRefusedAfter given result
+    → IfErr result (StopsFor (it ∷ []) wire)
+refused_after_stops wire it given (Ok x) so not_so is = tt
+refused_after_stops wire it given (Err stop) so not_so (inl (g, was, quiet)) = quiet_stops (it ∷ []) wire stop (so g was, tt) quiet
+refused_after_stops wire it given (Err stop) so not_so (inr (why, came, is)) =
+    subst (StopsFor (it ∷ []) wire) (sym is) (unanswered_stops (it ∷ []) wire it why ([], refl) (not_so why came))
 
 -- ---- a stop that is no bad sanity check is fair to the server
 pub quiet_is_fair : (c s : Collection) (stop : Stop) → is_keep_or_memory stop ≡ true → IsFairStop c s stop
@@ -133,7 +142,7 @@ refused_is_fair c s (Err stop) is = quiet_is_fair c s stop is
 pub refused_after_is_fair : {T G : Type 0} (c s : Collection) (given : Result G Unanswered) (result : Result T Stop) → IsRefusedAfter given result
     → IfErr result (IsFairStop c s)
 refused_after_is_fair c s given (Ok x) is = tt
-refused_after_is_fair c s given (Err stop) (inl quiet) = quiet_is_fair c s stop quiet
+refused_after_is_fair c s given (Err stop) (inl (g, was, quiet)) = quiet_is_fair c s stop quiet
 refused_after_is_fair c s given (Err stop) (inr (why, came, is)) = subst (IsFairStop c s) (sym is) (unanswered_is_fair c s why)
 
 -- ---- what an answer comes to
@@ -289,30 +298,44 @@ many_then a b (inr sent) = inr (subst (λ (l : List Ask). 39_999 ≤ count_by se
     after : (x y : List Ask) → 39_999 ≤ count_by sends_unfinished y → 39_999 ≤ count_by sends_unfinished (x ++ y)
     after x y is = let both = sum_by-append (λ (ask : Ask). cond (sends_unfinished ask) 1 0) x y in omega (arith, both, is)
 
-stops_then : {kind : WireKind} (a b : List TriedAsk) (wire : WireState kind) (stop : Stop) → StopsFor b wire stop → StopsFor (a ++ b) wire stop
-stops_then a b wire (stops.BadRow fault) is = checked_then a b (stops.BadRow fault) wire is
-stops_then a b wire (stops.BadCounts client server) is = checked_then a b (stops.BadCounts client server) wire is
-stops_then a b wire (stops.Refused status word seen) is = ends_then a b (unanswered.Refused status word seen) is
-stops_then a b wire stops.Lost is = ends_then a b unanswered.Lost is
-stops_then a b wire stops.BadReply is = ends_then a b unanswered.BadReply is
-stops_then a b wire stops.TooManyChunks is = many_then a b is
-stops_then a b wire stops.Keep is = tt
-stops_then a b wire stops.Memory is = tt
-stops_then a b wire stops.NoChanges is = is
-stops_then a b wire (stops.FullSchema device server) is = is
-stops_then a b wire (stops.FullSequence usn) is = is
-stops_then a b wire (stops.ClockOff device server) is = is
-stops_then a b wire (stops.OwnCheck fault) is = is
-stops_then a b wire stops.Stopped is = is
+pub memory_then : (a b : List TriedAsk) → AllGranted a → EndsForMemory b → EndsForMemory (a ++ b)
+memory_then a b all (inl more) = inl (all_append IsGranted a b all more)
+memory_then a b all (inr is) = inr (ends_then a b unanswered.Memory is)
 
-pub part_stops : {kind : WireKind} {T : Type 0} (a b : List TriedAsk) (wire : WireState kind) (result : Result T Stop) → IfErr result (StopsFor b wire) → IfErr result (StopsFor (a ++ b) wire)
-part_stops a b wire (Ok x) is = tt
-part_stops a b wire (Err stop) is = stops_then a b wire stop is
+stops_then : {kind : WireKind} (a b : List TriedAsk) (wire : WireState kind) (stop : Stop) → AllGranted a → StopsFor b wire stop → StopsFor (a ++ b) wire stop
+stops_then a b wire (stops.BadRow fault) all is = checked_then a b (stops.BadRow fault) wire is
+stops_then a b wire (stops.BadCounts client server) all is = checked_then a b (stops.BadCounts client server) wire is
+stops_then a b wire (stops.Refused status word seen) all is = ends_then a b (unanswered.Refused status word seen) is
+stops_then a b wire stops.Lost all is = ends_then a b unanswered.Lost is
+stops_then a b wire stops.BadReply all is = ends_then a b unanswered.BadReply is
+stops_then a b wire stops.TooManyChunks all is = many_then a b is
+stops_then a b wire stops.Keep all is = all_append IsGranted a b all is
+stops_then a b wire stops.Memory all is = memory_then a b all is
+stops_then a b wire stops.NoChanges all is = is
+stops_then a b wire (stops.FullSchema device server) all is = is
+stops_then a b wire (stops.FullSequence usn) all is = is
+stops_then a b wire (stops.ClockOff device server) all is = is
+stops_then a b wire (stops.OwnCheck fault) all is = is
+stops_then a b wire stops.Stopped all is = is
+
+pub part_stops : {kind : WireKind} {T : Type 0} (a b : List TriedAsk) (wire : WireState kind) (result : Result T Stop) → AllGranted a
+    → IfErr result (StopsFor b wire) → IfErr result (StopsFor (a ++ b) wire)
+part_stops a b wire (Ok x) all is = tt
+part_stops a b wire (Err stop) all is = stops_then a b wire stop all is
 
 pub all_but_last : (a : List TriedAsk) → AllGranted a → AllGrantedButLast a
 all_but_last [] all = tt
 all_but_last (one ∷ []) all = tt
 all_but_last (one ∷ next ∷ more) all = (all.0, all_but_last (next ∷ more) all.1)
+
+-- the last of these was granted, and so was each before it
+all_with_last : (tries : List TriedAsk) (it : TriedAsk) → IsLast it tries → IsGranted it → AllGrantedButLast tries → AllGranted tries
+all_with_last tries it (before, is) granted but_last = subst AllGranted (sym is) (of before (subst AllGrantedButLast is but_last))
+  where
+    of : (a : List TriedAsk) → AllGrantedButLast (a ++ it ∷ []) → AllGranted (a ++ it ∷ [])
+    of [] all = (granted, tt)
+    of (one ∷ []) all = (all.0, (granted, tt))
+    of (one ∷ next ∷ more) all = (all.0, of (next ∷ more) all.1)
 
 pub but_last_then : (a b : List TriedAsk) → AllGranted a → AllGrantedButLast b → AllGrantedButLast (a ++ b)
 but_last_then [] b one two = two
@@ -359,24 +382,32 @@ verdict_is_bad reply stop is = by reply.good is
     by true shown = absurd (not_err shown)
     by false shown = ap shows_bad_check (sym (same (check_stop reply.fault reply.client reply.server) stop shown)) ∙ bad reply.fault
 
-checked_stops : {kind : WireKind} (tries : List TriedAsk) (wire : WireState kind) (stop : Stop) → shows_bad_check stop ≡ true → IsCheckedLast tries stop wire → StopsFor tries wire stop
-checked_stops tries wire (stops.BadRow fault) bad is = is
-checked_stops tries wire (stops.BadCounts client server) bad is = is
-checked_stops tries wire stops.Keep bad is = absurd (grind (arith, bad))
-checked_stops tries wire stops.Memory bad is = absurd (grind (arith, bad))
-checked_stops tries wire stops.NoChanges bad is = absurd (grind (arith, bad))
-checked_stops tries wire (stops.FullSchema device server) bad is = absurd (grind (arith, bad))
-checked_stops tries wire (stops.FullSequence usn) bad is = absurd (grind (arith, bad))
-checked_stops tries wire (stops.ClockOff device server) bad is = absurd (grind (arith, bad))
-checked_stops tries wire (stops.OwnCheck fault) bad is = absurd (grind (arith, bad))
-checked_stops tries wire stops.Stopped bad is = absurd (grind (arith, bad))
-checked_stops tries wire (stops.Refused status word seen) bad is = absurd (grind (arith, bad))
-checked_stops tries wire stops.Lost bad is = absurd (grind (arith, bad))
-checked_stops tries wire stops.BadReply bad is = absurd (grind (arith, bad))
-checked_stops tries wire stops.TooManyChunks bad is = absurd (grind (arith, bad))
+-- an exchange that stops at a bad sanity check stops for what the check showed
+checked_exactly : {kind : WireKind} (tries : List TriedAsk) (wire : WireState kind) (stop : Stop) → shows_bad_check stop ≡ true → (IsCheckedLast tries stop wire ↔ StopsFor tries wire stop)
+checked_exactly tries wire (stops.BadRow fault) bad = (λ is. is, λ is. is)
+checked_exactly tries wire (stops.BadCounts client server) bad = (λ is. is, λ is. is)
+checked_exactly tries wire stops.Keep bad = absurd (grind (arith, bad))
+checked_exactly tries wire stops.Memory bad = absurd (grind (arith, bad))
+checked_exactly tries wire stops.NoChanges bad = absurd (grind (arith, bad))
+checked_exactly tries wire (stops.FullSchema device server) bad = absurd (grind (arith, bad))
+checked_exactly tries wire (stops.FullSequence usn) bad = absurd (grind (arith, bad))
+checked_exactly tries wire (stops.ClockOff device server) bad = absurd (grind (arith, bad))
+checked_exactly tries wire (stops.OwnCheck fault) bad = absurd (grind (arith, bad))
+checked_exactly tries wire stops.Stopped bad = absurd (grind (arith, bad))
+checked_exactly tries wire (stops.Refused status word seen) bad = absurd (grind (arith, bad))
+checked_exactly tries wire stops.Lost bad = absurd (grind (arith, bad))
+checked_exactly tries wire stops.BadReply bad = absurd (grind (arith, bad))
+checked_exactly tries wire stops.TooManyChunks bad = absurd (grind (arith, bad))
 
 pub check_stops : {kind : WireKind} (tries : List TriedAsk) (wire : WireState kind) (stop : Stop) → IsCheckedLast tries stop wire → StopsFor tries wire stop
-check_stops tries wire stop is = checked_stops tries wire stop (verdict_is_bad is.reply stop is.verdict) is
+check_stops tries wire stop is = (checked_exactly tries wire stop (verdict_is_bad is.reply stop is.verdict)).0 is
+
+-- so all that it tried was granted
+pub bad_check_granted : {kind : WireKind} (tries : List TriedAsk) (wire : WireState kind) (stop : Stop) → shows_bad_check stop ≡ true → AllGrantedButLast tries
+    → StopsFor tries wire stop → AllGranted tries
+bad_check_granted tries wire stop bad but_last is =
+    let checked = (checked_exactly tries wire stop bad).1 is in
+    all_with_last tries checked.it checked.last checked.granted but_last
 
 -- a sanity check does not stop a sync because the keeper failed
 pub unkept_verdict : (reply : SanityReply) (result : Result (Unit {0}) Stop) → result ≡ verdict_of reply → IsUnkept result

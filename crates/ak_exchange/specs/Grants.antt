@@ -129,8 +129,12 @@ came_unfinished it = asks_chunk it.ask && brings_unfinished it.answer
 abbrev pub AreTooMany : List TriedAsk → Type 0
 AreTooMany tries = (40_000 ≤ count_by came_unfinished tries) ⊎ (39_999 ≤ count_by sends_unfinished (asks_in tries))
 
--- why an exchange stopped, by what was tried. A keeper's fault, and memory that runs out, may come at any time; the reasons that are none here come
--- before an exchange
+-- memory ran out in what the device does itself, so all that was tried was granted; or in the last call of the wire
+abbrev pub EndsForMemory : List TriedAsk → Type 0
+EndsForMemory tries = AllGranted tries ⊎ EndsUnanswered tries unanswered.Memory
+
+-- why an exchange stopped, by what was tried. The keeper fails only in what the device does itself, so all that was tried was granted. The reasons
+-- that are none here come before an exchange
 abbrev pub StopsFor : {kind : WireKind} → List TriedAsk → WireState kind → Stop → Type 0
 StopsFor tries wire (stops.BadRow fault) = IsCheckedLast tries (stops.BadRow fault) wire
 StopsFor tries wire (stops.BadCounts client server) = IsCheckedLast tries (stops.BadCounts client server) wire
@@ -138,8 +142,8 @@ StopsFor tries wire (stops.Refused status word seen) = EndsUnanswered tries (una
 StopsFor tries wire stops.Lost = EndsUnanswered tries unanswered.Lost
 StopsFor tries wire stops.BadReply = EndsUnanswered tries unanswered.BadReply
 StopsFor tries wire stops.TooManyChunks = AreTooMany tries
-StopsFor tries wire stops.Keep = ⊤
-StopsFor tries wire stops.Memory = ⊤
+StopsFor tries wire stops.Keep = AllGranted tries
+StopsFor tries wire stops.Memory = EndsForMemory tries
 StopsFor tries wire stops.NoChanges = ⊥
 StopsFor tries wire (stops.FullSchema device server) = ⊥
 StopsFor tries wire (stops.FullSequence usn) = ⊥

@@ -50,7 +50,7 @@ returns-in_err-take_changes-clause-leads g c =
     changes_refused c.args.met.now (g.K.Lookup.keeping c.args.keeper.now) _ _ c.ask_changes.result c.in_ok-changes.changes
     (rw (to_z-of_z w64 c.args.met.now.meta.moment moment) at c.in_ok-changes.ensures.reads.told)
     (record { it = c.in_ok-request.request; made = c.in_ok-request.ensures.made; envelopes = c.in_ok-request.ensures.next; call = c.ask_changes.ensures })
-    _ _ (kept_granted _ _ _ _ c.in_ok-came.was) (keeper_after _ _ _ c.from_residual-in_err-take_changes.ensures.1)
+    _ _ (kept_granted _ _ _ _ c.in_ok-came.was) (keeper_after _ _ _ _ c.in_ok-came.was c.from_residual-in_err-take_changes.ensures.1)
 
 pub returns-clause-leads : goal.returns-clause-leads
 returns-clause-leads g c =
@@ -89,7 +89,7 @@ returns-in_err-settle_sent-clause-leads g c =
     changes_refused c.args.met.now (g.K.Lookup.keeping c.args.keeper.now) _ _ c.ask_changes.result c.in_ok-changes.changes
     (rw (to_z-of_z w64 c.args.met.now.meta.moment moment) at c.in_ok-changes.ensures.reads.told)
     (record { it = c.in_ok-request.request; made = c.in_ok-request.ensures.made; envelopes = c.in_ok-request.ensures.next; call = c.ask_changes.ensures })
-    _ _ (kept_granted _ _ _ _ c.in_ok-came.was) (keeper_after _ _ _ c.from_residual-in_err-settle_sent.ensures.1)
+    _ _ (kept_granted _ _ _ _ c.in_ok-came.was) (keeper_after _ _ _ _ c.in_ok-came.was c.from_residual-in_err-settle_sent.ensures.1)
 
 pub returns-in_err-settle_sent-clause-stays : goal.returns-in_err-settle_sent-clause-stays
 returns-in_err-settle_sent-clause-stays g c =

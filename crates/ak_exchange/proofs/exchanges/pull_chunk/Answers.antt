@@ -29,7 +29,7 @@ pub returns-in_err-take_chunk-clause-leads : goal.returns-in_err-take_chunk-clau
 returns-in_err-take_chunk-clause-leads g c = λ count.
     pull_left c.args.met.now (g.K.Lookup.keeping c.args.keeper.now) _ _ c.ask_chunk.result count
     (record { it = c.in_ok-request.request; made = c.in_ok-request.ensures.made; envelopes = c.in_ok-request.ensures.next; call = c.ask_chunk.ensures })
-    _ _ (kept_granted _ _ _ _ c.in_ok-chunk.was) (keeper_after _ _ _ c.from_residual-in_err-take_chunk.ensures.1)
+    _ _ (kept_granted _ _ _ _ c.in_ok-chunk.was) (keeper_after _ _ _ _ c.in_ok-chunk.was c.from_residual-in_err-take_chunk.ensures.1)
 
 pub returns-clause-leads : goal.returns-clause-leads
 returns-clause-leads g c = λ count.

@@ -26,7 +26,7 @@ pub returns-in_err-settle_sent-clause-leads : goal.returns-in_err-settle_sent-cl
 returns-in_err-settle_sent-clause-leads g c = λ count from next told.
     push_refused c.args.met.now (g.K.Lookup.keeping c.args.keeper.now) _ _ c.ask_nothing.result count from next c.args.chunk told c.requires.full
     (record { it = c.in_ok-request.request; made = c.in_ok-request.ensures.made; envelopes = c.in_ok-request.ensures.next; call = c.ask_nothing.ensures })
-    _ _ (kept_granted _ _ _ _ c.in_ok-ask_nothing.was) (keeper_after _ _ _ c.from_residual-in_err-settle_sent.ensures.1)
+    _ _ (kept_granted _ _ _ _ c.in_ok-ask_nothing.was) (keeper_after _ _ _ _ c.in_ok-ask_nothing.was c.from_residual-in_err-settle_sent.ensures.1)
 
 pub returns-clause-leads : goal.returns-clause-leads
 returns-clause-leads g c = λ count from next told.

@@ -35,7 +35,7 @@ returns-in_err-take_graves-clause-leads g c =
     let moment : SFits w64 c.args.met.now.head.moment = search rules in
     start_refused c.args.met.now (g.K.Lookup.keeping c.args.keeper.now) _ _ c.ask_graves.result
     (record { it = c.in_ok-request.request; made = rw (to_z-of_z w64 c.args.met.now.head.usn usn, to_z-of_z w64 c.args.met.now.head.moment moment) at c.in_ok-request.ensures.made; envelopes = c.in_ok-request.ensures.next; call = c.ask_graves.ensures })
-    _ _ (kept_granted _ _ _ _ c.in_ok-graves.was) (keeper_after _ _ _ c.from_residual-in_err-take_graves.ensures.1)
+    _ _ (kept_granted _ _ _ _ c.in_ok-graves.was) (keeper_after _ _ _ _ c.in_ok-graves.was c.from_residual-in_err-take_graves.ensures.1)
 
 pub returns-clause-leads : goal.returns-clause-leads
 returns-clause-leads g c =
