@@ -65,8 +65,7 @@ stopped ends.WriteFailed left number s t more (text, inl (next, is)) held = next
 stopped ends.WriteFailed left number s t more (text, inr (next, is)) held = next_ends left s t (Refused text) next held
 stopped ends.KeeperFailed left number s t more (next, is) held = next_ends left s t Failed next held
 stopped ends.Memory left number s t more (is, inl same) held = same_run s t same held
-stopped ends.Memory left number s t more (is, inr (inl next)) held = next_ends left s t OutOfMemory next held
-stopped ends.Memory left number s t more (is, inr (inr (text, next))) held = next_ends left s t (Accepted text) next held
+stopped ends.Memory left number s t more (is, inr next) held = next_ends left s t OutOfMemory next held
 
 -- without its steps
 forgotten : (k : Keeping) (steps : List Step) → HoldsSound k steps → HoldsSound k []

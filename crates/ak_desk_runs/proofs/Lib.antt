@@ -1,5 +1,6 @@
 mod Going
 mod LineStopping
 mod Opened
+mod Pieces
 mod Stopping
 mod Texts

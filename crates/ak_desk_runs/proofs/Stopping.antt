@@ -51,8 +51,7 @@ stops_in_answer ends.ReadFailed left left' number line s t text w w' takes ended
 stops_in_answer ends.WriteFailed left left' number line s t text w w' takes ended (more, part, written) =
     (more, (text, inl ((line, taken_is_next left left' line takes, ended), part)), written)
 stops_in_answer ends.KeeperFailed left left' number line s t text w w' takes ended printed = absurd printed
-stops_in_answer ends.Memory left left' number line s t text w w' takes ended kept =
-    ([], (refl, inr (inr (text, (line, taken_is_next left left' line takes, ended)))), kept_nothing w w' kept)
+stops_in_answer ends.Memory left left' number line s t text w w' takes ended printed = absurd printed
 
 -- a line is refused, and that was written, or a part of it, or nothing
 pub stops_refused : (end : CommandEnd) (left left' : Option (List Line)) (number : ℕ) (line : Line) (s t : RunState) (why : List ℕ) (w w' : Option (List ℕ))
@@ -65,7 +64,7 @@ stops_refused ends.WriteFailed left left' number line s t why w w' takes ended (
     (more, (why, inr ((line, taken_is_next left left' line takes, ended), part)), written)
 stops_refused ends.KeeperFailed left left' number line s t why w w' takes ended printed = absurd printed
 stops_refused ends.Memory left left' number line s t why w w' takes ended kept =
-    ([], (refl, inr (inl (line, taken_is_next left left' line takes, out_for_text line s t why ended))), kept_nothing w w' kept)
+    ([], (refl, inr (line, taken_is_next left left' line takes, out_for_text line s t why ended)), kept_nothing w w' kept)
 
 -- the keeper failed in a line
 pub stops_failed : (left left' : Option (List Line)) (number : ℕ) (line : Line) (s t : RunState) (w : Option (List ℕ))
@@ -76,7 +75,7 @@ stops_failed left left' number line s t w takes ended = ([], ((line, taken_is_ne
 pub stops_out : (left left' : Option (List Line)) (number : ℕ) (line : Line) (s t : RunState) (w : Option (List ℕ))
     → Takes left left' (Some line) → EndsAs line s t OutOfMemory → StopsThere ends.Memory left number s t w w
 stops_out left left' number line s t w takes ended =
-    ([], (refl, inr (inl (line, taken_is_next left left' line takes, ended))), Appends-nil w)
+    ([], (refl, inr (line, taken_is_next left left' line takes, ended)), Appends-nil w)
 
 -- a text of an answer, or of a refusal, that is not written whole is no end of the input
 pub answer_not_done : (end : CommandEnd) (text : List ℕ) (w w' : Option (List ℕ)) → IsPrinted text (Err end) w w' → ◌≢◌ {A = Result Bool CommandEnd} (Err end) (Err ends.Done)
@@ -85,7 +84,7 @@ answer_not_done ends.Refused text w w' printed is = printed
 answer_not_done ends.ReadFailed text w w' printed is = printed
 answer_not_done ends.WriteFailed text w w' printed is = cc
 answer_not_done ends.KeeperFailed text w w' printed is = printed
-answer_not_done ends.Memory text w w' printed is = cc
+answer_not_done ends.Memory text w w' printed is = printed
 
 pub refusal_not_done : (end : CommandEnd) (number : ℕ) (why : List ℕ) (w w' : Option (List ℕ)) → IsRefusalPrinted number why end w w' → ◌≢◌ {A = Result Bool CommandEnd} (Err end) (Err ends.Done)
 refusal_not_done ends.Done number why w w' printed is = printed

@@ -61,9 +61,8 @@ Stops ends.WriteFailed left number s t more =
     ⊎ NextEnds left s t (Refused text) × IsPart more (refusal_bytes number text))
 -- the keeper failed in the next line
 Stops ends.KeeperFailed left number s t more = NextEnds left s t Failed × (more ≡ [])
--- memory ran out before the next line was read, in it, or for the text of its answer
-Stops ends.Memory left number s t more =
-    (more ≡ []) × ((t ≡ s) ⊎ NextEnds left s t OutOfMemory ⊎ (text : List ℕ) × NextEnds left s t (Accepted text))
+-- memory ran out before the next line was read, or in it: never after it was accepted
+Stops ends.Memory left number s t more = (more ≡ []) × ((t ≡ s) ⊎ NextEnds left s t OutOfMemory)
 
 -- ---- the run
 -- all lines, if they are told, are those that went and those that are left

@@ -10,11 +10,11 @@ use Rattle.ak_faults.specs.Causes.{Health, HasCauseOf}
 use Rattle.ak_io.specs.Lines.{Takes}
 use Rattle.ak_io.specs.declared.lines.Line.{Line}
 
--- a text is written as a line, or a front of it is, or nothing
+-- a text is written as a line, or a front of it is if the output failed; it never ends for want of memory
 abbrev pub IsPrinted : List ℕ → Result (Unit {0}) CommandEnd → Option (List ℕ) → Option (List ℕ) → Type 0
 IsPrinted text (Ok made) old new = Appends old new (answer_bytes text)
 IsPrinted text (Err ends.WriteFailed) old new = (more : List ℕ) × IsPart more (answer_bytes text) × Appends old new more
-IsPrinted text (Err ends.Memory) old new = Keeps old new
+IsPrinted text (Err ends.Memory) old new = ⊥
 IsPrinted text (Err ends.Done) old new = ⊥
 IsPrinted text (Err ends.Refused) old new = ⊥
 IsPrinted text (Err ends.ReadFailed) old new = ⊥

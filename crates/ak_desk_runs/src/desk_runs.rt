@@ -11,18 +11,16 @@ ghost use Rattle.ak_io.specs.Lines.{lines_left};
 ghost use Rattle.ak_keep.specs.Keepers.{is_marked};
 ghost use Rattle.ak_texts.specs.AnswerTexts.{answer_text};
 
+use crate::answer_pieces::print_answer_line;
 use crate::command_ends::{CommandEnd, refuse_command};
 use crate::line_stops::LineStop;
 use crate::obeyed_lines::obey_line;
 use crate::progress::Progress;
 use ak_base::{Memory, Text};
 use ak_filters::FieldFilter;
-use ak_io::{
-    Chance, Clock, Failed, LineReader, ReadFault, ScriptEnd, Sink, Source, print_line,
-    print_refusal,
-};
+use ak_io::{Chance, Clock, Failed, LineReader, ReadFault, ScriptEnd, Sink, Source, print_refusal};
 use ak_keep::Keeper;
-use ak_texts::{DeskAnswer, write_answer};
+use ak_texts::DeskAnswer;
 use ak_undo::UndoList;
 use std::alloc::Global;
 
@@ -165,16 +163,12 @@ fn run_line<K: Keeper, C: Clock, R: Chance, I: Source, O: Sink>(
     }
 }
 
-/// Prints the text of an answer.
+/// Prints an answer. Memory that is out for its text is no reason to end.
 fn print_answer<O: Sink>(alloc: Global, answer: &DeskAnswer, out: &mut O) -> Result<(), CommandEnd>
     ensures printed { IsPrinted (answer_text answer.now) result (O.written out.old) (O.written out.new) }
     ensures cause { HasCauseOf ends.WriteFailed (O.health out.old) (O.health out.new) result }
 {
-    let text = match write_answer(alloc, answer) {
-        Ok(text) => text,
-        Err(Memory) => return Err(CommandEnd::Memory),
-    };
-    match print_line(out, text.as_str().as_bytes()) {
+    match print_answer_line(alloc, answer, out) {
         Ok(()) => Ok(()),
         Err(Failed) => Err(CommandEnd::WriteFailed),
     }

@@ -2,6 +2,7 @@
 // leaves and what it writes; and the text of a line. Nothing here knows of the program's words.
 #![tactic(auto)]
 
+mod answer_pieces;
 mod command_ends;
 mod desk_runs;
 mod inits;
@@ -11,6 +12,7 @@ mod obeyed_lines;
 mod progress;
 mod turn_takings;
 
+pub use answer_pieces::print_answer_line;
 pub use command_ends::CommandEnd;
 pub use desk_runs::run_desk;
 pub use inits::init_collection;

@@ -65,13 +65,13 @@ device_unmade name s t (Err stop) is new room only =
 pub review_stopped : (name : List ℕ) (card ease : ℤ) (count : ℕ) (s t : LabState) (fault : DeskFault) (stop : LabStop) → IsDeskStop fault stop
     → EndsReview name (plan_of card ease count) s t (Err fault) → CameOut (lines.Review name card ease count) s t (Err stop)
 review_stopped name card ease count s t fault (stops.Refused why) told ended = inr (fault, ended, told)
-review_stopped name card ease count s t fault stops.Memory told ended = inr (Err fault, ended)
+review_stopped name card ease count s t fault stops.Memory told ended = inr (fault, ended)
 
 -- a line of the desk that is refused
 pub do_stopped : (name text : List ℕ) (s t : LabState) (refusal : LineRefusal) (stop : LabStop) → IsRefusalStop refusal stop
     → EndsDo name text s t (Err refusal) → CameOut (lines.Do name text) s t (Err stop)
 do_stopped name text s t refusal (stops.Refused why) told ended = inr (inr (refusal, ended, told))
-do_stopped name text s t refusal stops.Memory told ended = inr (Err refusal, ended)
+do_stopped name text s t refusal stops.Memory told ended = inr (refusal, ended)
 
 -- a line that prints this text alone, if memory suffices for it
 pub one_printed : (said : LabLine) (s t : LabState) (text : List ℕ) (result : Result (List (List ℕ)) LabStop)

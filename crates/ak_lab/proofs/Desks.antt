@@ -1,5 +1,5 @@
 -- What was done on the device at a place was done on the device of its name.
-use Rattle.std.proofs.Common.{◌≡◌, ℕ, ℤ, ◌+ℤ◌, true, [], ◌∷◌, List, Some, Result, Ok, Err, IfOk, IfErr, get_or, refl, sym, ap, subst, ◌∙◌, inl, inr, slice_set}
+use Rattle.std.proofs.Common.{◌≡◌, ℕ, ℤ, ◌+ℤ◌, true, [], List, Some, Result, Err, get_or, refl, sym, ap, subst, ◌∙◌, inl, inr, slice_set}
 use Rattle.std.proofs.lemmas.Option.{same_Some}
 use Rattle.ak_any_lines.specs.AnyEnds.{AppliesToAny, EndsAnyLine}
 use Rattle.ak_edit.specs.declared.desk_faults.DeskFault.{DeskFault}
@@ -22,7 +22,6 @@ use Rattle.ak_lab_sides.specs.declared.new_reviews.ReviewPlan.{ReviewPlan}
 use Rattle.ak_lines.specs.AnyLines.{RefusesAnyLine, SaysAnyLine}
 use Rattle.ak_lines.specs.declared.any_lines.AnyLine.{AnyLine}
 use Rattle.ak_lines.specs.declared.line_faults.LineFault.{LineFault}
-use Rattle.ak_texts.specs.AnswerTexts.{answer_text}
 use Rattle.ak_texts.specs.declared.answers.DeskAnswer.{DeskAnswer}
 use Rattle.ak_texts.specs.declared.line_refusals.LineRefusal.{LineRefusal}
 
@@ -108,11 +107,3 @@ pub unsaid : (name text : List ℕ) (s : LabState) (d : Device) (fault : LineFau
 unsaid name text s d fault (stops.Refused why) told found refuses =
     inr (inl (record { d = d; found = found; none = (fault, refuses, told); left = refl }))
 unsaid name text s d fault stops.Memory told found refuses = short (lines.Do name text) s
-
--- a line of the desk whose answer is printed, if memory suffices for it
-pub do_printed : (name text : List ℕ) (s t : LabState) (answer : DeskAnswer) (result : Result (List (List ℕ)) LabStop)
-    → IfOk result (λ printed. printed ≡ answer_text answer ∷ []) → IfErr result (λ stop. stop ≡ stops.Memory)
-    → EndsDo name text s t (Ok answer) → CameOut (lines.Do name text) s t result
-do_printed name text s t answer (Ok printed) is out ends = (answer, ends, is)
-do_printed name text s t answer (Err stop) is out ends =
-    subst (λ (stop : LabStop). CameOut (lines.Do name text) s t (Err stop)) (sym out) (inr (Ok answer, ends))

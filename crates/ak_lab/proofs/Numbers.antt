@@ -2,8 +2,10 @@
 use Rattle.std.proofs.Common.{◌≡◌, ◌≤◌, ℕ, ℤ, pos, negsuc, SFits, w64, to_z, of_z, List, Result, Ok, Err, IfOk, sym, ap, subst, arith}
 use Rattle.std.proofs.lemmas.Int.{ints, to_z-of_z}
 use Rattle.ak_base.specs.Heads.{IsWithin}
+use Rattle.ak_lab.specs.LabPrints.{printed_by}
 use Rattle.ak_lab.specs.LabStates.{IsReady, LabState}
 use Rattle.ak_lab.specs.LineStops.{CameOut}
+use Rattle.ak_lab.specs.declared.lab_prints.LabPrint.{LabPrint}
 use Rattle.ak_lab.specs.declared.lab_stops.LabStop.{LabStop}
 use Rattle.ak_lab_lines.specs.Written.{IsLabLine}
 use Rattle.ak_lab_lines.specs.declared.lab_lines.LabLine.{LabLine}
@@ -45,7 +47,19 @@ review_came name card ease count said s t result is line came =
     (subst (λ (x : ℤ). CameOut (lines.Review name card x count) s t result) ease_is
     (subst (λ (x : ℤ). CameOut (lines.Review name x (to_z w64 (of_z w64 ease)) count) s t result) card_is came))
 
+-- a line that prints lines came to what its function says
+pub lines_came : (said own : LabLine) (s t : LabState) (came : Result (List (List ℕ)) LabStop) (shown : Result LabPrint LabStop) → said ≡ own → printed_by shown ≡ came
+    → CameOut own s t came → CameOut said s t (printed_by shown)
+lines_came said own s t came shown is same ends =
+    subst (λ (l : LabLine). CameOut l s t (printed_by shown)) (sym is) (subst (λ (r : Result (List (List ℕ)) LabStop). CameOut own s t r) (sym same) ends)
+
+-- and a lab that is ready after it is so
+pub lines_ready : (s : LabState) (came : Result (List (List ℕ)) LabStop) (shown : Result LabPrint LabStop) → printed_by shown ≡ came → IfOk came (λ printed. IsReady s)
+    → IfOk shown (λ printed. IsReady s)
+lines_ready s came (Ok print) same ready = subst (λ (r : Result (List (List ℕ)) LabStop). IfOk r (λ printed. IsReady s)) (sym same) ready
+lines_ready s came (Err stop) same ready = tt
+
 -- a lab that is ready is so whatever the line came to
-pub ready_then : (result : Result (List (List ℕ)) LabStop) (s : LabState) → IsReady s → IfOk result (λ printed. IsReady s)
+pub ready_then : {Printed : Type 0} (result : Result Printed LabStop) (s : LabState) → IsReady s → IfOk result (λ printed. IsReady s)
 ready_then (Ok printed) s is = is
 ready_then (Err stop) s is = tt

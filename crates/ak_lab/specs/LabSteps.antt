@@ -1,5 +1,5 @@
 -- What the lines of a lab's script do, each by its form.
-use Rattle.std.specs.Prelude.{◌≡◌, ◌⊎◌, ℕ, ℤ, ◌+ℤ◌, true, false, ◌<◌, ◌≤◌, List, [], ◌∷◌, ◌++◌, length, Some, None, Result, Ok, Err, codes}
+use Rattle.std.specs.Prelude.{◌≡◌, ◌⊎◌, ℕ, ℤ, ◌+ℤ◌, true, false, ◌<◌, ◌≤◌, List, [], ◌∷◌, ◌++◌, length, Some, None, Ok, Err, codes}
 use Rattle.ak_client.specs.declared.outcomes.Outcome.{Outcome}
 use Rattle.ak_desk_runs.specs.LineOutcomes.{SaysNoLine}
 use Rattle.ak_edit.specs.declared.desk_faults.DeskFault.{DeskFault}
@@ -161,14 +161,14 @@ OnlyLooks sides.Server s t = OnlyViews s t
 OnlyLooks (sides.Device name) s t = t ≡ s
 
 -- memory ran out in a line: before it did anything; or after views of the server, which only a new device and what looks at the server make; or at the desk or in the session, or among requests
--- that are sent again, or for the text of what these came to
+-- that are sent again, or for the text of what these came to. For the answer of an accepted line of the desk memory is never out: it is then printed in pieces
 abbrev pub RunsShort : LabLine → LabState → LabState → Type 0
 RunsShort (lines.Clock at) s t = t ≡ s
 RunsShort (lines.Device name) s t = (t ≡ s) ⊎ HasRoomFor name s × OnlyViews s t
 RunsShort (lines.Shift name by) s t = t ≡ s
 RunsShort (lines.Review name card ease count) s t = (t ≡ s)
-    ⊎ (result : Result (Unit {0}) DeskFault) × EndsReview name (plan_of card ease count) s t result
-RunsShort (lines.Do name text) s t = (t ≡ s) ⊎ (result : Result DeskAnswer LineRefusal) × EndsDo name text s t result
+    ⊎ (fault : DeskFault) × EndsReview name (plan_of card ease count) s t (Err fault)
+RunsShort (lines.Do name text) s t = (t ≡ s) ⊎ (refusal : LineRefusal) × EndsDo name text s t (Err refusal)
 RunsShort (lines.Sync name) s t = (t ≡ s) ⊎ (crossed : List (List ℕ)) × (outcome : Outcome) × EndsSync name s t crossed outcome
 RunsShort (lines.Disturb name call what) s t = t ≡ s
 RunsShort (lines.Cross name call other) s t = t ≡ s

@@ -1,5 +1,6 @@
 pub mod LabStates
 pub mod LabPlans
+pub mod LabPrints
 pub mod LabSyncs
 pub mod LabDesks
 pub mod LabSteps

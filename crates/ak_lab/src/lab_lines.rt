@@ -9,6 +9,7 @@ ghost use Rattle.ak_io.specs.Arrivals.{IsClockMoment};
 ghost use Rattle.ak_keep.specs.Collections.{Collection, IsId};
 ghost use Rattle.ak_lab_devices.specs.Devices.{keeping_of, new_device};
 ghost use Rattle.ak_lab.specs.LabDesks.{IsObeyed, desk_of, turn_of};
+ghost use Rattle.ak_lab.specs.LabPrints.{printed_by};
 ghost use Rattle.ak_lab.specs.LabStates.{IsReady, state_of};
 ghost use Rattle.ak_lab.specs.LineStops.{CameOut};
 ghost use Rattle.ak_lab.specs.declared.lab_stops.LabStop.TheVariants as stops;
@@ -23,10 +24,10 @@ ghost use Rattle.ak_lines.specs.AnyLines.{IsAnyInRange};
 ghost use Rattle.ak_loops.specs.Entries.{health_in};
 ghost use Rattle.ak_server_copies.specs.Copies.{IsViewed, committed_in};
 ghost use Rattle.ak_session.specs.Answers.{counts_of};
-ghost use Rattle.ak_texts.specs.AnswerTexts.{answer_text};
 ghost use Rattle.ak_texts.specs.declared.line_refusals.LineRefusal.TheVariants as refusals;
 
 use crate::lab_plans::Again;
+use crate::lab_prints::{LabPrint, as_lines};
 use crate::lab_stops::{LabStop, desk_stop, line_stop, no_device, refusal_stop, stop_by};
 use crate::lab_syncs::run_session;
 use crate::labs::Lab;
@@ -40,33 +41,33 @@ use ak_lab_sides::ReviewPlan;
 use ak_lab_wires::SessionKind;
 use ak_lines::{AnyLine, read_line};
 use ak_loops::{LoggedServer, Mishap};
-use ak_texts::{DeskAnswer, LineRefusal, write_answer};
+use ak_texts::{DeskAnswer, LineRefusal};
 use ak_undo::UndoList;
 use std::alloc::Global;
 
 /// How many devices a lab holds.
 const DEVICE_LIMIT: usize = 16;
 
-/// Does what a line says, and gives the lines that it prints.
-pub(crate) fn obey(lab: Lab, said: LabLine) -> (Lab, Result<List<Text>, LabStop>)
+/// Does what a line says, and gives what it prints.
+pub(crate) fn obey(lab: Lab, said: LabLine) -> (Lab, Result<LabPrint, LabStop>)
     requires ready { IsReady (state_of lab) }
     requires line { IsLabLine said }
-    ensures ends { CameOut said (state_of lab) (state_of result.0) result.1 }
+    ensures ends { CameOut said (state_of lab) (state_of result.0) (printed_by result.1) }
     ensures ready { IfOk result.1 (λ printed. IsReady (state_of result.0)) }
 {
     let mut lab = lab;
     match said {
         LabLine::Clock(at) => {
             let came = lab.set_clock(at);
-            (lab, came)
+            (lab, as_lines(came))
         }
         LabLine::Device(name) => {
             let came = lab.add_device(name);
-            (lab, came)
+            (lab, as_lines(came))
         }
         LabLine::Shift { device, by } => {
             let came = lab.shift(&device, by);
-            (lab, came)
+            (lab, as_lines(came))
         }
         LabLine::Review {
             device,
@@ -75,19 +76,23 @@ pub(crate) fn obey(lab: Lab, said: LabLine) -> (Lab, Result<List<Text>, LabStop>
             count,
         } => {
             let came = lab.review(&device, ReviewPlan { card, ease, count });
-            (lab, came)
+            (lab, as_lines(came))
         }
         LabLine::Do { device, line } => {
             let came = lab.do_line(&device, &line);
             (lab, came)
         }
-        LabLine::Sync(name) => run_session(lab, SessionKind::Sync, &name),
+        LabLine::Sync(name) => {
+            let (lab, came) = run_session(lab, SessionKind::Sync, &name);
+            (lab, as_lines(came))
+        }
         LabLine::Transfer { direction, device } => {
-            run_session(lab, SessionKind::Transfer(direction), &device)
+            let (lab, came) = run_session(lab, SessionKind::Transfer(direction), &device);
+            (lab, as_lines(came))
         }
         LabLine::Disturb { device, call, what } => {
             let came = lab.plan_mishap(&device, Mishap { call, what });
-            (lab, came)
+            (lab, as_lines(came))
         }
         LabLine::Cross {
             device,
@@ -95,7 +100,7 @@ pub(crate) fn obey(lab: Lab, said: LabLine) -> (Lab, Result<List<Text>, LabStop>
             other,
         } => {
             let came = lab.plan_crossing(&device, call, other);
-            (lab, came)
+            (lab, as_lines(came))
         }
         LabLine::Replay {
             device,
@@ -104,27 +109,27 @@ pub(crate) fn obey(lab: Lab, said: LabLine) -> (Lab, Result<List<Text>, LabStop>
             count,
         } => {
             let came = lab.plan_replay(&device, call, Again { from, count });
-            (lab, came)
+            (lab, as_lines(came))
         }
         LabLine::Resend { from, count } => {
             let came = lab.resend(Again { from, count });
-            (lab, came)
+            (lab, as_lines(came))
         }
         LabLine::Break(side) => {
             let came = lab.plan_break(&side);
-            (lab, came)
+            (lab, as_lines(came))
         }
         LabLine::Show { side, what } => {
             let came = lab.show(&side, what);
-            (lab, came)
+            (lab, as_lines(came))
         }
         LabLine::Count(side) => {
             let came = lab.count(&side);
-            (lab, came)
+            (lab, as_lines(came))
         }
         LabLine::Requests(name) => {
             let came = lab.requests(&name);
-            (lab, came)
+            (lab, as_lines(came))
         }
     }
 }
@@ -196,9 +201,10 @@ impl Lab {
     }
 
     /// `do <device> <line>`
-    fn do_line(&mut self, name: &Text, text: &Text) -> Result<List<Text>, LabStop>
+    fn do_line(&mut self, name: &Text, text: &Text) -> Result<LabPrint, LabStop>
         requires ready { IsReady (state_of self.old) }
-        ensures ends { CameOut (lines.Do name.now text.now) (state_of self.old) (state_of self.new) result }
+        ensures ends { CameOut (lines.Do name.now text.now) (state_of self.old) (state_of self.new)
+            (printed_by result) }
         ensures ready { IsReady (state_of self.new) }
     {
         let Some(place) = place_of(self.devices.as_slice(), name) else {
@@ -210,7 +216,7 @@ impl Lab {
             Err(fault) => return Err(line_stop(self.alloc, &fault)),
         };
         match obey_on(&mut self.devices[place], said, at) {
-            Ok(answer) => print_answer(self.alloc, &answer),
+            Ok(answer) => Ok(LabPrint::Answer(answer)),
             Err(refusal) => Err(refusal_stop(self.alloc, &refusal)),
         }
     }
@@ -308,15 +314,6 @@ impl Lab {
             Err(Memory) => Err(LabStop::Memory),
         }
     }
-}
-
-/// The line of an answer of the desk.
-fn print_answer(alloc: Global, answer: &DeskAnswer) -> Result<List<Text>, LabStop>
-    ensures ok { IfOk result (λ printed. printed ≡ answer_text answer.now ∷ []) }
-    ensures err { IfErr result (λ stop. stop ≡ stops.Memory) }
-{
-    let text = write_answer(alloc, answer)?;
-    one_line(alloc, text)
 }
 
 /// This line alone.

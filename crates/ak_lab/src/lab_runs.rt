@@ -6,16 +6,18 @@ ghost use Rattle.ak_io.specs.Endings.{EndCause, LineEndCause};
 ghost use Rattle.ak_io.specs.Lines.{lines_left};
 ghost use Rattle.ak_io.specs.Scripts.{AppendsPart, written_lines};
 ghost use Rattle.ak_io.specs.declared.endings.ScriptEnd.TheVariants as ends;
+ghost use Rattle.ak_lab.specs.LabPrints.{printed_by, printed_lines};
 ghost use Rattle.ak_lab.specs.LabRuns.{IsLabRun, RunsLab};
 ghost use Rattle.ak_lab.specs.LabStates.{IsReady, state_of};
 ghost use Rattle.ak_lab.specs.LineStops.{LineCameOut};
 ghost use Rattle.ak_lab.specs.RunLines.{ArePrinted, IsCamePrinted, Steps};
 
 use crate::lab_lines::obey;
+use crate::lab_prints::LabPrint;
 use crate::lab_stops::{LabStop, stop_by};
 use crate::labs::Lab;
 use ak_base::{List, Memory, Text};
-use ak_desk_runs::{is_skipped_line, text_of};
+use ak_desk_runs::{is_skipped_line, print_answer_line, text_of};
 use ak_io::{
     Failed, Line, LineReader, ReadFault, ScriptEnd, Sink, Source, print_line, print_refusal,
     write_all,
@@ -113,17 +115,17 @@ fn run_line<I: Source, O: Sink>(
     (lab, went)
 }
 
-/// Does what the line of this number says, and gives the lines that it prints.
-fn obey_line(lab: Lab, number: u64, line: &Line) -> (Lab, Result<List<Text>, LabStop>)
+/// Does what the line of this number says, and gives what it prints.
+fn obey_line(lab: Lab, number: u64, line: &Line) -> (Lab, Result<LabPrint, LabStop>)
     requires ready { IsReady (state_of lab) }
-    ensures ends { LineCameOut number line.now (state_of lab) (state_of result.0) result.1 }
+    ensures ends { LineCameOut number line.now (state_of lab) (state_of result.0) (printed_by result.1) }
     ensures ready { IfOk result.1 (λ printed. IsReady (state_of result.0)) }
 {
     let alloc = lab.alloc;
     let mut lab = lab;
     lab.at_line(number);
     if is_skipped_line(line) {
-        return (lab, Ok(List::new(alloc)));
+        return (lab, Ok(LabPrint::Lines(List::new(alloc))));
     }
     let text = match text_of(line) {
         Ok(text) => text,
@@ -140,16 +142,30 @@ fn obey_line(lab: Lab, number: u64, line: &Line) -> (Lab, Result<List<Text>, Lab
 fn print_came<O: Sink>(
     alloc: Global,
     number: u64,
-    came: &Result<List<Text>, LabStop>,
+    came: &Result<LabPrint, LabStop>,
     out: &mut O,
 ) -> Result<bool, ScriptEnd>
-    ensures printed { IsCamePrinted number came.now result (O.written out.old) (O.written out.new) }
+    ensures printed { IsCamePrinted number (printed_by came.now) result (O.written out.old) (O.written out.new) }
     ensures cause { HasCauseOf ends.WriteFailed (O.health out.old) (O.health out.new) result }
 {
     match came {
-        Ok(printed) => print_lines(alloc, printed.as_slice(), out),
+        Ok(print) => print_accepted(alloc, print, out),
         Err(LabStop::Refused(why)) => Err(print_refusal(alloc, number, why, out)),
         Err(LabStop::Memory) => Err(ScriptEnd::Memory),
+    }
+}
+
+/// Prints what an accepted line prints. It never ends for lack of memory.
+fn print_accepted<O: Sink>(alloc: Global, print: &LabPrint, out: &mut O) -> Result<bool, ScriptEnd>
+    ensures printed { ArePrinted (printed_lines print.now) result (O.written out.old) (O.written out.new) }
+    ensures cause { HasCauseOf ends.WriteFailed (O.health out.old) (O.health out.new) result }
+{
+    match print {
+        LabPrint::Lines(lines) => print_lines(alloc, lines.as_slice(), out),
+        LabPrint::Answer(answer) => match print_answer_line(alloc, answer, out) {
+            Ok(()) => Ok(true),
+            Err(Failed) => Err(ScriptEnd::WriteFailed),
+        },
     }
 }
 

@@ -3,6 +3,7 @@
 
 mod lab_lines;
 mod lab_plans;
+mod lab_prints;
 mod lab_runs;
 mod lab_stops;
 mod lab_syncs;

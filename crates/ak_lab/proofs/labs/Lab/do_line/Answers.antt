@@ -1,7 +1,7 @@
-use Rattle.std.proofs.Common.{List, ap, subst, sym}
+use Rattle.std.proofs.Common.{List, ap, refl, subst, sym}
 use Rattle.ak_io.specs.Arrivals.{IsClockMoment}
 use Rattle.ak_lab.proofs.Coming.{do_stopped}
-use Rattle.ak_lab.proofs.Desks.{do_printed, do_there, ready_there, there_in_time, unsaid}
+use Rattle.ak_lab.proofs.Desks.{do_there, ready_there, there_in_time, unsaid}
 use Rattle.ak_lab_devices.proofs.InTime.{lab_in_time, shifted}
 use Rattle.ak_lab_devices.proofs.Placing.{read_there}
 use Rattle.ak_lab.specs.LabStates.{state_of}
@@ -28,10 +28,12 @@ returns-in-Ok-obey_on-clause-ends c =
     let s = state_of c.args.self.now in
     let is = subst (λ (devices : List Device). IsPlaceOf c.args.name.now devices c.in-Some.place) c.as_slice.ensures.value c.in-Some.ensures in
     let at = shifted c.args.self.now.clock c.index.result.now.shift (lab_in_time c.args.self.now.clock c.args.self.now.devices.items c.requires.ready.clocks)
-    (there_in_time c.args.name.now s c.in-Some.place c.index.result.now is c.index.ensures c.requires.ready) in
-    do_printed c.args.name.now c.args.text.now s _ c.in-Ok-obey_on.answer c.print_answer.result c.print_answer.ensures.ok c.print_answer.ensures.err
-    (do_there c.args.name.now c.args.text.now s c.in-Some.place c.index.result.now c.index_mut.result.now c.obey_on.new.device _ c.in-Ok.said _ is c.index.ensures c.index_mut.ensures.value at
-    (rw c.as_str.ensures at c.in-Ok.ensures.ok) c.in-Ok-obey_on.ensures.ends c.in-Ok-obey_on.ensures.filters c.in-Ok-obey_on.ensures.rest)
+    (there_in_time c.args.name.now s c.in-Some.place c.index.result.now is c.index.ensures c.requires.ready) in (
+      c.in-Ok-obey_on.answer,
+      do_there c.args.name.now c.args.text.now s c.in-Some.place c.index.result.now c.index_mut.result.now c.obey_on.new.device _ c.in-Ok.said _ is c.index.ensures c.index_mut.ensures.value at
+          (rw c.as_str.ensures at c.in-Ok.ensures.ok) c.in-Ok-obey_on.ensures.ends c.in-Ok-obey_on.ensures.filters c.in-Ok-obey_on.ensures.rest,
+      refl,
+    )
 
 pub returns-in-Ok-obey_on-clause-ready : goal.returns-in-Ok-obey_on-clause-ready
 returns-in-Ok-obey_on-clause-ready c =
