@@ -5,8 +5,8 @@ use Rattle.ak_base.specs.Heads.{IsHeadInRange, IsMoment}
 use Rattle.ak_keep.specs.Collections.{Collection, Holding, collection_of}
 use Rattle.ak_keep.specs.Marks.{WithMark}
 use Rattle.ak_lab_devices.specs.Devices.{as_downloaded, new_device}
+use Rattle.ak_lab_devices.specs.RestingKeepers.{Holds, kept_of}
 use Rattle.ak_lab_devices.specs.declared.devices.Device.{Device}
-use Rattle.ak_lab_keepers.specs.RestingKeepers.{Holds, kept_of}
 use Rattle.ak_lab_lines.specs.LabTexts.{counts_text}
 use Rattle.ak_loops.specs.Entries.{collection_in}
 use Rattle.ak_messages.specs.declared.requests.SanityCounts.{SanityCounts}

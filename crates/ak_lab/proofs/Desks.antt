@@ -17,8 +17,8 @@ use Rattle.ak_lab.specs.declared.lab_stops.LabStop.TheVariants as stops
 use Rattle.ak_lab_devices.specs.Devices.{IsPlaceOf, are_in_time, device_of, keeping_of, with_device}
 use Rattle.ak_lab_devices.specs.declared.devices.Device.{Device}
 use Rattle.ak_lab_lines.specs.declared.lab_lines.LabLine.TheVariants as lines
-use Rattle.ak_lab_sides.specs.NewReviews.{EndsReviews}
-use Rattle.ak_lab_sides.specs.declared.new_reviews.ReviewPlan.{ReviewPlan}
+use Rattle.ak_lab_devices.specs.NewReviews.{EndsReviews}
+use Rattle.ak_lab_devices.specs.declared.new_reviews.ReviewPlan.{ReviewPlan}
 use Rattle.ak_lines.specs.AnyLines.{RefusesAnyLine, SaysAnyLine}
 use Rattle.ak_lines.specs.declared.any_lines.AnyLine.{AnyLine}
 use Rattle.ak_lines.specs.declared.line_faults.LineFault.{LineFault}

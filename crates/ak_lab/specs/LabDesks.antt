@@ -13,8 +13,8 @@ use Rattle.ak_lines.specs.AnyLines.{SaysAnyLine}
 use Rattle.ak_lines.specs.declared.any_lines.AnyLine.{AnyLine}
 use Rattle.ak_texts.specs.declared.answers.DeskAnswer.{DeskAnswer}
 use Rattle.ak_texts.specs.declared.line_refusals.LineRefusal.{LineRefusal}
-use Rattle.ak_lab_sides.specs.NewReviews.{EndsReviews}
-use Rattle.ak_lab_sides.specs.declared.new_reviews.ReviewPlan.{ReviewPlan}
+use Rattle.ak_lab_devices.specs.NewReviews.{EndsReviews}
+use Rattle.ak_lab_devices.specs.declared.new_reviews.ReviewPlan.{ReviewPlan}
 
 -- the desk of a device: its keeper and its undo list
 abbrev pub desk_of : Device → DeskState

@@ -12,14 +12,14 @@ use Rattle.ak_lab.specs.LabSyncs.{EndsSync, EndsTransfer}
 use Rattle.ak_lab_devices.specs.declared.devices.Device.{Device}
 use Rattle.ak_lab_devices.specs.declared.plans.Act.TheVariants as acts
 use Rattle.ak_lab_wires.specs.Servings.{HasRequests}
-use Rattle.ak_lab_keepers.specs.RestingKeepers.{Holds}
-use Rattle.ak_lab_keepers.specs.Shown.{shown_lines}
+use Rattle.ak_lab_devices.specs.RestingKeepers.{Holds}
+use Rattle.ak_lab_devices.specs.Shows.{shown_lines}
 use Rattle.ak_lab_lines.specs.LabTexts.{counts_text, direction_word, ending_text, no_device_text, requests_text, sync_text}
 use Rattle.ak_lab_lines.specs.declared.lab_lines.LabLine.{LabLine}
 use Rattle.ak_lab_lines.specs.declared.lab_lines.LabLine.TheVariants as lines
 use Rattle.ak_lab_lines.specs.declared.lab_lines.Side.{Side}
 use Rattle.ak_lab_lines.specs.declared.lab_lines.Side.TheVariants as sides
-use Rattle.ak_lab_sides.specs.declared.new_reviews.ReviewPlan.{ReviewPlan}
+use Rattle.ak_lab_devices.specs.declared.new_reviews.ReviewPlan.{ReviewPlan}
 use Rattle.ak_outcomes.specs.OutcomeTexts.{outcome_text}
 use Rattle.ak_loops.specs.Entries.{health_in}
 use Rattle.ak_server_copies.specs.Copies.{IsViewed, committed_in}

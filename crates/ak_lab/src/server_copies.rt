@@ -2,16 +2,15 @@
 ghost use Rattle.std.specs.Prelude.{◌≡◌, true, Some, IfOk};
 ghost use Rattle.ak_keep.specs.Collections.{Collection};
 ghost use Rattle.ak_lab_devices.specs.Devices.{as_downloaded};
-ghost use Rattle.ak_lab_keepers.specs.RestingKeepers.{kept_of};
-ghost use Rattle.ak_lab_keepers.specs.Shown.{shown_lines};
+ghost use Rattle.ak_lab_devices.specs.RestingKeepers.{kept_of};
+ghost use Rattle.ak_lab_devices.specs.Shows.{shown_lines};
 ghost use Rattle.ak_lab_lines.specs.LabTexts.{counts_text};
 ghost use Rattle.ak_loops.specs.Entries.{health_in};
 ghost use Rattle.ak_server_copies.specs.Copies.{IsViewed, committed_in};
 ghost use Rattle.ak_session.specs.Answers.{counts_of};
 
 use ak_base::{List, Memory, Text};
-use ak_lab_devices::HeldCollection;
-use ak_lab_keepers::unfailed;
+use ak_lab_devices::{HeldCollection, unfailed};
 use ak_lab_lines::{Shown, write_counts};
 use ak_loops::LoggedServer;
 use ak_server_copies::view_all;

@@ -16,9 +16,9 @@ use Rattle.ak_lab.specs.LabStates.{LabState, at_line}
 use Rattle.ak_lab.specs.LabSyncs.{EndsSync}
 use Rattle.ak_lab_completes.specs.LabCompleting.{BeginsLeftAlone, EndedUnfinished, EndsAndLeaves, EndsWithTheirJoin, HasRoomOnceMore, HoldsTheirJoin, LabEndsWith, SidesHold}
 use Rattle.ak_lab_devices.specs.Devices.{device_of}
+use Rattle.ak_lab_devices.specs.RestingKeepers.{Holds}
 use Rattle.ak_lab_devices.specs.declared.devices.Device.{Device}
 use Rattle.ak_lab_joins.specs.LabJoins.{DeviceHolds, Finishes, HasFreshCheck, HasSession, IsLinkedLab, IsLinkedServer, JoinsSides, KeepsSides, MayHoldJoin, PlansNothing, StillCommits, StillHolds, committed_of, ends_at_check, lab_world, world_in}
-use Rattle.ak_lab_keepers.specs.RestingKeepers.{Holds}
 use Rattle.ak_lab_wires.specs.LabSessions.{lab_host}
 use Rattle.ak_loops.specs.Entries.{LoggedState, log_in, server_of}
 use Rattle.ak_merge.proofs.ContentLaws.{content-through, content-turned, sound_by_content}

@@ -21,12 +21,12 @@ use Rattle.ak_lab.specs.LabSyncs.{EndsSync, RunsAt, server_met, with_fails, with
 use Rattle.ak_lab_completes.proofs.Coming.{AddsCalm, all_near, log_grown, none_at_fault, session_adds}
 use Rattle.ak_lab_completes.specs.LabCompleting.{BeginsLeftAlone, LabEndsOrIsLost, LabEndsWith}
 use Rattle.ak_lab_devices.specs.Devices.{device_of, keeping_of}
+use Rattle.ak_lab_devices.specs.RestingKeepers.{Holds, kept_of}
 use Rattle.ak_lab_devices.specs.declared.devices.Device.{Device}
 use Rattle.ak_lab_devices.specs.declared.plans.Planned.{Planned}
 use Rattle.ak_lab_joins.specs.LabBreaks.{HasBreak, HasNoBreak}
 use Rattle.ak_lab_joins.specs.LabJoins.{IsLinkedDevice, committed_of, world_in}
 use Rattle.ak_lab_joins.specs.LabMishaps.{LosesNothing}
-use Rattle.ak_lab_keepers.specs.RestingKeepers.{Holds, kept_of}
 use Rattle.ak_lab_wires.specs.CrossedSyncs.{CrossesAt, crosses_nothing}
 use Rattle.ak_lab_wires.specs.LabSessions.{lab_host}
 use Rattle.ak_lab_wires.specs.Turns.{plans_nothing}

@@ -8,7 +8,7 @@ use Rattle.ak_keep.specs.Collections.{Holding}
 use Rattle.ak_keep.specs.Keepers.{all_known, is_marked}
 use Rattle.ak_keep.specs.Marks.{WithMark}
 use Rattle.ak_keep.specs.MemoryKeepers.{MemoryState, health_of}
-use Rattle.ak_lab_keepers.specs.RestingKeepers.{IsAtRest}
+use Rattle.ak_lab_devices.specs.RestingKeepers.{IsAtRest}
 
 -- the same keeper, of which these calls are to fail
 abbrev pub failing : List ℕ → MemoryState → MemoryState

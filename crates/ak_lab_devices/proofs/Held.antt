@@ -3,12 +3,17 @@ use Rattle.std.proofs.Common.{◌≡◌, refl, ℕ, List, subst, true, is_some, 
 use Rattle.ak_base.specs.declared.heads.Head.{Head}
 use Rattle.ak_keep.specs.Collections.{Collection, Holding, is_headed}
 use Rattle.ak_keep.specs.Marks.{WithMark}
-use Rattle.ak_lab_keepers.proofs.Holding.{holds_it, with_head}
-use Rattle.ak_lab_keepers.specs.RestingKeepers.{Holds}
-use Rattle.ak_lab_keepers.specs.Shown.{shown_lines}
+use Rattle.ak_lab_devices.proofs.Holding.{holds_it, with_head}
+use Rattle.ak_lab_devices.specs.RestingKeepers.{Holds}
+use Rattle.ak_lab_devices.specs.Shows.{shown_lines}
 use Rattle.ak_lab_lines.specs.declared.lab_lines.Shown.{Shown}
 use Rattle.ak_messages.specs.declared.requests.SanityCounts.{SanityCounts}
 use Rattle.ak_session.specs.Answers.{counts_of}
+
+-- what is true of what was read is true of what is told of it
+pub told_so : {T E F : Type 0} (P : T → Type 0) (read : Result T F) (result : Result T E) → IfOk read P → IfOk result (λ it. read ≡ Ok it) → IfOk result P
+told_so P read (Err fault) is told = tt
+told_so {T = T} {F = F} P read (Ok it) is told = subst (λ (r : Result T F). IfOk r P) told is
 
 some_is : {T : Type 0} (o : Option T) → is_some o ≡ true → (x : T) × (o ≡ Some x)
 some_is None held = cc

@@ -5,7 +5,7 @@ use Rattle.std.specs.Prelude.{◌≡◌, ℕ, ℤ, pos, ◌+ℤ◌, Bool, not, �
 use Rattle.ak_faults.specs.Causes.{Health}
 use Rattle.ak_keep.specs.Collections.{Collection}
 use Rattle.ak_keep.specs.Keepers.{Keeping, all_known}
-use Rattle.ak_lab_keepers.specs.RestingKeepers.{kept_of}
+use Rattle.ak_lab_devices.specs.RestingKeepers.{kept_of}
 use Rattle.ak_lab_devices.specs.declared.devices.Device.{Device}
 use Rattle.ak_lab_devices.specs.declared.plans.Planned.{Planned}
 use Rattle.ak_loops.specs.declared.mishaps.Mishap.{Mishap}

@@ -5,17 +5,23 @@ ghost use Rattle.ak_base.specs.Heads.{IsHeadInRange};
 ghost use Rattle.ak_base.specs.Names.{name_cmp};
 ghost use Rattle.ak_base.specs.Rows.{IsChecked, name_of};
 
+use crate::desk_lines::obey_with;
+use crate::heads::head_texts;
+use crate::new_reviews::ReviewPlan;
+use crate::resting_keepers::{head_at_rest, unfailed};
+use crate::review_edits::add_reviews;
+use crate::tables::{grave_texts, row_texts};
 use ak_base::{List, Memory, Text};
 use ak_desk_lines::Turn;
 use ak_edit::DeskFault;
-use ak_lab_keepers::{add_reviews_at_rest, counts_at_rest, obey_at_rest, shown_texts};
+use ak_filters::FieldFilter;
 use ak_lab_lines::Shown;
-use ak_lab_sides::ReviewPlan;
 use ak_lines::AnyLine;
 use ak_loops::keeper_with;
 use ak_memory::MemoryKeeper;
 use ak_messages::SanityCounts;
 use ak_openings::Opening;
+use ak_parts::counts_of;
 use ak_texts::{DeskAnswer, LineRefusal};
 use ak_undo::UndoList;
 use std::alloc::Global;
@@ -33,7 +39,7 @@ impl Model for HeldCollection {
     ghost use Rattle.ak_keep.specs.Collections.{Holding};
     ghost use Rattle.ak_keep.specs.Marks.{WithMark};
     ghost use Rattle.ak_keep.specs.MemoryKeepers.{holding_code, kept_code};
-    ghost use Rattle.ak_lab_keepers.specs.RestingKeepers.{IsAtRest};
+    ghost use Rattle.ak_lab_devices.specs.RestingKeepers.{IsAtRest};
 
     ghost Value = { WithMark Holding };
 
@@ -53,9 +59,9 @@ impl HeldCollection {
     ghost use Rattle.ak_filters.specs.Meanings.{Meaning};
     ghost use Rattle.ak_keep.specs.Collections.{Collection, IsId};
     ghost use Rattle.ak_keep.specs.Keepers.{all_known};
-    ghost use Rattle.ak_lab_keepers.specs.RestingKeepers.{Holds, kept_of};
-    ghost use Rattle.ak_lab_keepers.specs.Shown.{shown_lines};
-    ghost use Rattle.ak_lab_sides.specs.NewReviews.{EndsReviews};
+    ghost use Rattle.ak_lab_devices.specs.NewReviews.{EndsReviews};
+    ghost use Rattle.ak_lab_devices.specs.RestingKeepers.{Holds, kept_of};
+    ghost use Rattle.ak_lab_devices.specs.Shows.{shown_lines};
     ghost use Rattle.ak_lines.specs.AnyLines.{IsAnyInRange};
     ghost use Rattle.ak_loops.specs.Entries.{collection_in};
     ghost use Rattle.ak_session.specs.Answers.{counts_of};
@@ -78,7 +84,12 @@ impl HeldCollection {
         ensures shown { IfOk result (λ texts. (c : Collection) × Holds self.old c × (texts ≡ shown_lines what c)) }
         ensures same { self.new ≡ self.old }
     {
-        shown_texts(alloc, &mut self.keeper, what)
+        let head = head_at_rest(&mut self.keeper)?;
+        match what {
+            Shown::Rows(table) => unfailed(row_texts(alloc, &mut self.keeper, table)),
+            Shown::Graves => unfailed(grave_texts(alloc, &mut self.keeper)),
+            Shown::Head => head_texts(alloc, &head),
+        }
     }
 
     /// How many rows of each kind are held.
@@ -86,7 +97,7 @@ impl HeldCollection {
         ensures counts { IfOk result (λ counts. (c : Collection) × Holds self.old c × (counts ≡ counts_of c.rows)) }
         ensures same { self.new ≡ self.old }
     {
-        counts_at_rest(&mut self.keeper)
+        unfailed(counts_of(&mut self.keeper))
     }
 
     /// Does a line of the desk in its turn, without filters.
@@ -103,7 +114,8 @@ impl HeldCollection {
         ensures filters { (turned : Sequence Meaning) × AppliesToAny said (all_known self.old) [] turned result }
         ensures unfailed { IsErrOf result (refusals.Desk desks.Failed) → ⊥ }
     {
-        obey_at_rest(&mut self.keeper, undo, said, turn)
+        let mut filters: Vec<Box<dyn FieldFilter>> = Vec::new(undo.allocator());
+        obey_with(&mut self.keeper, undo, said, turn, &mut filters)
     }
 
     /// Adds the reviews of a plan at a moment in milliseconds, as one edit.
@@ -118,6 +130,6 @@ impl HeldCollection {
         ensures ends { EndsReviews at plan (all_known self.old) (all_known self.new) undo.old undo.new result }
         ensures unfailed { IsErrOf result desks.Failed → ⊥ }
     {
-        add_reviews_at_rest(&mut self.keeper, undo, plan, at)
+        add_reviews(&mut self.keeper, undo, plan, at)
     }
 }

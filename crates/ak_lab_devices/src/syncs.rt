@@ -4,7 +4,6 @@ ghost use Rattle.ak_client.specs.Syncs.{IsSyncEnded, KeepsDevice};
 ghost use Rattle.ak_client.specs.declared.outcomes.Outcome.TheVariants as outcomes;
 ghost use Rattle.ak_faults.specs.Calls.{names_none};
 ghost use Rattle.ak_keep.specs.Keepers.{all_known};
-ghost use Rattle.ak_lab_keepers.specs.RestingKeepers.{IsAtRest};
 ghost use Rattle.ak_loops.specs.LoopWires.{health_over, inside_with, state_of_loop};
 ghost use Rattle.std.specs.Prelude.{◌≡◌, ◌≢◌, [], true, Some};
 
@@ -13,7 +12,6 @@ use ak_base::List;
 use ak_client::{Ids, Outcome, sync_over};
 use ak_io::ListClock;
 use ak_loops::{Between, LoopWire};
-use ak_memory::MemoryKeeper;
 use ak_transfers::{download_over, upload_over};
 use ak_undo::UndoList;
 
@@ -43,7 +41,12 @@ impl HeldCollection {
             (health_over wire.new.counts wire.new.mishaps) result }
         ensures undo { undo.new ≡ [] }
     {
-        sync_failing(&mut self.keeper, undo, wire, clock, ids, fails)
+        let alloc = fails.allocator();
+        self.keeper.fail_at(fails);
+        let outcome = sync_over(&mut self.keeper, undo, wire, clock, ids);
+        // A call that the sync did not reach fails in no later one.
+        self.keeper.fail_at(List::new(alloc));
+        outcome
     }
 
     /// Uploads over a wire, by a clock. It never ends because the keeper failed.
@@ -95,35 +98,4 @@ impl HeldCollection {
     {
         download_over(&mut self.keeper, undo, wire, clock, ids)
     }
-}
-
-/// Syncs over a keeper at rest, of which the calls of these numbers fail meanwhile, counted from 0.
-fn sync_failing<B: Between>(
-    keeper: &mut MemoryKeeper,
-    undo: &mut UndoList,
-    wire: &mut LoopWire<B>,
-    clock: &mut ListClock,
-    ids: Ids,
-    fails: List<u64>,
-) -> Outcome
-    requires rest { IsAtRest keeper.old }
-    ensures rest { IsAtRest keeper.new }
-    ensures ended { IsSyncEnded ids (all_known keeper.old.kept) (all_known keeper.new.kept)
-        (health_over wire.old.counts wire.old.mishaps) (health_over wire.new.counts wire.new.mishaps)
-        (state_of_loop B.acts B.idle
-        (inside_with wire.old.server wire.old.between wire.old.moment wire.old.mishaps wire.old.counts))
-        (state_of_loop B.acts B.idle
-        (inside_with wire.new.server wire.new.between wire.new.moment wire.new.mishaps wire.new.counts)) (Some clock.old) result }
-    ensures device { KeepsDevice 1 (all_known keeper.old.kept) (all_known keeper.new.kept) (Some clock.old) (Some clock.new) result }
-    ensures unfailed { names_none fails ≡ true → result ≢ outcomes.Keep }
-    ensures lost { HasOutcomeCause outcomes.Lost (health_over wire.old.counts wire.old.mishaps)
-        (health_over wire.new.counts wire.new.mishaps) result }
-    ensures undo { undo.new ≡ [] }
-{
-    let alloc = fails.allocator();
-    keeper.fail_at(fails);
-    let outcome = sync_over(keeper, undo, wire, clock, ids);
-    // A call that the sync did not reach fails in no later one.
-    keeper.fail_at(List::new(alloc));
-    outcome
 }

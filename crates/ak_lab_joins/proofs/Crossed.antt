@@ -16,6 +16,7 @@ use Rattle.ak_keep.specs.Keepers.{changed}
 use Rattle.ak_lab.specs.LabStates.{LabState}
 use Rattle.ak_lab.specs.LabSyncs.{EndsSync, server_met, with_fails}
 use Rattle.ak_lab_devices.specs.Devices.{keeping_of, with_plan}
+use Rattle.ak_lab_devices.specs.RestingKeepers.{Holds}
 use Rattle.ak_lab_devices.specs.declared.devices.Device.{Device}
 use Rattle.ak_lab_devices.specs.declared.plans.Planned.{Planned}
 use Rattle.ak_lab_joins.proofs.Level.{finishes_fresh}
@@ -23,7 +24,6 @@ use Rattle.ak_lab_joins.proofs.Synced.{holds_is, kept_is, known_is, next_over, s
 use Rattle.ak_lab_joins.proofs.Worlds.{commit_as}
 use Rattle.ak_lab_joins.specs.LabCrossings.{FinishesOver, IsCrossedFresh, JoinsLate, KeepsCrossed, LeavesJoin, asked_by}
 use Rattle.ak_lab_joins.specs.LabJoins.{HasRisen, HasSession, IsFinish, IsLinkedDevice, IsLinkedLab, StillHolds, lab_world, world_in}
-use Rattle.ak_lab_keepers.specs.RestingKeepers.{Holds}
 use Rattle.ak_lab_wires.specs.CrossedSyncs.{CrossesAt, crosses_nothing}
 use Rattle.ak_lab_wires.specs.LabSessions.{IsSessionOver, lab_host}
 use Rattle.ak_lab_wires.specs.declared.lab_sessions.SessionKind.TheVariants as kinds

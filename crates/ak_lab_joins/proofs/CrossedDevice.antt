@@ -20,6 +20,7 @@ use Rattle.ak_exchange.specs.declared.stops.Stop.TheVariants as stops
 use Rattle.ak_keep.specs.Collections.{Collection}
 use Rattle.ak_keep.specs.Keepers.{Keeping, changed}
 use Rattle.ak_lab_devices.specs.Devices.{keeping_of}
+use Rattle.ak_lab_devices.specs.RestingKeepers.{Holds, kept_of}
 use Rattle.ak_lab_devices.specs.declared.devices.Device.{Device}
 use Rattle.ak_lab_joins.proofs.Crossed as crossed
 use Rattle.ak_lab_joins.proofs.Crossed.{finishes_crossed_fresh}
@@ -29,7 +30,6 @@ use Rattle.ak_lab_joins.proofs.Metas.{one_schema}
 use Rattle.ak_lab_joins.proofs.Synced.{held_once, kept_is, known_is, nothing_to_undo, raised_past, single_of}
 use Rattle.ak_lab_joins.specs.LabCrossings.{IsCrossedFresh}
 use Rattle.ak_lab_joins.specs.LabJoins.{IsFinish, IsLinkedDevice, ends_at_check, world_in}
-use Rattle.ak_lab_keepers.specs.RestingKeepers.{Holds, kept_of}
 use Rattle.ak_lab_wires.specs.LabSessions.{IsSessionOver, lab_host}
 use Rattle.ak_lab_wires.specs.declared.lab_sessions.SessionKind.TheVariants as kinds
 use Rattle.ak_loops.specs.Betweens.{Acting}

@@ -16,6 +16,7 @@ use Rattle.ak_keep.specs.Collections.{Collection}
 use Rattle.ak_lab.specs.LabStates.{LabState}
 use Rattle.ak_lab.specs.LabSyncs.{EndsLabSession, EndsSync, mishaps_for, server_met, with_fails}
 use Rattle.ak_lab_devices.specs.Devices.{device_of, with_plan}
+use Rattle.ak_lab_devices.specs.RestingKeepers.{Holds}
 use Rattle.ak_lab_devices.specs.declared.devices.Device.{Device}
 use Rattle.ak_lab_joins.proofs.CrossedDevice.{crossed_device_linked, crossed_device_schema}
 use Rattle.ak_lab_joins.proofs.Crossers.{calls_leave}
@@ -28,7 +29,6 @@ use Rattle.ak_lab_joins.proofs.Synced.{holds_is, held_once, next_over}
 use Rattle.ak_lab_joins.specs.EachCrossed.{HoldsOfEachCrossed}
 use Rattle.ak_lab_joins.specs.LabCrossings.{CrossedLeavesJoin}
 use Rattle.ak_lab_joins.specs.LabJoins.{AreUnlike, DeviceHolds, HasNoUpload, HasOrderedSchemas, HasSession, IsFinish, IsLevelFresh, IsLinkedDevice, IsLinkedLab, IsLinkedServer, committed_of, device_names, lab_world}
-use Rattle.ak_lab_keepers.specs.RestingKeepers.{Holds}
 use Rattle.ak_lab_wires.specs.CrossedSyncs.{CrossState, CrossesAt, cross_state, crosses_nothing}
 use Rattle.ak_lab_wires.specs.LabSessions.{fails_in, lab_host}
 use Rattle.ak_lab_wires.specs.declared.lab_sessions.SessionKind.{SessionKind}

@@ -22,7 +22,7 @@ use Rattle.ak_lab_joins.proofs.Synced.{held_once, holds_is}
 use Rattle.ak_lab_joins.specs.LabCrossings.{CrossedLeavesJoin, LeavesJoin, asked_by}
 use Rattle.ak_lab_joins.specs.LabJoins.{HasNoUpload, IsFinish, IsLinkedDevice, IsLinkedServer, world_in}
 use Rattle.ak_lab_lines.specs.LabTexts.{sync_text}
-use Rattle.ak_lab_keepers.specs.RestingKeepers.{Holds}
+use Rattle.ak_lab_devices.specs.RestingKeepers.{Holds}
 use Rattle.ak_lab_wires.proofs.Keeping.{KeepsOn, calls_keep, turns_keep}
 use Rattle.ak_lab_wires.proofs.Kept.{StaysLab, face_of, same_faces}
 use Rattle.ak_lab_wires.specs.CrossedSyncs.{ActsBy, ActsOnce, CrossState, CrossedSync, CrossesAt, TellsCrossed, cross_state, crosses_nothing}

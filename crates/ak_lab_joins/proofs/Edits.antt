@@ -23,8 +23,8 @@ use Rattle.ak_exchange.specs.Phases.{holding}
 use Rattle.ak_keep.specs.Collections.{Collection}
 use Rattle.ak_keep.specs.Keepers.{Keeping}
 use Rattle.ak_lab_joins.specs.LabJoins.{IsFreshSchema}
-use Rattle.ak_lab_sides.specs.NewReviews.{AreNewReviews, new_review, with_reviews}
-use Rattle.ak_lab_sides.specs.declared.new_reviews.ReviewPlan.{ReviewPlan}
+use Rattle.ak_lab_devices.specs.NewReviews.{AreNewReviews, new_review, with_reviews}
+use Rattle.ak_lab_devices.specs.declared.new_reviews.ReviewPlan.{ReviewPlan}
 use Rattle.ak_merge.proofs.EditBuildingLaws.{edits_keep_all, puts_are_admitted}
 use Rattle.ak_merge.proofs.EditFacts.{advanced_past}
 use Rattle.ak_merge.proofs.Sweeps.{lists_after_suit}

@@ -49,7 +49,7 @@ use Rattle.ak_lab_lines.specs.declared.lab_lines.LabLine.{LabLine}
 use Rattle.ak_lab_lines.specs.declared.lab_lines.LabLine.TheVariants as lines
 use Rattle.ak_lab_lines.specs.declared.lab_lines.Side.{Side}
 use Rattle.ak_lab_lines.specs.declared.lab_lines.Side.TheVariants as sides
-use Rattle.ak_lab_sides.specs.NewReviews.{EndsReviews, with_reviews}
+use Rattle.ak_lab_devices.specs.NewReviews.{EndsReviews, with_reviews}
 use Rattle.ak_lines.specs.declared.any_lines.AnyLine.{AnyLine}
 use Rattle.ak_loops.specs.Entries.{LoggedState, account_opened}
 use Rattle.ak_merge.proofs.EditBuildingLaws.{unedited_is_admitted}

@@ -49,13 +49,13 @@ use Rattle.ak_lab_joins.proofs.Synced.{held_once, holds_is, kept_is, known_is, r
 use Rattle.ak_lab_joins.proofs.Transferred.{finished_or_not}
 use Rattle.ak_lab_joins.proofs.Transfers.{copies, download_keeps_schema, held_still}
 use Rattle.ak_lab_joins.specs.LabJoins.{AllGoFresh, DeviceHolds, HasFreshCheck, HasFreshDevice, HasNoPlans, HasNoUpload, HasOrderedSchemas, HasSession, IsFreshSchema, IsLevelFresh, IsLinkedDevice, IsLinkedLab, IsPlain, SaysNoUpload, SaysPlain, TakesFreshSchema, TakesFreshSchemas, UploadsNothing, committed_of, ends_at_check, world_in}
-use Rattle.ak_lab_keepers.specs.RestingKeepers.{Holds, kept_of}
+use Rattle.ak_lab_devices.specs.RestingKeepers.{Holds, kept_of}
 use Rattle.ak_lab_lines.specs.declared.lab_lines.Direction.TheVariants as directions
 use Rattle.ak_lab_lines.specs.declared.lab_lines.LabLine.{LabLine}
 use Rattle.ak_lab_lines.specs.declared.lab_lines.LabLine.TheVariants as lines
 use Rattle.ak_lab_lines.specs.declared.lab_lines.Side.{Side}
 use Rattle.ak_lab_lines.specs.declared.lab_lines.Side.TheVariants as sides
-use Rattle.ak_lab_sides.specs.NewReviews.{EndsReviews}
+use Rattle.ak_lab_devices.specs.NewReviews.{EndsReviews}
 use Rattle.ak_loops.specs.Entries.{account_opened}
 use Rattle.ak_merge.proofs.EditFacts.{advanced_past}
 use Rattle.ak_merge.specs.Edits.{advanced}

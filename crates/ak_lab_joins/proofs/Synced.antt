@@ -29,7 +29,7 @@ use Rattle.ak_lab_joins.proofs.Worlds.{GrowsSo, IsOfSession, commit_as, StaysQui
 use Rattle.ak_lab_joins.specs.LabJoins.{HasRisen, ends_at_check, IsLinkedDevice, IsLinkedServer, StillHolds, world_in}
 use Rattle.ak_lab_devices.specs.Devices.{keeping_of}
 use Rattle.ak_lab_devices.specs.declared.devices.Device.{Device}
-use Rattle.ak_lab_keepers.specs.RestingKeepers.{Holds, kept_of}
+use Rattle.ak_lab_devices.specs.RestingKeepers.{Holds, kept_of}
 use Rattle.ak_loops.specs.Entries.{LoggedState, log_in}
 use Rattle.ak_call_counts.specs.CallCounts.{no_calls}
 use Rattle.ak_loops.specs.LoopWires.{health_over, inside_with, loop_kind, state_of_loop}

@@ -35,7 +35,7 @@ use Rattle.ak_lab_joins.proofs.Worlds.{GrowsSo, IsOfSession, StaysQuiet, commit_
 use Rattle.ak_lab_joins.specs.LabJoins.{IsLinkedDevice, IsLinkedServer, may_have_uploaded, world_in}
 use Rattle.ak_lab_lines.specs.declared.lab_lines.Direction.{Direction}
 use Rattle.ak_lab_lines.specs.declared.lab_lines.Direction.TheVariants as directions
-use Rattle.ak_lab_keepers.specs.RestingKeepers.{kept_of}
+use Rattle.ak_lab_devices.specs.RestingKeepers.{kept_of}
 use Rattle.ak_loops.specs.Entries.{LoggedState, log_in}
 use Rattle.ak_loops.specs.LoopWires.{state_of_loop}
 use Rattle.ak_loops.specs.declared.mishaps.Mishap.{Mishap}

@@ -23,7 +23,7 @@ use Rattle.ak_lab_joins.proofs.Transferred as transferred
 use Rattle.ak_lab_joins.proofs.Transferred.{CommitsNoneOrUpload, EndsAfterAsk, TransferTold}
 use Rattle.ak_lab_joins.proofs.Worlds.{StaysQuiet}
 use Rattle.ak_lab_joins.specs.LabJoins.{CommitsOnceIn, DeviceHolds, LeavesDownload, HasFreshServer, HasSession, HoldsCopy, IsLinkedDevice, IsLinkedLab, IsLinkedServer, KeepsCommitted, KeepsOthers, KeepsTransferSides, MayHoldUpload, LeavesUpload, committed_of, lab_world, world_in, may_have_uploaded}
-use Rattle.ak_lab_keepers.specs.RestingKeepers.{kept_of}
+use Rattle.ak_lab_devices.specs.RestingKeepers.{kept_of}
 use Rattle.ak_lab_lines.specs.declared.lab_lines.Direction.{Direction}
 use Rattle.ak_lab_lines.specs.declared.lab_lines.Direction.TheVariants as directions
 use Rattle.ak_loops.specs.Entries.{log_in}

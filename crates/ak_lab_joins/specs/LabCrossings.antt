@@ -13,10 +13,10 @@ use Rattle.ak_faults.specs.Causes.{one_more}
 use Rattle.ak_keep.specs.Collections.{Collection}
 use Rattle.ak_lab.specs.LabStates.{LabState}
 use Rattle.ak_lab.specs.LabSyncs.{EndsSync}
+use Rattle.ak_lab_devices.specs.RestingKeepers.{Holds}
 use Rattle.ak_lab_devices.specs.declared.devices.Device.{Device}
 use Rattle.ak_lab_joins.specs.EachCrossed.{SaidOfCrossed}
 use Rattle.ak_lab_joins.specs.LabJoins.{StillHolds, lab_world}
-use Rattle.ak_lab_keepers.specs.RestingKeepers.{Holds}
 use Rattle.ak_lab_wires.specs.LabSessions.{lab_host}
 use Rattle.ak_loops.specs.Entries.{log_in}
 use Rattle.ak_merge.specs.Exchanges.{AreExchanged}

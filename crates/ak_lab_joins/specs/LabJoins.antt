@@ -18,7 +18,7 @@ use Rattle.ak_lab_wires.specs.declared.lab_sessions.SessionKind.TheVariants as k
 use Rattle.ak_lab.specs.LineOutcomes.{Accepted, EndsAs, Says}
 use Rattle.ak_lab_devices.specs.Devices.{device_of}
 use Rattle.ak_lab_devices.specs.declared.devices.Device.{Device}
-use Rattle.ak_lab_keepers.specs.RestingKeepers.{Holds, kept_of}
+use Rattle.ak_lab_devices.specs.RestingKeepers.{Holds, kept_of}
 use Rattle.ak_lab_wires.specs.LabSessions.{fails_after, lab_host}
 use Rattle.ak_lab_wires.specs.Servings.{requests_in}
 use Rattle.ak_lab_lines.specs.declared.lab_lines.Direction.{Direction}

@@ -1,6 +1,6 @@
 use Rattle.std.proofs.Common.{◌≡◌}
 use Rattle.ak_lab.proofs.Copied.{copied}
-use Rattle.ak_lab_keepers.specs.Shown.{shown_lines}
+use Rattle.ak_lab_devices.specs.Shows.{shown_lines}
 use Rattle.ak_lab.proofs.server_copies.shown_of_server.Goals as goal
 
 pub returns-clause-shown : goal.returns-clause-shown

@@ -1,2 +1,0 @@
-pub mod RestingKeepers
-pub mod Shown

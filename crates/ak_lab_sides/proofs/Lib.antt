@@ -1,4 +1,0 @@
-pub mod NewReviews
-pub mod ReviewEdits
-pub mod WholeHeads
-pub mod TableTexts

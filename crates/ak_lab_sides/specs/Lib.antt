@@ -1,3 +1,0 @@
-pub mod NewReviews
-pub mod Shows
-pub mod ReviewChanges
