@@ -14,7 +14,7 @@ from tools.tests.support import TOP, Case, run
 
 # The crates that print, with the files that make what is printed.
 PRINTS = (
-    "ak_texts/src/*.rt", "ak_outcomes/src/*.rt", "ak_desk_runs/src/*.rt", "ak_lab/src/*.rt", "ak_lab_lines/src/lab_texts.rt", "ak_lab_devices/src/*.rt",
+    "ak_desk_texts/src/*.rt", "ak_outcomes/src/*.rt", "ak_desk_runs/src/*.rt", "ak_lab/src/*.rt", "ak_lab_lines/src/lab_texts.rt", "ak_lab_devices/src/*.rt",
     "ak_cli/src/program_runs.rt", "ak_csv_runs/src/*.rt", "ak_sync_runs/src/*.rt", "ak_transfer_runs/src/*.rt", "ak_makes/src/makes.rt", "ak_io/src/endings.rt", "ak_wire/src/words.rt", "ankid/src/*.rt",
     "anki/src/*.rt",
 )
@@ -162,7 +162,7 @@ class Made(unittest.TestCase):
                 self.assertTrue(entry.example, entry.forms)
 
     def test_verbs_are_those_of_the_crates(self):
-        verbs = {it for path in glob.glob(os.path.join(TOP, "crates/ak_lines/src/verbs.rt")) for it in literals_of(path)}
+        verbs = {it for path in glob.glob(os.path.join(TOP, "crates/ak_desk_language/src/verbs.rt")) for it in literals_of(path)}
         self.assertEqual(verbs, set(helps.verbs_of(helps.desk_lines())))
 
 

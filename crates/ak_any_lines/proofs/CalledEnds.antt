@@ -6,6 +6,9 @@ use Rattle.ak_any_lines.specs.LineResults.{RefusalCause, by_call, by_desk, line_
 use Rattle.ak_desk.specs.Desks.{IsIdle}
 use Rattle.ak_desk_lines.proofs.EndedLines.{same_state}
 use Rattle.ak_desk_lines.specs.DeskStates.{DeskState}
+use Rattle.ak_desk_texts.specs.declared.answers.DeskAnswer.{DeskAnswer}
+use Rattle.ak_desk_texts.specs.declared.line_refusals.LineRefusal.{LineRefusal}
+use Rattle.ak_desk_texts.specs.declared.line_refusals.LineRefusal.TheVariants as refusals
 use Rattle.ak_edit.specs.Refusals.{DeskCause}
 use Rattle.ak_edit.specs.declared.desk_faults.DeskFault.{DeskFault}
 use Rattle.ak_edit.specs.declared.desk_faults.DeskFault.TheVariants as desk
@@ -15,9 +18,6 @@ use Rattle.ak_filtered.specs.declared.faults.FilteredFault.{FilteredFault}
 use Rattle.ak_filtered.specs.declared.faults.FilteredFault.TheVariants as filtered
 use Rattle.ak_keep.specs.Collections.{Collection}
 use Rattle.ak_keep.specs.Keepers.{Keeping, WhereHeld}
-use Rattle.ak_texts.specs.declared.answers.DeskAnswer.{DeskAnswer}
-use Rattle.ak_texts.specs.declared.line_refusals.LineRefusal.{LineRefusal}
-use Rattle.ak_texts.specs.declared.line_refusals.LineRefusal.TheVariants as refusals
 
 -- ---- a refusal leaves all as it was
 pub left_as_was : {T E : Type 0} (was now : DeskState) (made : Result T E) → OnErr made (now.keeping ≡ was.keeping) → OnErr made (now.steps ≡ was.steps)

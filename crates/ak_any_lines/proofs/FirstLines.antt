@@ -5,18 +5,18 @@ use Rattle.std.proofs.Common.{refl, sym, subst, inl, inr, ◌∙◌}
 use Rattle.std.proofs.lemmas.Option.{none-some}
 use Rattle.ak_any_lines.specs.AnyEnds.{AnswersGiven, AppliesToAny, EndsAfterFirst, EndsAnyLine, EndsSingle, given_in}
 use Rattle.ak_any_lines.specs.FirstThings.{EmptiesFirst, GoesFirst, SendsFirst, SendsIfMoved, dropped_deck, moved_cards}
+use Rattle.ak_desk_language.specs.declared.any_lines.AnyLine.{AnyLine}
+use Rattle.ak_desk_language.specs.declared.desk_lines.DeskLine.{DeskLine}
+use Rattle.ak_desk_language.specs.declared.desk_lines.DeskLine.TheVariants as lines
 use Rattle.ak_desk_lines.specs.DeskStates.{DeskState}
 use Rattle.ak_desk_lines.specs.LineEnds.{AppliesFilters}
 use Rattle.ak_desk_lines.specs.declared.turns.Turn.{Turn}
+use Rattle.ak_desk_texts.specs.declared.answers.DeskAnswer.{DeskAnswer}
+use Rattle.ak_desk_texts.specs.declared.line_refusals.LineRefusal.{LineRefusal}
 use Rattle.ak_edit.specs.declared.desk_faults.DeskFault.{DeskFault}
 use Rattle.ak_filters.specs.Meanings.{Meaning}
 use Rattle.ak_keep.specs.Keepers.{Keeping}
-use Rattle.ak_lines.specs.declared.any_lines.AnyLine.{AnyLine}
-use Rattle.ak_lines.specs.declared.desk_lines.DeskLine.{DeskLine}
-use Rattle.ak_lines.specs.declared.desk_lines.DeskLine.TheVariants as lines
 use Rattle.ak_study.specs.declared.answers.CardAnswer.{CardAnswer}
-use Rattle.ak_texts.specs.declared.answers.DeskAnswer.{DeskAnswer}
-use Rattle.ak_texts.specs.declared.line_refusals.LineRefusal.{LineRefusal}
 
 -- a line that drops a deck
 pub first_dropped : (line : DeskLine) (at : ℤ) (before mid : DeskState) (first : Result (Unit {0}) DeskFault) (deck : ℤ) → dropped_deck line ≡ Some deck

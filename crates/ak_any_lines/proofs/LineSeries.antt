@@ -43,9 +43,9 @@ use Rattle.ak_keep.specs.Graves.{RowsByName}
 use Rattle.ak_keep.specs.Keepers.{Keeping, WhereHeld}
 use Rattle.ak_keep.specs.Marks as marks
 use Rattle.ak_keep.specs.Marks.{WithMark}
-use Rattle.ak_lines.specs.declared.any_lines.AnyLine.TheVariants as anys
-use Rattle.ak_lines.specs.declared.any_lines.AnyLine.{AnyLine}
-use Rattle.ak_lines.specs.declared.desk_lines.DeskLine.{DeskLine}
+use Rattle.ak_desk_language.specs.declared.any_lines.AnyLine.TheVariants as anys
+use Rattle.ak_desk_language.specs.declared.any_lines.AnyLine.{AnyLine}
+use Rattle.ak_desk_language.specs.declared.desk_lines.DeskLine.{DeskLine}
 use Rattle.ak_merge.specs.EditBuilding.{unedited, with_row}
 use Rattle.ak_merge.specs.Edits.{Admits, Edit, Reversal, advanced}
 use Rattle.ak_merge.specs.Holdings.{AreNamed, IsSingle, row_under}
@@ -53,8 +53,8 @@ use Rattle.ak_merge.specs.Undoing.{KeepsAll, StepFits, StepsSuit}
 use Rattle.ak_study.proofs.AdmittedAnswers.{answers_are_admitted}
 use Rattle.ak_study.specs.Answers.{answer_edit}
 use Rattle.ak_study.specs.declared.answers.CardAnswer.{CardAnswer}
-use Rattle.ak_texts.specs.declared.answers.DeskAnswer.{DeskAnswer}
-use Rattle.ak_texts.specs.declared.line_refusals.LineRefusal.{LineRefusal}
+use Rattle.ak_desk_texts.specs.declared.answers.DeskAnswer.{DeskAnswer}
+use Rattle.ak_desk_texts.specs.declared.line_refusals.LineRefusal.{LineRefusal}
 use Rattle.ak_undo.specs.declared.steps.Step.{Step}
 
 -- ---- the laws of the calls

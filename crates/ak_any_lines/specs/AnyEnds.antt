@@ -6,24 +6,24 @@ use Rattle.ak_any_lines.specs.FirstThings.{GoesFirst}
 use Rattle.ak_any_lines.specs.LineResults.{by_call, by_desk}
 use Rattle.ak_base.specs.declared.cards.Card.{Card}
 use Rattle.ak_desk.specs.declared.desks.Desk.{Desk}
+use Rattle.ak_desk_language.specs.declared.any_lines.AnyLine.{AnyLine}
+use Rattle.ak_desk_language.specs.declared.any_lines.AnyLine.TheVariants as anys
+use Rattle.ak_desk_language.specs.declared.desk_lines.DeskLine.{DeskLine}
+use Rattle.ak_desk_language.specs.declared.desk_lines.DeskLine.TheVariants as lines
 use Rattle.ak_desk_lines.specs.Accepted.{answer_with, card_answer, given_answer}
 use Rattle.ak_desk_lines.specs.DeskStates.{DeskState, state_of}
 use Rattle.ak_desk_lines.specs.LineEnds.{AppliesFilters, EndsLine}
 use Rattle.ak_desk_lines.specs.declared.turns.Turn.{Turn}
+use Rattle.ak_desk_texts.specs.declared.answers.DeskAnswer.{DeskAnswer}
+use Rattle.ak_desk_texts.specs.declared.answers.DeskAnswer.TheVariants as answers
+use Rattle.ak_desk_texts.specs.declared.line_refusals.LineRefusal.{LineRefusal}
 use Rattle.ak_edit.specs.declared.desk_faults.DeskFault.{DeskFault}
 use Rattle.ak_filtered.specs.declared.deck_makings.NewFiltered.{NewFiltered}
 use Rattle.ak_filtered.specs.declared.faults.FilteredFault.{FilteredFault}
 use Rattle.ak_filters.specs.Meanings.{Meaning}
 use Rattle.ak_keep.specs.Keepers.{Keeping}
 use Rattle.ak_keep.specs.declared.readables.Lookup.{Ghosts}
-use Rattle.ak_lines.specs.declared.any_lines.AnyLine.{AnyLine}
-use Rattle.ak_lines.specs.declared.any_lines.AnyLine.TheVariants as anys
-use Rattle.ak_lines.specs.declared.desk_lines.DeskLine.{DeskLine}
-use Rattle.ak_lines.specs.declared.desk_lines.DeskLine.TheVariants as lines
 use Rattle.ak_study.specs.declared.answers.CardAnswer.{CardAnswer}
-use Rattle.ak_texts.specs.declared.answers.DeskAnswer.{DeskAnswer}
-use Rattle.ak_texts.specs.declared.answers.DeskAnswer.TheVariants as answers
-use Rattle.ak_texts.specs.declared.line_refusals.LineRefusal.{LineRefusal}
 
 -- ---- lines that are one call
 -- the answer that a line gives in its turn, if it is one

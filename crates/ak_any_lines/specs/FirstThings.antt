@@ -2,14 +2,14 @@
 use Rattle.std.specs.Prelude.{◌≡◌, ℤ, Bool, List, Option, Some, None, Result, Ok, IfErr, OnErr}
 use Rattle.std.specs.Option.{MatchOption}
 use Rattle.ak_any_lines.specs.LineResults.{without_value}
+use Rattle.ak_desk_language.specs.declared.desk_lines.DeskLine.{DeskLine}
+use Rattle.ak_desk_language.specs.declared.desk_lines.DeskLine.TheVariants as lines
 use Rattle.ak_desk_lines.specs.DeskStates.{DeskState}
 use Rattle.ak_edit.specs.Refusals.{IsEndFault}
 use Rattle.ak_edit.specs.declared.desk_faults.DeskFault.{DeskFault}
 use Rattle.ak_filtered.specs.Emptyings.{EndsEmptied, filtered_below}
 use Rattle.ak_filtered.specs.HomeGoings.{EndsSending}
 use Rattle.ak_keep.specs.Keepers.{WhereHeld}
-use Rattle.ak_lines.specs.declared.desk_lines.DeskLine.{DeskLine}
-use Rattle.ak_lines.specs.declared.desk_lines.DeskLine.TheVariants as lines
 
 -- each filtered deck in the subtree of a deck was emptied, by ascending id, until one was refused; those emptied by then stay so
 pub record EmptiesFirst (at deck : ℤ) (before mid : DeskState) (first : Result (Unit {0}) DeskFault) : Type 0 where

@@ -1,13 +1,13 @@
 -- How calls are answered as lines.
 use Rattle.std.specs.Prelude.{Result, Ok, Err}
+use Rattle.ak_desk_texts.specs.declared.answers.DeskAnswer.{DeskAnswer}
+use Rattle.ak_desk_texts.specs.declared.line_refusals.LineRefusal.{LineRefusal}
+use Rattle.ak_desk_texts.specs.declared.line_refusals.LineRefusal.TheVariants as refusals
 use Rattle.ak_edit.specs.declared.desk_faults.DeskFault.{DeskFault}
 use Rattle.ak_edit.specs.declared.desk_faults.DeskFault.TheVariants as desk
 use Rattle.ak_faults.specs.Causes.{Health, HasCauseOf}
 use Rattle.ak_filtered.specs.declared.faults.FilteredFault.{FilteredFault}
 use Rattle.ak_filtered.specs.declared.faults.FilteredFault.TheVariants as filtered
-use Rattle.ak_texts.specs.declared.answers.DeskAnswer.{DeskAnswer}
-use Rattle.ak_texts.specs.declared.line_refusals.LineRefusal.{LineRefusal}
-use Rattle.ak_texts.specs.declared.line_refusals.LineRefusal.TheVariants as refusals
 
 -- the answer of a line that is one call; its refusal is the desk's
 abbrev pub by_desk : Result DeskAnswer DeskFault → Result DeskAnswer LineRefusal

@@ -2,18 +2,18 @@ ghost use Rattle.std.specs.Prelude.{◌≡◌, map};
 ghost use Rattle.ak_any_lines.specs.AnyEnds.{AppliesToAny, EndsAnyAt};
 ghost use Rattle.ak_any_lines.specs.LineResults.{RefusalCause, by_desk};
 ghost use Rattle.ak_desk.specs.Desks.{IsIdle};
-ghost use Rattle.ak_lines.specs.AnyLines.{IsAnyInRange};
+ghost use Rattle.ak_desk_language.specs.AnyLines.{IsAnyInRange};
 ghost use Rattle.ak_study.specs.DayStarts.{IsInDay};
 
 use crate::filtered_lines::{build_deck, empty_deck, make_deck};
 use crate::single_lines::obey_single;
 use ak_desk::Desk;
+use ak_desk_language::AnyLine;
 use ak_desk_lines::Turn;
+use ak_desk_texts::{DeskAnswer, LineRefusal};
 use ak_edit::DeskFault;
 use ak_filters::FieldFilter;
 use ak_keep::Keeper;
-use ak_lines::AnyLine;
-use ak_texts::{DeskAnswer, LineRefusal};
 
 /// Does what a line says at a desk, and gives its answer. A line about filtered decks that is refused leaves all as it was. Of any
 /// other line, what came before it stays where it is refused: `drop` leaves emptied what it emptied, and `move` and an answer leave

@@ -3,18 +3,18 @@ ghost use Rattle.std.specs.Prelude.{◌≡◌};
 ghost use Rattle.ak_any_lines.specs.AnyEnds.{EndsAnyAt};
 ghost use Rattle.ak_any_lines.specs.LineResults.{RefusalCause, by_call, line_refusal};
 ghost use Rattle.ak_desk.specs.Desks.{IsIdle};
-ghost use Rattle.ak_lines.specs.declared.any_lines.AnyLine.TheVariants as lines;
+ghost use Rattle.ak_desk_language.specs.declared.any_lines.AnyLine.TheVariants as lines;
+ghost use Rattle.ak_desk_texts.specs.declared.answers.DeskAnswer.TheVariants as answers;
 ghost use Rattle.ak_study.specs.DayStarts.{IsInDay};
-ghost use Rattle.ak_texts.specs.declared.answers.DeskAnswer.TheVariants as answers;
 
 use crate::filtered_calls::{build, empty, make_filtered};
 use ak_base::Text;
 use ak_desk::Desk;
 use ak_desk_lines::Turn;
+use ak_desk_texts::{DeskAnswer, LineRefusal};
 use ak_edit::DeskFault;
 use ak_filtered::{FilteredFault, NewFiltered};
 use ak_keep::Keeper;
-use ak_texts::{DeskAnswer, LineRefusal};
 
 /// `filter`: makes a filtered deck.
 pub(crate) fn make_deck<K: Keeper>(

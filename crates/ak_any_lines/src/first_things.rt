@@ -8,11 +8,11 @@ ghost use Rattle.ak_desk_lines.specs.DeskStates.{state_of};
 ghost use Rattle.ak_edit.specs.Refusals.{DeskCause};
 
 use ak_desk::Desk;
+use ak_desk_language::DeskLine;
 use ak_desk_lines::Turn;
 use ak_edit::DeskFault;
 use ak_filtered::{empty_subtree, send_home};
 use ak_keep::Keeper;
-use ak_lines::DeskLine;
 
 /// Does what comes before a line: `drop` first empties each filtered deck of the subtree, and `move` first sends its cards home.
 /// What it did stays, whatever comes of the line.

@@ -2,14 +2,14 @@
 ghost use Rattle.std.specs.Prelude.{Result};
 ghost use Rattle.ak_any_lines.specs.AnyEnds.{EndsAnyLine};
 ghost use Rattle.ak_any_lines.specs.LineSeries.{IsInSteps};
+ghost use Rattle.ak_desk_language.specs.declared.any_lines.AnyLine.{AnyLine};
 ghost use Rattle.ak_desk_lines.specs.DeskStates.{DeskState};
 ghost use Rattle.ak_desk_lines.specs.LineSteps.{KeepsLinks};
 ghost use Rattle.ak_desk_lines.specs.declared.turns.Turn.{Turn};
+ghost use Rattle.ak_desk_texts.specs.declared.answers.DeskAnswer.{DeskAnswer};
+ghost use Rattle.ak_desk_texts.specs.declared.line_refusals.LineRefusal.{LineRefusal};
 ghost use Rattle.ak_edit.specs.Undos.{SuitsNow};
 ghost use Rattle.ak_keep.specs.Keepers.{WhereHeld};
-ghost use Rattle.ak_lines.specs.declared.any_lines.AnyLine.{AnyLine};
-ghost use Rattle.ak_texts.specs.declared.answers.DeskAnswer.{DeskAnswer};
-ghost use Rattle.ak_texts.specs.declared.line_refusals.LineRefusal.{LineRefusal};
 
 use ak_away_answers::early_answers_are_admitted;
 use ak_desk_lines::lines_are_single_steps;

@@ -2,23 +2,23 @@
 ghost use Rattle.std.specs.Prelude.{◌≡◌, map, IfSome};
 ghost use Rattle.ak_any_lines.specs.AnyEnds.{AnswersGiven, EndsAfterFirst, EndsSingle, given_in};
 ghost use Rattle.ak_desk.specs.Desks.{IsIdle};
+ghost use Rattle.ak_desk_language.specs.DeskLines.{IsInRange};
 ghost use Rattle.ak_desk_lines.specs.DeskStates.{state_of};
 ghost use Rattle.ak_desk_lines.specs.LineEnds.{AppliesFilters};
 ghost use Rattle.ak_edit.specs.Refusals.{DeskCause};
-ghost use Rattle.ak_lines.specs.DeskLines.{IsInRange};
 ghost use Rattle.ak_study.specs.Answers.{IsButton};
 ghost use Rattle.ak_study.specs.DayStarts.{IsInDay};
 
 use crate::filtered_calls::answer_any;
 use crate::first_things::go_first;
 use ak_desk::Desk;
+use ak_desk_language::DeskLine;
 use ak_desk_lines::{Turn, answered, obey};
+use ak_desk_texts::DeskAnswer;
 use ak_edit::DeskFault;
 use ak_filters::FieldFilter;
 use ak_keep::Keeper;
-use ak_lines::DeskLine;
 use ak_study::CardAnswer;
-use ak_texts::DeskAnswer;
 
 /// Does a line that is one call. The answer of a card that is away is not that of a card at home, and before any other line comes
 /// what goes first.

@@ -9,12 +9,12 @@ use Rattle.ak_away_answers.specs.EarlyEdits.{IsHeldAsked}
 use Rattle.ak_away_answers.specs.declared.early_answers.Asked.{Asked}
 use Rattle.ak_base.specs.Days.{IsDayOf}
 use Rattle.ak_base.specs.declared.cards.Card.{Card}
-use Rattle.ak_calls.proofs.Telling.{where_held-both, where_held-map, where_rows_held, where_told-both}
-use Rattle.ak_calls.specs.NewNames.{IsIdFault}
 use Rattle.ak_edit.specs.Ends.{RefusesStamp}
 use Rattle.ak_edit.specs.Refusals.{AnswersBy, IsEndFault, IsFromOutside}
 use Rattle.ak_edit.specs.declared.desk_faults.DeskFault.{DeskFault}
 use Rattle.ak_edit.specs.declared.desk_faults.DeskFault.TheVariants as faults
+use Rattle.ak_edit_calls.proofs.Telling.{where_held-both, where_held-map, where_rows_held, where_told-both}
+use Rattle.ak_edit_calls.specs.NewNames.{IsIdFault}
 use Rattle.ak_filtered.proofs.Buildings.{day_held}
 use Rattle.ak_filtered.proofs.Told.{held_always, held_pair, through}
 use Rattle.ak_filtered.specs.Building.{IsDayRead}

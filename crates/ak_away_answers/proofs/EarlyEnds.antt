@@ -20,15 +20,15 @@ use Rattle.ak_base.specs.declared.option_groups.Options.{Options}
 use Rattle.ak_base.specs.declared.reviews.Review.{Review}
 use Rattle.ak_base.specs.declared.rows.Row.{Row}
 use Rattle.ak_base.specs.declared.rows.Row.TheVariants as rows
-use Rattle.ak_calls.proofs.Answering.{never_first}
-use Rattle.ak_calls.proofs.CheckedEdits.{checked_edits_pass}
-use Rattle.ak_calls.proofs.Telling.{where_held-both, where_held-map, where_rows_held, where_told-both}
-use Rattle.ak_calls.specs.NewNames.{IsNewName, RefusesId, first_name}
 use Rattle.ak_edit.proofs.Building.{nothing_asked, put_asked}
 use Rattle.ak_edit.specs.Ends.{AnswersEnd, IsHeldRightly, RefusesEnd, RefusesRow, RefusesStamp}
 use Rattle.ak_edit.specs.Overlays.{Overlay, edit_of, put_over, unchanged}
 use Rattle.ak_edit.specs.Refusals.{AnswersBy, IsFromOutside}
 use Rattle.ak_edit.specs.declared.desk_faults.DeskFault.{DeskFault}
+use Rattle.ak_edit_calls.proofs.Answering.{never_first}
+use Rattle.ak_edit_calls.proofs.CheckedEdits.{checked_edits_pass}
+use Rattle.ak_edit_calls.proofs.Telling.{where_held-both, where_held-map, where_rows_held, where_told-both}
+use Rattle.ak_edit_calls.specs.NewNames.{IsNewName, RefusesId, first_name}
 use Rattle.ak_filtered.proofs.Told.{held_always, held_pair}
 use Rattle.ak_filtered.specs.ClearedEdits.{ClearedBy, IsCleared}
 use Rattle.ak_filtered.specs.HomeDecks.{DeckFlags, filtered_at, flags_of, gone_home}

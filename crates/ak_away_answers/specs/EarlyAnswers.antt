@@ -9,10 +9,10 @@ use Rattle.ak_base.specs.declared.names.Table.TheVariants as tables
 use Rattle.ak_base.specs.declared.option_groups.Options.{Options}
 use Rattle.ak_base.specs.declared.reviews.Review.{Review}
 use Rattle.ak_base.specs.declared.rows.Row.TheVariants as rows
-use Rattle.ak_calls.specs.NewNames.{first_name}
 use Rattle.ak_edit.specs.Ends.{RefusesStamp}
 use Rattle.ak_edit.specs.Refusals.{OrElse, Refusal}
 use Rattle.ak_edit.specs.declared.desk_faults.DeskFault.{DeskFault}
+use Rattle.ak_edit_calls.specs.NewNames.{first_name}
 use Rattle.ak_filtered.specs.ClearedEdits.{IsCleared}
 use Rattle.ak_filtered.specs.HomeDecks.{DeckFlags, filtered_at, gone_home}
 use Rattle.ak_keep.specs.Collections.{Collection}

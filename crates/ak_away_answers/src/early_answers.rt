@@ -6,7 +6,7 @@ ghost use Rattle.ak_base.specs.Reviews.{IsCheckedReview};
 ghost use Rattle.ak_sched.specs.Counts.{clamped_to_zero};
 ghost use Rattle.ak_sched.specs.Ranges.{AreOptions};
 ghost use Rattle.ak_base.specs.Columns.{id_fault};
-ghost use Rattle.ak_calls.specs.NewNames.{IsIdFault};
+ghost use Rattle.ak_edit_calls.specs.NewNames.{IsIdFault};
 ghost use Rattle.ak_edit.specs.Overlays.{unchanged};
 ghost use Rattle.ak_edit.specs.Refusals.{DeskCause, IsEndFault};
 ghost use Rattle.ak_away_answers.specs.AwayAnswers.{EndsEarly};
@@ -18,8 +18,8 @@ ghost use Rattle.ak_study.specs.Answers.{IsButton};
 
 use crate::early_intervals::{clamped_to_zero, early_factor, early_ivl, one_more};
 use ak_base::{Card, Day, Memory, Options, Review, Row, Table};
-use ak_calls::new_name;
 use ak_edit::{Change, DeskFault};
+use ak_edit_calls::new_name;
 use ak_filtered::{HeldDecks, finish_cleared};
 use ak_keep::{KeepFault, Keeper};
 use ak_study::{CardAnswer, options_for};

@@ -4,9 +4,9 @@ use Rattle.ak_faults.specs.Causes.{one_more}
 use Rattle.ak_call_counts.specs.declared.call_counts.CallCounts.{CallCounts}
 use Rattle.ak_messages.specs.declared.replies.Reply.{Reply}
 use Rattle.ak_messages.specs.declared.requests.Request.{Request}
-use Rattle.ak_wires.specs.Wires.{said_after, silence_after}
-use Rattle.ak_wires.specs.declared.wires.WireEnd.{WireEnd}
-use Rattle.ak_wires.specs.declared.wires.WireEnd.TheVariants as ends
+use Rattle.ak_client_wire.specs.Wires.{said_after, silence_after}
+use Rattle.ak_client_wire.specs.declared.wires.WireEnd.{WireEnd}
+use Rattle.ak_client_wire.specs.declared.wires.WireEnd.TheVariants as ends
 
 -- no call was made
 abbrev pub no_calls : CallCounts

@@ -1,8 +1,8 @@
 ghost use Rattle.std.specs.Prelude.{◌≡◌, ◌≤◌};
 ghost use Rattle.ak_call_counts.specs.CallCounts.{counts_after, no_calls};
 
+use ak_client_wire::{Said, WireEnd, said_of};
 use ak_messages::{Reply, Request};
-use ak_wires::{Said, WireEnd, said_of};
 
 /// What a wire counts of its calls, and what the reply of the last one said. Each count stays at the last `u64`. It takes no memory.
 #[derive(Drop)]

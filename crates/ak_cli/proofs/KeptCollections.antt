@@ -2,11 +2,11 @@
 use Rattle.std.specs.Prelude.{◌≡◌, ℕ, ℤ, List, Option}
 use Rattle.std.proofs.Common.{ap}
 use Rattle.ak_cli.specs.ProgramEnds.{ProgramOutside, program_outside}
+use Rattle.ak_client_wire.specs.Wires.{WireKind, WireState}
 use Rattle.ak_faults.specs.Causes.{Health}
 use Rattle.ak_filters.specs.Meanings.{Meaning}
 use Rattle.ak_keep.specs.Keepers.{Keeping}
-use Rattle.ak_loops.specs.declared.logs.Entry.{Entry}
-use Rattle.ak_wires.specs.Wires.{WireKind, WireState}
+use Rattle.ak_sync_in_memory.specs.declared.logs.Entry.{Entry}
 
 -- if the keeper is as it was, nothing else of it differs
 pub same_keeping : {kind : WireKind} (left written : Option (List ℕ)) (now before : Keeping) (health : Health) (wire : WireState kind) (moments : Option (List ℤ)) (words : Option (List ℕ))

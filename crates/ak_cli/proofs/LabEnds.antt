@@ -5,7 +5,7 @@ use Rattle.ak_io.specs.declared.endings.ScriptEnd.{ScriptEnd}
 use Rattle.ak_io.specs.declared.endings.ScriptEnd.TheVariants as ends
 use Rattle.ak_io.specs.declared.lines.Line.{Line}
 use Rattle.ak_lab.specs.LabRuns.{RunsLab}
-use Rattle.ak_loops.specs.declared.logs.Log.{Log}
+use Rattle.ak_sync_in_memory.specs.declared.logs.Log.{Log}
 
 -- a log that is as it was has the entries that it had
 pub lab_ended : (end : ScriptEnd) (all : Option (List Line)) (before after : Log) (old new : Option (List ℕ))

@@ -3,6 +3,7 @@ use Rattle.std.specs.Io.KnownBytes.{Appends, Keeps}
 use Rattle.std.specs.Prelude.{◌≡◌, ◌⊎◌, ℕ, ℤ, Bool, true, false, List, Option, Some, None}
 use Rattle.ak_base.specs.declared.keys.HostKey.{HostKey}
 use Rattle.ak_cli.specs.Programs.{Named, Lab, Init, Desk, Sync, Upload, Download, Import, Export, Make, command_status, status_of, usage_line}
+use Rattle.ak_client_wire.specs.Wires.{WireKind, WireState}
 use Rattle.ak_csv_runs.specs.ExportRuns.{EndsExport}
 use Rattle.ak_csv_runs.specs.FileRuns.{FileOutside, file_outside}
 use Rattle.ak_csv_runs.specs.ImportRuns.{EndsImport}
@@ -19,11 +20,10 @@ use Rattle.ak_io.specs.declared.endings.ScriptEnd.TheVariants as ends
 use Rattle.ak_io.specs.declared.lines.Line.{Line}
 use Rattle.ak_keep.specs.Keepers.{Keeping}
 use Rattle.ak_lab.specs.LabRuns.{RunsLab}
-use Rattle.ak_loops.specs.declared.logs.Entry.{Entry}
 use Rattle.ak_makes.specs.MakeLines.{EndsMake}
+use Rattle.ak_sync_in_memory.specs.declared.logs.Entry.{Entry}
 use Rattle.ak_sync_runs.specs.SyncRuns.{EndsSync, SyncOutside, sync_outside}
 use Rattle.ak_transfer_runs.specs.TransferRuns.{EndsDownload, EndsUpload}
-use Rattle.ak_wires.specs.Wires.{WireKind, WireState}
 
 -- what is known of what a command is given: the bytes to read, those that were written, the keeper, the wire, the moments and words of
 -- chance to come, what came to a lab's server, and the filters

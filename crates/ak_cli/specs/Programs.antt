@@ -7,12 +7,12 @@ use Rattle.ak_base.specs.Decimals.{number_of}
 use Rattle.ak_base.specs.Keys.{host_digits}
 use Rattle.ak_cli.specs.declared.program_commands.ProgramCommand.{ProgramCommand}
 use Rattle.ak_cli.specs.declared.program_commands.ProgramCommand.TheVariants as programs
+use Rattle.ak_desk_language.specs.Reading.{number_in}
 use Rattle.ak_desk_runs.specs.declared.command_ends.CommandEnd.{CommandEnd}
 use Rattle.ak_desk_runs.specs.declared.command_ends.CommandEnd.TheVariants as commands
 use Rattle.ak_faults.specs.Causes.{Health}
 use Rattle.ak_io.specs.declared.endings.ScriptEnd.{ScriptEnd}
 use Rattle.ak_io.specs.declared.endings.ScriptEnd.TheVariants as ends
-use Rattle.ak_lines.specs.Reading.{number_in}
 use Rattle.ak_made_collections.specs.Sizes.{size_in}
 use Rattle.ak_note_files.specs.declared.places.ImportPlace.{ImportPlace}
 

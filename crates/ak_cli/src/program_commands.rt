@@ -4,7 +4,7 @@ ghost use Rattle.ak_cli.specs.Programs.{command_named, command_of, command_with,
 
 use ak_base::{HostKey, read_number};
 use ak_csv_runs::ImportPlace;
-use ak_lines::number_in;
+use ak_desk_language::number_in;
 use ak_made_collections::{MakePlan, MakeSize};
 
 /// The greatest number that fits 64 bits with its sign. Whether an id is that of a row is not asked of a word.

@@ -8,17 +8,17 @@ ghost use Rattle.ak_keep.specs.Keepers.{is_marked};
 
 use crate::program_commands::{ProgramCommand, command_of};
 use crate::statuses::{KEEPER_FAILED, READ_FAILED, USAGE, WRITE_FAILED, command_status, status_of};
+use ak_client_wire::Wire;
 use ak_csv_runs::{run_export, run_import};
 use ak_desk_runs::{init_collection, run_desk};
 use ak_filters::FieldFilter;
 use ak_io::{Chance, Clock, Failed, Sink, Source, write_all};
 use ak_keep::Keeper;
 use ak_lab::run_lab;
-use ak_loops::Log;
 use ak_makes::make;
+use ak_sync_in_memory::Log;
 use ak_sync_runs::run_sync;
 use ak_transfer_runs::{run_download, run_upload};
-use ak_wires::Wire;
 use std::alloc::Global;
 
 /// Does the command that the words name, and answers the status with which the program ends. All but `lab` and `make` work on the collection

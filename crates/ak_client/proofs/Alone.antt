@@ -7,6 +7,8 @@ use Rattle.std.proofs.lemmas.List.{append_cancel_right}
 use Rattle.std.proofs.lemmas.Option.{same_Some}
 use Rattle.ak_client.proofs.Growing.{commits_grown, world_grown}
 use Rattle.ak_client.specs.Syncs.{CommitsAlone, CommitsAloneTold, world_at}
+use Rattle.ak_client_wire.specs.Wires.{WireKind, Carries, GrowsByServings, IsServing, WireState}
+use Rattle.ak_client_wire.specs.declared.wires.WireEnd.{WireEnd}
 use Rattle.ak_exchange.specs.Asked.{AreTried}
 use Rattle.ak_faults.specs.Causes.{Health}
 use Rattle.ak_keep.specs.Collections.{Collection}
@@ -20,8 +22,6 @@ use Rattle.ak_protocol.specs.Logs.{Commit, Event, View, Asked, World, Log, Grows
 use Rattle.ak_protocol.specs.Servers.{same_host}
 use Rattle.ak_protocol.specs.Serving.{served}
 use Rattle.ak_session.specs.Plans.{Asker, requests_from}
-use Rattle.ak_wires.specs.Wires.{WireKind, Carries, GrowsByServings, IsServing, WireState}
-use Rattle.ak_wires.specs.declared.wires.WireEnd.{WireEnd}
 
 -- ---- what stays
 pub alone_stays : {kind : WireKind} (list : List Request) (answers : List (Result Reply WireEnd)) (h0 h1 : Health) (w0 w1 : WireState kind) → AreTried list answers h0 h1 w0 w1

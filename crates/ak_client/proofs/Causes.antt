@@ -9,6 +9,14 @@ use Rattle.ak_client.specs.Greetings.{EndsAtDevice, EndsGreeting, Finds, IsGreet
 use Rattle.ak_client.specs.Outcomes.{is_told_by_meta, outcome_at}
 use Rattle.ak_client.specs.Syncs.{EndsBecause, EndsByMeta, told_by}
 use Rattle.ak_client.specs.declared.outcomes.Outcome.{Outcome}
+use Rattle.ak_client_wire.specs.Forms.{meta_in}
+use Rattle.ak_client_wire.specs.Tries.{granted_in, in_form}
+use Rattle.ak_client_wire.specs.Wires.{WireKind, WireState}
+use Rattle.ak_client_wire.specs.declared.asks.Unanswered.{Unanswered}
+use Rattle.ak_client_wire.specs.declared.asks.Unanswered.TheVariants as unanswered
+use Rattle.ak_client_wire.specs.declared.wires.MetaSaid.{MetaSaid}
+use Rattle.ak_client_wire.specs.declared.wires.WireEnd.{WireEnd}
+use Rattle.ak_client_wire.specs.declared.wires.WireEnd.TheVariants as ends
 use Rattle.ak_exchange.specs.Asked.{TriedAsk}
 use Rattle.ak_exchange.specs.Stops.{keep_stop, wire_stop}
 use Rattle.ak_exchange.specs.declared.envelopes.Ids.{Ids}
@@ -26,14 +34,6 @@ use Rattle.ak_merge.specs.Soundness.{first_fault}
 use Rattle.ak_merge.specs.declared.checks.CheckFault.{CheckFault}
 use Rattle.ak_messages.specs.declared.replies.Reply.{Reply}
 use Rattle.ak_protocol.proofs.Commits.{not_both}
-use Rattle.ak_wires.specs.Forms.{meta_in}
-use Rattle.ak_wires.specs.Tries.{granted_in, in_form}
-use Rattle.ak_wires.specs.Wires.{WireKind, WireState}
-use Rattle.ak_wires.specs.declared.asks.Unanswered.{Unanswered}
-use Rattle.ak_wires.specs.declared.asks.Unanswered.TheVariants as unanswered
-use Rattle.ak_wires.specs.declared.wires.MetaSaid.{MetaSaid}
-use Rattle.ak_wires.specs.declared.wires.WireEnd.{WireEnd}
-use Rattle.ak_wires.specs.declared.wires.WireEnd.TheVariants as ends
 
 -- ---- what a meta told
 err-ok : (why : Unanswered) (said : MetaSaid) → Err why ≡ Ok said → ⊥

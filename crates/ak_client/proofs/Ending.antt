@@ -11,6 +11,9 @@ use Rattle.ak_client.specs.Outcomes.{EndsFor, is_told_by_meta, outcome_at, outco
 use Rattle.ak_client.specs.Syncs.{ArePlain, EndsAt, LacksMemoryEarly, ends_before_finish}
 use Rattle.ak_client.specs.declared.outcomes.Outcome.{Outcome}
 use Rattle.ak_client.specs.declared.outcomes.Outcome.TheVariants as outcomes
+use Rattle.ak_client_wire.specs.Wires.{WireKind, WireState}
+use Rattle.ak_client_wire.specs.declared.asks.Unanswered.{Unanswered}
+use Rattle.ak_client_wire.specs.declared.asks.Unanswered.TheVariants as unanswered
 use Rattle.ak_device.proofs.Receiving.{received_nothing}
 use Rattle.ak_exchange.proofs.Stopping.{bad_check_granted, ends_then, granted_but_last, granted_then, part_stops, rows_then}
 use Rattle.ak_exchange.proofs.Tried.{asked_then, asks_append, few_more, few_none, few_then}
@@ -36,9 +39,6 @@ use Rattle.ak_protocol.proofs.Commits.{not_both}
 use Rattle.ak_protocol.specs.Accounts.{AccountState}
 use Rattle.ak_session.specs.Plans.{planned}
 use Rattle.ak_session.specs.Slices.{wanted_graves}
-use Rattle.ak_wires.specs.Wires.{WireKind, WireState}
-use Rattle.ak_wires.specs.declared.asks.Unanswered.{Unanswered}
-use Rattle.ak_wires.specs.declared.asks.Unanswered.TheVariants as unanswered
 
 -- ---- the requests for graves
 if_any : {T : Type 0} (o : Option T) (P : T → Type 0) → ((x : T) → P x) → IfSome o P

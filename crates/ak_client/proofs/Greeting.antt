@@ -31,14 +31,14 @@ use Rattle.ak_protocol.specs.Accounts.{AccountState}
 use Rattle.ak_protocol.specs.Logs.{Event, Asked, Log, Grows, IsTimely, with_growth}
 use Rattle.ak_protocol.specs.Replies.{granted, meta_reply}
 use Rattle.ak_protocol.specs.Syncs.{IsUnderWay, IsUnused}
-use Rattle.ak_wires.specs.Forms.{is_meta_in_range, meta_in, meta_told}
-use Rattle.ak_wires.specs.Tries.{Answered, granted_by, granted_in, in_form}
-use Rattle.ak_wires.specs.Wires.{WireKind, WireState, Carries}
-use Rattle.ak_wires.specs.declared.asks.Unanswered.{Unanswered}
-use Rattle.ak_wires.specs.declared.asks.Unanswered.TheVariants as unanswered
-use Rattle.ak_wires.specs.declared.wires.MetaSaid.{MetaSaid}
-use Rattle.ak_wires.specs.declared.wires.WireEnd.{WireEnd}
-use Rattle.ak_wires.specs.declared.wires.WireEnd.TheVariants as ends
+use Rattle.ak_client_wire.specs.Forms.{is_meta_in_range, meta_in, meta_told}
+use Rattle.ak_client_wire.specs.Tries.{Answered, granted_by, granted_in, in_form}
+use Rattle.ak_client_wire.specs.Wires.{WireKind, WireState, Carries}
+use Rattle.ak_client_wire.specs.declared.asks.Unanswered.{Unanswered}
+use Rattle.ak_client_wire.specs.declared.asks.Unanswered.TheVariants as unanswered
+use Rattle.ak_client_wire.specs.declared.wires.MetaSaid.{MetaSaid}
+use Rattle.ak_client_wire.specs.declared.wires.WireEnd.{WireEnd}
+use Rattle.ak_client_wire.specs.declared.wires.WireEnd.TheVariants as ends
 
 is_200 : (status : ℕ) → (status == 200) ≡ true → status ≡ 200
 is_200 status is = grind (arith, is)

@@ -3,6 +3,8 @@ use Rattle.std.specs.List.{AllByRecursion}
 use Rattle.std.specs.Prelude.{◌≡◌, List, [], ◌∷◌, ◌++◌, Option, Some, Result}
 use Rattle.std.proofs.Common.{sym, ap, subst, ◌∙◌, append_assoc, append-nil}
 use Rattle.ak_client.specs.Syncs.{world_at}
+use Rattle.ak_client_wire.specs.Wires.{WireKind, Carries, WireState}
+use Rattle.ak_client_wire.specs.declared.wires.WireEnd.{WireEnd}
 use Rattle.ak_exchange.specs.Asked.{AreTried}
 use Rattle.ak_faults.specs.Causes.{Health}
 use Rattle.ak_keep.specs.Collections.{Collection}
@@ -17,8 +19,6 @@ use Rattle.ak_protocol.specs.Commits.{CommitsGrow, EachNewer, HasFreshSchema}
 use Rattle.ak_protocol.specs.LawfulServers.{IsLawfulAccount}
 use Rattle.ak_protocol.specs.Logs.{Event, View, Asked, World, Log, Grows, IsTimely, MayCome, opened, world_after, with_growth, events_of}
 use Rattle.ak_session.specs.Plans.{Asker}
-use Rattle.ak_wires.specs.Wires.{WireKind, Carries, WireState}
-use Rattle.ak_wires.specs.declared.wires.WireEnd.{WireEnd}
 
 -- a log grew to what is told, by what came at moments that a clock may tell
 pub record HasGrown (old : Log) (told : Option Log) : Type 0 where

@@ -16,11 +16,11 @@ use Rattle.ak_keep.specs.Keepers.{Keeping}
 use Rattle.ak_messages.specs.declared.replies.Reply.{Reply}
 use Rattle.ak_messages.specs.declared.requests.Request.{Request}
 use Rattle.ak_session.specs.Plans.{requests_from}
-use Rattle.ak_wires.specs.Tries.{Tried, silence_tried}
-use Rattle.ak_wires.specs.Wires.{WireKind, WireState, more, said_after, said_of}
-use Rattle.ak_wires.specs.declared.asks.Unanswered.TheVariants as unanswered
-use Rattle.ak_wires.specs.declared.wires.Said.{Said}
-use Rattle.ak_wires.specs.declared.wires.WireEnd.TheVariants as ends
+use Rattle.ak_client_wire.specs.Tries.{Tried, silence_tried}
+use Rattle.ak_client_wire.specs.Wires.{WireKind, WireState, more, said_after, said_of}
+use Rattle.ak_client_wire.specs.declared.asks.Unanswered.TheVariants as unanswered
+use Rattle.ak_client_wire.specs.declared.wires.Said.{Said}
+use Rattle.ak_client_wire.specs.declared.wires.WireEnd.TheVariants as ends
 
 cons_nil : {X : Type 0} (x : X) (xs : List X) → x ∷ xs ≡ [] → ⊥
 cons_nil x xs is = grind (arith, is)

@@ -2,13 +2,13 @@
 use Rattle.std.specs.Prelude.{◌≡◌, ℕ, true, Result, Ok, Err, OnOk}
 use Rattle.std.proofs.Common.{sym, subst}
 use Rattle.ak_client.specs.States.{ExchangesChanges, IsInSync}
+use Rattle.ak_client_wire.specs.Wires.{WireKind}
 use Rattle.ak_exchange.specs.Asked.{Talk}
 use Rattle.ak_exchange.specs.Phases.{Advances, AreGraveRequests, at_end_of}
 use Rattle.ak_exchange.specs.declared.envelopes.Met.{Met}
 use Rattle.ak_exchange.specs.declared.stops.Stop.{Stop}
 use Rattle.ak_keep.specs.Keepers.{IsMarkedAt, Keeping, back}
 use Rattle.ak_session.specs.Plans.{planned_changes, planned_graves, planned_start}
-use Rattle.ak_wires.specs.Wires.{WireKind}
 
 pub changes_exchanged : {kind : WireKind} (met : Met) (before settled after : Keeping) (was mid now : Talk kind) (result : Result (Unit {0}) Stop)
     → (graves : ℕ) × AreGraveRequests before graves

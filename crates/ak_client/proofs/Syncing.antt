@@ -54,11 +54,11 @@ use Rattle.ak_session.specs.Plans.{Asker, planned, requests_from}
 use Rattle.ak_session.specs.Requests.{asks_commit}
 use Rattle.ak_session.specs.Sessions.{MaySync}
 use Rattle.ak_session.specs.Slices.{wanted_graves, wanted_in_chunks}
-use Rattle.ak_wires.specs.Wires.{WireKind, WireState}
-use Rattle.ak_wires.specs.declared.asks.Unanswered.{Unanswered}
-use Rattle.ak_wires.specs.declared.asks.Unanswered.TheVariants as unanswered
-use Rattle.ak_wires.specs.declared.wires.MetaSaid.{MetaSaid}
-use Rattle.ak_wires.specs.declared.wires.WireEnd.{WireEnd}
+use Rattle.ak_client_wire.specs.Wires.{WireKind, WireState}
+use Rattle.ak_client_wire.specs.declared.asks.Unanswered.{Unanswered}
+use Rattle.ak_client_wire.specs.declared.asks.Unanswered.TheVariants as unanswered
+use Rattle.ak_client_wire.specs.declared.wires.MetaSaid.{MetaSaid}
+use Rattle.ak_client_wire.specs.declared.wires.WireEnd.{WireEnd}
 
 -- ---- a sync whose meta was not answered, or that was ended by it
 synced_unmet : (ids : Ids) (stop : Stop) (c base : Collection) (account : AccountState) (old now : Log) (growth : List Event) (left : Keeping)

@@ -8,6 +8,14 @@ use Rattle.ak_base.specs.Heads.{IsWithin}
 use Rattle.ak_base.specs.Limits.{last_head_usn}
 use Rattle.ak_base.specs.declared.heads.Head.{Head}
 use Rattle.ak_client.specs.Greetings.{EndsAtDevice, Finds, FindsTold, IsGreeting, IsReady, clock_stop, head_stop, is_unchanged, meta_of}
+use Rattle.ak_client_wire.specs.Forms.{is_meta_in_range, is_moment, meta_in, meta_told}
+use Rattle.ak_client_wire.specs.Tries.{Answered, granted_in, in_form}
+use Rattle.ak_client_wire.specs.Wires.{WireKind, WireState}
+use Rattle.ak_client_wire.specs.declared.asks.Unanswered.{Unanswered}
+use Rattle.ak_client_wire.specs.declared.asks.Unanswered.TheVariants as unanswered
+use Rattle.ak_client_wire.specs.declared.wires.MetaSaid.{MetaSaid}
+use Rattle.ak_client_wire.specs.declared.wires.WireEnd.{WireEnd}
+use Rattle.ak_client_wire.specs.declared.wires.WireEnd.TheVariants as ends
 use Rattle.ak_exchange.specs.Stops.{keep_stop, stop_or_go, wire_stop}
 use Rattle.ak_exchange.specs.declared.envelopes.Ids.{Ids}
 use Rattle.ak_exchange.specs.declared.envelopes.Met.{Met}
@@ -28,14 +36,6 @@ use Rattle.ak_messages.specs.declared.replies.Reply.{Reply}
 use Rattle.ak_messages.specs.declared.requests.Request.{Request}
 use Rattle.ak_session.proofs.Ranges.{within}
 use Rattle.ak_session.specs.Refusals.{is_between}
-use Rattle.ak_wires.specs.Forms.{is_meta_in_range, is_moment, meta_in, meta_told}
-use Rattle.ak_wires.specs.Tries.{Answered, granted_in, in_form}
-use Rattle.ak_wires.specs.Wires.{WireKind, WireState}
-use Rattle.ak_wires.specs.declared.asks.Unanswered.{Unanswered}
-use Rattle.ak_wires.specs.declared.asks.Unanswered.TheVariants as unanswered
-use Rattle.ak_wires.specs.declared.wires.MetaSaid.{MetaSaid}
-use Rattle.ak_wires.specs.declared.wires.WireEnd.{WireEnd}
-use Rattle.ak_wires.specs.declared.wires.WireEnd.TheVariants as ends
 
 -- a test that lets a sync go on found no reason to stop
 pub passed : (o : Option Stop) → stop_or_go o ≡ Ok tt → o ≡ None

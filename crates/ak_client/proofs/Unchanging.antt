@@ -18,6 +18,7 @@ use Rattle.ak_client.specs.Outcomes.{is_told_by_meta, outcome_at}
 use Rattle.ak_client.specs.Syncs.{MayBegin, world_at}
 use Rattle.ak_client.specs.Unsent.{has_unsent}
 use Rattle.ak_client.specs.declared.outcomes.Outcome.TheVariants as outcomes
+use Rattle.ak_client_wire.specs.declared.wires.MetaSaid.{MetaSaid}
 use Rattle.ak_exchange.specs.Phases.{holding, held_by}
 use Rattle.ak_exchange.specs.declared.stops.Stop.{Stop}
 use Rattle.ak_exchange.specs.declared.stops.Stop.TheVariants as stops
@@ -31,7 +32,6 @@ use Rattle.ak_protocol.specs.Accounts.{AccountState}
 use Rattle.ak_protocol.specs.Commits.{EachNewer, HasFreshSchema}
 use Rattle.ak_protocol.specs.Logs.{Event, Log, with_growth}
 use Rattle.ak_session.specs.Plans.{Asker}
-use Rattle.ak_wires.specs.declared.wires.MetaSaid.{MetaSaid}
 
 -- ---- no other reason says so
 not_by_clocks : (meta : MetaSaid) (second : ℤ) (stop : Stop) → clock_stop meta second ≡ Some stop → outcome_at stop ≡ outcomes.NoChanges → ⊥

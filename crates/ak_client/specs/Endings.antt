@@ -5,6 +5,7 @@ use Rattle.ak_client.specs.Outcomes.{is_told_by_meta, outcome_at}
 use Rattle.ak_client.specs.Syncs.{ArePlain, EndsAt, IsFairEnd, LacksMemoryEarly, ends_before_finish, fewest_moments, most_moments, world_at}
 use Rattle.ak_client.specs.declared.outcomes.Outcome.{Outcome}
 use Rattle.ak_client.specs.declared.outcomes.Outcome.TheVariants as outcomes
+use Rattle.ak_client_wire.specs.Wires.{WireKind, WireState}
 use Rattle.ak_device.specs.Settlings.{taken_and_settled}
 use Rattle.ak_exchange.specs.Asked.{AreFew, AreTried, TriedAsk, answers_in, asker, asks_in}
 use Rattle.ak_exchange.specs.Grants.{AllGranted, AllGrantedButLast, AreGranted, SendsRows, StopsFor, StopsUnanswered}
@@ -27,7 +28,6 @@ use Rattle.ak_protocol.specs.Logs.{Log, commits_of}
 use Rattle.ak_session.specs.Plans.{Asker, planned, requests_from}
 use Rattle.ak_session.specs.Replies.{all_replied}
 use Rattle.ak_session.specs.Sessions.{MaySync}
-use Rattle.ak_wires.specs.Wires.{WireKind, WireState}
 
 -- why a sync may stop between its meta and its start: it takes one moment of its clock then, and shows no bad sanity check
 pub record IsOfGreeting (stop : Stop) : Type 0 where

@@ -2,14 +2,14 @@
 use Rattle.std.specs.Prelude.{◌≡◌, ◌≢◌, ◌≤◌, ℕ, ℤ, Bool, true, false, Option, Some, Result, Ok, Err, ◌⊎◌}
 use Rattle.ak_client.specs.declared.outcomes.Outcome.{Outcome}
 use Rattle.ak_client.specs.declared.outcomes.Outcome.TheVariants as outcomes
+use Rattle.ak_client_wire.specs.Wires.{more}
+use Rattle.ak_client_wire.specs.declared.wires.Said.{Said}
 use Rattle.ak_exchange.specs.Stops.{keep_stop, shows_bad_check}
 use Rattle.ak_exchange.specs.declared.stops.Stop.{Stop}
 use Rattle.ak_exchange.specs.declared.stops.Stop.TheVariants as stops
 use Rattle.ak_faults.specs.Causes.{GoesOn, Health, Rose}
 use Rattle.ak_keep.specs.declared.keepers.KeepFault.{KeepFault}
 use Rattle.ak_messages.specs.declared.replies.Word.{Word}
-use Rattle.ak_wires.specs.Wires.{more}
-use Rattle.ak_wires.specs.declared.wires.Said.{Said}
 
 -- the outcome of a sync that stopped
 abbrev pub outcome_at : Stop → Outcome

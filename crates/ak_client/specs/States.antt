@@ -2,12 +2,12 @@
 use Rattle.std.specs.Prelude.{◌≡◌, ◌<ℤ◌, ℕ, pos, true, Ok}
 use Rattle.ak_base.specs.Heads.{IsHeadInRange, IsWithin}
 use Rattle.ak_base.specs.Limits.{last_head_usn}
+use Rattle.ak_client_wire.specs.Wires.{WireKind}
 use Rattle.ak_exchange.specs.Asked.{Talk}
 use Rattle.ak_exchange.specs.Phases.{Advances, AreGraveRequests, Place, at_end_of}
 use Rattle.ak_exchange.specs.declared.envelopes.Met.{Met}
 use Rattle.ak_keep.specs.Keepers.{Keeping, back, is_marked}
 use Rattle.ak_session.specs.Plans.{planned_changes, planned_graves, planned_start}
-use Rattle.ak_wires.specs.Wires.{WireKind}
 
 -- a device that is marked in a sync holds a head, at its mark too, and what its meta told is in the ranges of a head
 pub record IsInSync (now : Keeping) (met : Met) : Type 0 where

@@ -17,12 +17,12 @@ ghost use Rattle.ak_merge.specs.declared.checks.CheckFault.{CheckFault};
 
 use crate::unsent::has_unsent;
 use ak_base::{Head, LAST_HEAD_USN};
+use ak_client_wire::{MetaSaid, Wire, ask_meta};
 use ak_exchange::{Ids, Met, Stop, meta_request};
 use ak_io::Clock;
 use ak_keep::{KeepFault, Keeper};
 use ak_merge::check;
-use ak_parts::head_of;
-use ak_wires::{MetaSaid, Wire, ask_meta};
+use ak_sync_rows::head_of;
 
 /// The most seconds that two clocks may be apart.
 const MOST_APART: i64 = 300;

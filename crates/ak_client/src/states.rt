@@ -13,6 +13,7 @@ ghost use Rattle.ak_session.specs.Plans.{planned_changes, planned_chunks, planne
 use crate::greetings::greet;
 use crate::outcomes::{Outcome, outcome_at, outcome_of};
 use crate::syncs::after_stop;
+use ak_client_wire::Wire;
 use ak_device::commit_at;
 use ak_exchange::{
     Envelopes, Ids, Met, Stop, compare, exchange_changes, finish, pull, push, send_graves, start,
@@ -20,7 +21,6 @@ use ak_exchange::{
 use ak_io::Clock;
 use ak_keep::Keeper;
 use ak_undo::UndoList;
-use ak_wires::Wire;
 use std::alloc::Global;
 
 /// Nothing was asked yet. The undo list is empty.

@@ -12,12 +12,12 @@ ghost use Rattle.ak_keep.specs.Keepers.{IsMarkedAt, WhereTold, back, is_marked};
 
 use crate::greetings::greet;
 use crate::outcomes::{Outcome, outcome_of, shows_bad_check};
+use ak_client_wire::Wire;
 use ak_device::{commit_at, raise_moments};
 use ak_exchange::{Envelopes, Ids, Met, Stop, exchange, finish};
 use ak_io::Clock;
 use ak_keep::Keeper;
 use ak_undo::UndoList;
-use ak_wires::Wire;
 use std::alloc::Global;
 
 /// Syncs the device's collection with the server to which the wire leads. The undo list is emptied before the first message.

@@ -10,7 +10,7 @@ use Rattle.ak_base.specs.declared.decks.Deck.{Deck}
 use Rattle.ak_base.specs.declared.names.Name.{Name}
 use Rattle.ak_base.specs.declared.rows.Row.{Row}
 use Rattle.ak_base.specs.declared.rows.Row.TheVariants as rows
-use Rattle.ak_calls.specs.CardEdits.{changed_if}
+use Rattle.ak_edit_calls.specs.CardEdits.{changed_if}
 use Rattle.ak_deck_paths.specs.ChangedDecks.{with_decks}
 use Rattle.ak_keep.proofs.RowsByName.{same_of_tied}
 use Rattle.ak_keep.specs.Graves.{RowsByName}

@@ -9,12 +9,12 @@ use Rattle.ak_base.specs.declared.decks.Deck.{Deck}
 use Rattle.ak_base.specs.declared.names.Table.TheVariants as tables
 use Rattle.ak_base.specs.declared.note_types.NoteType.{NoteType}
 use Rattle.ak_base.specs.declared.option_groups.Options.{Options}
-use Rattle.ak_calls.specs.Additions.{EndsAddition, IsNewRow}
-use Rattle.ak_calls.specs.Calls.{RefusesAbsent}
+use Rattle.ak_edit_calls.specs.Additions.{EndsAddition, IsNewRow}
+use Rattle.ak_edit_calls.specs.Calls.{RefusesAbsent}
 use Rattle.ak_deck_paths.specs.Additions.{IsAdded as IsAddedDeck, addition}
 use Rattle.ak_deck_paths.specs.Renames.{IsMoved, renaming}
 use Rattle.ak_deck_trees.specs.DeckDeletions.{deck_deletion}
-use Rattle.ak_calls.specs.DeckPaths.{path_at}
+use Rattle.ak_edit_calls.specs.DeckPaths.{path_at}
 use Rattle.ak_edit.specs.Ends.{IsFinished}
 use Rattle.ak_edit.specs.Refusals.{AnswersBy, IsFromOutside, Refusal}
 use Rattle.ak_edit.specs.Undos.{IsLatestUndone, UndoneBy}

@@ -17,9 +17,9 @@ use Rattle.ak_base.specs.declared.option_groups.Options.{Options}
 use Rattle.ak_base.specs.declared.reviews.Review.{Review}
 use Rattle.ak_base.specs.declared.rows.Row.{Row}
 use Rattle.ak_base.specs.declared.rows.Row.TheVariants as rows
-use Rattle.ak_calls.specs.CardEdits.{card_edit, changed_if, changed_row}
-use Rattle.ak_calls.specs.Calls.{has_id}
-use Rattle.ak_calls.specs.RowEdits.{row_edit}
+use Rattle.ak_edit_calls.specs.CardEdits.{card_edit, changed_if, changed_row}
+use Rattle.ak_edit_calls.specs.Calls.{has_id}
+use Rattle.ak_edit_calls.specs.RowEdits.{row_edit}
 use Rattle.ak_deck_paths.specs.Additions.{addition}
 use Rattle.ak_deck_paths.specs.ChangedDecks.{with_decks}
 use Rattle.ak_deck_paths.specs.DeckPaths.{renamed}

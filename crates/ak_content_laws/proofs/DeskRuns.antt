@@ -9,8 +9,8 @@ use Rattle.ak_desk_runs.specs.declared.command_ends.CommandEnd.{CommandEnd}
 use Rattle.ak_desk_runs.specs.declared.command_ends.CommandEnd.TheVariants as ends
 use Rattle.ak_io.specs.declared.lines.Line.{Line}
 use Rattle.ak_keep.specs.Keepers.{Keeping}
-use Rattle.ak_texts.specs.declared.answers.DeskAnswer.{DeskAnswer}
-use Rattle.ak_texts.specs.declared.line_refusals.LineRefusal.{LineRefusal}
+use Rattle.ak_desk_texts.specs.declared.answers.DeskAnswer.{DeskAnswer}
+use Rattle.ak_desk_texts.specs.declared.line_refusals.LineRefusal.{LineRefusal}
 use Rattle.ak_undo.specs.declared.steps.Step.{Step}
 use Rattle.ak_content_laws.proofs.Keepings.{sound_held}
 use Rattle.ak_content_laws.proofs.LineEnds.{IsSoundDesk, any_line_ended}

@@ -3,7 +3,7 @@ use Rattle.std.specs.Prelude.{◌≡◌, ℤ, List, Option, Some, None, Result, 
 use Rattle.std.specs.Option.{option_map}
 use Rattle.std.proofs.Common.{refl, sym, subst}
 use Rattle.std.proofs.lemmas.Option.{same_Some}
-use Rattle.ak_calls.specs.Calls.{EndsEdit}
+use Rattle.ak_edit_calls.specs.Calls.{EndsEdit}
 use Rattle.ak_edit.specs.Ends.{IsFinished, holding_now}
 use Rattle.ak_edit.specs.Refusals.{AnswersBy, Refusal}
 use Rattle.ak_edit.specs.Steps.{reversal_in, reversals_in}

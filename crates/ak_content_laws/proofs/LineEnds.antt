@@ -7,8 +7,8 @@ use Rattle.ak_any_lines.specs.FilteredCalls.{EndsCall}
 use Rattle.ak_any_lines.specs.FirstThings.{GoesFirst}
 use Rattle.ak_away_answers.specs.AwayAnswers.{EndsAnyAnswer}
 use Rattle.ak_base.specs.declared.cards.Card.{Card}
-use Rattle.ak_calls.specs.CardEdits.{card_edit}
-use Rattle.ak_calls.specs.DeckPaths.{path_at}
+use Rattle.ak_edit_calls.specs.CardEdits.{card_edit}
+use Rattle.ak_edit_calls.specs.DeckPaths.{path_at}
 use Rattle.ak_deck_trees.specs.DeckDeletions.{RefusesDeckDeletion, deck_deletion}
 use Rattle.ak_decks.specs.DeckOptions.{options_use}
 use Rattle.ak_decks.specs.Flags.{flagged}
@@ -26,10 +26,10 @@ use Rattle.ak_filtered.specs.HomeGoings.{EndsSending}
 use Rattle.ak_filtered.specs.declared.faults.FilteredFault.{FilteredFault}
 use Rattle.ak_keep.specs.Collections.{Collection}
 use Rattle.ak_keep.specs.Keepers.{WhereHeld}
-use Rattle.ak_lines.specs.declared.any_lines.AnyLine.{AnyLine}
-use Rattle.ak_lines.specs.declared.any_lines.AnyLine.TheVariants as anys
-use Rattle.ak_lines.specs.declared.desk_lines.DeskLine.{DeskLine}
-use Rattle.ak_lines.specs.declared.desk_lines.DeskLine.TheVariants as lines
+use Rattle.ak_desk_language.specs.declared.any_lines.AnyLine.{AnyLine}
+use Rattle.ak_desk_language.specs.declared.any_lines.AnyLine.TheVariants as anys
+use Rattle.ak_desk_language.specs.declared.desk_lines.DeskLine.{DeskLine}
+use Rattle.ak_desk_language.specs.declared.desk_lines.DeskLine.TheVariants as lines
 use Rattle.ak_merge.specs.Edits.{Edit}
 use Rattle.ak_merge.specs.Holdings.{row_under}
 use Rattle.ak_notes.specs.Deletions.{RefusesDeletion as RefusesNoteDeletion, deletion}
@@ -37,8 +37,8 @@ use Rattle.ak_options.specs.OptionDeletions.{options_deletion}
 use Rattle.ak_options.specs.OptionGroups.{as_given, options_addition, options_change, with_id}
 use Rattle.ak_options.specs.Spreads.{spreading}
 use Rattle.ak_study.specs.CardPlaces.{buried_by_hand, suspended, unsuspended}
-use Rattle.ak_texts.specs.declared.answers.DeskAnswer.{DeskAnswer}
-use Rattle.ak_texts.specs.declared.line_refusals.LineRefusal.{LineRefusal}
+use Rattle.ak_desk_texts.specs.declared.answers.DeskAnswer.{DeskAnswer}
+use Rattle.ak_desk_texts.specs.declared.line_refusals.LineRefusal.{LineRefusal}
 use Rattle.ak_types.specs.TypeDeletions.{RefusesDeletion as RefusesTypeDeletion, type_deletion}
 use Rattle.ak_content_laws.proofs.AlikeEdits.{KeepsPlace}
 use Rattle.ak_content_laws.proofs.CallEnds.{alike_keeps, any_answered, asks_deck_deletion, asks_deletion, asks_type_deletion, card_answered, day_started, deck_added, deck_moved, filtered_built, filtered_emptied, filtered_made, note_added, note_edited, sending_ended, subtree_emptied, type_added, type_edited}

@@ -13,9 +13,9 @@ use Rattle.ak_base.specs.declared.names.Name.{Name}
 use Rattle.ak_base.specs.declared.names.Table.TheVariants as tables
 use Rattle.ak_base.specs.declared.rows.Row.{Row}
 use Rattle.ak_base.specs.declared.rows.Row.TheVariants as rows
-use Rattle.ak_calls.specs.NewNames.{AreMadeOf, first_name}
+use Rattle.ak_edit_calls.specs.NewNames.{AreMadeOf, first_name}
 use Rattle.ak_deck_paths.specs.ChangedDecks.{with_decks}
-use Rattle.ak_calls.specs.DeckPaths.{path_at, path_of}
+use Rattle.ak_edit_calls.specs.DeckPaths.{path_at, path_of}
 use Rattle.ak_deck_paths.specs.DeckPaths.{is_under, missing_above, moved_deck, renamed}
 use Rattle.ak_deck_paths.specs.NewDecks.{IsNewDeck}
 use Rattle.ak_deck_paths.specs.Renames.{IsMoved, renaming}

@@ -9,7 +9,7 @@ use Rattle.ak_base.specs.declared.names.Name.{Name}
 use Rattle.ak_base.specs.declared.names.Table.{Table}
 use Rattle.ak_base.specs.declared.names.Table.TheVariants as tables
 use Rattle.ak_base.specs.declared.note_types.NoteType.{NoteType}
-use Rattle.ak_calls.specs.NewNames.{AreMadeOf}
+use Rattle.ak_edit_calls.specs.NewNames.{AreMadeOf}
 use Rattle.ak_cardgen.proofs.Ascending.{ascend_by}
 use Rattle.ak_cardgen.specs.Generation.{AreOrds, face_of, ord_end}
 use Rattle.ak_keep.specs.FreeNames.{is_used}

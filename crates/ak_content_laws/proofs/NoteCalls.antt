@@ -12,8 +12,8 @@ use Rattle.ak_base.specs.declared.note_types.NoteType.{NoteType}
 use Rattle.ak_base.specs.declared.notes.Note.{Note}
 use Rattle.ak_base.specs.declared.rows.Row.{Row}
 use Rattle.ak_base.specs.declared.rows.Row.TheVariants as rows
-use Rattle.ak_calls.specs.Calls.{has_id}
-use Rattle.ak_calls.specs.NewNames.{first_name}
+use Rattle.ak_edit_calls.specs.Calls.{has_id}
+use Rattle.ak_edit_calls.specs.NewNames.{first_name}
 use Rattle.ak_keep.specs.Collections.{Collection}
 use Rattle.ak_keep.specs.FreeNames.{is_used}
 use Rattle.ak_keep.specs.Lookups.{as_note, as_note_type}

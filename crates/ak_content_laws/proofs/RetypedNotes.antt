@@ -16,8 +16,8 @@ use Rattle.ak_base.specs.declared.note_types.NoteType.{NoteType}
 use Rattle.ak_base.specs.declared.notes.Note.{Note}
 use Rattle.ak_base.specs.declared.rows.Row.{Row}
 use Rattle.ak_base.specs.declared.rows.Row.TheVariants as rows
-use Rattle.ak_calls.specs.Calls.{has_id}
-use Rattle.ak_calls.specs.NewNames.{AreMadeOf}
+use Rattle.ak_edit_calls.specs.Calls.{has_id}
+use Rattle.ak_edit_calls.specs.NewNames.{AreMadeOf}
 use Rattle.ak_keep.proofs.RowsByName.{all_gets, entries_found}
 use Rattle.ak_keep.specs.Collections.{Rows, is_past}
 use Rattle.ak_keep.specs.FreeNames.{is_used}

@@ -14,7 +14,7 @@ use Rattle.ak_base.specs.declared.names.Table.TheVariants as tables
 use Rattle.ak_base.specs.declared.note_types.NoteType.{NoteType}
 use Rattle.ak_base.specs.declared.notes.Note.{Note}
 use Rattle.ak_base.specs.declared.rows.Row.TheVariants as rows
-use Rattle.ak_calls.specs.NoteTags.{stored_tags}
+use Rattle.ak_edit_calls.specs.NoteTags.{stored_tags}
 use Rattle.ak_edit.specs.Ends.{IsHeldRightly}
 use Rattle.ak_edit.specs.declared.desk_faults.DeskFault.{DeskFault}
 use Rattle.ak_edit.specs.declared.desk_faults.DeskFault.TheVariants as faults

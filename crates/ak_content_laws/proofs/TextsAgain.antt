@@ -9,7 +9,7 @@ use Rattle.ak_base.proofs.Optional.{both_none}
 use Rattle.ak_base.specs.NoteTexts.{fields_in, is_tag, tags_in}
 use Rattle.ak_base.specs.declared.errors.RowFault.TheVariants.{BadCode, TooLong}
 use Rattle.ak_base.specs.declared.heads.Tag.{Tag}
-use Rattle.ak_calls.specs.NoteTags.{joined_tags, spaced, stored_tags}
+use Rattle.ak_edit_calls.specs.NoteTags.{joined_tags, spaced, stored_tags}
 use Rattle.ak_merge.proofs.EditFacts.{held_none, true_false}
 use Rattle.ak_merge.proofs.TagLaws.{each_taken, tags_are_united}
 use Rattle.ak_merge.specs.Holdings.{has_tag, tag_usn}

@@ -2,12 +2,12 @@
 ghost use Rattle.std.specs.Prelude.{Result, ℤ, List};
 ghost use Rattle.ak_away_answers.specs.AwayAnswers.{EndsAnyAnswer};
 ghost use Rattle.ak_base.specs.declared.cards.Card.{Card};
-ghost use Rattle.ak_calls.specs.Calls.{EndsEdit};
-ghost use Rattle.ak_calls.specs.CardEdits.{RefusesCardEdit, card_edit};
 ghost use Rattle.ak_content_laws.specs.SoundCalls.{EndsOrStays, HoldsSound};
 ghost use Rattle.ak_decks.specs.Flags.{RefusesFlag, flagging};
 ghost use Rattle.ak_decks.specs.Moves.{RefusesMove, moving};
 ghost use Rattle.ak_edit.specs.declared.desk_faults.DeskFault.{DeskFault};
+ghost use Rattle.ak_edit_calls.specs.Calls.{EndsEdit};
+ghost use Rattle.ak_edit_calls.specs.CardEdits.{RefusesCardEdit, card_edit};
 ghost use Rattle.ak_keep.specs.Keepers.{Keeping, WhereHeld};
 ghost use Rattle.ak_study.specs.Answers.{Answers};
 ghost use Rattle.ak_study.specs.CardPlaces.{buried_by_hand, suspended, unsuspended};

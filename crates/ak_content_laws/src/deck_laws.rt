@@ -1,8 +1,6 @@
 // What the calls on decks keep.
 ghost use Rattle.std.specs.Prelude.{◌≡◌, Result, Some, ℕ, ℤ, List};
 ghost use Rattle.ak_base.specs.declared.decks.Deck.{Deck};
-ghost use Rattle.ak_calls.specs.Calls.{EndsEdit};
-ghost use Rattle.ak_calls.specs.DeckPaths.{path_at};
 ghost use Rattle.ak_content_laws.specs.KeptContents.{MovesDecks};
 ghost use Rattle.ak_content_laws.specs.SoundCalls.{EndsOrStays, HoldsSound};
 ghost use Rattle.ak_deck_paths.specs.Additions.{DoesAdd};
@@ -10,6 +8,8 @@ ghost use Rattle.ak_deck_paths.specs.Renames.{DoesRename, IsMoved};
 ghost use Rattle.ak_deck_trees.specs.DeckDeletions.{RefusesDeckDeletion, deck_deletion};
 ghost use Rattle.ak_decks.specs.DeckOptions.{RefusesUse, options_use};
 ghost use Rattle.ak_edit.specs.declared.desk_faults.DeskFault.{DeskFault};
+ghost use Rattle.ak_edit_calls.specs.Calls.{EndsEdit};
+ghost use Rattle.ak_edit_calls.specs.DeckPaths.{path_at};
 ghost use Rattle.ak_keep.specs.Collections.{Collection};
 ghost use Rattle.ak_keep.specs.Keepers.{Keeping};
 ghost use Rattle.ak_keep.specs.Lookups.{deck_at};

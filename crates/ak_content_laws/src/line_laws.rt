@@ -2,6 +2,7 @@
 ghost use Rattle.std.specs.Prelude.{◌≡◌, Result, [], ℕ, ℤ, true, is_some, List, Option as Maybe};
 ghost use Rattle.ak_any_lines.specs.AnyEnds.{EndsAnyLine};
 ghost use Rattle.ak_content_laws.specs.SoundCalls.{HoldsSound};
+ghost use Rattle.ak_desk_language.specs.declared.any_lines.AnyLine.{AnyLine};
 ghost use Rattle.ak_desk_lines.specs.DeskStates.{DeskState};
 ghost use Rattle.ak_desk_lines.specs.declared.turns.Turn.{Turn};
 ghost use Rattle.ak_desk_runs.specs.DeskRuns.{EndsDesk};
@@ -9,11 +10,10 @@ ghost use Rattle.ak_desk_runs.specs.Inits.{EndsInit};
 ghost use Rattle.ak_desk_runs.specs.RunStates.{Outside};
 ghost use Rattle.ak_desk_runs.specs.declared.command_ends.CommandEnd.{CommandEnd};
 ghost use Rattle.ak_desk_runs.specs.declared.command_ends.CommandEnd.TheVariants.{Done};
+ghost use Rattle.ak_desk_texts.specs.declared.answers.DeskAnswer.{DeskAnswer};
+ghost use Rattle.ak_desk_texts.specs.declared.line_refusals.LineRefusal.{LineRefusal};
 ghost use Rattle.ak_io.specs.declared.lines.Line.{Line};
 ghost use Rattle.ak_keep.specs.Keepers.{Keeping};
-ghost use Rattle.ak_lines.specs.declared.any_lines.AnyLine.{AnyLine};
-ghost use Rattle.ak_texts.specs.declared.answers.DeskAnswer.{DeskAnswer};
-ghost use Rattle.ak_texts.specs.declared.line_refusals.LineRefusal.{LineRefusal};
 
 /// The collection that the command `init` puts into a keeper that tells what it holds is sound.
 pub fn init_begins_sound()

@@ -1,10 +1,10 @@
 // What the calls on notes keep.
 ghost use Rattle.std.specs.Prelude.{Result, ℤ, List};
-ghost use Rattle.ak_calls.specs.Calls.{EndsEdit};
 ghost use Rattle.ak_content_laws.specs.KeptContents.{SaysTexts};
 ghost use Rattle.ak_content_laws.specs.SoundCalls.{EndsOrStays, HoldsSound};
 ghost use Rattle.ak_edit.specs.Ends.{IsHeldRightly};
 ghost use Rattle.ak_edit.specs.declared.desk_faults.DeskFault.{DeskFault};
+ghost use Rattle.ak_edit_calls.specs.Calls.{EndsEdit};
 ghost use Rattle.ak_keep.specs.Collections.{Collection};
 ghost use Rattle.ak_keep.specs.Keepers.{Keeping};
 ghost use Rattle.ak_notes.specs.Additions.{DoesAdd, IsAdded, RefusesAddition};

@@ -2,10 +2,10 @@
 ghost use Rattle.std.specs.Prelude.{Result, ℤ, Bool, List};
 ghost use Rattle.ak_base.specs.declared.names.Table.TheVariants as tables;
 ghost use Rattle.ak_base.specs.declared.option_groups.Options.{Options};
-ghost use Rattle.ak_calls.specs.Additions.{EndsAddition};
-ghost use Rattle.ak_calls.specs.Calls.{EndsEdit};
 ghost use Rattle.ak_content_laws.specs.SoundCalls.{HoldsSound};
 ghost use Rattle.ak_edit.specs.declared.desk_faults.DeskFault.{DeskFault};
+ghost use Rattle.ak_edit_calls.specs.Additions.{EndsAddition};
+ghost use Rattle.ak_edit_calls.specs.Calls.{EndsEdit};
 ghost use Rattle.ak_keep.specs.Keepers.{Keeping};
 ghost use Rattle.ak_options.specs.OptionDeletions.{RefusesDeletion, options_deletion};
 ghost use Rattle.ak_options.specs.OptionGroups.{RefusesAddition, RefusesChange, options_addition, options_change};

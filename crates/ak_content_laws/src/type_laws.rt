@@ -3,12 +3,12 @@ ghost use Rattle.std.specs.Prelude.{◌≡◌, ◌≢◌, Result, Some, ℤ, Boo
 ghost use Rattle.ak_base.specs.declared.cards.Card.{Card};
 ghost use Rattle.ak_base.specs.declared.names.Table.TheVariants as tables;
 ghost use Rattle.ak_base.specs.declared.note_types.NoteType.{NoteType};
-ghost use Rattle.ak_calls.specs.Additions.{EndsAddition};
-ghost use Rattle.ak_calls.specs.Calls.{EndsEdit};
 ghost use Rattle.ak_content_laws.specs.KeptContents.{MovesFields};
 ghost use Rattle.ak_content_laws.specs.SoundCalls.{EndsOrStays, HoldsSound, IsSoundInRange};
 ghost use Rattle.ak_edit.specs.Refusals.{AnswersBy};
 ghost use Rattle.ak_edit.specs.declared.desk_faults.DeskFault.{DeskFault};
+ghost use Rattle.ak_edit_calls.specs.Additions.{EndsAddition};
+ghost use Rattle.ak_edit_calls.specs.Calls.{EndsEdit};
 ghost use Rattle.ak_keep.specs.Collections.{Collection};
 ghost use Rattle.ak_keep.specs.Keepers.{Keeping, WhereHeld};
 ghost use Rattle.ak_keep.specs.Lookups.{card_at};

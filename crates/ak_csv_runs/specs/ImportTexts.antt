@@ -3,12 +3,12 @@ use Rattle.std.specs.Prelude.{ℕ, List, ◌++◌, Option, Some, None, Result, O
 use Rattle.std.specs.Option.{option_map}
 use Rattle.ak_csv.specs.declared.csv_faults.CsvFault.{CsvFault}
 use Rattle.ak_csv.specs.declared.csv_faults.CsvFault.TheVariants as csv
+use Rattle.ak_desk_texts.specs.FaultTexts.{desk_fault_text}
 use Rattle.ak_imports.specs.declared.imports.Imported.{Imported}
 use Rattle.ak_imports.specs.declared.imports.NotesFault.{NotesFault}
 use Rattle.ak_io.specs.Scripts.{refusal_line}
 use Rattle.ak_note_files.specs.declared.import_faults.ImportFault.{ImportFault}
 use Rattle.ak_note_files.specs.declared.import_faults.ImportFault.TheVariants as faults
-use Rattle.ak_texts.specs.FaultTexts.{desk_fault_text}
 
 -- how many records added a note, updated one, or left one as it was
 abbrev pub counts_text : Imported → List ℕ

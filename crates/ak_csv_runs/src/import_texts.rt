@@ -4,9 +4,9 @@ ghost use Rattle.ak_io.specs.Scripts.{refusal_line};
 
 use ak_base::{Memory, Text};
 use ak_csv::CsvFault;
+use ak_desk_texts::write_desk_fault;
 use ak_imports::{Imported, NotesFault};
 use ak_note_files::ImportFault;
-use ak_texts::write_desk_fault;
 use std::alloc::Global;
 
 /// The status for the end of an import.

@@ -2,8 +2,8 @@
 use Rattle.std.specs.Prelude.{◌≡◌, ◌≤◌, ℕ, ℤ, pos, List, length, Result, Ok, Err}
 use Rattle.std.proofs.Common.{ap, subst, inl, inr, ◌∙◌}
 use Rattle.ak_base.specs.declared.decks.Deck.{Deck}
-use Rattle.ak_calls.proofs.Answering.{never_first, passed_first, refused_first}
-use Rattle.ak_calls.proofs.Telling.{where_held-both, where_rows_held, where_told-both}
+use Rattle.ak_edit_calls.proofs.Answering.{never_first, passed_first, refused_first}
+use Rattle.ak_edit_calls.proofs.Telling.{where_held-both, where_rows_held, where_told-both}
 use Rattle.ak_edit.specs.Ends.{AnswersEnd, FinishedBy, IsFinished, IsHeldRightly, RefusesEnd, RefusesRow, RefusesStamp}
 use Rattle.ak_edit.specs.Overlays.{Overlay, edit_of, unchanged}
 use Rattle.ak_edit.specs.Refusals.{AnswersBy, OrElse, Refusal}

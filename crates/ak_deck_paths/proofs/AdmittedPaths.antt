@@ -8,8 +8,8 @@ use Rattle.ak_base.specs.declared.names.Table.TheVariants as tables
 use Rattle.ak_base.specs.declared.rows.Row.{Row}
 use Rattle.ak_base.specs.declared.rows.Row.TheVariants as rows
 use Rattle.ak_keep.specs.FreeNames.{IsFree, is_used}
-use Rattle.ak_calls.proofs.FreeIds.{not_dead}
-use Rattle.ak_calls.specs.NewNames.{AreMadeOf, first_name}
+use Rattle.ak_edit_calls.proofs.FreeIds.{not_dead}
+use Rattle.ak_edit_calls.specs.NewNames.{AreMadeOf, first_name}
 use Rattle.ak_keep.specs.Collections.{Collection}
 use Rattle.ak_merge.proofs.EditBuildingLaws.{maps_are_admitted, puts_are_admitted, unedited_is_admitted}
 use Rattle.ak_merge.specs.EditBuilding.{MayMap, MayPut, unedited, with_row, with_rows_mapped}

@@ -14,7 +14,7 @@ use Rattle.ak_base.specs.Rows.{IsChecked, name_of}
 use Rattle.ak_base.specs.declared.names.Name.{Name}
 use Rattle.ak_base.specs.declared.names.Table.{Table}
 use Rattle.ak_base.specs.declared.rows.Row.{Row}
-use Rattle.ak_calls.proofs.Overlaying.{none_noted, put_under, rest_of}
+use Rattle.ak_edit_calls.proofs.Overlaying.{none_noted, put_under, rest_of}
 use Rattle.ak_edit.specs.Overlays.{Overlay, put_over, row_over, unchanged}
 use Rattle.ak_keep.proofs.RowsByName.{all_from_gets, same_of_tied}
 use Rattle.ak_keep.specs.Collections.{Rows, is_past, rows_past}

@@ -13,10 +13,10 @@ use Rattle.ak_base.specs.declared.decks.Deck.{Deck}
 use Rattle.ak_base.specs.declared.names.Name.{Name}
 use Rattle.ak_base.specs.declared.names.Table.TheVariants as tables
 use Rattle.ak_base.specs.declared.rows.Row.TheVariants as rows
-use Rattle.ak_calls.proofs.CheckedRows.{of_faultless}
-use Rattle.ak_calls.proofs.Ids.{id_fits}
+use Rattle.ak_edit_calls.proofs.CheckedRows.{of_faultless}
+use Rattle.ak_edit_calls.proofs.Ids.{id_fits}
 use Rattle.ak_keep.specs.FreeNames.{is_used}
-use Rattle.ak_calls.specs.NewNames.{AreMadeOf, first_name}
+use Rattle.ak_edit_calls.specs.NewNames.{AreMadeOf, first_name}
 use Rattle.ak_keep.specs.Collections.{IsId, Rows}
 use Rattle.ak_deck_paths.proofs.ShortPaths.{AreShort}
 use Rattle.ak_base.specs.Names.{next_name}

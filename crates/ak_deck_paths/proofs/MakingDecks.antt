@@ -8,8 +8,8 @@ use Rattle.ak_base.specs.Rests.{lacks, deck_keys}
 use Rattle.ak_base.specs.declared.decks.Deck.{Deck}
 use Rattle.ak_base.specs.declared.names.Name.{Name}
 use Rattle.ak_base.specs.declared.names.Table.TheVariants as tables
-use Rattle.ak_calls.proofs.FreeIds.{made_once}
-use Rattle.ak_calls.specs.NewNames.{first_name}
+use Rattle.ak_edit_calls.proofs.FreeIds.{made_once}
+use Rattle.ak_edit_calls.specs.NewNames.{first_name}
 use Rattle.ak_keep.specs.Collections.{IsId, Rows}
 use Rattle.ak_keep.specs.FreeNames.{IsFoundFrom, is_used}
 use Rattle.ak_deck_paths.specs.Additions.{id_of_last}

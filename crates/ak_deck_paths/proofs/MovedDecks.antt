@@ -11,7 +11,7 @@ use Rattle.ak_base.specs.declared.names.Name.{Name}
 use Rattle.ak_base.specs.declared.names.Table.TheVariants as tables
 use Rattle.ak_base.specs.declared.rows.Row.{Row}
 use Rattle.ak_base.specs.declared.rows.Row.TheVariants as rows
-use Rattle.ak_calls.proofs.Overlaying.{edit_by_names, rest_of}
+use Rattle.ak_edit_calls.proofs.Overlaying.{edit_by_names, rest_of}
 use Rattle.ak_edit.specs.Overlays.{Overlay, edit_of, put_over, row_over, unchanged}
 use Rattle.ak_keep.specs.Collections.{Collection, Rows, is_past, rows_past}
 use Rattle.ak_keep.specs.Lookups.{as_deck, decks_in}

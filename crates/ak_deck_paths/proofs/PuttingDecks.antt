@@ -9,7 +9,7 @@ use Rattle.ak_base.specs.Rows.{IsChecked, name_of}
 use Rattle.ak_base.specs.declared.decks.Deck.{Deck}
 use Rattle.ak_base.specs.declared.rows.Row.{Row}
 use Rattle.ak_base.specs.declared.rows.Row.TheVariants as rows
-use Rattle.ak_calls.proofs.CheckedEdits.{checked_edits_pass}
+use Rattle.ak_edit_calls.proofs.CheckedEdits.{checked_edits_pass}
 use Rattle.ak_edit.proofs.Building.{nothing_asked, put_asked}
 use Rattle.ak_edit.specs.Ends.{RefusesRow}
 use Rattle.ak_edit.specs.Overlays.{Overlay, edit_of, put_over, unchanged}

@@ -6,9 +6,9 @@ use Rattle.std.specs.Option.{option_map_or}
 use Rattle.ak_base.specs.declared.decks.Deck.{Deck}
 use Rattle.ak_base.specs.declared.names.Table.TheVariants as tables
 use Rattle.ak_base.specs.declared.rows.Row.{Row}
-use Rattle.ak_calls.proofs.Answering.{passed_first}
-use Rattle.ak_calls.proofs.Telling.{where_held-both, where_rows_held, where_told-both}
-use Rattle.ak_calls.specs.Calls.{RefusesAbsent}
+use Rattle.ak_edit_calls.proofs.Answering.{passed_first}
+use Rattle.ak_edit_calls.proofs.Telling.{where_held-both, where_rows_held, where_told-both}
+use Rattle.ak_edit_calls.specs.Calls.{RefusesAbsent}
 use Rattle.ak_edit.specs.Ends.{AnswersEnd, FinishedBy, IsFinished, IsHeldRightly, RefusesEnd}
 use Rattle.ak_edit.specs.Overlays.{Overlay, edit_of, unchanged}
 use Rattle.ak_edit.specs.Refusals.{AnswersBy}
@@ -25,7 +25,7 @@ use Rattle.ak_deck_paths.proofs.MovedDecks.{renaming_asked}
 use Rattle.ak_deck_paths.specs.ChangedDecks.{changed_over, decks_over}
 use Rattle.ak_keep.specs.Lookups.{decks_in}
 use Rattle.ak_deck_paths.specs.DeckPaths.{missing_above}
-use Rattle.ak_calls.specs.DeckPaths.{path_at, path_of}
+use Rattle.ak_edit_calls.specs.DeckPaths.{path_at, path_of}
 use Rattle.ak_deck_paths.specs.NewDecks.{RefusesIds}
 use Rattle.ak_deck_paths.specs.Renames.{AreMadeAbove, DoesMove, IsChanged, IsChangedIn, IsMoved, RefusesChanged, RefusesOld, RefusesPaths, RefusesRename, RefusesToChange, RefusesToMove, renaming}
 use Rattle.ak_deck_paths.specs.declared.changed_decks.ChangedDecks.{ChangedDecks}

@@ -4,8 +4,8 @@ use Rattle.std.specs.FinMap.{get}
 use Rattle.ak_base.specs.declared.decks.Count.{Count}
 use Rattle.ak_base.specs.declared.decks.Deck.{Deck}
 use Rattle.ak_base.specs.declared.names.Table.TheVariants as tables
-use Rattle.ak_calls.specs.NewNames.{AreMadeOf, RefusesIdsFrom, first_name}
 use Rattle.ak_edit.specs.Refusals.{Refusal}
+use Rattle.ak_edit_calls.specs.NewNames.{AreMadeOf, RefusesIdsFrom, first_name}
 use Rattle.ak_keep.specs.Collections.{Holding, Rows}
 use Rattle.ak_keep.specs.FreeNames.{is_used}
 

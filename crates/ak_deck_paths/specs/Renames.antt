@@ -2,7 +2,7 @@
 use Rattle.std.specs.Prelude.{◌≡◌, ◌⊎◌, ℕ, ℤ, true, List}
 use Rattle.ak_base.specs.declared.decks.Deck.{Deck}
 use Rattle.ak_base.specs.declared.names.Table.TheVariants as tables
-use Rattle.ak_calls.specs.Calls.{RefusesAbsent}
+use Rattle.ak_edit_calls.specs.Calls.{RefusesAbsent}
 use Rattle.ak_edit.specs.Ends.{IsFinished, RefusesEnd}
 use Rattle.ak_edit.specs.Refusals.{OrElse, Refusal}
 use Rattle.ak_edit.specs.declared.desk_faults.DeskFault.{DeskFault}
@@ -16,7 +16,7 @@ use Rattle.ak_deck_paths.specs.Additions.{RefusesFirst}
 use Rattle.ak_deck_paths.specs.ChangedDecks.{IsPathFault, with_decks}
 use Rattle.ak_keep.specs.Lookups.{decks_in}
 use Rattle.ak_deck_paths.specs.DeckPaths.{is_below, is_in_way, missing_above, moved_decks, renamed}
-use Rattle.ak_calls.specs.DeckPaths.{path_at}
+use Rattle.ak_edit_calls.specs.DeckPaths.{path_at}
 use Rattle.ak_deck_paths.specs.GivenPaths.{RefusesPath}
 use Rattle.ak_deck_paths.specs.NewDecks.{AreNewDecks, RefusesIds}
 use Rattle.ak_deck_paths.specs.declared.changed_decks.ChangedDecks.{ChangedDecks}

@@ -1,5 +1,5 @@
 ghost use Rattle.std.specs.Prelude.{◌≡◌, ◌<◌, pos, length, IfErr, IfOk};
-ghost use Rattle.ak_calls.specs.NewNames.{IsIdFault};
+ghost use Rattle.ak_edit_calls.specs.NewNames.{IsIdFault};
 ghost use Rattle.ak_edit.specs.Refusals.{AnswersBy, DeskCause};
 ghost use Rattle.ak_keep.specs.Collections.{IsId};
 ghost use Rattle.ak_keep.specs.Keepers.{WhereTold};
@@ -7,8 +7,8 @@ ghost use Rattle.ak_deck_paths.specs.Additions.{id_of_last};
 ghost use Rattle.ak_deck_paths.specs.NewDecks.{AreNewIn, IsNewDeck, RefusesIds};
 
 use ak_base::{Count, Deck, List, Memory, Name, Rest, Table, Text};
-use ak_calls::{first_name, next_free};
 use ak_edit::DeskFault;
+use ak_edit_calls::{first_name, next_free};
 use ak_keep::Keeper;
 use std::alloc::Global;
 

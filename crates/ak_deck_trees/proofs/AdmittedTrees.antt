@@ -8,7 +8,7 @@ use Rattle.ak_base.specs.declared.rows.Row.{Row}
 use Rattle.ak_base.specs.declared.rows.Row.TheVariants as rows
 use Rattle.ak_deck_trees.specs.DeckDeletions.{deck_deletion}
 use Rattle.ak_deck_trees.specs.Trees.{goes_with}
-use Rattle.ak_calls.specs.DeckPaths.{path_at}
+use Rattle.ak_edit_calls.specs.DeckPaths.{path_at}
 use Rattle.ak_keep.specs.Collections.{Collection, Rows}
 use Rattle.ak_merge.proofs.EditBuildingLaws.{unedited_is_admitted}
 use Rattle.ak_merge.proofs.Sweeps.{sweeps_are_admitted}

@@ -11,7 +11,7 @@ use Rattle.ak_base.specs.Rows.{name_of}
 use Rattle.ak_base.specs.declared.names.Name.{Name}
 use Rattle.ak_base.specs.declared.names.Table.{Table}
 use Rattle.ak_base.specs.declared.rows.Row.{Row}
-use Rattle.ak_calls.proofs.Overlaying.{removed_under, rest_of}
+use Rattle.ak_edit_calls.proofs.Overlaying.{removed_under, rest_of}
 use Rattle.ak_deck_trees.specs.DeckDeletions.{swept, swept_one}
 use Rattle.ak_edit.specs.Overlays.{Overlay, removed_over, row_over}
 use Rattle.ak_keep.proofs.Paging.{picked}

@@ -7,14 +7,14 @@ use Rattle.std.specs.Option.{option_map_or}
 use Rattle.ak_base.specs.declared.names.Table.{Table}
 use Rattle.ak_base.specs.declared.names.Table.TheVariants as tables
 use Rattle.ak_base.specs.declared.rows.Row.{Row}
-use Rattle.ak_calls.proofs.Answering.{never_first, on_ok-map, passed_first}
-use Rattle.ak_calls.proofs.Telling.{where_held-both, where_rows_held, where_told-both}
-use Rattle.ak_calls.specs.Calls.{DoesEdit, EndsEdit, IsMissingFault, RefusesAbsent}
+use Rattle.ak_edit_calls.proofs.Answering.{never_first, on_ok-map, passed_first}
+use Rattle.ak_edit_calls.proofs.Telling.{where_held-both, where_rows_held, where_told-both}
+use Rattle.ak_edit_calls.specs.Calls.{DoesEdit, EndsEdit, IsMissingFault, RefusesAbsent}
 use Rattle.ak_deck_trees.proofs.SweptRows.{swept-append}
 use Rattle.ak_deck_trees.proofs.TreeRules.{tree_deletion_of, tree_deletion_rows}
 use Rattle.ak_deck_trees.specs.DeckDeletions.{IsDeckDeletionFault, IsTreeDeletionFault, RefusesDeckDeletion, RefusesDefault, RefusesTreeDeletion, deck_deletion, swept, swept_one, tree_deletion, without_rows_of, without_tree}
 use Rattle.ak_deck_trees.specs.Trees.{goes_with}
-use Rattle.ak_calls.specs.DeckPaths.{path_at, path_of}
+use Rattle.ak_edit_calls.specs.DeckPaths.{path_at, path_of}
 use Rattle.ak_edit.specs.Ends.{AnswersEnd, FinishedBy, IsFinished, IsHeldRightly, RefusesEnd, RefusesRow, RefusesStamp}
 use Rattle.ak_edit.specs.Overlays.{Overlay, edit_of, unchanged}
 use Rattle.ak_edit.specs.Refusals.{AnswersBy, IsEndFault}

@@ -10,8 +10,8 @@ use Rattle.ak_base.specs.declared.names.Table.{Table}
 use Rattle.ak_base.specs.declared.names.Table.TheVariants as tables
 use Rattle.ak_base.specs.declared.rows.Row.{Row}
 use Rattle.ak_base.specs.declared.rows.Row.TheVariants as rows
-use Rattle.ak_calls.proofs.CheckedEdits.{checked_edits_pass}
-use Rattle.ak_calls.proofs.Overlaying.{edit_by_names, none_noted, rest_of}
+use Rattle.ak_edit_calls.proofs.CheckedEdits.{checked_edits_pass}
+use Rattle.ak_edit_calls.proofs.Overlaying.{edit_by_names, none_noted, rest_of}
 use Rattle.ak_deck_trees.proofs.SweptRows.{goes_in, goes_in_is, names_gone, rest_swept, swept_under}
 use Rattle.ak_deck_trees.specs.DeckDeletions.{tree_deletion, without_rows_of, without_tree}
 use Rattle.ak_deck_trees.specs.Trees.{goes_with}

@@ -4,9 +4,9 @@ use Rattle.ak_base.specs.Rows.{name_of}
 use Rattle.ak_base.specs.declared.names.Table.{Table}
 use Rattle.ak_base.specs.declared.names.Table.TheVariants as tables
 use Rattle.ak_base.specs.declared.rows.Row.{Row}
-use Rattle.ak_calls.specs.Calls.{IsMissingFault, RefusesAbsent}
+use Rattle.ak_edit_calls.specs.Calls.{IsMissingFault, RefusesAbsent}
 use Rattle.ak_deck_trees.specs.Trees.{goes_with, is_in_tree}
-use Rattle.ak_calls.specs.DeckPaths.{path_at}
+use Rattle.ak_edit_calls.specs.DeckPaths.{path_at}
 use Rattle.ak_edit.specs.Ends.{RefusesStamp}
 use Rattle.ak_edit.specs.Overlays.{Overlay, removed_over}
 use Rattle.ak_edit.specs.Refusals.{IsEndFault, IsFromOutside, OrElse, Refusal}

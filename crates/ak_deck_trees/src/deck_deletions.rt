@@ -1,14 +1,14 @@
 ghost use Rattle.std.specs.Prelude.{◌≡◌, true, false, IfErr, OnOk};
-ghost use Rattle.ak_calls.specs.Calls.{ChangesBy, EditsBy};
 ghost use Rattle.ak_deck_trees.specs.DeckDeletions.{IsDeckDeletionFault, IsDefaultFault, IsTreeDeletionFault, RefusesDeckDeletion, RefusesDefault, RefusesTreeDeletion, deck_deletion, swept, swept_one, tree_deletion, without_rows_of, without_tree};
 ghost use Rattle.ak_deck_trees.specs.Trees.{goes_with};
 ghost use Rattle.ak_edit.specs.Refusals.{AnswersBy, DeskCause};
+ghost use Rattle.ak_edit_calls.specs.Calls.{ChangesBy, EditsBy};
 ghost use Rattle.ak_keep.specs.Keepers.{KeepCause, WhereTold, is_marked};
 
 use crate::trees::{goes_with, is_in_tree};
 use ak_base::{Name, Row, Table};
-use ak_calls::{held_row, path_of};
 use ak_edit::{Change, DeskFault};
+use ak_edit_calls::{held_row, path_of};
 use ak_keep::{KeepFault, Keeper, Walk};
 use ak_undo::UndoList;
 

@@ -2,12 +2,12 @@
 use Rattle.std.specs.Prelude.{◌≡◌, ℤ, List}
 use Rattle.std.proofs.Common.{refl}
 use Rattle.ak_base.specs.declared.names.Table.TheVariants as tables
-use Rattle.ak_calls.proofs.AdmittedEdits.{card_edits_are_admitted, row_changes_are_admitted}
-use Rattle.ak_calls.specs.RowEdits.{MayChange}
 use Rattle.ak_decks.proofs.UsedOptions.{using_named}
 use Rattle.ak_decks.specs.DeckOptions.{options_use, using_options}
 use Rattle.ak_decks.specs.Flags.{flagged, flagging}
 use Rattle.ak_decks.specs.Moves.{moved, moving}
+use Rattle.ak_edit_calls.proofs.AdmittedEdits.{card_edits_are_admitted, row_changes_are_admitted}
+use Rattle.ak_edit_calls.specs.RowEdits.{MayChange}
 use Rattle.ak_keep.specs.Collections.{Collection}
 use Rattle.ak_merge.specs.Edits.{Admits}
 use Rattle.ak_merge.specs.Holdings.{AreNamed, name_in, row_under}

@@ -10,9 +10,9 @@ use Rattle.ak_base.specs.Heads.{IsWithin}
 use Rattle.ak_base.specs.declared.cards.Card.{Card}
 use Rattle.ak_base.specs.declared.errors.RowFault.{RowFault}
 use Rattle.ak_base.specs.declared.errors.RowFault.TheVariants as row_faults
-use Rattle.ak_calls.proofs.CheckedRows.{of_faultless}
-use Rattle.ak_calls.specs.CardEdits.{KeepsCards}
 use Rattle.ak_decks.specs.Flags.{flagged}
+use Rattle.ak_edit_calls.proofs.CheckedRows.{of_faultless}
+use Rattle.ak_edit_calls.specs.CardEdits.{KeepsCards}
 use Rattle.ak_merge.proofs.CheckedRows.{faultless_of}
 
 -- ---- the column of the flags

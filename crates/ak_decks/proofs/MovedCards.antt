@@ -6,15 +6,15 @@ use Rattle.ak_base.specs.Cards.{IsCheckedCard, place_faults, schedule_faults, ma
 use Rattle.ak_base.specs.declared.cards.Card.{Card}
 use Rattle.ak_base.specs.declared.names.Table.TheVariants as tables
 use Rattle.ak_base.specs.declared.rows.Row.{Row}
-use Rattle.ak_calls.proofs.Answering.{passed_first}
-use Rattle.ak_calls.proofs.CheckedRows.{of_faultless}
-use Rattle.ak_calls.proofs.Ids.{id_fits}
-use Rattle.ak_calls.proofs.Telling.{where_held-both, where_rows_held}
-use Rattle.ak_calls.specs.Calls.{EndsEdit, IsMissingOrEnd, RefusesAbsent}
-use Rattle.ak_calls.specs.CardEdits.{KeepsCards, RefusesCardEdit, card_edit}
 use Rattle.ak_decks.specs.Moves.{IsMoveFault, RefusesMove, moved, moving}
 use Rattle.ak_edit.specs.Refusals.{AnswersBy}
 use Rattle.ak_edit.specs.declared.desk_faults.DeskFault.{DeskFault}
+use Rattle.ak_edit_calls.proofs.Answering.{passed_first}
+use Rattle.ak_edit_calls.proofs.CheckedRows.{of_faultless}
+use Rattle.ak_edit_calls.proofs.Ids.{id_fits}
+use Rattle.ak_edit_calls.proofs.Telling.{where_held-both, where_rows_held}
+use Rattle.ak_edit_calls.specs.Calls.{EndsEdit, IsMissingOrEnd, RefusesAbsent}
+use Rattle.ak_edit_calls.specs.CardEdits.{KeepsCards, RefusesCardEdit, card_edit}
 use Rattle.ak_keep.specs.Collections.{IsId}
 use Rattle.ak_keep.specs.Keepers.{Keeping, WhereHeld, WhereTold}
 use Rattle.ak_merge.proofs.CheckedRows.{faultless_of}

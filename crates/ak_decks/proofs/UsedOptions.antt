@@ -9,18 +9,18 @@ use Rattle.ak_base.specs.declared.decks.Deck.{Deck}
 use Rattle.ak_base.specs.declared.names.Table.TheVariants as tables
 use Rattle.ak_base.specs.declared.rows.Row.{Row}
 use Rattle.ak_base.specs.declared.rows.Row.TheVariants as rows
-use Rattle.ak_calls.proofs.Answering.{on_ok-map, passed_first, refused_first}
-use Rattle.ak_calls.proofs.CheckedRows.{of_faultless}
-use Rattle.ak_calls.proofs.Ids.{id_fits}
-use Rattle.ak_calls.proofs.RowRules.{row_change_done, row_change_is}
-use Rattle.ak_calls.proofs.Telling.{where_held-both, where_rows_held, where_told-both}
-use Rattle.ak_calls.specs.Calls.{DoesEdit, EndsEdit, RefusesAbsent}
-use Rattle.ak_calls.specs.RowEdits.{RefusesRowEdit, row_edit}
 use Rattle.ak_decks.specs.DeckOptions.{IsUseFault, RefusesUnheld, RefusesUse, options_use, using_options}
 use Rattle.ak_edit.specs.Ends.{RefusesStamp}
 use Rattle.ak_edit.specs.Refusals.{AnswersBy, DeskCause, IsEndFault, IsFromOutside}
 use Rattle.ak_edit.specs.declared.desk_faults.DeskFault.{DeskFault}
 use Rattle.ak_edit.specs.declared.desk_faults.DeskFault.TheVariants as faults
+use Rattle.ak_edit_calls.proofs.Answering.{on_ok-map, passed_first, refused_first}
+use Rattle.ak_edit_calls.proofs.CheckedRows.{of_faultless}
+use Rattle.ak_edit_calls.proofs.Ids.{id_fits}
+use Rattle.ak_edit_calls.proofs.RowRules.{row_change_done, row_change_is}
+use Rattle.ak_edit_calls.proofs.Telling.{where_held-both, where_rows_held, where_told-both}
+use Rattle.ak_edit_calls.specs.Calls.{DoesEdit, EndsEdit, RefusesAbsent}
+use Rattle.ak_edit_calls.specs.RowEdits.{RefusesRowEdit, row_edit}
 use Rattle.ak_faults.proofs.Healths.{goes_further}
 use Rattle.ak_faults.specs.Causes.{GoesOn, Health}
 use Rattle.ak_keep.specs.Collections.{Collection, IsId, Rows}

@@ -1,8 +1,8 @@
 -- The flag of a card.
 use Rattle.std.specs.Prelude.{ℤ, pos, ◌+ℤ◌, ◌-ℤ◌, int_rem, List}
 use Rattle.ak_base.specs.declared.cards.Card.{Card}
-use Rattle.ak_calls.specs.CardEdits.{RefusesCardEdit, card_edit}
 use Rattle.ak_edit.specs.Refusals.{Refusal}
+use Rattle.ak_edit_calls.specs.CardEdits.{RefusesCardEdit, card_edit}
 use Rattle.ak_keep.specs.Collections.{Collection}
 use Rattle.ak_merge.specs.Edits.{Edit}
 

@@ -2,10 +2,10 @@
 use Rattle.std.specs.Prelude.{◌⊎◌, ℤ, List}
 use Rattle.ak_base.specs.declared.cards.Card.{Card}
 use Rattle.ak_base.specs.declared.names.Table.TheVariants as tables
-use Rattle.ak_calls.specs.Calls.{IsMissingFault, IsMissingOrEnd, RefusesAbsent}
-use Rattle.ak_calls.specs.CardEdits.{RefusesCardEdit, card_edit}
 use Rattle.ak_edit.specs.Refusals.{OrElse, Refusal}
 use Rattle.ak_edit.specs.declared.desk_faults.DeskFault.{DeskFault}
+use Rattle.ak_edit_calls.specs.Calls.{IsMissingFault, IsMissingOrEnd, RefusesAbsent}
+use Rattle.ak_edit_calls.specs.CardEdits.{RefusesCardEdit, card_edit}
 use Rattle.ak_keep.specs.Collections.{Collection}
 use Rattle.ak_merge.specs.Edits.{Edit}
 use Rattle.ak_merge.specs.Holdings.{name_in, row_under}

@@ -2,14 +2,14 @@ ghost use Rattle.std.specs.Prelude.{◌≡◌, pos, true, false, IfErr};
 ghost use Rattle.ak_base.specs.Cards.{IsCheckedCard};
 ghost use Rattle.ak_base.specs.Heads.{IsWithin};
 ghost use Rattle.ak_base.specs.declared.names.Table.TheVariants as tables;
-ghost use Rattle.ak_calls.specs.Calls.{EditsBy, IsMissingOrEnd};
 ghost use Rattle.ak_decks.specs.Flags.{RefusesFlag, flagged, flagging};
 ghost use Rattle.ak_edit.specs.Refusals.{DeskCause};
+ghost use Rattle.ak_edit_calls.specs.Calls.{EditsBy, IsMissingOrEnd};
 ghost use Rattle.ak_keep.specs.Keepers.{is_marked};
 
 use ak_base::Card;
-use ak_calls::{CardChange, CardEdit, edit_cards};
 use ak_edit::DeskFault;
+use ak_edit_calls::{CardChange, CardEdit, edit_cards};
 use ak_keep::Keeper;
 use ak_undo::UndoList;
 

@@ -1,13 +1,13 @@
 ghost use Rattle.std.specs.Prelude.{◌≡◌, true, false, IfErr};
-ghost use Rattle.ak_calls.specs.Calls.{EditsBy};
 ghost use Rattle.ak_decks.specs.Moves.{IsMoveFault, RefusesMove, moving};
 ghost use Rattle.ak_edit.specs.Refusals.{DeskCause};
+ghost use Rattle.ak_edit_calls.specs.Calls.{EditsBy};
 ghost use Rattle.ak_keep.specs.Collections.{IsId};
 ghost use Rattle.ak_keep.specs.Keepers.{is_marked};
 
 use ak_base::{Card, Name, Table};
-use ak_calls::{CardChange, CardEdit, edit_cards, held_row};
 use ak_edit::DeskFault;
+use ak_edit_calls::{CardChange, CardEdit, edit_cards, held_row};
 use ak_keep::Keeper;
 use ak_undo::UndoList;
 

@@ -1,12 +1,12 @@
 ghost use Rattle.std.specs.Prelude.{◌≡◌, true, false, IfErr};
-ghost use Rattle.ak_calls.specs.Calls.{EditsBy};
 ghost use Rattle.ak_decks.specs.DeckOptions.{IsUseFault, RefusesUse, options_use, using_options};
 ghost use Rattle.ak_edit.specs.Refusals.{DeskCause};
+ghost use Rattle.ak_edit_calls.specs.Calls.{EditsBy};
 ghost use Rattle.ak_keep.specs.Keepers.{is_marked};
 
 use ak_base::{Name, Row, Table};
-use ak_calls::{edit_row, held_row};
 use ak_edit::DeskFault;
+use ak_edit_calls::{edit_row, held_row};
 use ak_keep::Keeper;
 use ak_undo::UndoList;
 

@@ -1,9 +1,9 @@
 -- What each call at a desk needs of its keeper, and what it leaves there.
 use Rattle.std.specs.Prelude.{◌≡◌, ℤ, true, false, Result}
-use Rattle.ak_calls.specs.Calls.{EditsBy}
 use Rattle.ak_desk.specs.declared.desks.Desk.{Desk}
 use Rattle.ak_edit.specs.Refusals.{Refusal}
 use Rattle.ak_edit.specs.declared.desk_faults.DeskFault.{DeskFault}
+use Rattle.ak_edit_calls.specs.Calls.{EditsBy}
 use Rattle.ak_keep.specs.Collections.{Collection}
 use Rattle.ak_keep.specs.Keepers.{Keeping, is_marked}
 use Rattle.ak_keep.specs.declared.readables.Lookup.{Ghosts}

@@ -1,8 +1,8 @@
 ghost use Rattle.std.specs.Prelude.{◌≡◌, pos, IfErr};
 ghost use Rattle.ak_base.specs.Heads.{IsWithin};
 ghost use Rattle.ak_base.specs.declared.names.Table.TheVariants as tables;
-ghost use Rattle.ak_calls.specs.CardEdits.{RefusesCardEdit, card_edit};
-ghost use Rattle.ak_calls.specs.Calls.{IsMissingOrEnd};
+ghost use Rattle.ak_edit_calls.specs.CardEdits.{RefusesCardEdit, card_edit};
+ghost use Rattle.ak_edit_calls.specs.Calls.{IsMissingOrEnd};
 ghost use Rattle.ak_decks.specs.Flags.{RefusesFlag, flagging};
 ghost use Rattle.ak_decks.specs.Moves.{IsMoveFault, RefusesMove, moving};
 ghost use Rattle.ak_desk.specs.Desks.{EditsAt, IsIdle};

@@ -1,9 +1,9 @@
 ghost use Rattle.std.specs.Prelude.{◌≡◌, pos, IfErr, IfOk};
 ghost use Rattle.ak_base.specs.Heads.{IsWithin};
 ghost use Rattle.ak_base.specs.declared.names.Table.TheVariants as tables;
-ghost use Rattle.ak_calls.specs.Additions.{AddsBy};
 ghost use Rattle.ak_desk.specs.Desks.{EditsAt, IsIdle};
 ghost use Rattle.ak_edit.specs.Refusals.{DeskCause, IsEndFault};
+ghost use Rattle.ak_edit_calls.specs.Additions.{AddsBy};
 ghost use Rattle.ak_keep.specs.Collections.{IsId};
 ghost use Rattle.ak_options.specs.OptionDeletions.{IsDeletionFault, RefusesDeletion, options_deletion};
 ghost use Rattle.ak_options.specs.OptionGroups.{IsAdditionFault, IsChangeFault, RefusesAddition, RefusesChange, options_addition, options_change};

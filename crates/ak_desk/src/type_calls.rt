@@ -1,8 +1,8 @@
 ghost use Rattle.std.specs.Prelude.{◌≡◌, IfErr, IfOk, OnErr, OnOk};
 ghost use Rattle.ak_base.specs.declared.names.Table.TheVariants as tables;
-ghost use Rattle.ak_calls.specs.Additions.{AddsBy};
 ghost use Rattle.ak_desk.specs.Desks.{EditsAt, IsIdle};
 ghost use Rattle.ak_edit.specs.Refusals.{AnswersBy, DeskCause};
+ghost use Rattle.ak_edit_calls.specs.Additions.{AddsBy};
 ghost use Rattle.ak_keep.specs.Collections.{IsId};
 ghost use Rattle.ak_keep.specs.Keepers.{WhereHeld};
 ghost use Rattle.ak_types.specs.TypeAdditions.{IsAdditionFault, RefusesTypeAddition, given_addition};

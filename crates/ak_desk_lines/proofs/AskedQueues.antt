@@ -10,8 +10,8 @@ use Rattle.ak_base.specs.declared.decks.Deck.{Deck}
 use Rattle.ak_base.specs.declared.heads.Head.{Head}
 use Rattle.ak_base.specs.declared.names.Name.{Name}
 use Rattle.ak_base.specs.declared.names.Table.TheVariants as tables
-use Rattle.ak_calls.proofs.Answering.{refused_first}
-use Rattle.ak_calls.proofs.Telling.{where_held-map}
+use Rattle.ak_edit_calls.proofs.Answering.{refused_first}
+use Rattle.ak_edit_calls.proofs.Telling.{where_held-map}
 use Rattle.ak_desk_lines.proofs.EndedLines.{held_at, same_state}
 use Rattle.ak_desk_lines.proofs.StartedDecks.{started_deck}
 use Rattle.ak_desk_lines.specs.Accepted.{AsksOnDay, Does, IsOnDay, answer_with, of_queue, of_queue_fault}
@@ -29,7 +29,7 @@ use Rattle.ak_keep.specs.Keepers.{Keeping, WhereHeld, WhereTold, changed}
 use Rattle.ak_keep.specs.Lookups.{deck_at}
 use Rattle.ak_keep.specs.Marks as marks
 use Rattle.ak_keep.specs.Marks.{WithMark}
-use Rattle.ak_lines.specs.declared.desk_lines.DeskLine.{DeskLine}
+use Rattle.ak_desk_language.specs.declared.desk_lines.DeskLine.{DeskLine}
 use Rattle.ak_merge.specs.Holdings.{name_in}
 use Rattle.ak_queue.specs.Nexts.{mixing_in, next_in, next_of}
 use Rattle.ak_queue.specs.Queues.{counts_in, counts_of, queue_of, queue_of_deck}
@@ -38,7 +38,7 @@ use Rattle.ak_queue.specs.declared.faults.QueueFault.{QueueFault}
 use Rattle.ak_queue.specs.declared.faults.QueueFault.TheVariants as queues
 use Rattle.ak_queue.specs.declared.nexts.Progress.{Progress}
 use Rattle.ak_study.specs.DayStarts.{HasStarted, RefusesStart, StartsDay}
-use Rattle.ak_texts.specs.declared.answers.DeskAnswer.{DeskAnswer}
+use Rattle.ak_desk_texts.specs.declared.answers.DeskAnswer.{DeskAnswer}
 
 -- ---- a queue is that of a deck that is held
 no_queue : (h : Holding) (day : Day) (deck : ℤ) → deck_at h.rows deck ≡ None → queue_of h day deck ≡ None

@@ -3,8 +3,8 @@ use Rattle.std.specs.Prelude.{◌≡◌, ◌⊎◌, ℤ, Option, Some, None, Res
 use Rattle.std.proofs.Common.{inl, inr, sym, subst}
 use Rattle.ak_base.specs.declared.names.Table.TheVariants as tables
 use Rattle.ak_base.specs.declared.notes.Note.{Note}
-use Rattle.ak_calls.specs.Calls.{IsMissingFault}
-use Rattle.ak_calls.proofs.Answering.{on_ok-map}
+use Rattle.ak_edit_calls.specs.Calls.{IsMissingFault}
+use Rattle.ak_edit_calls.proofs.Answering.{on_ok-map}
 use Rattle.ak_desk_lines.proofs.EndedLines.{call_line, done_by, held_at}
 use Rattle.ak_desk_lines.specs.Accepted.{Does, ChangesNote, IsChangeOf, answer_with, done_answer}
 use Rattle.ak_desk_lines.specs.LineEnds.{AnswersLine, EndsLine, HasAnswerForm, IsLeft, KeepsIfReading}
@@ -18,13 +18,13 @@ use Rattle.ak_edit.specs.declared.desk_faults.DeskFault.TheVariants as faults
 use Rattle.ak_keep.specs.Collections.{Collection}
 use Rattle.ak_keep.specs.Keepers.{Keeping, WhereHeld}
 use Rattle.ak_keep.specs.Lookups.{note_at}
-use Rattle.ak_lines.specs.declared.desk_lines.DeskLine.{DeskLine}
+use Rattle.ak_desk_language.specs.declared.desk_lines.DeskLine.{DeskLine}
 use Rattle.ak_merge.specs.Holdings.{name_in}
 use Rattle.ak_notes.specs.MadeNotes.{IsMakingFault, IsMissingIn, NeedsHeld}
 use Rattle.ak_notes.specs.NoteEdits.{DoesEditNote, IsNoteEditFault, IsNoteEdited, RefusesNoteEdit}
 use Rattle.ak_notes.specs.declared.note_edits.NoteEdit.{NoteEdit}
-use Rattle.ak_texts.specs.declared.answers.DeskAnswer.{DeskAnswer}
-use Rattle.ak_texts.specs.declared.answers.DeskAnswer.TheVariants as answers
+use Rattle.ak_desk_texts.specs.declared.answers.DeskAnswer.{DeskAnswer}
+use Rattle.ak_desk_texts.specs.declared.answers.DeskAnswer.TheVariants as answers
 
 -- a note that is not held is a refusal by the tests of the line
 pub missing_note : (at note : ℤ) (change : Note → NoteEdit) (k : Keeping) (fault : DeskFault)

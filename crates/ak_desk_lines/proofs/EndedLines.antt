@@ -3,8 +3,8 @@ use Rattle.std.specs.Prelude.{◌≡◌, Option, Some, IfSome, Result, Ok, Err, 
 use Rattle.std.specs.Option.{option_map}
 use Rattle.std.proofs.Common.{inl, ap, subst, ◌∙◌}
 use Rattle.ak_base.specs.declared.heads.Head.{Head}
-use Rattle.ak_calls.proofs.Telling.{where_held-both, where_held-map}
-use Rattle.ak_calls.specs.Calls.{EndsEdit}
+use Rattle.ak_edit_calls.proofs.Telling.{where_held-both, where_held-map}
+use Rattle.ak_edit_calls.specs.Calls.{EndsEdit}
 use Rattle.ak_desk_lines.specs.Accepted.{Does, answer_with, done_answer}
 use Rattle.ak_desk_lines.specs.DeskStates.{Edits, DeskState}
 use Rattle.ak_desk_lines.specs.LineEnds.{AnswersLine, EndsLine, HasAnswerForm, IsLeft, KeepsIfReading}
@@ -17,11 +17,11 @@ use Rattle.ak_faults.specs.Causes.{Health}
 use Rattle.ak_keep.specs.Collections.{Collection, Holding, collection_of}
 use Rattle.ak_keep.specs.Keepers.{Keeping, WhereHeld, WhereTold}
 use Rattle.ak_keep.specs.Marks.{WithMark}
-use Rattle.ak_lines.specs.declared.desk_lines.DeskLine.{DeskLine}
+use Rattle.ak_desk_language.specs.declared.desk_lines.DeskLine.{DeskLine}
 use Rattle.ak_merge.specs.Edits.{Edit}
-use Rattle.ak_calls.proofs.Taking.{cause_too, err_too, ok_too}
-use Rattle.ak_texts.specs.declared.answers.DeskAnswer.{DeskAnswer}
-use Rattle.ak_texts.specs.declared.answers.DeskAnswer.TheVariants as answers
+use Rattle.ak_edit_calls.proofs.Taking.{cause_too, err_too, ok_too}
+use Rattle.ak_desk_texts.specs.declared.answers.DeskAnswer.{DeskAnswer}
+use Rattle.ak_desk_texts.specs.declared.answers.DeskAnswer.TheVariants as answers
 use Rattle.ak_undo.specs.declared.steps.Step.{Step}
 
 -- two places with the same parts are the same

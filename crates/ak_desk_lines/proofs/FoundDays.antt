@@ -4,8 +4,8 @@ use Rattle.std.proofs.Common.{sym, subst, ◌∙◌}
 use Rattle.ak_base.specs.Days.{IsDayOf}
 use Rattle.ak_base.specs.declared.days.Day.{Day}
 use Rattle.ak_base.specs.declared.heads.Head.{Head}
-use Rattle.ak_calls.proofs.Telling.{where_told-both}
 use Rattle.ak_desk_lines.specs.Accepted.{AreFound, IsOnDay}
+use Rattle.ak_edit_calls.proofs.Telling.{where_told-both}
 use Rattle.ak_keep.proofs.Told.{where_told-map}
 use Rattle.ak_keep.specs.Collections.{Holding, Rows}
 use Rattle.ak_keep.specs.Keepers.{Keeping, WhereTold}

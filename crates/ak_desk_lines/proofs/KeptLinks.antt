@@ -5,12 +5,14 @@ use Rattle.std.proofs.Common.{inl, inr, refl, sym, ap, subst, ◌∙◌, arith}
 use Rattle.std.proofs.lemmas.Int.{ints}
 use Rattle.std.proofs.lemmas.List.Elements.{All-cons, All-head, All-tail, All-take, All-weaker}
 use Rattle.ak_base.specs.declared.heads.Head.{Head}
+use Rattle.ak_desk_language.specs.declared.desk_lines.DeskLine.{DeskLine}
 use Rattle.ak_desk_lines.proofs.EndedLines.{held_at}
 use Rattle.ak_desk_lines.proofs.LineStepping.{held_here, holds_now}
 use Rattle.ak_desk_lines.specs.DeskStates.{DeskState}
 use Rattle.ak_desk_lines.specs.LineEnds.{EndsLine}
 use Rattle.ak_desk_lines.specs.LineSteps.{IsOneStep, KeepsLinks, LinksWith}
 use Rattle.ak_desk_lines.specs.declared.turns.Turn.{Turn}
+use Rattle.ak_desk_texts.specs.declared.answers.DeskAnswer.{DeskAnswer}
 use Rattle.ak_edit.proofs.Finishing.{where_held}
 use Rattle.ak_edit.proofs.UndoneLists.{undo_keeps_all}
 use Rattle.ak_edit.specs.Steps.{reversal_in, reversals_in}
@@ -19,14 +21,12 @@ use Rattle.ak_edit.specs.declared.desk_faults.DeskFault.{DeskFault}
 use Rattle.ak_keep.specs.Collections.{Collection, Holding}
 use Rattle.ak_keep.specs.Keepers.{WhereHeld}
 use Rattle.ak_keep.specs.Marks.{WithMark}
-use Rattle.ak_lines.specs.declared.desk_lines.DeskLine.{DeskLine}
 use Rattle.ak_merge.proofs.EditBuildingLaws.{edits_keep_all}
 use Rattle.ak_merge.proofs.EditFacts.{advanced_past, same_least}
 use Rattle.ak_merge.specs.Edits.{Edit, Reversal, advanced, reversal_of}
 use Rattle.ak_merge.specs.Holdings.{AreNamed, row_under}
 use Rattle.ak_merge.specs.Links.{AreLinked}
 use Rattle.ak_merge.specs.Undoing.{IsEdit, IsListAfter, StepFits}
-use Rattle.ak_texts.specs.declared.answers.DeskAnswer.{DeskAnswer}
 use Rattle.ak_undo.specs.declared.steps.Step.{Step}
 
 -- a moment that rises is another

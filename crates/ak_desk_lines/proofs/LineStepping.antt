@@ -4,9 +4,9 @@ use Rattle.std.specs.Option.{option_map}
 use Rattle.std.proofs.Common.{inl, inr, sym, subst}
 use Rattle.ak_base.specs.declared.decks.Deck.{Deck}
 use Rattle.ak_base.specs.declared.heads.Head.{Head}
-use Rattle.ak_calls.specs.CardEdits.{card_edit}
+use Rattle.ak_edit_calls.specs.CardEdits.{card_edit}
 use Rattle.ak_deck_paths.specs.Additions.{AreAdded, addition}
-use Rattle.ak_calls.specs.DeckPaths.{path_at}
+use Rattle.ak_edit_calls.specs.DeckPaths.{path_at}
 use Rattle.ak_deck_paths.specs.Renames.{AreMadeAbove, renaming}
 use Rattle.ak_deck_trees.proofs.AdmittedTrees.{deck_deletions_are_admitted}
 use Rattle.ak_deck_trees.specs.DeckDeletions.{deck_deletion}
@@ -32,8 +32,8 @@ use Rattle.ak_keep.specs.Collections.{Collection, Holding, collection_of}
 use Rattle.ak_keep.specs.Keepers.{Keeping, WhereHeld}
 use Rattle.ak_keep.specs.Marks as marks
 use Rattle.ak_keep.specs.Marks.{WithMark}
-use Rattle.ak_lines.specs.declared.desk_lines.DeskLine.{DeskLine}
-use Rattle.ak_lines.specs.declared.desk_lines.DeskLine.TheVariants as lines
+use Rattle.ak_desk_language.specs.declared.desk_lines.DeskLine.{DeskLine}
+use Rattle.ak_desk_language.specs.declared.desk_lines.DeskLine.TheVariants as lines
 use Rattle.ak_merge.proofs.Sweeps.{lists_after_suit}
 use Rattle.ak_merge.specs.Edits.{Admits, Edit}
 use Rattle.ak_merge.specs.Holdings.{AreNamed, row_under}
@@ -50,7 +50,7 @@ use Rattle.ak_study.proofs.AdmittedEdits.{burials_are_admitted, day_starts_are_a
 use Rattle.ak_study.specs.Answers.{answer_edit}
 use Rattle.ak_study.specs.CardPlaces.{buried_by_hand, suspended, unsuspended}
 use Rattle.ak_study.specs.DayStarts.{HasStarted, day_start}
-use Rattle.ak_texts.specs.declared.answers.DeskAnswer.{DeskAnswer}
+use Rattle.ak_desk_texts.specs.declared.answers.DeskAnswer.{DeskAnswer}
 use Rattle.ak_types.proofs.AdmittedEdits.{additions_are_admitted as type_additions, deletions_are_admitted as type_deletions, edits_are_admitted as type_edits}
 use Rattle.ak_types.specs.TypeAdditions.{given_addition}
 use Rattle.ak_types.specs.TypeDeletions.{type_deletion}

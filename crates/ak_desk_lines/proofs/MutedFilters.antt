@@ -8,9 +8,9 @@ use Rattle.ak_desk_lines.specs.declared.turns.Turn.{Turn}
 use Rattle.ak_edit.proofs.Finishing.{where_held}
 use Rattle.ak_edit.specs.declared.desk_faults.DeskFault.TheVariants as faults
 use Rattle.ak_keep.specs.Keepers.{Keeping}
-use Rattle.ak_lines.specs.declared.desk_lines.DeskLine.TheVariants as lines
+use Rattle.ak_desk_language.specs.declared.desk_lines.DeskLine.TheVariants as lines
 use Rattle.ak_template.specs.declared.faces.PageFault.TheVariants as pages
-use Rattle.ak_texts.specs.declared.answers.DeskAnswer.TheVariants as answers
+use Rattle.ak_desk_texts.specs.declared.answers.DeskAnswer.TheVariants as answers
 
 -- there was one
 pub dropped_line : (t : Turn) (filter : List ℕ) (was now : DeskState)

@@ -1,14 +1,14 @@
 -- A line that is known to be one of its kind.
 use Rattle.std.specs.Prelude.{◌≡◌, List, Result}
 use Rattle.std.proofs.Common.{sym, subst}
+use Rattle.ak_desk_language.specs.declared.desk_lines.DeskLine.{DeskLine}
 use Rattle.ak_desk_lines.specs.DeskStates.{DeskState}
 use Rattle.ak_desk_lines.specs.LineEnds.{AppliesFilters, EndsLine}
 use Rattle.ak_desk_lines.specs.declared.turns.Turn.{Turn}
+use Rattle.ak_desk_texts.specs.declared.answers.DeskAnswer.{DeskAnswer}
 use Rattle.ak_edit.specs.declared.desk_faults.DeskFault.{DeskFault}
 use Rattle.ak_filters.specs.Meanings.{Meaning}
 use Rattle.ak_keep.specs.Keepers.{Keeping}
-use Rattle.ak_lines.specs.declared.desk_lines.DeskLine.{DeskLine}
-use Rattle.ak_texts.specs.declared.answers.DeskAnswer.{DeskAnswer}
 
 -- it ends as that one does
 pub ends_as : (line given : DeskLine) (t : Turn) (was now : DeskState) (result : Result DeskAnswer DeskFault)

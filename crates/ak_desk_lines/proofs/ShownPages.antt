@@ -10,10 +10,10 @@ use Rattle.ak_edit.proofs.Finishing.{where_held}
 use Rattle.ak_edit.specs.declared.desk_faults.DeskFault.{DeskFault}
 use Rattle.ak_filters.specs.Meanings.{Meaning}
 use Rattle.ak_keep.specs.Keepers.{Keeping, WhereTold}
-use Rattle.ak_lines.specs.declared.desk_lines.DeskLine.TheVariants as lines
+use Rattle.ak_desk_language.specs.declared.desk_lines.DeskLine.TheVariants as lines
 use Rattle.ak_pages.specs.CardPages.{IsPageRefusal, RefusesCard, ShowsCard}
 use Rattle.ak_template.specs.Pages.{kinds}
-use Rattle.ak_texts.specs.declared.answers.DeskAnswer.TheVariants as answers
+use Rattle.ak_desk_texts.specs.declared.answers.DeskAnswer.TheVariants as answers
 
 -- the line, whatever the page is: the desk is as it was
 pub page_line : (t : Turn) (card : ℤ) (back : Bool) (was now : DeskState) (made : Result (List ℕ) DeskFault) → IfErr made IsPageRefusal

@@ -9,10 +9,10 @@ use Rattle.ak_base.specs.declared.names.Table.TheVariants as tables
 use Rattle.ak_base.specs.declared.note_types.NoteType.{NoteType}
 use Rattle.ak_base.specs.declared.notes.Note.{Note}
 use Rattle.ak_base.specs.declared.option_groups.Options.{Options}
-use Rattle.ak_calls.specs.Additions.{IsNewRow}
-use Rattle.ak_calls.specs.CardEdits.{card_edit}
+use Rattle.ak_edit_calls.specs.Additions.{IsNewRow}
+use Rattle.ak_edit_calls.specs.CardEdits.{card_edit}
 use Rattle.ak_deck_paths.specs.Additions.{IsAdded as IsAddedDeck}
-use Rattle.ak_calls.specs.DeckPaths.{path_at}
+use Rattle.ak_edit_calls.specs.DeckPaths.{path_at}
 use Rattle.ak_deck_paths.specs.Renames.{IsMoved}
 use Rattle.ak_deck_trees.specs.DeckDeletions.{deck_deletion}
 use Rattle.ak_decks.specs.DeckOptions.{options_use}
@@ -26,8 +26,8 @@ use Rattle.ak_edit.specs.declared.desk_faults.DeskFault.TheVariants as faults
 use Rattle.ak_keep.specs.Collections.{Collection, Holding, Rows}
 use Rattle.ak_keep.specs.Keepers.{Keeping, WhereTold}
 use Rattle.ak_keep.specs.Lookups.{note_at}
-use Rattle.ak_lines.specs.declared.desk_lines.DeskLine.{DeskLine}
-use Rattle.ak_lines.specs.declared.desk_lines.DeskLine.TheVariants as lines
+use Rattle.ak_desk_language.specs.declared.desk_lines.DeskLine.{DeskLine}
+use Rattle.ak_desk_language.specs.declared.desk_lines.DeskLine.TheVariants as lines
 use Rattle.ak_merge.specs.Edits.{Edit}
 use Rattle.ak_merge.specs.Holdings.{name_in}
 use Rattle.ak_merge.specs.Soundness.{first_fault}
@@ -53,8 +53,8 @@ use Rattle.ak_study.specs.Answers.{IsAnswered}
 use Rattle.ak_study.specs.CardPlaces.{buried_by_hand, suspended, unsuspended}
 use Rattle.ak_study.specs.DayStarts.{HasStarted}
 use Rattle.ak_study.specs.declared.answers.CardAnswer.{CardAnswer}
-use Rattle.ak_texts.specs.declared.answers.DeskAnswer.{DeskAnswer}
-use Rattle.ak_texts.specs.declared.answers.DeskAnswer.TheVariants as answers
+use Rattle.ak_desk_texts.specs.declared.answers.DeskAnswer.{DeskAnswer}
+use Rattle.ak_desk_texts.specs.declared.answers.DeskAnswer.TheVariants as answers
 use Rattle.ak_types.specs.TypeAdditions.{given_addition}
 use Rattle.ak_types.specs.TypeDeletions.{type_deletion}
 use Rattle.ak_types.specs.TypeEdits.{IsTypeEdited}

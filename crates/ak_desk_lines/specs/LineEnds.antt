@@ -2,10 +2,14 @@
 use Rattle.std.specs.Prelude.{◌≡◌, ◌⊎◌, ⊤, ℕ, ◌+◌, ◌-◌, ◌^◌, min, ℤ, Bool, true, false, List, Option, Result, IfErr, IfOk, OnOk}
 use Rattle.ak_base.specs.declared.names.Table.TheVariants as tables
 use Rattle.ak_desk.specs.declared.desks.Desk.{Desk}
+use Rattle.ak_desk_language.specs.declared.desk_lines.DeskLine.{DeskLine}
+use Rattle.ak_desk_language.specs.declared.desk_lines.DeskLine.TheVariants as lines
 use Rattle.ak_desk_lines.specs.Accepted.{Does, Starts}
 use Rattle.ak_desk_lines.specs.DeskStates.{DeskState, state_of}
 use Rattle.ak_desk_lines.specs.Refused.{MayRefuse, Refuses}
 use Rattle.ak_desk_lines.specs.declared.turns.Turn.{Turn}
+use Rattle.ak_desk_texts.specs.declared.answers.DeskAnswer.{DeskAnswer}
+use Rattle.ak_desk_texts.specs.declared.answers.DeskAnswer.TheVariants as answers
 use Rattle.ak_edit.specs.Refusals.{AnswersBy, IsFromOutside}
 use Rattle.ak_edit.specs.declared.desk_faults.DeskFault.{DeskFault}
 use Rattle.ak_edit.specs.declared.desk_faults.DeskFault.TheVariants as faults
@@ -14,14 +18,10 @@ use Rattle.ak_filters.specs.Meanings.{Meaning}
 use Rattle.ak_keep.specs.Collections.{Collection}
 use Rattle.ak_keep.specs.Keepers.{Keeping, WhereHeld, WhereTold}
 use Rattle.ak_keep.specs.declared.readables.Lookup.{Ghosts}
-use Rattle.ak_lines.specs.declared.desk_lines.DeskLine.{DeskLine}
-use Rattle.ak_lines.specs.declared.desk_lines.DeskLine.TheVariants as lines
 use Rattle.ak_merge.specs.Holdings.{name_in}
 use Rattle.ak_merge.specs.declared.checks.CheckFault.{CheckFault}
 use Rattle.ak_pages.specs.CardPages.{RefusesCard, ShowsCard}
 use Rattle.ak_template.specs.Pages.{kinds}
-use Rattle.ak_texts.specs.declared.answers.DeskAnswer.{DeskAnswer}
-use Rattle.ak_texts.specs.declared.answers.DeskAnswer.TheVariants as answers
 use Rattle.ak_undo.specs.declared.steps.Step.{Step}
 
 -- how many answers were accepted after this answer to a line, if it was that many before: at its last value the number

@@ -2,8 +2,6 @@
 use Rattle.std.specs.Prelude.{◌≡◌, ◌⊎◌, ℕ, ℤ, List, None}
 use Rattle.ak_base.specs.declared.names.Table.TheVariants as tables
 use Rattle.ak_base.specs.declared.notes.Note.{Note}
-use Rattle.ak_calls.specs.Calls.{IsMissingFault, IsMissingOrEnd}
-use Rattle.ak_calls.specs.CardEdits.{RefusesCardEdit}
 use Rattle.ak_deck_paths.specs.Additions.{RefusesAddition as RefusesNewDeck}
 use Rattle.ak_deck_paths.specs.ChangedDecks.{IsPathFault}
 use Rattle.ak_deck_paths.specs.Renames.{IsRenameFault, RefusesRename}
@@ -11,16 +9,18 @@ use Rattle.ak_deck_trees.specs.DeckDeletions.{IsDeckDeletionFault, RefusesDeckDe
 use Rattle.ak_decks.specs.DeckOptions.{IsUseFault, RefusesUse}
 use Rattle.ak_decks.specs.Flags.{RefusesFlag}
 use Rattle.ak_decks.specs.Moves.{IsMoveFault, RefusesMove}
+use Rattle.ak_desk_language.specs.declared.desk_lines.DeskLine.{DeskLine}
+use Rattle.ak_desk_language.specs.declared.desk_lines.DeskLine.TheVariants as lines
 use Rattle.ak_desk_lines.specs.Accepted.{given_answer, new_note, other_fields, other_tags, type_edit}
 use Rattle.ak_desk_lines.specs.declared.turns.Turn.{Turn}
 use Rattle.ak_edit.specs.Refusals.{IsEndFault, IsFromOutside, IsUndoFault, OrElse, Refusal}
 use Rattle.ak_edit.specs.Undos.{RefusesUndo}
 use Rattle.ak_edit.specs.declared.desk_faults.DeskFault.{DeskFault}
 use Rattle.ak_edit.specs.declared.desk_faults.DeskFault.TheVariants as faults
+use Rattle.ak_edit_calls.specs.Calls.{IsMissingFault, IsMissingOrEnd}
+use Rattle.ak_edit_calls.specs.CardEdits.{RefusesCardEdit}
 use Rattle.ak_keep.specs.Collections.{Collection}
 use Rattle.ak_keep.specs.Lookups.{deck_at, note_at}
-use Rattle.ak_lines.specs.declared.desk_lines.DeskLine.{DeskLine}
-use Rattle.ak_lines.specs.declared.desk_lines.DeskLine.TheVariants as lines
 use Rattle.ak_merge.specs.Holdings.{name_in}
 use Rattle.ak_notes.specs.Additions.{IsAddFault, RefusesAddition as RefusesNewNote}
 use Rattle.ak_notes.specs.Deletions.{RefusesDeletion as RefusesNoteDeletion}

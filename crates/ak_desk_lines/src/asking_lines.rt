@@ -1,24 +1,24 @@
 ghost use Rattle.std.specs.Prelude.{◌≡◌, true, IfErr, IfOk, IfSome, OnErr, OnOk};
 ghost use Rattle.ak_base.specs.Days.{IsDayOf};
 ghost use Rattle.ak_desk.specs.Desks.{IsIdle};
+ghost use Rattle.ak_desk_language.specs.declared.desk_lines.DeskLine.TheVariants as lines;
 ghost use Rattle.ak_desk_lines.specs.Accepted.{IsOnDay, answer_with, card_answer, counts_answer, of_queue, of_queue_fault};
 ghost use Rattle.ak_desk_lines.specs.LineEnds.{EndsAt};
+ghost use Rattle.ak_desk_texts.specs.declared.answers.DeskAnswer.TheVariants as answers;
 ghost use Rattle.ak_edit.specs.Refusals.{AnswersBy, DeskCause, IsEndFault};
 ghost use Rattle.ak_keep.specs.Keepers.{WhereHeld};
 ghost use Rattle.ak_keep.specs.Readings.{ReadsBy};
-ghost use Rattle.ak_lines.specs.declared.desk_lines.DeskLine.TheVariants as lines;
 ghost use Rattle.ak_study.specs.Answers.{IsButton};
 ghost use Rattle.ak_study.specs.DayStarts.{IsInDay, RefusesStart, StartsDay};
-ghost use Rattle.ak_texts.specs.declared.answers.DeskAnswer.TheVariants as answers;
 
 use crate::turns::Turn;
 use ak_base::{Card, Day, Name, Table};
 use ak_desk::Desk;
+use ak_desk_texts::DeskAnswer;
 use ak_edit::DeskFault;
 use ak_keep::{KeepFault, Keeper};
 use ak_queue::{Counts, Progress, QueueFault, counts, next};
 use ak_study::CardAnswer;
-use ak_texts::DeskAnswer;
 
 /// `answer`: answers a card.
 pub(crate) fn answer_card<K: Keeper>(

@@ -1,10 +1,10 @@
 ghost use Rattle.std.specs.Prelude.{◌≡◌};
 ghost use Rattle.ak_desk.specs.Desks.{IsIdle};
+ghost use Rattle.ak_desk_language.specs.declared.desk_lines.DeskLine.TheVariants as lines;
 ghost use Rattle.ak_desk_lines.specs.Accepted.{answer_with};
 ghost use Rattle.ak_desk_lines.specs.LineEnds.{EndsAt};
+ghost use Rattle.ak_desk_texts.specs.declared.answers.DeskAnswer.TheVariants as answers;
 ghost use Rattle.ak_edit.specs.Refusals.{DeskCause};
-ghost use Rattle.ak_lines.specs.declared.desk_lines.DeskLine.TheVariants as lines;
-ghost use Rattle.ak_texts.specs.declared.answers.DeskAnswer.TheVariants as answers;
 
 use crate::answers::finished;
 use crate::turns::Turn;
@@ -12,9 +12,9 @@ use ak_base::{List, Text};
 use ak_deck_paths::RenameDeck;
 use ak_decks::{MoveCards, UseOptions};
 use ak_desk::Desk;
+use ak_desk_texts::DeskAnswer;
 use ak_edit::DeskFault;
 use ak_keep::Keeper;
-use ak_texts::DeskAnswer;
 
 /// `deck`: adds a deck.
 pub(crate) fn add_deck<K: Keeper>(

@@ -1,14 +1,14 @@
 // What follows for every caller from the ends of lines.
 ghost use Rattle.std.specs.Prelude.{Result};
+ghost use Rattle.ak_desk_language.specs.declared.desk_lines.DeskLine.{DeskLine};
 ghost use Rattle.ak_desk_lines.specs.DeskStates.{DeskState};
 ghost use Rattle.ak_desk_lines.specs.LineEnds.{EndsLine};
 ghost use Rattle.ak_desk_lines.specs.LineSteps.{IsOneStep, KeepsLinks};
 ghost use Rattle.ak_desk_lines.specs.declared.turns.Turn.{Turn};
+ghost use Rattle.ak_desk_texts.specs.declared.answers.DeskAnswer.{DeskAnswer};
 ghost use Rattle.ak_edit.specs.Undos.{SuitsNow};
 ghost use Rattle.ak_edit.specs.declared.desk_faults.DeskFault.{DeskFault};
 ghost use Rattle.ak_keep.specs.Keepers.{WhereHeld};
-ghost use Rattle.ak_lines.specs.declared.desk_lines.DeskLine.{DeskLine};
-ghost use Rattle.ak_texts.specs.declared.answers.DeskAnswer.{DeskAnswer};
 
 use ak_deck_paths::{deck_additions_are_admitted, deck_renames_are_admitted};
 

@@ -6,7 +6,7 @@ ghost use Rattle.ak_edit.specs.Refusals.{DeskCause};
 ghost use Rattle.ak_base.specs.NoteTexts.{fields_in, tags_in};
 ghost use Rattle.ak_keep.specs.Keepers.{WhereTold};
 ghost use Rattle.ak_keep.specs.Lookups.{note_at};
-ghost use Rattle.ak_lines.specs.declared.desk_lines.DeskLine.TheVariants as lines;
+ghost use Rattle.ak_desk_language.specs.declared.desk_lines.DeskLine.TheVariants as lines;
 ghost use Rattle.ak_notes.specs.MadeNotes.{MissesIn};
 ghost use Rattle.ak_merge.specs.Holdings.{name_in};
 ghost use Rattle.ak_base.specs.declared.names.Table.TheVariants as tables;
@@ -15,10 +15,10 @@ use crate::answers::finished;
 use crate::turns::Turn;
 use ak_base::{List, Memory, Name, Note, Table, Text, copy_texts};
 use ak_desk::Desk;
+use ak_desk_texts::DeskAnswer;
 use ak_edit::DeskFault;
 use ak_keep::{Keeper, note_at};
 use ak_notes::{Added, NewNote, NoteEdit};
-use ak_texts::DeskAnswer;
 use std::alloc::Global;
 
 /// `note`: adds a note without tags. Without a name of its own it is called by its id and the word of chance.

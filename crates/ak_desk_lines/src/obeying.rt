@@ -1,8 +1,8 @@
 ghost use Rattle.std.specs.Prelude.{◌≡◌, map};
 ghost use Rattle.ak_desk.specs.Desks.{IsIdle};
+ghost use Rattle.ak_desk_language.specs.DeskLines.{IsInRange};
 ghost use Rattle.ak_desk_lines.specs.LineEnds.{AppliesFilters, EndsAt, counted};
 ghost use Rattle.ak_edit.specs.Refusals.{DeskCause};
-ghost use Rattle.ak_lines.specs.DeskLines.{IsInRange};
 ghost use Rattle.ak_study.specs.DayStarts.{IsInDay};
 
 use crate::asking_lines::{answer_card, ask_counts, ask_next};
@@ -15,11 +15,11 @@ use crate::turns::Turn;
 use crate::type_lines::{add_type, delete_type, edit_type};
 use crate::view_lines::{find_cards, mute_filter, show_page};
 use ak_desk::Desk;
+use ak_desk_language::DeskLine;
+use ak_desk_texts::DeskAnswer;
 use ak_edit::DeskFault;
 use ak_filters::FieldFilter;
 use ak_keep::Keeper;
-use ak_lines::DeskLine;
-use ak_texts::DeskAnswer;
 use ak_types::TypeEdit;
 
 /// Does what a line says at a desk, and gives its answer. A line that is refused leaves the collection and the undo list

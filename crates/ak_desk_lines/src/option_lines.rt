@@ -1,20 +1,20 @@
 ghost use Rattle.std.specs.Prelude.{◌≡◌, pos};
 ghost use Rattle.ak_base.specs.Heads.{IsWithin};
 ghost use Rattle.ak_desk.specs.Desks.{IsIdle};
+ghost use Rattle.ak_desk_language.specs.declared.desk_lines.DeskLine.TheVariants as lines;
 ghost use Rattle.ak_desk_lines.specs.Accepted.{answer_with};
 ghost use Rattle.ak_desk_lines.specs.LineEnds.{EndsAt};
+ghost use Rattle.ak_desk_texts.specs.declared.answers.DeskAnswer.TheVariants as answers;
 ghost use Rattle.ak_edit.specs.Refusals.{DeskCause};
-ghost use Rattle.ak_lines.specs.declared.desk_lines.DeskLine.TheVariants as lines;
-ghost use Rattle.ak_texts.specs.declared.answers.DeskAnswer.TheVariants as answers;
 
 use crate::answers::finished;
 use crate::turns::Turn;
 use ak_base::Options;
 use ak_desk::Desk;
+use ak_desk_texts::DeskAnswer;
 use ak_edit::DeskFault;
 use ak_keep::Keeper;
 use ak_options::DeleteOptions;
-use ak_texts::DeskAnswer;
 
 /// `options` with the id 0: adds a group.
 pub(crate) fn add_options<K: Keeper>(

@@ -1,18 +1,18 @@
 ghost use Rattle.std.specs.Prelude.{◌≡◌};
 ghost use Rattle.ak_desk.specs.Desks.{IsIdle};
+ghost use Rattle.ak_desk_language.specs.declared.desk_lines.DeskLine.TheVariants as lines;
 ghost use Rattle.ak_desk_lines.specs.Accepted.{answer_with};
 ghost use Rattle.ak_desk_lines.specs.LineEnds.{EndsAt};
+ghost use Rattle.ak_desk_texts.specs.declared.answers.DeskAnswer.TheVariants as answers;
 ghost use Rattle.ak_edit.specs.Refusals.{DeskCause};
-ghost use Rattle.ak_lines.specs.declared.desk_lines.DeskLine.TheVariants as lines;
-ghost use Rattle.ak_texts.specs.declared.answers.DeskAnswer.TheVariants as answers;
 
 use crate::answers::finished;
 use crate::turns::Turn;
 use ak_base::NoteType;
 use ak_desk::Desk;
+use ak_desk_texts::DeskAnswer;
 use ak_edit::DeskFault;
 use ak_keep::Keeper;
-use ak_texts::DeskAnswer;
 use ak_types::{DeleteNoteType, TypeEdit};
 
 /// `type`: adds a note type.

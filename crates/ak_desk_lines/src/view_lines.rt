@@ -1,24 +1,24 @@
 ghost use Rattle.std.specs.Prelude.{◌≡◌, true, map, IfErr, IfOk, IfSome};
 ghost use Rattle.ak_desk.specs.Desks.{IsIdle};
+ghost use Rattle.ak_desk_language.specs.declared.desk_lines.DeskLine.TheVariants as lines;
 ghost use Rattle.ak_desk_lines.specs.Accepted.{AreFound, answer_with};
 ghost use Rattle.ak_desk_lines.specs.LineEnds.{EndsAt, EndsMute, EndsPage};
+ghost use Rattle.ak_desk_texts.specs.declared.answers.DeskAnswer.TheVariants as answers;
 ghost use Rattle.ak_edit.specs.Refusals.{DeskCause, IsFromOutside};
 ghost use Rattle.ak_keep.specs.Keepers.{WhereTold};
-ghost use Rattle.ak_lines.specs.declared.desk_lines.DeskLine.TheVariants as lines;
 ghost use Rattle.ak_study.specs.DayStarts.{IsInDay};
-ghost use Rattle.ak_texts.specs.declared.answers.DeskAnswer.TheVariants as answers;
 
 use crate::asking_lines::day_of;
 use crate::turns::Turn;
 use ak_base::{List, Text};
 use ak_desk::Desk;
+use ak_desk_texts::DeskAnswer;
 use ak_edit::DeskFault;
 use ak_filters::{FieldFilter, drop_filter};
 use ak_keep::Keeper;
 use ak_pages::card_page;
 use ak_search::{Expr, find};
 use ak_template::PageFault;
-use ak_texts::DeskAnswer;
 use std::alloc::Global;
 
 /// `find`: gives the cards that meet a search on the day of the moment. It starts no day.

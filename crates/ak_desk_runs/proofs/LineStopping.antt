@@ -1,15 +1,15 @@
 -- How a line ends, from how its text or what it says ended.
 use Rattle.std.proofs.Common.{◌≡◌, ℕ, false, List, Some, None, Ok, Err, refl, ◌∙◌, inl, inr}
+use Rattle.ak_desk_language.specs.AnyLines.{RefusesAnyLine}
+use Rattle.ak_desk_language.specs.declared.line_faults.LineFault.{LineFault}
 use Rattle.ak_desk_lines.specs.declared.turns.Turn.{Turn}
 use Rattle.ak_desk_runs.specs.LineOutcomes.{TakesTurn, is_skipped_line, text_in, textless}
 use Rattle.ak_desk_runs.specs.LineStops.{ComesOut, IsLineStop, IsStopBy, IsUnsaid, TextComesOut}
 use Rattle.ak_desk_runs.specs.RunStates.{RunState}
 use Rattle.ak_desk_runs.specs.declared.line_stops.LineStop.{LineStop}
 use Rattle.ak_desk_runs.specs.declared.line_stops.LineStop.TheVariants as stops
+use Rattle.ak_desk_texts.specs.declared.answers.DeskAnswer.{DeskAnswer}
 use Rattle.ak_io.specs.declared.lines.Line.{Line}
-use Rattle.ak_lines.specs.AnyLines.{RefusesAnyLine}
-use Rattle.ak_lines.specs.declared.line_faults.LineFault.{LineFault}
-use Rattle.ak_texts.specs.declared.answers.DeskAnswer.{DeskAnswer}
 
 -- a line without a text stops
 pub textless_stops : (line : Line) (turn : Turn) (s t : RunState) (why : List ℕ) (stop : LineStop)

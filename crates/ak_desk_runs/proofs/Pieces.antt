@@ -3,11 +3,11 @@ use Rattle.std.proofs.Common.{◌≡◌, ℕ, ℤ, pos, suc, ◌+◌, ◌<◌, L
 use Rattle.std.specs.Fmt.{signed_decimal}
 use Rattle.std.specs.Io.KnownBytes.{Appends}
 use Rattle.std.proofs.KnownBytes.{Appends-trans}
+use Rattle.ak_desk_texts.specs.AnswerTexts.{check_fault_text, ids_text}
 use Rattle.ak_io.proofs.Scripts.{goes_on, part_after, part_longer, stops}
 use Rattle.ak_io.specs.Scripts.{AppendsPart, Reached}
 use Rattle.ak_io.specs.declared.traits.Failed.{Failed}
 use Rattle.ak_merge.specs.declared.checks.CheckFault.{CheckFault}
-use Rattle.ak_texts.specs.AnswerTexts.{check_fault_text, ids_text}
 
 -- a part was written, told of a call that failed
 pub told : (r : Result (Unit {0}) Failed) (w w' : Option (List ℕ)) (bytes : List ℕ) → AppendsPart w w' bytes → OnErr r (AppendsPart w w' bytes)

@@ -13,9 +13,9 @@ use Rattle.ak_edit.specs.declared.desk_faults.DeskFault.TheVariants as desks
 use Rattle.ak_io.proofs.Readings.{takes_first}
 use Rattle.ak_io.specs.Lines.{Takes}
 use Rattle.ak_io.specs.declared.lines.Line.{Line}
-use Rattle.ak_texts.specs.FaultTexts.{refusal_text}
-use Rattle.ak_texts.specs.declared.line_refusals.LineRefusal.{LineRefusal}
-use Rattle.ak_texts.specs.declared.line_refusals.LineRefusal.TheVariants as refusals
+use Rattle.ak_desk_texts.specs.FaultTexts.{refusal_text}
+use Rattle.ak_desk_texts.specs.declared.line_refusals.LineRefusal.{LineRefusal}
+use Rattle.ak_desk_texts.specs.declared.line_refusals.LineRefusal.TheVariants as refusals
 
 -- nothing is written
 kept_nothing : (w w' : Option (List ℕ)) → Keeps w w' → Appends w w' []

@@ -3,22 +3,22 @@ use Rattle.std.specs.Prelude.{◌≡◌, ◌≢◌, ◌⊎◌, ℕ, Bool, true, 
 use Rattle.std.specs.List.{starts_with}
 use Rattle.std.specs.Str.{is_utf8}
 use Rattle.ak_any_lines.specs.AnyEnds.{AppliesToAny, EndsAnyLine}
+use Rattle.ak_desk_language.specs.AnyLines.{RefusesAnyLine, SaysAnyLine}
+use Rattle.ak_desk_language.specs.DeskLines.{is_skipped}
+use Rattle.ak_desk_language.specs.declared.any_lines.AnyLine.{AnyLine}
+use Rattle.ak_desk_language.specs.declared.line_faults.LineFault.{LineFault}
 use Rattle.ak_desk_lines.specs.LineEnds.{counted}
 use Rattle.ak_desk_lines.specs.declared.turns.Turn.{Turn}
 use Rattle.ak_desk_runs.specs.RunStates.{LineState, RunState, state_in}
+use Rattle.ak_desk_texts.specs.AnswerTexts.{answer_text}
+use Rattle.ak_desk_texts.specs.FaultTexts.{line_fault_text, refusal_text}
+use Rattle.ak_desk_texts.specs.declared.answers.DeskAnswer.{DeskAnswer}
+use Rattle.ak_desk_texts.specs.declared.line_refusals.LineRefusal.{LineRefusal}
+use Rattle.ak_desk_texts.specs.declared.line_refusals.LineRefusal.TheVariants as refusals
 use Rattle.ak_edit.specs.declared.desk_faults.DeskFault.TheVariants as desks
 use Rattle.ak_io.specs.Arrivals.{GivesNext, IsClockMoment}
 use Rattle.ak_io.specs.declared.lines.Line.{Line}
 use Rattle.ak_io.specs.declared.lines.Line.TheVariants.{Whole, TooLong, PastInput}
-use Rattle.ak_lines.specs.AnyLines.{RefusesAnyLine, SaysAnyLine}
-use Rattle.ak_lines.specs.DeskLines.{is_skipped}
-use Rattle.ak_lines.specs.declared.any_lines.AnyLine.{AnyLine}
-use Rattle.ak_lines.specs.declared.line_faults.LineFault.{LineFault}
-use Rattle.ak_texts.specs.AnswerTexts.{answer_text}
-use Rattle.ak_texts.specs.FaultTexts.{line_fault_text, refusal_text}
-use Rattle.ak_texts.specs.declared.answers.DeskAnswer.{DeskAnswer}
-use Rattle.ak_texts.specs.declared.line_refusals.LineRefusal.{LineRefusal}
-use Rattle.ak_texts.specs.declared.line_refusals.LineRefusal.TheVariants as refusals
 
 -- how a line ends: it is skipped, accepted and answered by this text, or refused by this one; or the keeper failed, or
 -- memory ran out

@@ -1,21 +1,21 @@
 -- Why a line does not go.
 use Rattle.std.specs.Prelude.{◌≡◌, ◌≢◌, ◌⊎◌, ⊤, ℕ, List, Option, Some, None, Result, Ok, Err}
+use Rattle.ak_desk_language.specs.AnyLines.{SaysAnyLine}
+use Rattle.ak_desk_language.specs.declared.any_lines.AnyLine.{AnyLine}
+use Rattle.ak_desk_language.specs.declared.line_faults.LineFault.{LineFault}
 use Rattle.ak_desk_lines.specs.declared.turns.Turn.{Turn}
 use Rattle.ak_desk_runs.specs.LineOutcomes.{Accepted, EndsAs, EndsAtDesk, Failed, OutOfMemory, Skipped, Refused, SaysNoLine}
 use Rattle.ak_desk_runs.specs.RunStates.{LineState, RunState}
 use Rattle.ak_desk_runs.specs.declared.line_stops.LineStop.{LineStop}
 use Rattle.ak_desk_runs.specs.declared.line_stops.LineStop.TheVariants as stops
+use Rattle.ak_desk_texts.specs.AnswerTexts.{answer_text}
+use Rattle.ak_desk_texts.specs.FaultTexts.{line_fault_text, refusal_text}
+use Rattle.ak_desk_texts.specs.declared.answers.DeskAnswer.{DeskAnswer}
+use Rattle.ak_desk_texts.specs.declared.line_refusals.LineRefusal.{LineRefusal}
+use Rattle.ak_desk_texts.specs.declared.line_refusals.LineRefusal.TheVariants as refusals
 use Rattle.ak_edit.specs.declared.desk_faults.DeskFault.TheVariants as desks
 use Rattle.ak_faults.specs.Causes.{Health, HasCauseOf}
 use Rattle.ak_io.specs.declared.lines.Line.{Line}
-use Rattle.ak_lines.specs.AnyLines.{SaysAnyLine}
-use Rattle.ak_lines.specs.declared.any_lines.AnyLine.{AnyLine}
-use Rattle.ak_lines.specs.declared.line_faults.LineFault.{LineFault}
-use Rattle.ak_texts.specs.AnswerTexts.{answer_text}
-use Rattle.ak_texts.specs.FaultTexts.{line_fault_text, refusal_text}
-use Rattle.ak_texts.specs.declared.answers.DeskAnswer.{DeskAnswer}
-use Rattle.ak_texts.specs.declared.line_refusals.LineRefusal.{LineRefusal}
-use Rattle.ak_texts.specs.declared.line_refusals.LineRefusal.TheVariants as refusals
 
 -- it is refused by this text, or memory was out for it
 abbrev pub IsStopBy : List ℕ → LineStop → Type 0

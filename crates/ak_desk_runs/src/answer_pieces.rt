@@ -2,14 +2,14 @@
 ghost use Rattle.std.specs.Prelude.{[], ◌∷◌, ◌++◌, OnOk, OnErr, codes, decimal, length};
 ghost use Rattle.std.specs.Fmt.{signed_decimal};
 ghost use Rattle.std.specs.Io.KnownBytes.{Appends};
+ghost use Rattle.ak_desk_texts.specs.AnswerTexts.{answer_text, answered_text, check_fault_text, counts_text, ids_text, note_text};
 ghost use Rattle.ak_faults.specs.Causes.{HasCause};
 ghost use Rattle.ak_io.specs.Scripts.{AppendsPart};
-ghost use Rattle.ak_texts.specs.AnswerTexts.{answer_text, answered_text, check_fault_text, counts_text, ids_text, note_text};
 
 use ak_base::Memory;
+use ak_desk_texts::{DeskAnswer, write_answer};
 use ak_io::{Failed, Sink, print_line, write_all};
 use ak_merge::CheckFault;
-use ak_texts::{DeskAnswer, write_answer};
 use itoa::{Buffer, Integer};
 use std::alloc::Global;
 

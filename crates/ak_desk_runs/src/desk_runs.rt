@@ -6,10 +6,10 @@ ghost use Rattle.ak_desk_runs.specs.DeskRuns.{EndsDesk, IsDeskRun, input_lines};
 ghost use Rattle.ak_desk_runs.specs.RunLines.{IsPrinted, IsRefusalPrinted, StepCause, Steps};
 ghost use Rattle.ak_desk_runs.specs.RunStates.{outside_of, state_with};
 ghost use Rattle.ak_desk_runs.specs.declared.command_ends.CommandEnd.TheVariants as ends;
+ghost use Rattle.ak_desk_texts.specs.AnswerTexts.{answer_text};
 ghost use Rattle.ak_faults.specs.Causes.{HasCauseOf};
 ghost use Rattle.ak_io.specs.Lines.{lines_left};
 ghost use Rattle.ak_keep.specs.Keepers.{is_marked};
-ghost use Rattle.ak_texts.specs.AnswerTexts.{answer_text};
 
 use crate::answer_pieces::print_answer_line;
 use crate::command_ends::{CommandEnd, refuse_command};
@@ -17,10 +17,10 @@ use crate::line_stops::LineStop;
 use crate::obeyed_lines::obey_line;
 use crate::progress::Progress;
 use ak_base::{Memory, Text};
+use ak_desk_texts::DeskAnswer;
 use ak_filters::FieldFilter;
 use ak_io::{Chance, Clock, Failed, LineReader, ReadFault, ScriptEnd, Sink, Source, print_refusal};
 use ak_keep::Keeper;
-use ak_texts::DeskAnswer;
 use ak_undo::UndoList;
 use std::alloc::Global;
 

@@ -2,9 +2,9 @@ ghost use Rattle.std.specs.Prelude.{◌≡◌};
 ghost use Rattle.ak_desk_runs.specs.LineStops.{IsLineStop, IsRefusalStop, IsStopBy};
 
 use ak_base::{Memory, Text};
+use ak_desk_language::LineFault;
+use ak_desk_texts::{LineRefusal, write_line_fault, write_refusal};
 use ak_edit::DeskFault;
-use ak_lines::LineFault;
-use ak_texts::{LineRefusal, write_line_fault, write_refusal};
 use std::alloc::Global;
 
 /// Why a line does not go.

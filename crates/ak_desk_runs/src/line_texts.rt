@@ -1,8 +1,8 @@
 ghost use Rattle.std.specs.Prelude.{◌≡◌, IfErr, IfOk, None, Some};
 ghost use Rattle.ak_desk_runs.specs.LineOutcomes.{is_skipped_line, text_in, textless};
 
+use ak_desk_language::is_skipped;
 use ak_io::Line;
-use ak_lines::is_skipped;
 use std::str;
 
 /// Whether a line is skipped. One that is too long, or no text, is not, whatever it begins with.

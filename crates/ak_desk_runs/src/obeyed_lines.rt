@@ -2,9 +2,9 @@ ghost use Rattle.std.specs.Prelude.{◌≡◌, map};
 ghost use Rattle.ak_any_lines.specs.AnyEnds.{AppliesToAny, EndsAnyLine};
 ghost use Rattle.ak_any_lines.specs.LineResults.{RefusalCause};
 ghost use Rattle.ak_desk.specs.Desks.{IsIdle};
+ghost use Rattle.ak_desk_language.specs.AnyLines.{IsAnyInRange};
 ghost use Rattle.ak_desk_runs.specs.LineStops.{ComesOut, SaidComesOut, StopCause, TextComesOut};
 ghost use Rattle.ak_desk_runs.specs.RunStates.{line_state_of, outside_of, state_with};
-ghost use Rattle.ak_lines.specs.AnyLines.{IsAnyInRange};
 ghost use Rattle.ak_study.specs.DayStarts.{IsInDay};
 
 use crate::line_stops::{LineStop, line_stop, refusal_stop, stop_by};
@@ -13,12 +13,12 @@ use crate::progress::Progress;
 use crate::turn_takings::take_turn;
 use ak_any_lines::obey_any;
 use ak_desk::Desk;
+use ak_desk_language::{AnyLine, read_line};
 use ak_desk_lines::{Turn, counted};
+use ak_desk_texts::{DeskAnswer, LineRefusal};
 use ak_filters::FieldFilter;
 use ak_io::{Chance, Clock, Line};
 use ak_keep::Keeper;
-use ak_lines::{AnyLine, read_line};
-use ak_texts::{DeskAnswer, LineRefusal};
 use ak_undo::UndoList;
 
 /// Does what a line of the input says, and gives its answer; none if the line is skipped.

@@ -15,7 +15,7 @@ use Rattle.ak_keep.specs.Keepers.{Keeping, WhereTold, changed, committed, moment
 use Rattle.ak_keep.specs.Marks as marks
 use Rattle.ak_keep.specs.Marks.{WithMark}
 use Rattle.ak_merge.proofs.EditFacts.{none_held}
-use Rattle.ak_parts.proofs.Parted.{if_ok}
+use Rattle.ak_sync_rows.proofs.Parted.{if_ok}
 
 -- what was made and then committed
 pub committed_after : {T E : Type 0} (made result : Result T E) (step : Keeping → Keeping) (k0 k1 k2 : Keeping)

@@ -19,7 +19,7 @@ use Rattle.ak_merge.proofs.TagLists.{tag_parts_add_up}
 use Rattle.ak_merge.specs.Tags.{tags_taken}
 use Rattle.ak_merge.specs.Takings.{all_taken}
 use Rattle.ak_merge.proofs.TagLaws.{tags_stay_in_range, tags_stay_ordered}
-use Rattle.ak_parts.specs.Takes.{MayBeTaken, with_all_taken}
+use Rattle.ak_sync_rows.specs.Takes.{MayBeTaken, with_all_taken}
 use Rattle.ak_session.specs.Asks.{and_then, nothing}
 use Rattle.ak_merge.specs.declared.sides.Side.TheVariants.{Device}
 

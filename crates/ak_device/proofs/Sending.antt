@@ -23,7 +23,7 @@ use Rattle.ak_messages.specs.MessageForms.{chunk_entries}
 use Rattle.ak_messages.specs.declared.requests.Changes.{Changes}
 use Rattle.ak_messages.specs.declared.requests.Chunk.{Chunk}
 use Rattle.ak_messages.specs.declared.requests.Newer.{Newer}
-use Rattle.ak_parts.specs.Chunks.{AreChunked, is_chunked}
+use Rattle.ak_sync_rows.specs.Chunks.{AreChunked, is_chunked}
 use Rattle.ak_session.proofs.Ranges.{not_both}
 use Rattle.ak_session.specs.Messages.{chunk_of, newer_of}
 use Rattle.ak_session.specs.Slices.{wanted_changes}

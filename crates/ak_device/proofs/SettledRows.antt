@@ -31,8 +31,8 @@ use Rattle.ak_merge.specs.Exchanges.{settled}
 use Rattle.ak_merge.specs.Holdings.{AreNamed}
 use Rattle.ak_merge.specs.Takings.{all_taken, beats}
 use Rattle.ak_merge.specs.declared.sides.Side.{Side}
-use Rattle.ak_parts.specs.Chunks.{ahead_of, rows_after}
 use Rattle.ak_session.specs.Slices.{wanted_of}
+use Rattle.ak_sync_rows.specs.Chunks.{ahead_of, rows_after}
 
 -- ---- what stands under a name
 -- whether a name is one of these

@@ -18,7 +18,7 @@ use Rattle.ak_merge.specs.Takings.{all_taken}
 use Rattle.ak_messages.specs.MessageForms.{chunk_entries}
 use Rattle.ak_messages.specs.declared.requests.Changes.{Changes}
 use Rattle.ak_messages.specs.declared.requests.Chunk.{Chunk}
-use Rattle.ak_parts.specs.Chunks.{IsSlice, ahead_of}
+use Rattle.ak_sync_rows.specs.Chunks.{IsSlice, ahead_of}
 use Rattle.ak_session.specs.Messages.{changes_of, chunk_of}
 use Rattle.ak_session.specs.Slices.{wanted_changes}
 use Rattle.ak_merge.specs.declared.sides.Side.TheVariants.{Device}

@@ -10,7 +10,7 @@ ghost use Rattle.ak_keep.specs.declared.keepers.KeepFault.TheVariants.{Memory as
 
 use ak_base::LAST_MOMENT;
 use ak_keep::{KeepFault, Keeper, Numbers, keep_or_back};
-use ak_parts::held_numbers;
+use ak_sync_rows::held_numbers;
 
 /// Commits what the device took and settled, at the moment that the server committed at, in milliseconds: the device's
 /// usn is the one after the server's, and its schema moment stays. If it is refused, the device is back at its mark.

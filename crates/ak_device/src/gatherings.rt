@@ -9,7 +9,7 @@ ghost use Rattle.ak_session.specs.Slices.{slice};
 use ak_base::{Head, Memory, Name, Row, Table};
 use ak_keep::{KeepFault, Keeper, Wanted};
 use ak_messages::{Changes, Chunk, GraveIds, MOST_ENTRIES, Newer};
-use ak_parts::{
+use ak_sync_rows::{
     Changed, changed_of, chunk_of, grave_ids, head_of, next_rows, wanted_changes, wanted_tags,
 };
 use std::alloc::Global;

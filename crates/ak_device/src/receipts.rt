@@ -7,14 +7,16 @@ ghost use Rattle.ak_base.specs.Rows.{IsChecked};
 ghost use Rattle.ak_device.specs.Devices.{head_with, received};
 ghost use Rattle.ak_keep.specs.Keepers.{IsMarkedAt, KeepCause, back, changed, is_marked};
 ghost use Rattle.ak_messages.specs.declared.replies.Give.TheVariants as gives;
-ghost use Rattle.ak_parts.specs.Takes.{MayBeTaken};
 ghost use Rattle.ak_session.specs.Replies.{replied};
+ghost use Rattle.ak_sync_rows.specs.Takes.{MayBeTaken};
 
 use ak_base::{Head, Memory};
 use ak_keep::{KeepFault, Keeper};
 use ak_merge::{Side, take_tags};
 use ak_messages::{Changes, Chunk, GraveIds};
-use ak_parts::{head_of, settings_after, take_changed_rows, take_chunk_rows, take_given_graves};
+use ak_sync_rows::{
+    head_of, settings_after, take_changed_rows, take_chunk_rows, take_given_graves,
+};
 
 /// Takes the graves that a start was given.
 #[tactic(auto, using(crate::proofs::Receiving::usn_fits))]

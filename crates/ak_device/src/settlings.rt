@@ -14,7 +14,7 @@ use ak_base::{Head, Name, Row, Table};
 use ak_keep::{KeepFault, Keeper};
 use ak_merge::settle_tags;
 use ak_messages::{Ask, Changes, Chunk, GraveIds};
-use ak_parts::head_of;
+use ak_sync_rows::head_of;
 
 /// Gives what a request sent this usn, where it has none yet: the rows that stand under the names of its rows, and with
 /// changes all tags. It is for a request that was granted. A refusal leaves the keeper marked, with some of it settled.

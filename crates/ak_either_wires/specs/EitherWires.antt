@@ -1,12 +1,12 @@
 -- What is known of a wire that is one of two kinds: what is known of the one that it is.
 use Rattle.std.specs.Prelude.{◌⊎◌, Result}
 use Rattle.std.proofs.Common.{inl, inr}
+use Rattle.ak_client_wire.specs.Wires.{WireKind, WireState}
+use Rattle.ak_client_wire.specs.declared.wires.WireEnd.{WireEnd}
 use Rattle.ak_either_wires.specs.declared.either_wires.EitherWire.{EitherWire}
 use Rattle.ak_either_wires.specs.declared.either_wires.EitherWire.TheVariants as either
 use Rattle.ak_messages.specs.declared.replies.Reply.{Reply}
 use Rattle.ak_messages.specs.declared.requests.Request.{Request}
-use Rattle.ak_wires.specs.Wires.{WireKind, WireState}
-use Rattle.ak_wires.specs.declared.wires.WireEnd.{WireEnd}
 
 -- what these say of the one that it is
 abbrev pub of_either : {A B C : Type 0} → (A → C) → (B → C) → EitherWire A B → C

@@ -1,8 +1,8 @@
 ghost use Rattle.std.specs.Prelude.{◌≡◌};
 
+use ak_client_wire::{Said, Wire, WireEnd};
 use ak_io::End;
 use ak_messages::{Reply, Request};
-use ak_wires::{Said, Wire, WireEnd};
 
 /// A wire of one of two kinds, which is chosen once.
 #[derive(Drop)]

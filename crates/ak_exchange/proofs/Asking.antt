@@ -1,6 +1,12 @@
 -- What a request of a sync makes of the log of its wire, and what its answer tells.
 use Rattle.std.specs.Prelude.{◌≡◌, ℕ, ◌+◌, ℤ, ◌==◌, Bool, true, false, if◌then◌else◌, List, [], ◌∷◌, ◌++◌, length, Option, Some, None, Result, Ok, Err, IfOk, ok_or}
 use Rattle.std.proofs.Common.{refl, sym, ap, subst, ◌∙◌, inr, arith}
+use Rattle.ak_client_wire.specs.Tries.{Answered, granted_by, granted_in, in_form}
+use Rattle.ak_client_wire.specs.Wires.{WireKind, WireState, Carries}
+use Rattle.ak_client_wire.specs.declared.asks.Unanswered.{Unanswered}
+use Rattle.ak_client_wire.specs.declared.asks.Unanswered.TheVariants as unanswered
+use Rattle.ak_client_wire.specs.declared.wires.WireEnd.{WireEnd}
+use Rattle.ak_client_wire.specs.declared.wires.WireEnd.TheVariants as ends
 use Rattle.ak_exchange.specs.Asked.{request_at}
 use Rattle.ak_faults.specs.Causes.{Health}
 use Rattle.ak_keep.specs.Collections.{Collection}
@@ -19,12 +25,6 @@ use Rattle.ak_protocol.specs.Syncs.{IsUnderWay, world_of}
 use Rattle.ak_session.specs.Contents.{answer, closed, refusal}
 use Rattle.ak_session.specs.Plans.{Asker}
 use Rattle.ak_session.specs.Requests.{asks_commit, is_download, is_meta}
-use Rattle.ak_wires.specs.Tries.{Answered, granted_by, granted_in, in_form}
-use Rattle.ak_wires.specs.Wires.{WireKind, WireState, Carries}
-use Rattle.ak_wires.specs.declared.asks.Unanswered.{Unanswered}
-use Rattle.ak_wires.specs.declared.asks.Unanswered.TheVariants as unanswered
-use Rattle.ak_wires.specs.declared.wires.WireEnd.{WireEnd}
-use Rattle.ak_wires.specs.declared.wires.WireEnd.TheVariants as ends
 
 -- a wire tells a log in which the sync of this asker is under way, over this collection and with these requests
 abbrev pub IsShown : Asker → AccountState → Collection → List Request → Option Log → Type 0

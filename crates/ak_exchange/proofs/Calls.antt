@@ -1,13 +1,13 @@
 -- What requests that were tried tell of the calls of their wire.
 use Rattle.std.specs.Prelude.{ℕ, zero, suc, ◌≤◌, List, [], ◌∷◌, ◌++◌, Result}
 use Rattle.std.proofs.Common.{refl, ap, subst, arith}
+use Rattle.ak_client_wire.specs.Tries.{AreCalls, AreCallsOf, AreMade, MadeCall, MayTry, Tried, calls_of}
+use Rattle.ak_client_wire.specs.Wires.{WireKind, WireState}
+use Rattle.ak_client_wire.specs.declared.wires.WireEnd.{WireEnd}
 use Rattle.ak_exchange.specs.Asked.{AreTried}
 use Rattle.ak_faults.specs.Causes.{Health}
 use Rattle.ak_messages.specs.declared.replies.Reply.{Reply}
 use Rattle.ak_messages.specs.declared.requests.Request.{Request}
-use Rattle.ak_wires.specs.Tries.{AreCalls, AreCallsOf, AreMade, MadeCall, MayTry, Tried, calls_of}
-use Rattle.ak_wires.specs.Wires.{WireKind, WireState}
-use Rattle.ak_wires.specs.declared.wires.WireEnd.{WireEnd}
 
 abbrev Answer : Type 0
 Answer = Result Reply WireEnd

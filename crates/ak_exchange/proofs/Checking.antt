@@ -28,7 +28,7 @@ use Rattle.ak_session.specs.Contents.{answer, ends, folded}
 use Rattle.ak_session.specs.Plans.{Asker, device_rows, planned_pushes, requests_from}
 use Rattle.ak_session.specs.Refusals.{is_id}
 use Rattle.ak_session.specs.Sessions.{MaySync, TellsCheck}
-use Rattle.ak_wires.specs.Forms.{sanity_in, shows_cause, verdict_in}
+use Rattle.ak_client_wire.specs.Forms.{sanity_in, shows_cause, verdict_in}
 
 -- the reply that a bad sanity check shows is the one that was given
 shown_is : (own reply : SanityReply) → verdict_in (gives.Sanity own) ≡ Some reply → own ≡ reply

@@ -6,8 +6,8 @@ use Rattle.std.proofs.Common.{refl, sym, ap, ◌∙◌, append_assoc, append-nil
 use Rattle.std.proofs.lemmas.List.{drop-append-le, drop-drop, drop_all, take-append-le, take_all}
 use Rattle.std.proofs.lemmas.Nat.{div-add-mod', mod_below}
 use Rattle.ak_base.specs.declared.rows.Row.{Row}
-use Rattle.ak_parts.specs.Chunks.{IsSlice}
 use Rattle.ak_session.specs.Slices.{slice, slices}
+use Rattle.ak_sync_rows.specs.Chunks.{IsSlice}
 
 -- ---- one slice more
 counted : (a n : ℕ) → range_with_len a (suc n) ≡ range_with_len a n ++ (a + n) ∷ []

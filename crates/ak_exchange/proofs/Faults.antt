@@ -1,6 +1,8 @@
 -- A part of a sync stops because the keeper failed only if the keeper's count of faults rose.
 use Rattle.std.specs.Prelude.{◌≡◌, true, false, Result, Ok, Err, IsErrAnd, IfErr}
 use Rattle.std.proofs.Common.{refl, sym, ap, subst, ◌∙◌, arith}
+use Rattle.ak_client_wire.specs.declared.asks.Unanswered.{Unanswered}
+use Rattle.ak_client_wire.specs.declared.asks.Unanswered.TheVariants as unanswered
 use Rattle.ak_exchange.specs.Stops.{is_keep, keep_stop, wire_stop}
 use Rattle.ak_exchange.specs.declared.stops.Stop.{Stop}
 use Rattle.ak_exchange.specs.declared.stops.Stop.TheVariants as stops
@@ -8,8 +10,6 @@ use Rattle.ak_faults.specs.Causes.{GoesOn, HasCauseOf, Health, Rose}
 use Rattle.ak_keep.specs.Keepers.{KeepCause}
 use Rattle.ak_keep.specs.declared.keepers.KeepFault.{KeepFault}
 use Rattle.ak_keep.specs.declared.keepers.KeepFault.TheVariants as faults
-use Rattle.ak_wires.specs.declared.asks.Unanswered.{Unanswered}
-use Rattle.ak_wires.specs.declared.asks.Unanswered.TheVariants as unanswered
 
 -- ---- it stopped for another reason
 abbrev pub IsUnkept : {T : Type 0} → Result T Stop → Type 0

@@ -4,6 +4,11 @@ use Rattle.std.proofs.Common.{refl, sym, ap, subst, ◌∙◌, append-nil, inl, 
 use Rattle.std.proofs.lemmas.Option.{none-some, same_Some}
 use Rattle.ak_base.specs.Heads.{IsMoment}
 use Rattle.ak_base.specs.Limits.{last_moment}
+use Rattle.ak_client_wire.specs.Forms.{is_moment, moment_in}
+use Rattle.ak_client_wire.specs.Tries.{Answered}
+use Rattle.ak_client_wire.specs.Wires.{WireKind, WireState}
+use Rattle.ak_client_wire.specs.declared.asks.Unanswered.{Unanswered}
+use Rattle.ak_client_wire.specs.declared.asks.Unanswered.TheVariants as unanswered
 use Rattle.ak_exchange.proofs.Asking.{CommitsOnce, IsShown, commit_call}
 use Rattle.ak_exchange.proofs.Parts.{IsAsked}
 use Rattle.ak_exchange.proofs.Passing.{asked_one}
@@ -29,11 +34,6 @@ use Rattle.ak_protocol.specs.Serving.{commit_reply}
 use Rattle.ak_session.proofs.Ranges.{within}
 use Rattle.ak_session.specs.Contents.{closed, refusal}
 use Rattle.ak_session.specs.Plans.{Asker, requests_from}
-use Rattle.ak_wires.specs.Forms.{is_moment, moment_in}
-use Rattle.ak_wires.specs.Tries.{Answered}
-use Rattle.ak_wires.specs.Wires.{WireKind, WireState}
-use Rattle.ak_wires.specs.declared.asks.Unanswered.{Unanswered}
-use Rattle.ak_wires.specs.declared.asks.Unanswered.TheVariants as unanswered
 
 -- ---- the moment
 same_if : (b : Bool) (own moment : ℤ) → (if b then Some own else None) ≡ Some moment → (own ≡ moment) × (b ≡ true)

@@ -4,6 +4,13 @@ use Rattle.std.specs.Prelude.{◌≡◌, ◌==◌, ◌&&◌, ◌||◌, nat_le, n
 use Rattle.std.specs.Cmp.{first_so, second_so}
 use Rattle.std.proofs.Common.{refl, sym, ap, subst, ◌∙◌}
 use Rattle.std.proofs.lemmas.Option.{none-some, same_Some}
+use Rattle.ak_client_wire.specs.Forms.{changes_in, chunk_in, graves_in, is_chunk_in_form}
+use Rattle.ak_client_wire.specs.Tries.{Answered, granted_in, in_form}
+use Rattle.ak_client_wire.specs.Wires.{WireKind, WireState}
+use Rattle.ak_client_wire.specs.declared.asks.Unanswered.{Unanswered}
+use Rattle.ak_client_wire.specs.declared.asks.Unanswered.TheVariants as unanswered
+use Rattle.ak_client_wire.specs.declared.wires.WireEnd.{WireEnd}
+use Rattle.ak_client_wire.specs.declared.wires.WireEnd.TheVariants as ends
 use Rattle.ak_faults.specs.Causes.{Health}
 use Rattle.ak_messages.specs.MessageForms.{chunk_entries}
 use Rattle.ak_messages.specs.declared.replies.Give.{Give}
@@ -13,18 +20,11 @@ use Rattle.ak_messages.specs.declared.requests.Changes.{Changes}
 use Rattle.ak_messages.specs.declared.requests.Chunk.{Chunk}
 use Rattle.ak_messages.specs.declared.requests.GraveIds.{GraveIds}
 use Rattle.ak_messages.specs.declared.requests.Request.{Request}
-use Rattle.ak_parts.proofs.InRange.{changes_may, chunk_may, graves_may}
-use Rattle.ak_parts.specs.Takes.{MayBeTaken}
 use Rattle.ak_session.specs.Messages.{chunk_rows}
 use Rattle.ak_session.specs.Refusals.{are_changes_in_range, is_checked, is_id}
 use Rattle.ak_session.specs.Replies.{replied}
-use Rattle.ak_wires.specs.Forms.{changes_in, chunk_in, graves_in, is_chunk_in_form}
-use Rattle.ak_wires.specs.Tries.{Answered, granted_in, in_form}
-use Rattle.ak_wires.specs.Wires.{WireKind, WireState}
-use Rattle.ak_wires.specs.declared.asks.Unanswered.{Unanswered}
-use Rattle.ak_wires.specs.declared.asks.Unanswered.TheVariants as unanswered
-use Rattle.ak_wires.specs.declared.wires.WireEnd.{WireEnd}
-use Rattle.ak_wires.specs.declared.wires.WireEnd.TheVariants as ends
+use Rattle.ak_sync_rows.proofs.InRange.{changes_may, chunk_may, graves_may}
+use Rattle.ak_sync_rows.specs.Takes.{MayBeTaken}
 
 -- ---- what is granted is the part of some give
 part_of : {T : Type 0} (part : Give → Option T) (give : Give) (o : Option T) → part give ≡ o

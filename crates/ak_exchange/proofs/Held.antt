@@ -4,6 +4,7 @@ use Rattle.std.specs.Prelude.{◌≡◌, ℕ, ℤ, Bool, true, List, [], ◌∷�
 use Rattle.std.proofs.Common.{refl, sym, ap, subst, ◌∙◌}
 use Rattle.ak_base.specs.declared.heads.Head.{Head}
 use Rattle.ak_base.specs.declared.rows.Row.{Row}
+use Rattle.ak_client_wire.specs.Wires.{WireKind}
 use Rattle.ak_device.proofs.Receiving.{received_nothing, received_then}
 use Rattle.ak_device.proofs.TakingAndSettling.{head_after, rows_after, tags_if}
 use Rattle.ak_device.specs.Devices.{changes_from, changes_to_send, head_with, received}
@@ -29,7 +30,6 @@ use Rattle.ak_session.specs.Messages.{changes_of}
 use Rattle.ak_session.specs.Plans.{device_changes, device_rows, planned, planned_graves}
 use Rattle.ak_session.specs.Replies.{all_replied, replied, replied_after}
 use Rattle.ak_session.specs.Sessions.{MaySync}
-use Rattle.ak_wires.specs.Wires.{WireKind}
 
 -- what a keeper holds at a place
 abbrev pub held_at : Collection → Collection → List Ask → Holding

@@ -59,14 +59,14 @@ use Rattle.ak_session.specs.Plans.{device_changes, device_rows, planned, planned
 use Rattle.ak_session.specs.Replies.{all_replied, replied}
 use Rattle.ak_session.specs.Sessions.{MaySync}
 use Rattle.ak_session.specs.Slices.{slice, slices, wanted_graves}
-use Rattle.ak_wires.specs.Forms.{changes_in, chunk_in, graves_in, nothing_in, sanity_in, shows_cause, verdict_in}
-use Rattle.ak_wires.specs.Tries.{Answered, granted_in, in_form}
-use Rattle.ak_wires.specs.Wires.{WireKind, said_after, said_of, sanity_said}
-use Rattle.ak_wires.specs.declared.asks.Unanswered.{Unanswered}
-use Rattle.ak_wires.specs.declared.asks.Unanswered.TheVariants as unanswered
-use Rattle.ak_wires.specs.declared.wires.Said.{Said}
-use Rattle.ak_wires.specs.declared.wires.WireEnd.{WireEnd}
-use Rattle.ak_wires.specs.declared.wires.WireEnd.TheVariants as ends
+use Rattle.ak_client_wire.specs.Forms.{changes_in, chunk_in, graves_in, nothing_in, sanity_in, shows_cause, verdict_in}
+use Rattle.ak_client_wire.specs.Tries.{Answered, granted_in, in_form}
+use Rattle.ak_client_wire.specs.Wires.{WireKind, said_after, said_of, sanity_said}
+use Rattle.ak_client_wire.specs.declared.asks.Unanswered.{Unanswered}
+use Rattle.ak_client_wire.specs.declared.asks.Unanswered.TheVariants as unanswered
+use Rattle.ak_client_wire.specs.declared.wires.Said.{Said}
+use Rattle.ak_client_wire.specs.declared.wires.WireEnd.{WireEnd}
+use Rattle.ak_client_wire.specs.declared.wires.WireEnd.TheVariants as ends
 use Rattle.ak_merge.specs.declared.sides.Side.TheVariants.{Device}
 
 -- a part with its request, as it was called

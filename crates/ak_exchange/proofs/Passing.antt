@@ -35,9 +35,9 @@ use Rattle.ak_session.specs.Plans.{Asker, planned}
 use Rattle.ak_session.specs.Replies.{replied, all_replied}
 use Rattle.ak_session.specs.Requests.{asks_commit, is_download, is_meta}
 use Rattle.ak_session.specs.Sessions.{MaySync}
-use Rattle.ak_wires.specs.Tries.{Answered}
-use Rattle.ak_wires.specs.Wires.{WireKind, WireState}
-use Rattle.ak_wires.specs.declared.asks.Unanswered.{Unanswered}
+use Rattle.ak_client_wire.specs.Tries.{Answered}
+use Rattle.ak_client_wire.specs.Wires.{WireKind, WireState}
+use Rattle.ak_client_wire.specs.declared.asks.Unanswered.{Unanswered}
 
 abbrev IsPlain : Ask → Type 0
 IsPlain ask = asks_commit ask ≡ false

@@ -21,7 +21,7 @@ use Rattle.ak_messages.specs.declared.replies.Give.TheVariants as gives
 use Rattle.ak_messages.specs.declared.requests.Ask.{Ask}
 use Rattle.ak_messages.specs.declared.requests.Ask.TheVariants as asks
 use Rattle.ak_messages.specs.declared.requests.Chunk.{Chunk}
-use Rattle.ak_parts.specs.Chunks.{IsSlice, ahead_of}
+use Rattle.ak_sync_rows.specs.Chunks.{IsSlice, ahead_of}
 use Rattle.ak_session.proofs.Folds.{fold_append}
 use Rattle.ak_session.proofs.Slices.{short_slices}
 use Rattle.ak_session.proofs.Steps.{count_append, count_of_chunks, fold_of_chunks}

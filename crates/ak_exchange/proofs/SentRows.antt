@@ -33,7 +33,7 @@ use Rattle.ak_merge.specs.Holdings.{AreChecked, AreNamed, row_under}
 use Rattle.ak_merge.specs.Takings.{all_taken}
 use Rattle.ak_messages.specs.declared.requests.Ask.{Ask}
 use Rattle.ak_messages.specs.declared.requests.Ask.TheVariants as asks
-use Rattle.ak_parts.specs.Chunks.{ahead_of}
+use Rattle.ak_sync_rows.specs.Chunks.{ahead_of}
 use Rattle.ak_session.proofs.InOrder.{Made, chunk_keeps}
 use Rattle.ak_session.proofs.MessageLaws.{same_rows}
 use Rattle.ak_session.proofs.Ranges.{all_append, not_both}

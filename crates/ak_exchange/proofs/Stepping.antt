@@ -1,6 +1,9 @@
 -- One request more of a sync: what was asked is one more, and its reply is what the session answers.
 use Rattle.std.specs.Prelude.{◌≡◌, ℕ, ◌+◌, false, List, [], ◌∷◌, ◌++◌, length, Option, Some, Result, IfOk}
 use Rattle.std.proofs.Common.{sym, ap, subst, ◌∙◌, arith}
+use Rattle.ak_client_wire.specs.Tries.{Answered}
+use Rattle.ak_client_wire.specs.Wires.{WireKind, WireState}
+use Rattle.ak_client_wire.specs.declared.asks.Unanswered.{Unanswered}
 use Rattle.ak_exchange.proofs.Asking.{IsShown, plain_call}
 use Rattle.ak_exchange.proofs.Replying.{asks_are, requests_count, requests_go_on}
 use Rattle.ak_exchange.specs.Asked.{request_at}
@@ -16,9 +19,6 @@ use Rattle.ak_session.specs.Asks.{asks_of}
 use Rattle.ak_session.specs.Contents.{answer}
 use Rattle.ak_session.specs.Plans.{Asker, requests_from}
 use Rattle.ak_session.specs.Requests.{asks_commit, is_download, is_meta}
-use Rattle.ak_wires.specs.Tries.{Answered}
-use Rattle.ak_wires.specs.Wires.{WireKind, WireState}
-use Rattle.ak_wires.specs.declared.asks.Unanswered.{Unanswered}
 
 pub answered_by : (s : Collection) (accepted : List Request) (request : Request) (asks : List Ask) → asks_of accepted ≡ asks
     → answer s accepted request ≡ answer_to s asks request.ask

@@ -3,6 +3,12 @@ use Rattle.std.specs.List.{AllByRecursion}
 use Rattle.std.specs.Prelude.{◌≡◌, ◌≢◌, ◌==◌, ◌&&◌, ℕ, ◌≤◌, Bool, true, false, is_some, cond, if◌then◌else◌, List, [], ◌∷◌, ◌++◌, count_by, Option, Some, None, Result, Ok, Err, IsErrAnd, IfErr, OnOk, ok_or, ◌⊎◌, ◌↔◌}
 use Rattle.std.proofs.Common.{refl, sym, ap, subst, ◌∙◌, inl, inr, append_assoc, arith}
 use Rattle.std.proofs.lemmas.List.Sums.{sum_by-append}
+use Rattle.ak_client_wire.specs.Tries.{granted_in, in_form}
+use Rattle.ak_client_wire.specs.Wires.{WireKind, WireState}
+use Rattle.ak_client_wire.specs.declared.asks.Unanswered.{Unanswered}
+use Rattle.ak_client_wire.specs.declared.asks.Unanswered.TheVariants as unanswered
+use Rattle.ak_client_wire.specs.declared.wires.WireEnd.{WireEnd}
+use Rattle.ak_client_wire.specs.declared.wires.WireEnd.TheVariants as ends
 use Rattle.ak_exchange.proofs.Faults.{IsUnkept}
 use Rattle.ak_exchange.proofs.Tried.{asks_append}
 use Rattle.ak_exchange.specs.Asked.{TriedAsk, asks_in, sends_unfinished}
@@ -21,12 +27,6 @@ use Rattle.ak_messages.specs.declared.replies.Reply.{Reply}
 use Rattle.ak_messages.specs.declared.replies.SanityReply.{SanityReply}
 use Rattle.ak_messages.specs.declared.requests.Ask.{Ask}
 use Rattle.ak_session.proofs.Ranges.{all_append, not_both}
-use Rattle.ak_wires.specs.Tries.{granted_in, in_form}
-use Rattle.ak_wires.specs.Wires.{WireKind, WireState}
-use Rattle.ak_wires.specs.declared.asks.Unanswered.{Unanswered}
-use Rattle.ak_wires.specs.declared.asks.Unanswered.TheVariants as unanswered
-use Rattle.ak_wires.specs.declared.wires.WireEnd.{WireEnd}
-use Rattle.ak_wires.specs.declared.wires.WireEnd.TheVariants as ends
 
 -- ---- a part that was refused
 -- a part was refused, and not by what it asked

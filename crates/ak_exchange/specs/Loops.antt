@@ -2,6 +2,7 @@
 use Rattle.std.specs.Prelude.{◌≡◌, ℕ, ◌+◌, ◌*◌, ◌≤◌, Bool, true, false, if◌then◌else◌, List, [], ◌∷◌, ◌++◌, map, length, drop, count_by, Option, Some, None, IfSome, Result, Ok, Err, IfOk, OnOk}
 use Rattle.ak_base.specs.declared.names.Name.{Name}
 use Rattle.ak_base.specs.declared.rows.Row.{Row}
+use Rattle.ak_client_wire.specs.Wires.{WireKind}
 use Rattle.ak_device.specs.Settlings.{names_of, settled_under}
 use Rattle.ak_exchange.specs.Asked.{Talk, asks_in, sends_unfinished}
 use Rattle.ak_exchange.specs.Grants.{came_unfinished}
@@ -14,13 +15,12 @@ use Rattle.ak_keep.specs.declared.keepers.Wanted.TheVariants.{Unsent}
 use Rattle.ak_messages.specs.declared.requests.Ask.{Ask}
 use Rattle.ak_messages.specs.declared.requests.Ask.TheVariants as asks
 use Rattle.ak_messages.specs.declared.requests.Chunk.{Chunk}
-use Rattle.ak_parts.specs.Chunks.{ahead_of}
 use Rattle.ak_session.specs.Answers.{server_rows}
 use Rattle.ak_session.specs.Asks.{all_brought}
 use Rattle.ak_session.specs.Messages.{chunk_of, grave_ids}
 use Rattle.ak_session.specs.Plans.{device_rows, planned_changes, planned_chunks, planned_pushes, planned_start}
 use Rattle.ak_session.specs.Slices.{slices, wanted_graves, wanted_in_chunks}
-use Rattle.ak_wires.specs.Wires.{WireKind}
+use Rattle.ak_sync_rows.specs.Chunks.{ahead_of}
 
 -- this many slices of the device's graves were sent, after its start
 pub record HaveSentGraves (count : ℕ) (list : List Row) (c s : Collection) (asked : List Ask) : Type 0 where

@@ -1,5 +1,7 @@
 -- Why a sync stops.
 use Rattle.std.specs.Prelude.{Bool, true, false, if◌then◌else◌, Option, Some, None, Result, Ok, Err}
+use Rattle.ak_client_wire.specs.declared.asks.Unanswered.{Unanswered}
+use Rattle.ak_client_wire.specs.declared.asks.Unanswered.TheVariants as unanswered
 use Rattle.ak_exchange.specs.declared.stops.Stop.{Stop}
 use Rattle.ak_exchange.specs.declared.stops.Stop.TheVariants as stops
 use Rattle.ak_keep.specs.declared.keepers.KeepFault.{KeepFault}
@@ -7,8 +9,6 @@ use Rattle.ak_keep.specs.declared.keepers.KeepFault.TheVariants as faults
 use Rattle.ak_merge.specs.declared.checks.CheckFault.{CheckFault}
 use Rattle.ak_messages.specs.declared.replies.SanityReply.{SanityReply}
 use Rattle.ak_messages.specs.declared.requests.SanityCounts.{SanityCounts}
-use Rattle.ak_wires.specs.declared.asks.Unanswered.{Unanswered}
-use Rattle.ak_wires.specs.declared.asks.Unanswered.TheVariants as unanswered
 
 -- why a sync stops if the keeper refused
 abbrev pub keep_stop : KeepFault → Stop

@@ -3,8 +3,8 @@ ghost use Rattle.std.specs.Prelude.{◌≡◌, ◌+◌, ◌^◌, pos, IfOk, OnEr
 ghost use Rattle.ak_messages.specs.declared.requests.Ask.TheVariants as asks;
 
 use ak_base::{Head, HostKey, Memory, SessionKey};
+use ak_client_wire::MetaSaid;
 use ak_messages::{Ask, Request};
-use ak_wires::MetaSaid;
 
 /// Who syncs: the account and the session.
 #[derive(Clone, Copy, Debug, PartialEq, Eq)]

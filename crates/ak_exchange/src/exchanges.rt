@@ -15,14 +15,16 @@ ghost use Rattle.ak_session.specs.Plans.{planned_start, planned_graves, planned_
 use crate::envelopes::{Envelopes, Met};
 use crate::stops::Stop;
 use ak_base::{Name, Row};
+use ak_client_wire::{
+    Wire, ask_changes, ask_chunk, ask_graves, ask_moment, ask_nothing, ask_sanity,
+};
 use ak_device::{
     FIRST_PLACE, Gathered, graves_part, next_chunk, settle_sent, take_changes, take_chunk,
     take_graves, unsent_changes,
 };
 use ak_keep::{Keeper, Wanted};
 use ak_messages::{Ask, Chunk, MOST_ENTRIES, SanityReply};
-use ak_parts::{counts_of, wanted_graves};
-use ak_wires::{Wire, ask_changes, ask_chunk, ask_graves, ask_moment, ask_nothing, ask_sanity};
+use ak_sync_rows::{counts_of, wanted_graves};
 use std::alloc::Global;
 
 /// The most chunks that are asked for.

@@ -2,10 +2,10 @@
 ghost use Rattle.std.specs.Prelude.{◌≡◌};
 
 use ak_base::Memory;
+use ak_client_wire::Unanswered;
 use ak_keep::KeepFault;
 use ak_merge::CheckFault;
 use ak_messages::{SanityCounts, Word};
-use ak_wires::Unanswered;
 
 /// Why a sync did not finish.
 #[derive(Clone, Copy, Debug, PartialEq, Eq)]

@@ -7,13 +7,13 @@ use Rattle.ak_base.specs.declared.decks.Deck.{Deck}
 use Rattle.ak_base.specs.declared.names.Name.{Name}
 use Rattle.ak_base.specs.declared.names.Table.TheVariants as tables
 use Rattle.ak_base.specs.declared.rows.Row.TheVariants as rows
-use Rattle.ak_calls.proofs.AdmittedEdits.{card_edits_are_admitted}
-use Rattle.ak_calls.proofs.FreeIds.{not_dead}
-use Rattle.ak_calls.specs.CardEdits.{changed_row}
-use Rattle.ak_calls.specs.NewNames.{AreMadeOf, first_name}
 use Rattle.ak_deck_paths.specs.Additions.{AreAdded, added_paths, addition}
 use Rattle.ak_deck_paths.specs.ChangedDecks.{with_decks}
 use Rattle.ak_deck_paths.specs.NewDecks.{IsNewDeck}
+use Rattle.ak_edit_calls.proofs.AdmittedEdits.{card_edits_are_admitted}
+use Rattle.ak_edit_calls.proofs.FreeIds.{not_dead}
+use Rattle.ak_edit_calls.specs.CardEdits.{changed_row}
+use Rattle.ak_edit_calls.specs.NewNames.{AreMadeOf, first_name}
 use Rattle.ak_filtered.proofs.CardChanges.{emptied_id, home_id, may_change, refilled_id}
 use Rattle.ak_filtered.specs.Builds.{building, due_in, refilled}
 use Rattle.ak_filtered.specs.Emptyings.{emptied, emptying}

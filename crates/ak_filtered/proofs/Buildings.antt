@@ -16,12 +16,12 @@ use Rattle.ak_base.specs.declared.names.Name.{Name}
 use Rattle.ak_base.specs.declared.names.Table.TheVariants as tables
 use Rattle.ak_base.specs.declared.rows.Row.{Row}
 use Rattle.ak_base.specs.declared.rows.Row.TheVariants as rows
-use Rattle.ak_calls.proofs.Answering.{never_first}
-use Rattle.ak_calls.proofs.Telling.{where_held-both, where_held-map, where_rows_held}
 use Rattle.ak_edit.specs.Ends.{AnswersEnd, IsHeldRightly, RefusesEnd, RefusesRow, RefusesStamp}
 use Rattle.ak_edit.specs.Overlays.{Overlay, edit_of, unchanged}
 use Rattle.ak_edit.specs.Refusals.{AnswersBy}
 use Rattle.ak_edit.specs.declared.desk_faults.DeskFault.{DeskFault}
+use Rattle.ak_edit_calls.proofs.Answering.{never_first}
+use Rattle.ak_edit_calls.proofs.Telling.{where_held-both, where_held-map, where_rows_held}
 use Rattle.ak_filtered.proofs.FilteredTells.{ended_first, ended_last, ended_well, stamp_word}
 use Rattle.ak_filtered.proofs.GoneHome.{IsMoveIn}
 use Rattle.ak_filtered.proofs.PlanTexts.{limit_high, plan_range}

@@ -20,7 +20,7 @@ use Rattle.ak_base.specs.declared.names.Name.{Name}
 use Rattle.ak_base.specs.declared.names.Table.TheVariants as tables
 use Rattle.ak_base.specs.declared.rows.Row.{Row}
 use Rattle.ak_base.specs.declared.rows.Row.TheVariants as rows
-use Rattle.ak_calls.specs.CardEdits.{changed_row}
+use Rattle.ak_edit_calls.specs.CardEdits.{changed_row}
 use Rattle.ak_filtered.proofs.CardChanges.{emptied_blind, refilled_blind, row_blind}
 use Rattle.ak_filtered.proofs.RowsBack.{SaysSame, bare, grave_stays, row_left, same_of_bare}
 use Rattle.ak_filtered.specs.Builds.{IsBuilt, building, due_in, moved_in, refilled}

@@ -7,7 +7,7 @@ use Rattle.ak_base.specs.declared.cards.Card.{Card}
 use Rattle.ak_base.specs.declared.names.Table.TheVariants as tables
 use Rattle.ak_base.specs.declared.rows.Row.{Row}
 use Rattle.ak_base.specs.declared.rows.Row.TheVariants as rows
-use Rattle.ak_calls.specs.CardEdits.{KeepsIds, changed_row}
+use Rattle.ak_edit_calls.specs.CardEdits.{KeepsIds, changed_row}
 use Rattle.ak_filtered.specs.Builds.{moved_in, refilled}
 use Rattle.ak_filtered.specs.Emptyings.{emptied, is_away_in}
 use Rattle.ak_filtered.specs.HomeDecks.{DeckFlags, gone_home, is_away}

@@ -1,9 +1,9 @@
 -- Edits that clear the undo list.
 use Rattle.std.specs.Prelude.{◌≡◌, ℤ, List, []}
 use Rattle.std.proofs.Common.{refl}
-use Rattle.ak_calls.proofs.Telling.{where_held-both}
 use Rattle.ak_edit.specs.Ends.{FinishedBy, IsFinished, IsHeldRightly}
 use Rattle.ak_edit.specs.Overlays.{Overlay, edit_of}
+use Rattle.ak_edit_calls.proofs.Telling.{where_held-both}
 use Rattle.ak_filtered.specs.ClearedEdits.{ClearedBy, IsCleared}
 use Rattle.ak_keep.specs.Collections.{Collection}
 use Rattle.ak_keep.specs.Keepers.{Keeping, WhereHeld}

@@ -18,7 +18,7 @@ use Rattle.ak_base.specs.declared.rows.Row.{Row}
 use Rattle.ak_base.specs.declared.rows.Row.TheVariants as rows
 use Rattle.ak_filtered.specs.HeldDecks.{flags_in}
 use Rattle.ak_base.specs.declared.cards.Card.{Card}
-use Rattle.ak_calls.proofs.Telling.{where_told-both}
+use Rattle.ak_edit_calls.proofs.Telling.{where_told-both}
 use Rattle.ak_filtered.specs.HomeDecks.{DeckFlags, filtered_at, flags_of, gone_home, is_away}
 use Rattle.ak_filtered.specs.declared.held_decks.HeldDecks.{HeldDecks}
 use Rattle.ak_keep.specs.Keepers.{IsRightlyKnown, Keeping, WhereTold}

@@ -8,11 +8,11 @@ use Rattle.ak_base.specs.declared.names.Name.{Name}
 use Rattle.ak_base.specs.declared.names.Table.TheVariants as tables
 use Rattle.ak_base.specs.declared.rows.Row.{Row}
 use Rattle.ak_base.specs.declared.rows.Row.TheVariants as rows
-use Rattle.ak_calls.proofs.Telling.{where_held-both, where_held-map, where_rows_held}
-use Rattle.ak_calls.specs.Calls.{RefusesAbsent}
 use Rattle.ak_edit.specs.Refusals.{AnswersBy, DeskCause, IsFromOutside}
 use Rattle.ak_edit.specs.declared.desk_faults.DeskFault.{DeskFault}
 use Rattle.ak_edit.specs.declared.desk_faults.DeskFault.TheVariants as desk
+use Rattle.ak_edit_calls.proofs.Telling.{where_held-both, where_held-map, where_rows_held}
+use Rattle.ak_edit_calls.specs.Calls.{RefusesAbsent}
 use Rattle.ak_faults.specs.Causes.{GoesOn, Health}
 use Rattle.ak_filtered.proofs.FilteredTells.{KeepsWord, desk_passed, desk_told, outside_of, told_by, told_first, told_others, told_outside, word_of}
 use Rattle.ak_filtered.proofs.Told.{held_pair}

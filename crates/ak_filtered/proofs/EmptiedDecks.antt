@@ -3,12 +3,12 @@ use Rattle.std.specs.Prelude.{◌≡◌, ℕ, ℤ, List, length, Result, Ok, Err
 use Rattle.std.proofs.Common.{ap, subst, ◌∙◌}
 use Rattle.std.proofs.lemmas.Option.{none-some}
 use Rattle.ak_base.specs.declared.decks.Deck.{Deck}
-use Rattle.ak_calls.proofs.Answering.{never_first}
-use Rattle.ak_calls.proofs.Telling.{where_held-both, where_held-map, where_rows_held}
 use Rattle.ak_edit.specs.Ends.{AnswersEnd, IsHeldRightly, RefusesEnd, RefusesRow, RefusesStamp}
 use Rattle.ak_edit.specs.Overlays.{Overlay, edit_of, unchanged}
 use Rattle.ak_edit.specs.Refusals.{AnswersBy}
 use Rattle.ak_edit.specs.declared.desk_faults.DeskFault.{DeskFault}
+use Rattle.ak_edit_calls.proofs.Answering.{never_first}
+use Rattle.ak_edit_calls.proofs.Telling.{where_held-both, where_held-map, where_rows_held}
 use Rattle.ak_filtered.proofs.FilteredTells.{desk_passed, desk_told, stamp_word, told_first, told_others}
 use Rattle.ak_filtered.proofs.RefilledRows.{refill_edit, refilled_rows_pass}
 use Rattle.ak_filtered.proofs.Told.{held_pair}

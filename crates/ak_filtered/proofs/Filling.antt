@@ -6,7 +6,7 @@ use Rattle.ak_base.specs.Days.{IsDayOf}
 use Rattle.ak_base.specs.declared.days.Day.{Day}
 use Rattle.ak_base.specs.declared.heads.Head.{Head}
 use Rattle.ak_base.specs.declared.decks.Deck.{Deck}
-use Rattle.ak_calls.proofs.Telling.{where_held-map, where_told-both}
+use Rattle.ak_edit_calls.proofs.Telling.{where_held-map, where_told-both}
 use Rattle.ak_edit.specs.Overlays.{unchanged}
 use Rattle.ak_filtered.proofs.FilteredTells.{told_first}
 use Rattle.ak_filtered.specs.Building.{AreRead, IsDayRead, IsFilled, IsReadPlan}

@@ -8,8 +8,8 @@ use Rattle.ak_base.specs.Columns.{code_fault, id_fault, id_or_zero_fault}
 use Rattle.ak_base.specs.Limits.{last_id}
 use Rattle.ak_base.specs.declared.cards.Card.{Card}
 use Rattle.ak_base.specs.declared.errors.RowFault.TheVariants.{BadCode, IdRange}
-use Rattle.ak_calls.proofs.CheckedRows.{of_faultless}
-use Rattle.ak_calls.specs.CardEdits.{KeepsCards}
+use Rattle.ak_edit_calls.proofs.CheckedRows.{of_faultless}
+use Rattle.ak_edit_calls.specs.CardEdits.{KeepsCards}
 use Rattle.ak_filtered.proofs.CardChanges.{home_id}
 use Rattle.ak_base.specs.Heads.{IsWithin}
 use Rattle.ak_filtered.specs.Builds.{moved_in}

@@ -4,8 +4,6 @@ use Rattle.std.proofs.Common.{refl, sym, ap, subst, ◌∙◌, inl, inr, arith}
 use Rattle.std.proofs.lemmas.Int.{ints}
 use Rattle.std.proofs.lemmas.Option.{none-some}
 use Rattle.ak_base.specs.declared.decks.Deck.{Deck}
-use Rattle.ak_calls.proofs.Telling.{where_always, where_held-both, where_held-map, where_rows_held, where_told-both}
-use Rattle.ak_calls.specs.NewNames.{IsIdFault}
 use Rattle.ak_deck_paths.proofs.PuttingDecks.{addition_asked}
 use Rattle.ak_deck_paths.specs.Additions.{AreAdded, IsUseFault, RefusesFirst, added_paths, addition, id_of_last}
 use Rattle.ak_deck_paths.specs.ChangedDecks.{IsPathFault, decks_over}
@@ -17,6 +15,8 @@ use Rattle.ak_edit.specs.Overlays.{Overlay, edit_of, unchanged}
 use Rattle.ak_edit.specs.Refusals.{AnswersBy, IsEndFault}
 use Rattle.ak_edit.specs.declared.desk_faults.DeskFault.{DeskFault}
 use Rattle.ak_edit.specs.declared.desk_faults.DeskFault.TheVariants as desk
+use Rattle.ak_edit_calls.proofs.Telling.{where_always, where_held-both, where_held-map, where_rows_held, where_told-both}
+use Rattle.ak_edit_calls.specs.NewNames.{IsIdFault}
 use Rattle.ak_faults.proofs.Healths.{goes_nowhere}
 use Rattle.ak_faults.specs.Causes.{GoesOn, Health}
 use Rattle.ak_filtered.proofs.DeckTests.{bad_search, search_inside}

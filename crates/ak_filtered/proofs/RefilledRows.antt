@@ -16,9 +16,9 @@ use Rattle.ak_base.specs.declared.names.Name.{Name}
 use Rattle.ak_base.specs.declared.names.Table.TheVariants as tables
 use Rattle.ak_base.specs.declared.rows.Row.{Row}
 use Rattle.ak_base.specs.declared.rows.Row.TheVariants as rows
-use Rattle.ak_calls.proofs.CheckedEdits.{checked_edits_pass}
-use Rattle.ak_calls.proofs.Overlaying.{edit_by_names, none_noted}
-use Rattle.ak_calls.specs.CardEdits.{changed_row}
+use Rattle.ak_edit_calls.proofs.CheckedEdits.{checked_edits_pass}
+use Rattle.ak_edit_calls.proofs.Overlaying.{edit_by_names, none_noted}
+use Rattle.ak_edit_calls.specs.CardEdits.{changed_row}
 use Rattle.ak_edit.specs.Ends.{IsHeldRightly, RefusesRow}
 use Rattle.ak_edit.specs.Overlays.{Overlay, edit_of, unchanged}
 use Rattle.ak_edit.specs.declared.desk_faults.DeskFault.{DeskFault}
@@ -30,7 +30,7 @@ use Rattle.ak_filtered.specs.HomeDecks.{DeckFlags, filtered_at, flags_of, gone_h
 use Rattle.ak_filtered.specs.Refills.{dues_of, no_dues, refill, refilled_row}
 use Rattle.ak_filtered.specs.declared.held_decks.HeldDecks.{HeldDecks}
 use Rattle.ak_filtered.specs.declared.refills.Dues.{Dues}
-use Rattle.ak_calls.proofs.Telling.{where_told-both}
+use Rattle.ak_edit_calls.proofs.Telling.{where_told-both}
 use Rattle.ak_keep.specs.Keepers.{Keeping, WhereTold}
 use Rattle.ak_keep.specs.Collections.{Collection, rows_past}
 use Rattle.ak_merge.proofs.EditFacts.{true_false}

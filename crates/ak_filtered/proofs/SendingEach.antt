@@ -3,8 +3,8 @@ use Rattle.std.specs.Prelude.{◌≡◌, ℤ, Bool, true, false, ◌||◌, List,
 use Rattle.std.proofs.Common.{refl, sym, ap, ◌∙◌}
 use Rattle.std.proofs.lemmas.List.{nil_from_length}
 use Rattle.std.specs.FinMap.{get}
-use Rattle.ak_calls.specs.CardEdits.{put_each}
 use Rattle.ak_edit.specs.Overlays.{Overlay}
+use Rattle.ak_edit_calls.specs.CardEdits.{put_each}
 use Rattle.ak_filtered.specs.HomeDecks.{flags_of, gone_home, is_away_at, is_some_away}
 use Rattle.ak_filtered.specs.HomeGoings.{went_home}
 use Rattle.ak_filtered.specs.declared.held_decks.HeldDecks.{HeldDecks}

@@ -2,14 +2,14 @@
 use Rattle.std.specs.Prelude.{◌≡◌, ◌⊎◌, ℤ, Bool, true, false, List, [], Result, Ok, Err}
 use Rattle.std.proofs.Common.{refl, sym, ap, subst, ◌∙◌, inl, inr}
 use Rattle.std.specs.FinMap.{get}
-use Rattle.ak_calls.proofs.Answering.{never_first}
-use Rattle.ak_calls.proofs.CardRules.{card_edit_of, card_edit_rows}
-use Rattle.ak_calls.proofs.Telling.{where_held-both, where_held-map, where_rows_held}
-use Rattle.ak_calls.specs.CardEdits.{put_each}
 use Rattle.ak_edit.specs.Ends.{AnswersEnd, IsHeldRightly, RefusesEnd, RefusesRow, RefusesStamp}
 use Rattle.ak_edit.specs.Overlays.{Overlay, edit_of, unchanged}
 use Rattle.ak_edit.specs.Refusals.{AnswersBy, IsFromOutside}
 use Rattle.ak_edit.specs.declared.desk_faults.DeskFault.{DeskFault}
+use Rattle.ak_edit_calls.proofs.Answering.{never_first}
+use Rattle.ak_edit_calls.proofs.CardRules.{card_edit_of, card_edit_rows}
+use Rattle.ak_edit_calls.proofs.Telling.{where_held-both, where_held-map, where_rows_held}
+use Rattle.ak_edit_calls.specs.CardEdits.{put_each}
 use Rattle.ak_filtered.proofs.GoneHome.{home_keeps}
 use Rattle.ak_filtered.proofs.Told.{held_always, held_pair}
 use Rattle.ak_filtered.specs.ClearedEdits.{ClearedBy, IsCleared}

@@ -2,7 +2,7 @@
 use Rattle.std.specs.Prelude.{◌≡◌, true, false, Option, Some, None, IfOk, IfSome, Result, Ok, Err, is_some}
 use Rattle.std.proofs.Common.{refl, subst}
 use Rattle.std.specs.Option.{option_map}
-use Rattle.ak_calls.proofs.Telling.{where_always, where_held-both}
+use Rattle.ak_edit_calls.proofs.Telling.{where_always, where_held-both}
 use Rattle.ak_keep.specs.Collections.{Collection, Holding, collection_of}
 use Rattle.ak_keep.specs.Keepers.{Keeping, WhereHeld}
 use Rattle.ak_keep.specs.Marks as marks

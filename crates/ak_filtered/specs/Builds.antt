@@ -8,9 +8,9 @@ use Rattle.ak_base.specs.declared.days.Day.{Day}
 use Rattle.ak_base.specs.declared.decks.Deck.{Deck}
 use Rattle.ak_base.specs.declared.names.Table.TheVariants as tables
 use Rattle.ak_base.specs.declared.rows.Row.TheVariants as rows
-use Rattle.ak_calls.specs.CardEdits.{changed_row}
 use Rattle.ak_edit.specs.Ends.{RefusesStamp}
 use Rattle.ak_edit.specs.declared.desk_faults.DeskFault.{DeskFault}
+use Rattle.ak_edit_calls.specs.CardEdits.{changed_row}
 use Rattle.ak_filtered.specs.Candidates.{candidates, first_cards}
 use Rattle.ak_filtered.specs.ClearedEdits.{IsCleared}
 use Rattle.ak_filtered.specs.Emptyings.{RefusesDeck, emptied}

@@ -9,11 +9,11 @@ use Rattle.ak_base.specs.declared.decks.Deck.{Deck}
 use Rattle.ak_base.specs.declared.names.Table.TheVariants as tables
 use Rattle.ak_base.specs.declared.rows.Row.{Row}
 use Rattle.ak_base.specs.declared.rows.Row.TheVariants as rows
-use Rattle.ak_calls.specs.Calls.{RefusesAbsent}
-use Rattle.ak_calls.specs.CardEdits.{changed_row}
 use Rattle.ak_edit.specs.Ends.{RefusesStamp}
 use Rattle.ak_edit.specs.Refusals.{IsFromOutside, Refusal}
 use Rattle.ak_edit.specs.declared.desk_faults.DeskFault.{DeskFault}
+use Rattle.ak_edit_calls.specs.Calls.{RefusesAbsent}
+use Rattle.ak_edit_calls.specs.CardEdits.{changed_row}
 use Rattle.ak_filtered.specs.ClearedEdits.{IsCleared}
 use Rattle.ak_filtered.specs.FilteredFaults.{ByDesk, FirstOf, Test}
 use Rattle.ak_filtered.specs.HomeDecks.{DeckFlags, filtered_at, gone_home, is_away}

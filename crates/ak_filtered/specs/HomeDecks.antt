@@ -6,7 +6,7 @@ use Rattle.std.specs.Option.{option_map, option_map_or, option_or, unwrap_or}
 use Rattle.std.specs.Ordering.{int_cmp, int_eq}
 use Rattle.ak_base.specs.declared.cards.Card.{Card}
 use Rattle.ak_base.specs.declared.decks.Deck.{Deck}
-use Rattle.ak_calls.specs.CardEdits.{card_edit}
+use Rattle.ak_edit_calls.specs.CardEdits.{card_edit}
 use Rattle.ak_filtered.specs.declared.held_decks.HeldDecks.{HeldDecks}
 use Rattle.ak_keep.specs.Collections.{Collection, Rows}
 use Rattle.ak_keep.specs.Lookups.{card_at, deck_at}

@@ -2,11 +2,11 @@
 use Rattle.std.specs.Prelude.{◌≡◌, ◌⊎◌, ℤ, Bool, true, false, List, Result, Ok, Err}
 use Rattle.std.specs.FinMap.{get}
 use Rattle.ak_base.specs.declared.names.Table.TheVariants as tables
-use Rattle.ak_calls.specs.CardEdits.{put_changed, put_each}
 use Rattle.ak_edit.specs.Ends.{RefusesStamp}
 use Rattle.ak_edit.specs.Overlays.{Overlay, unchanged}
 use Rattle.ak_edit.specs.Refusals.{IsFromOutside}
 use Rattle.ak_edit.specs.declared.desk_faults.DeskFault.{DeskFault}
+use Rattle.ak_edit_calls.specs.CardEdits.{put_changed, put_each}
 use Rattle.ak_filtered.specs.ClearedEdits.{IsCleared}
 use Rattle.ak_filtered.specs.HomeDecks.{DeckFlags, filtered_at, gone_home, is_some_away, sending_home}
 use Rattle.ak_filtered.specs.declared.home_decks.Sending.{Sending}

@@ -7,7 +7,7 @@ ghost use Rattle.ak_keep.specs.Keepers.{WhereHeld, WhereTold};
 
 use crate::faults::FilteredFault;
 use ak_base::{Deck, Name, Row, Table};
-use ak_calls::held_row;
+use ak_edit_calls::held_row;
 use ak_keep::Keeper;
 
 /// The deck of this id, refused if it is not held, and then if it is not filtered.

@@ -2,8 +2,8 @@
 ghost use Rattle.std.specs.Prelude.{◌≡◌, ◌||◌, true, false, IfErr, OnErr};
 ghost use Rattle.std.specs.FinMap.{get};
 ghost use Rattle.std.specs.Option.{option_map_or};
-ghost use Rattle.ak_calls.specs.CardEdits.{changed_row, put_each};
 ghost use Rattle.ak_edit.specs.Refusals.{DeskCause, IsEndFault};
+ghost use Rattle.ak_edit_calls.specs.CardEdits.{changed_row, put_each};
 ghost use Rattle.ak_filtered.specs.HomeDecks.{flags_of, gone_home, is_away, is_away_at, is_some_away};
 ghost use Rattle.ak_filtered.specs.HomeGoings.{EndsSending, IsSent, went_home};
 ghost use Rattle.ak_keep.specs.Keepers.{WhereHeld, is_marked};

@@ -8,7 +8,7 @@ use Rattle.ak_io.specs.declared.traits.Failed.{Failed}
 use Rattle.ak_links.specs.Dials.{GivesFirst}
 use Rattle.ak_messages.specs.declared.methods.Method.{Method}
 use Rattle.ak_messages.specs.declared.replies.Reply.{Reply}
-use Rattle.ak_wires.specs.declared.wires.WireEnd.{WireEnd}
+use Rattle.ak_client_wire.specs.declared.wires.WireEnd.{WireEnd}
 use Rattle.ak_http_wires.specs.Answers.{ReadsAnswerFrom}
 use Rattle.ak_http_wires.specs.Exchanges.{Exchanges, answer_after}
 use Rattle.ak_http_wires.specs.HttpWires.{CallsOnce}

@@ -6,8 +6,8 @@ use Rattle.ak_io.specs.Scripts.{AppendsPart}
 use Rattle.ak_io.specs.declared.traits.Failed.{Failed}
 use Rattle.ak_messages.specs.declared.methods.Method.{Method}
 use Rattle.ak_messages.specs.declared.replies.Reply.{Reply}
-use Rattle.ak_wires.specs.declared.wires.WireEnd.{WireEnd}
-use Rattle.ak_wires.specs.declared.wires.WireEnd.TheVariants as ends
+use Rattle.ak_client_wire.specs.declared.wires.WireEnd.{WireEnd}
+use Rattle.ak_client_wire.specs.declared.wires.WireEnd.TheVariants as ends
 use Rattle.ak_http_wires.specs.Answers.{ReadsAnswerFrom}
 use Rattle.ak_http_wires.specs.declared.answers.AnswerFault.{AnswerFault}
 use Rattle.ak_http_wires.specs.declared.answers.AnswerFault.TheVariants as faults

@@ -6,9 +6,9 @@ use Rattle.ak_io.specs.Ends.{uncertain}
 use Rattle.ak_links.specs.Dials.{GivesFirst}
 use Rattle.ak_messages.specs.declared.methods.Method.{Method}
 use Rattle.ak_messages.specs.declared.replies.Reply.{Reply}
-use Rattle.ak_wires.specs.Wires.{WireState, plain_kind}
-use Rattle.ak_wires.specs.declared.wires.WireEnd.{WireEnd}
-use Rattle.ak_wires.specs.declared.wires.WireEnd.TheVariants as ends
+use Rattle.ak_client_wire.specs.Wires.{WireState, plain_kind}
+use Rattle.ak_client_wire.specs.declared.wires.WireEnd.{WireEnd}
+use Rattle.ak_client_wire.specs.declared.wires.WireEnd.TheVariants as ends
 use Rattle.ak_http_wires.specs.Exchanges.{Exchanges}
 
 -- it tells no log, may fail at any call, and may get an answer that can't be read at any

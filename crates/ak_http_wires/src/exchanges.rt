@@ -1,13 +1,13 @@
+ghost use Rattle.ak_client_wire.specs.declared.wires.WireEnd.TheVariants as ends;
 ghost use Rattle.ak_faults.specs.Causes.{HasCauseOf};
 ghost use Rattle.ak_http_wires.specs.Exchanges.{Exchanges, answer_after};
-ghost use Rattle.ak_wires.specs.declared.wires.WireEnd.TheVariants as ends;
 ghost use Rattle.std.specs.Prelude.{◌≡◌};
 
 use crate::answers::{AnswerFault, read_answer};
+use ak_client_wire::WireEnd;
 use ak_io::{Failed, write_all};
 use ak_links::Link;
 use ak_messages::{Method, Reply};
-use ak_wires::WireEnd;
 use std::alloc::Global;
 
 /// Writes the text of a request to a link, and reads one answer. A server that refuses a request early may answer before it

@@ -2,11 +2,11 @@ use crate::exchanges::exchange;
 use crate::request_texts::request_text;
 use ak_base::{Memory, Text};
 use ak_call_counts::CallCounts;
+use ak_client_wire::{Said, Wire, WireEnd};
 use ak_io::{End, Failed};
 use ak_links::Dial;
 use ak_messages::{Reply, Request};
-use ak_parts::asked_method;
-use ak_wires::{Said, Wire, WireEnd};
+use ak_sync_rows::asked_method;
 use std::alloc::Global;
 
 /// A wire over HTTP: each call dials once, writes one request and reads one answer. It knows nothing of the server's log.
@@ -84,7 +84,7 @@ impl<D: Dial> Wire for HttpWire<D> {
     ghost use Rattle.ak_http_wires.specs.HttpWires.{CallsOnce, http_state, bad_after};
     ghost use Rattle.ak_http_wires.specs.RequestTexts.{request_http};
     ghost use Rattle.ak_session.specs.Requests.{asked_method};
-    ghost use Rattle.ak_wires.specs.Wires.{Called, plain_kind};
+    ghost use Rattle.ak_client_wire.specs.Wires.{Called, plain_kind};
 
     ghost kind = { plain_kind };
 

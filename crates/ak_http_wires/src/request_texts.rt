@@ -4,7 +4,7 @@ ghost use Rattle.ak_http_wires.specs.RequestTexts.{envelope_lines, first_lines, 
 
 use ak_base::{HostKey, Memory, SessionKey, Text};
 use ak_messages::{Ask, Request};
-use ak_parts::asked_method;
+use ak_sync_rows::asked_method;
 use ak_wire::write_request;
 use std::alloc::Global;
 use std::str;

@@ -15,7 +15,7 @@ use Rattle.ak_base.specs.declared.names.Table.TheVariants as tables
 use Rattle.ak_base.specs.declared.notes.Note.{Note}
 use Rattle.ak_base.specs.declared.rows.Row.{Row}
 use Rattle.ak_base.specs.declared.rows.Row.TheVariants as rows
-use Rattle.ak_calls.specs.NewNames.{AreMadeOf, first_name}
+use Rattle.ak_edit_calls.specs.NewNames.{AreMadeOf, first_name}
 use Rattle.ak_imports.proofs.LeastNotes.{row_of_note}
 use Rattle.ak_imports.proofs.Making.{GivesIds, same_name, with_row_put}
 use Rattle.ak_imports.specs.Imports.{AreRecordsDone, IsAddedOf, IsFoundDone, IsRecordDone, IsUpdatedOf, Progress, edit_of_record, edit_to, start_of, with_made}

@@ -15,10 +15,10 @@ use Rattle.ak_base.specs.declared.names.Table.TheVariants as tables
 use Rattle.ak_base.specs.declared.notes.Note.{Note}
 use Rattle.ak_base.specs.declared.rows.Row.{Row}
 use Rattle.ak_base.specs.declared.rows.Row.TheVariants as rows
-use Rattle.ak_calls.specs.NewNames.{AreMadeOf, first_name}
 use Rattle.ak_edit.proofs.Building.{put_asked}
 use Rattle.ak_edit.specs.Overlays.{Overlay, conf_over, edit_of, put_over, tag_over}
 use Rattle.ak_edit.specs.Plans.{stamp_made}
+use Rattle.ak_edit_calls.specs.NewNames.{AreMadeOf, first_name}
 use Rattle.ak_imports.proofs.LeastNotes.{row_of_note}
 use Rattle.ak_imports.proofs.OwnTesting.{AreTested, tested}
 use Rattle.ak_imports.proofs.Passing.{none_before, rows_passed}

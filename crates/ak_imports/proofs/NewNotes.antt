@@ -14,7 +14,7 @@ use Rattle.ak_base.specs.declared.names.Table.TheVariants as tables
 use Rattle.ak_base.specs.declared.notes.Note.{Note}
 use Rattle.ak_base.specs.declared.rows.Row.{Row}
 use Rattle.ak_base.specs.declared.rows.Row.TheVariants as rows
-use Rattle.ak_calls.specs.NewNames.{first_name}
+use Rattle.ak_edit_calls.specs.NewNames.{first_name}
 use Rattle.ak_imports.proofs.Admitting.{KeepsNames, rows_keep}
 use Rattle.ak_imports.proofs.KeptGuids.{guid_after, note_after, same_is, same_itself, same_note}
 use Rattle.ak_imports.proofs.LeastNotes.{row_of_note}

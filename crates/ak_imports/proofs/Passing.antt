@@ -12,11 +12,11 @@ use Rattle.ak_base.specs.Rows.{name_of}
 use Rattle.ak_base.specs.Tables.{buried_in, buried_name}
 use Rattle.ak_base.specs.declared.names.Name.{Name}
 use Rattle.ak_base.specs.declared.rows.Row.{Row}
-use Rattle.ak_calls.proofs.CheckedEdits.{checked_edits_pass}
 use Rattle.ak_edit.proofs.Writing.{unchanged_row}
 use Rattle.ak_edit.specs.Ends.{RefusesEnd, RefusesStamp}
 use Rattle.ak_edit.specs.Plans.{stamp_made}
 use Rattle.ak_edit.specs.declared.desk_faults.DeskFault.{DeskFault}
+use Rattle.ak_edit_calls.proofs.CheckedEdits.{checked_edits_pass}
 use Rattle.ak_imports.specs.Imports.{Progress, edit_to}
 use Rattle.ak_imports.specs.KeptRows.{rows_with}
 use Rattle.ak_imports.specs.UnderWay.{ArePassed, IsPassedRow, IsPassedUnder}

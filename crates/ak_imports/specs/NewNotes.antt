@@ -3,7 +3,7 @@ use Rattle.std.specs.Prelude.{◌≡◌, ◌⊎◌, ⊤, ℕ, ℤ, pos, ◌<ℤ�
 use Rattle.std.specs.List.{AllByRecursion, join_with_byte}
 use Rattle.ak_base.specs.declared.names.Table.TheVariants as tables
 use Rattle.ak_base.specs.declared.notes.Note.{Note}
-use Rattle.ak_calls.specs.NoteTags.{stored_tags}
+use Rattle.ak_edit_calls.specs.NoteTags.{stored_tags}
 use Rattle.ak_imports.specs.Guids.{guid_at}
 use Rattle.ak_imports.specs.declared.imports.Imported.{Imported}
 use Rattle.ak_imports.specs.declared.records.Record.{Record}

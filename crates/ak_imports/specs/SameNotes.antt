@@ -2,7 +2,7 @@
 use Rattle.std.specs.Prelude.{◌≡◌, Option, Some, None}
 use Rattle.ak_base.specs.NoteTexts.{fields_in}
 use Rattle.ak_base.specs.declared.notes.Note.{Note}
-use Rattle.ak_calls.specs.NoteTags.{stored_tags}
+use Rattle.ak_edit_calls.specs.NoteTags.{stored_tags}
 use Rattle.ak_notes.specs.declared.note_edits.NoteEdit.{NoteEdit}
 
 -- a note has these fields, and its tags are those that a call would store for these: the order and the repeats of the given tags make no

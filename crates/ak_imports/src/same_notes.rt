@@ -3,7 +3,7 @@ ghost use Rattle.std.specs.Prelude.{◌≡◌, Decides, IfOk, Some};
 ghost use Rattle.ak_imports.specs.SameNotes.{IsSame, IsSameFound};
 
 use ak_base::{List, Memory, Note, Text, copy_texts};
-use ak_calls::stored_tags;
+use ak_edit_calls::stored_tags;
 use ak_notes::NoteEdit;
 
 /// Whether the note, if there is one, has these texts.

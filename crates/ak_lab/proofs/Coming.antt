@@ -1,5 +1,6 @@
 -- What a line comes to if it stops.
 use Rattle.std.proofs.Common.{◌≡◌, ◌<◌, ℕ, ℤ, [], ◌∷◌, List, length, None, Result, Ok, Err, IfOk, IfErr, IsErrAnd, refl, sym, ap, subst, inl, inr, append-nil}
+use Rattle.ak_desk_texts.specs.declared.line_refusals.LineRefusal.{LineRefusal}
 use Rattle.ak_edit.specs.declared.desk_faults.DeskFault.{DeskFault}
 use Rattle.ak_lab.specs.LabDesks.{EndsDo, EndsReview}
 use Rattle.ak_lab.specs.LabStates.{LabState}
@@ -13,10 +14,9 @@ use Rattle.ak_lab_devices.specs.declared.devices.Device.{Device}
 use Rattle.ak_lab_lines.specs.declared.lab_lines.LabLine.{LabLine}
 use Rattle.ak_lab_lines.specs.declared.lab_lines.LabLine.TheVariants as lines
 use Rattle.ak_lab_lines.specs.declared.lab_lines.Side.TheVariants as sides
-use Rattle.ak_loops.specs.Entries.{LoggedState}
-use Rattle.ak_loops.specs.declared.logs.Entry.{Entry}
 use Rattle.ak_server_copies.specs.Copies.{IsViewed}
-use Rattle.ak_texts.specs.declared.line_refusals.LineRefusal.{LineRefusal}
+use Rattle.ak_sync_in_memory.specs.Entries.{LoggedState}
+use Rattle.ak_sync_in_memory.specs.declared.logs.Entry.{Entry}
 
 -- a server that was not viewed
 pub not_viewed : (s : LoggedState) → IsViewed s s

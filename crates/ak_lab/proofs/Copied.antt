@@ -8,10 +8,10 @@ use Rattle.ak_lab_devices.specs.Devices.{as_downloaded, new_device}
 use Rattle.ak_lab_devices.specs.RestingKeepers.{Holds, kept_of}
 use Rattle.ak_lab_devices.specs.declared.devices.Device.{Device}
 use Rattle.ak_lab_lines.specs.LabTexts.{counts_text}
-use Rattle.ak_loops.specs.Entries.{collection_in}
 use Rattle.ak_messages.specs.declared.requests.SanityCounts.{SanityCounts}
 use Rattle.ak_openings.specs.declared.whole_collections.Opening.{Opening}
 use Rattle.ak_session.specs.Answers.{counts_of}
+use Rattle.ak_sync_in_memory.specs.Entries.{collection_in}
 use Rattle.ak_undo.specs.declared.steps.Step.{Step}
 
 pub copied : {T E : Type 0} (P : T → Collection → Type 0) (held : WithMark Holding) (committed : Option Collection) (result : Result T E)

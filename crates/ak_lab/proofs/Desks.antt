@@ -19,11 +19,11 @@ use Rattle.ak_lab_devices.specs.declared.devices.Device.{Device}
 use Rattle.ak_lab_lines.specs.declared.lab_lines.LabLine.TheVariants as lines
 use Rattle.ak_lab_devices.specs.NewReviews.{EndsReviews}
 use Rattle.ak_lab_devices.specs.declared.new_reviews.ReviewPlan.{ReviewPlan}
-use Rattle.ak_lines.specs.AnyLines.{RefusesAnyLine, SaysAnyLine}
-use Rattle.ak_lines.specs.declared.any_lines.AnyLine.{AnyLine}
-use Rattle.ak_lines.specs.declared.line_faults.LineFault.{LineFault}
-use Rattle.ak_texts.specs.declared.answers.DeskAnswer.{DeskAnswer}
-use Rattle.ak_texts.specs.declared.line_refusals.LineRefusal.{LineRefusal}
+use Rattle.ak_desk_language.specs.AnyLines.{RefusesAnyLine, SaysAnyLine}
+use Rattle.ak_desk_language.specs.declared.any_lines.AnyLine.{AnyLine}
+use Rattle.ak_desk_language.specs.declared.line_faults.LineFault.{LineFault}
+use Rattle.ak_desk_texts.specs.declared.answers.DeskAnswer.{DeskAnswer}
+use Rattle.ak_desk_texts.specs.declared.line_refusals.LineRefusal.{LineRefusal}
 
 -- the lab with another device at a place
 abbrev pub put_at : ℕ → Device → LabState → LabState

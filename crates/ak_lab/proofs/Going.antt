@@ -16,8 +16,8 @@ use Rattle.ak_lab.specs.LineStops.{LineCameOut}
 use Rattle.ak_lab.specs.RunLines.{IsCamePrinted, IsRefusalPrinted, IsSoFar, StopsThere, TakesAndGoes}
 use Rattle.ak_lab.specs.declared.lab_stops.LabStop.{LabStop}
 use Rattle.ak_lab.specs.declared.lab_stops.LabStop.TheVariants as stops
-use Rattle.ak_loops.specs.declared.logs.Entry.{Entry}
 use Rattle.ak_openings.specs.declared.whole_collections.Opening.{Opening}
+use Rattle.ak_sync_in_memory.specs.declared.logs.Entry.{Entry}
 
 -- a line goes, and prints this
 abbrev Goes : ℕ → Line → LabState → LabState → List (List ℕ) → Type 0

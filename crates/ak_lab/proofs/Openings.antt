@@ -2,9 +2,9 @@
 use Rattle.std.proofs.Common.{◌≡◌, ℕ, pos, List, [], refl, ap, ◌∙◌}
 use Rattle.ak_lab.specs.LabStates.{IsReady, LabState, opened_lab}
 use Rattle.ak_lab_wires.specs.LabSessions.{lab_host}
-use Rattle.ak_loops.specs.Entries.{LoggedState, health_in}
-use Rattle.ak_loops.specs.LoggedServers.{begins_with}
 use Rattle.ak_openings.specs.declared.whole_collections.Opening.{Opening}
+use Rattle.ak_sync_in_memory.specs.Entries.{LoggedState, health_in}
+use Rattle.ak_sync_in_memory.specs.LoggedServers.{begins_with}
 
 abbrev opened_with : LoggedState → LabState
 opened_with server = record { clock = pos 1_700_000_000_000; server = server; sessions = 0; fails = []; devices = [] }

@@ -21,9 +21,9 @@ use Rattle.ak_lab_wires.proofs.Kept.{all_served_calm}
 use Rattle.ak_lab_wires.proofs.Named.{from_place}
 use Rattle.ak_lab_wires.proofs.Serving.{served_short}
 use Rattle.ak_lab_wires.specs.Servings.{AreServed, HasRequests, ServesFront, named_from, requests_in}
-use Rattle.ak_loops.specs.Betweens.{ActEnd}
-use Rattle.ak_loops.specs.Entries.{LoggedState}
-use Rattle.ak_loops.specs.LoggedServers.{IsServed}
+use Rattle.ak_sync_in_memory.specs.Betweens.{ActEnd}
+use Rattle.ak_sync_in_memory.specs.Entries.{LoggedState}
+use Rattle.ak_sync_in_memory.specs.LoggedServers.{IsServed}
 use Rattle.ak_messages.specs.declared.replies.Reply.{Reply}
 use Rattle.ak_messages.specs.declared.requests.Request.{Request}
 

@@ -9,10 +9,10 @@ use Rattle.ak_filters.specs.Meanings.{Meaning}
 use Rattle.ak_lab_devices.specs.Devices.{device_of, keeping_of}
 use Rattle.ak_lab.specs.LabStates.{LabState, with_changed}
 use Rattle.ak_lab_devices.specs.declared.devices.Device.{Device}
-use Rattle.ak_lines.specs.AnyLines.{SaysAnyLine}
-use Rattle.ak_lines.specs.declared.any_lines.AnyLine.{AnyLine}
-use Rattle.ak_texts.specs.declared.answers.DeskAnswer.{DeskAnswer}
-use Rattle.ak_texts.specs.declared.line_refusals.LineRefusal.{LineRefusal}
+use Rattle.ak_desk_language.specs.AnyLines.{SaysAnyLine}
+use Rattle.ak_desk_language.specs.declared.any_lines.AnyLine.{AnyLine}
+use Rattle.ak_desk_texts.specs.declared.answers.DeskAnswer.{DeskAnswer}
+use Rattle.ak_desk_texts.specs.declared.line_refusals.LineRefusal.{LineRefusal}
 use Rattle.ak_lab_devices.specs.NewReviews.{EndsReviews}
 use Rattle.ak_lab_devices.specs.declared.new_reviews.ReviewPlan.{ReviewPlan}
 

@@ -10,12 +10,12 @@ use Rattle.ak_lab_lines.specs.LabTexts.{no_request_text, reply_text}
 use Rattle.ak_lab_lines.specs.declared.lab_lines.Side.{Side}
 use Rattle.ak_lab_lines.specs.declared.lab_lines.Side.TheVariants as sides
 use Rattle.ak_lab_wires.specs.Servings.{AreServed, HasRequests, ServesFront, first_lacking, named_from, requests_in}
-use Rattle.ak_loops.specs.Betweens.{ActEnd}
-use Rattle.ak_loops.specs.Entries.{LoggedState}
-use Rattle.ak_loops.specs.LoggedServers.{IsServed}
-use Rattle.ak_loops.specs.declared.mishaps.What.{What}
 use Rattle.ak_messages.specs.declared.replies.Reply.{Reply}
 use Rattle.ak_messages.specs.declared.requests.Request.{Request}
+use Rattle.ak_sync_in_memory.specs.Betweens.{ActEnd}
+use Rattle.ak_sync_in_memory.specs.Entries.{LoggedState}
+use Rattle.ak_sync_in_memory.specs.LoggedServers.{IsServed}
+use Rattle.ak_sync_in_memory.specs.declared.mishaps.What.{What}
 
 -- ---- for the next sync
 -- a device to the messages of whose next sync this happens too, at the call of a number

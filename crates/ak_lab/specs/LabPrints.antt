@@ -1,9 +1,9 @@
 -- What an accepted line of a lab prints.
 use Rattle.std.specs.Prelude.{ℕ, List, [], ◌∷◌, Result, Ok, Err}
+use Rattle.ak_desk_texts.specs.AnswerTexts.{answer_text}
 use Rattle.ak_lab.specs.declared.lab_prints.LabPrint.{LabPrint}
 use Rattle.ak_lab.specs.declared.lab_prints.LabPrint.TheVariants as prints
 use Rattle.ak_lab.specs.declared.lab_stops.LabStop.{LabStop}
-use Rattle.ak_texts.specs.AnswerTexts.{answer_text}
 
 -- the lines that it prints
 abbrev pub printed_lines : LabPrint → List (List ℕ)

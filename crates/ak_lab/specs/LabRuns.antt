@@ -8,7 +8,7 @@ use Rattle.ak_io.specs.declared.endings.ScriptEnd.TheVariants as ends
 use Rattle.ak_io.specs.declared.lines.Line.{Line}
 use Rattle.ak_lab.specs.LabStates.{LabState, opened_lab}
 use Rattle.ak_lab.specs.LineOutcomes.{Accepted, EndsAs, OutOfMemory, Outcome, Refused}
-use Rattle.ak_loops.specs.declared.logs.Entry.{Entry}
+use Rattle.ak_sync_in_memory.specs.declared.logs.Entry.{Entry}
 use Rattle.ak_openings.specs.Openings.{IsOpening}
 use Rattle.ak_openings.specs.declared.whole_collections.Opening.{Opening}
 

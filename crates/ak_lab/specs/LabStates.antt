@@ -4,8 +4,8 @@ use Rattle.ak_lab_devices.specs.Devices.{are_in_time, with_device}
 use Rattle.ak_lab_devices.specs.declared.devices.Device.{Device}
 use Rattle.ak_lab.specs.declared.labs.Lab.{Lab}
 use Rattle.ak_lab_wires.specs.LabSessions.{lab_host}
-use Rattle.ak_loops.specs.Entries.{LoggedState, health_in}
-use Rattle.ak_loops.specs.LoggedServers.{begins_with}
+use Rattle.ak_sync_in_memory.specs.Entries.{LoggedState, health_in}
+use Rattle.ak_sync_in_memory.specs.LoggedServers.{begins_with}
 use Rattle.ak_openings.specs.declared.whole_collections.Opening.{Opening}
 
 -- a lab: its clock in milliseconds, its server with all that came to it, how many sessions began, the calls of the server's keeper that are to

@@ -8,11 +8,11 @@ use Rattle.ak_lab.specs.declared.lab_stops.LabStop.TheVariants as stops
 use Rattle.ak_lab_wires.specs.declared.lab_sessions.SessionKind.{SessionKind}
 use Rattle.ak_lab_lines.specs.LabTexts.{ending_text, no_request_text}
 use Rattle.ak_lab_wires.specs.Servings.{HasRequests, first_lacking}
-use Rattle.ak_lines.specs.declared.line_faults.LineFault.{LineFault}
-use Rattle.ak_loops.specs.Entries.{LoggedState}
+use Rattle.ak_desk_language.specs.declared.line_faults.LineFault.{LineFault}
+use Rattle.ak_sync_in_memory.specs.Entries.{LoggedState}
 use Rattle.ak_outcomes.specs.OutcomeTexts.{outcome_text}
-use Rattle.ak_texts.specs.FaultTexts.{desk_fault_text, line_fault_text, refusal_text}
-use Rattle.ak_texts.specs.declared.line_refusals.LineRefusal.{LineRefusal}
+use Rattle.ak_desk_texts.specs.FaultTexts.{desk_fault_text, line_fault_text, refusal_text}
+use Rattle.ak_desk_texts.specs.declared.line_refusals.LineRefusal.{LineRefusal}
 
 -- it is refused by this text, or memory was out for it
 abbrev pub IsStopBy : List ℕ → LabStop → Type 0

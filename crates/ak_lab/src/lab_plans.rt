@@ -10,7 +10,7 @@ ghost use Rattle.ak_lab_lines.specs.declared.lab_lines.LabLine.TheVariants as li
 ghost use Rattle.ak_lab_lines.specs.declared.lab_lines.Side.TheVariants as sides;
 ghost use Rattle.ak_lab.specs.LabStops.{LacksStop};
 ghost use Rattle.ak_lab_wires.specs.Servings.{HasRequests, ServesFront, named_from, requests_in};
-ghost use Rattle.ak_loops.specs.Betweens.{ActEnd};
+ghost use Rattle.ak_sync_in_memory.specs.Betweens.{ActEnd};
 
 use crate::lab_stops::{LabStop, no_device, no_request};
 use crate::labs::Lab;
@@ -18,8 +18,8 @@ use ak_base::{List, Memory, Text};
 use ak_lab_devices::{Act, Device, Planned, place_of};
 use ak_lab_lines::{Side, write_status};
 use ak_lab_wires::requests_named;
-use ak_loops::{LoggedServer, Mishap};
 use ak_messages::{Reply, Request};
+use ak_sync_in_memory::{LoggedServer, Mishap};
 use std::alloc::Global;
 
 /// Requests of the log: so many, from the one of a number on, counted from 0.

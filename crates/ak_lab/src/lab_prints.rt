@@ -3,7 +3,7 @@ ghost use Rattle.ak_lab.specs.LabPrints.{printed_by};
 
 use crate::lab_stops::LabStop;
 use ak_base::{List, Text};
-use ak_texts::DeskAnswer;
+use ak_desk_texts::DeskAnswer;
 
 /// What a line that is accepted prints.
 #[derive(Debug, Drop)]

@@ -23,7 +23,7 @@ use ak_io::{
     write_all,
 };
 use ak_lab_lines::{LabLineFault, read_lab_line};
-use ak_loops::Log;
+use ak_sync_in_memory::Log;
 use std::alloc::Global;
 
 /// How many lines are written at a time.

@@ -2,10 +2,10 @@ ghost use Rattle.ak_lab_lines.specs.LabTexts.{no_device_text, no_request_text};
 ghost use Rattle.ak_lab.specs.LabStops.{IsDeskStop, IsLineStop, IsRefusalStop, IsStopBy};
 
 use ak_base::{Memory, Text};
+use ak_desk_language::LineFault;
+use ak_desk_texts::{LineRefusal, write_desk_fault, write_line_fault, write_refusal};
 use ak_edit::DeskFault;
 use ak_lab_lines::{write_no_device, write_no_request};
-use ak_lines::LineFault;
-use ak_texts::{LineRefusal, write_desk_fault, write_line_fault, write_refusal};
 use std::alloc::{AllocFailed, Global};
 
 /// Why a line does not go.

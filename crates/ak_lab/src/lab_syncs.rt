@@ -18,8 +18,8 @@ use ak_lab_lines::{direction_word, write_ending};
 use ak_lab_wires::{
     CrossedLab, Crossings, SessionKind, SessionTurn, run_over, stand_in, still_clock, take_plan,
 };
-use ak_loops::{LoopWire, Mishap};
 use ak_outcomes::outcome_text;
+use ak_sync_in_memory::{LoopWire, Mishap};
 use std::alloc::Global;
 use std::mem;
 

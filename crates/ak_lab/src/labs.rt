@@ -6,8 +6,8 @@ ghost use Rattle.ak_openings.specs.declared.whole_collections.Opening.{Opening};
 use ak_base::{List, Memory, Text};
 use ak_lab_devices::Device;
 use ak_lab_wires::lab_key;
-use ak_loops::{Log, LoggedServer};
 use ak_openings::opening;
+use ak_sync_in_memory::{Log, LoggedServer};
 use std::alloc::Global;
 
 /// The moment at which a lab's clock stands at first, and at which its server was opened, in milliseconds.

@@ -30,14 +30,14 @@ use Rattle.ak_lab_lines.specs.LabLines.{lab_line_of}
 use Rattle.ak_lab_lines.specs.declared.lab_lines.LabLine.{LabLine}
 use Rattle.ak_lab_lines.specs.declared.lab_lines.LabLine.TheVariants as lines
 use Rattle.ak_lab_wires.specs.declared.lab_sessions.SessionKind.TheVariants as kinds
-use Rattle.ak_loops.specs.Entries.{LoggedState, account_opened}
-use Rattle.ak_loops.specs.Mishaps.{loses_nothing}
 use Rattle.ak_merge.specs.Commits.{IsCommitted, IsCopyOf}
 use Rattle.ak_merge.specs.Edits.{second_of}
 use Rattle.ak_openings.specs.declared.whole_collections.Opening.{Opening}
 use Rattle.ak_protocol.proofs.Commits.{not_both}
 use Rattle.ak_protocol.specs.Accounts.{AccountState}
 use Rattle.ak_server_copies.specs.Copies.{IsViewed, committed_in}
+use Rattle.ak_sync_in_memory.specs.Entries.{LoggedState, account_opened}
+use Rattle.ak_sync_in_memory.specs.Mishaps.{loses_nothing}
 
 -- ---- laws of others
 abbrev pub LinesKeepLinked : Type 0

@@ -13,16 +13,6 @@ use Rattle.ak_lab_wires.specs.LabSessions.{IsSessionOver}
 use Rattle.ak_lab_wires.specs.Turns.{InTurn, due}
 use Rattle.ak_lab_wires.specs.declared.crossed_syncs.Crossings.{Crossings}
 use Rattle.ak_lab_wires.specs.declared.lab_sessions.SessionKind.{SessionKind}
-use Rattle.ak_loops.proofs.Logging.{events_append}
-use Rattle.ak_loops.specs.Betweens.{ActEnd}
-use Rattle.ak_loops.specs.Entries.{LoggedState, entry_of, event_of, events_in, health_in, log_in, log_with, setback_of}
-use Rattle.ak_loops.specs.LoggedServers.{IsServed}
-use Rattle.ak_loops.specs.declared.logs.Entry.{Entry}
-use Rattle.ak_loops.specs.declared.logs.Logged.{Logged}
-use Rattle.ak_loops.specs.declared.logs.Logged.TheVariants as logged
-use Rattle.ak_loops.specs.declared.logs.Trouble.{Trouble}
-use Rattle.ak_loops.specs.declared.logs.Trouble.TheVariants as troubles
-use Rattle.ak_loops.specs.declared.mishaps.Mishap.{Mishap}
 use Rattle.ak_merge.specs.Edits.{second_of}
 use Rattle.ak_messages.specs.declared.replies.Reply.{Reply}
 use Rattle.ak_messages.specs.declared.requests.Request.{Request}
@@ -30,6 +20,16 @@ use Rattle.ak_openings.specs.declared.whole_collections.Opening.{Opening}
 use Rattle.ak_protocol.specs.Logs.{View, with_growth}
 use Rattle.ak_protocol.specs.Serving.{Undisturbed, KeeperFault, OutOfMemory}
 use Rattle.ak_sync_completes.specs.Completing.{HasNoKeeperFault, IsMetaNear}
+use Rattle.ak_sync_in_memory.proofs.Logging.{events_append}
+use Rattle.ak_sync_in_memory.specs.Betweens.{ActEnd}
+use Rattle.ak_sync_in_memory.specs.Entries.{LoggedState, entry_of, event_of, events_in, health_in, log_in, log_with, setback_of}
+use Rattle.ak_sync_in_memory.specs.LoggedServers.{IsServed}
+use Rattle.ak_sync_in_memory.specs.declared.logs.Entry.{Entry}
+use Rattle.ak_sync_in_memory.specs.declared.logs.Logged.{Logged}
+use Rattle.ak_sync_in_memory.specs.declared.logs.Logged.TheVariants as logged
+use Rattle.ak_sync_in_memory.specs.declared.logs.Trouble.{Trouble}
+use Rattle.ak_sync_in_memory.specs.declared.logs.Trouble.TheVariants as troubles
+use Rattle.ak_sync_in_memory.specs.declared.mishaps.Mishap.{Mishap}
 
 -- ---- what was added
 -- what came at this moment, and met no fault of the server's keeper

@@ -20,7 +20,6 @@ use Rattle.ak_lab_devices.specs.RestingKeepers.{Holds}
 use Rattle.ak_lab_devices.specs.declared.devices.Device.{Device}
 use Rattle.ak_lab_joins.specs.LabJoins.{DeviceHolds, Finishes, HasFreshCheck, HasSession, IsLinkedLab, IsLinkedServer, JoinsSides, KeepsSides, MayHoldJoin, PlansNothing, StillCommits, StillHolds, committed_of, ends_at_check, lab_world, world_in}
 use Rattle.ak_lab_wires.specs.LabSessions.{lab_host}
-use Rattle.ak_loops.specs.Entries.{LoggedState, log_in, server_of}
 use Rattle.ak_merge.proofs.ContentLaws.{content-through, content-turned, sound_by_content}
 use Rattle.ak_merge.proofs.JoinLaws.{join_once}
 use Rattle.ak_merge.specs.Exchanges.{HoldsJoin}
@@ -32,6 +31,7 @@ use Rattle.ak_protocol.specs.Accounts.{AccountState}
 use Rattle.ak_protocol.specs.Logs.{Log, World, events_of, opened, world_after}
 use Rattle.ak_server_copies.specs.Copies.{committed_in, committed_under}
 use Rattle.ak_sync_completes.specs.Completing.{AreJoinable, have_nothing_to_sync}
+use Rattle.ak_sync_in_memory.specs.Entries.{LoggedState, log_in, server_of}
 
 -- ---- laws of others
 abbrev pub FinishedJoins : Type 0

@@ -8,6 +8,7 @@ use Rattle.ak_client.proofs.Losing.{lost_cause}
 use Rattle.ak_client.specs.Syncs.{IsSync, world_at}
 use Rattle.ak_client.specs.declared.outcomes.Outcome.{Outcome}
 use Rattle.ak_client.specs.declared.outcomes.Outcome.TheVariants as outcomes
+use Rattle.ak_client_wire.specs.Wires.{WireKind, WireState}
 use Rattle.ak_exchange.specs.Asked.{asker}
 use Rattle.ak_exchange.specs.Phases.{held_by, holding}
 use Rattle.ak_exchange.specs.declared.envelopes.Ids.{Ids}
@@ -31,16 +32,15 @@ use Rattle.ak_lab_wires.specs.CrossedSyncs.{CrossesAt, crosses_nothing}
 use Rattle.ak_lab_wires.specs.LabSessions.{lab_host}
 use Rattle.ak_lab_wires.specs.Turns.{plans_nothing}
 use Rattle.ak_lab_wires.specs.declared.lab_sessions.SessionKind.TheVariants as kinds
-use Rattle.ak_loops.specs.Entries.{LoggedState, events_in, log_in}
-use Rattle.ak_loops.specs.LoopWires.{health_over, inside_with, loop_kind, state_of_loop}
 use Rattle.ak_merge.specs.Links.{AreLinked}
 use Rattle.ak_protocol.specs.Accounts.{AccountState}
 use Rattle.ak_protocol.specs.LawfulServers.{IsLawfulAccount}
 use Rattle.ak_protocol.specs.Logs.{Event, Log, with_growth}
 use Rattle.ak_protocol.specs.Syncs.{IsUnused}
 use Rattle.ak_sync_completes.specs.Completing.{AreJoinable, EndsWell, HasNoKeeperFault, IsMetaNear, IsSyncOver, IsUnhindered, SyncEnds}
+use Rattle.ak_sync_in_memory.specs.Entries.{LoggedState, events_in, log_in}
+use Rattle.ak_sync_in_memory.specs.LoopWires.{health_over, inside_with, loop_kind, state_of_loop}
 use Rattle.ak_transfer_laws.specs.Completing.{EndsWith, IsLeftAlone, committed_before}
-use Rattle.ak_wires.specs.Wires.{WireKind, WireState}
 
 -- the kind of a lab's wires
 abbrev pub lab_kind : WireKind

@@ -17,8 +17,6 @@ use Rattle.ak_lab_joins.specs.LabJoins.{DeviceHolds, Finishes, HasSession, IsLin
 use Rattle.ak_lab_joins.specs.LabMishaps.{LosesNothing}
 use Rattle.ak_lab_lines.specs.LabTexts.{sync_text}
 use Rattle.ak_lab_lines.specs.declared.lab_lines.LabLine.TheVariants as lines
-use Rattle.ak_loops.specs.Entries.{events_in}
-use Rattle.ak_loops.specs.declared.logs.Entry.{Entry}
 use Rattle.ak_merge.specs.Edits.{second_of}
 use Rattle.ak_merge.specs.Holdings.{SameContent, content_of}
 use Rattle.ak_merge.specs.Joins.{join}
@@ -26,6 +24,8 @@ use Rattle.ak_outcomes.specs.OutcomeTexts.{outcome_text}
 use Rattle.ak_protocol.specs.Accounts.{AccountState}
 use Rattle.ak_session.specs.Sessions.{HaveRoom}
 use Rattle.ak_session.specs.Slices.{wanted_in_chunks}
+use Rattle.ak_sync_in_memory.specs.Entries.{events_in}
+use Rattle.ak_sync_in_memory.specs.declared.logs.Entry.{Entry}
 use Rattle.ak_transfer_laws.specs.Completing.{EndsWith}
 
 -- ---- before it

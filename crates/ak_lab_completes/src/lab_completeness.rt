@@ -28,21 +28,21 @@ ghost use Rattle.ak_lab_joins.specs.LabBreaks.{StandsSo};
 ghost use Rattle.ak_lab_joins.specs.LabJoins.{DeviceHolds, GoFresh, HasSession, IsLinkedLab, committed_of};
 ghost use Rattle.ak_lab_joins.specs.LabMishaps.{LosesNothing};
 ghost use Rattle.ak_lab_lines.specs.declared.lab_lines.LabLine.TheVariants as lines;
-ghost use Rattle.ak_loops.specs.Entries.{account_opened};
 ghost use Rattle.ak_merge.specs.Commits.{IsCopyOf};
 ghost use Rattle.ak_merge.specs.Exchanges.{HoldsJoin};
 ghost use Rattle.ak_openings.specs.declared.whole_collections.Opening.{Opening};
 ghost use Rattle.ak_protocol.specs.Accounts.{AccountState};
 ghost use Rattle.ak_sync_completes.specs.Completing.{AreJoinable, have_nothing_to_sync};
+ghost use Rattle.ak_sync_in_memory.specs.Entries.{account_opened};
 
 use ak_lab_joins::{
     finished_syncs_join, keepers_fail_by_breaks_alone, lines_keep_labs_linked, only_lines_break,
     other_syncs_keep_sides, runs_keep_labs_linked, syncs_use_up_breaks,
 };
 use ak_lab_wires::Crossings;
-use ak_loops::LoopWire;
 use ak_server_copies::views_keep_the_collection;
 use ak_sync_completes::syncs_complete;
+use ak_sync_in_memory::LoopWire;
 use ak_transfer_laws::{
     copies_have_nothing_to_sync, equal_sides_have_nothing_to_sync, other_schemas_need_a_whole,
 };

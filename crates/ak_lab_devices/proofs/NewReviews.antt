@@ -4,7 +4,7 @@ use Rattle.std.proofs.Common.{refl, sym, ap, subst, inl, inr, ◌∙◌, append_
 use Rattle.std.specs.FinMap.{get}
 use Rattle.ak_base.specs.declared.names.Name.{Name}
 use Rattle.ak_base.specs.declared.reviews.Review.{Review}
-use Rattle.ak_calls.proofs.Telling.{where_always, where_told-both}
+use Rattle.ak_edit_calls.proofs.Telling.{where_always, where_told-both}
 use Rattle.ak_keep.specs.FreeNames.{IsFirstFree, IsFree, is_used}
 use Rattle.ak_edit.specs.Refusals.{AnswersBy}
 use Rattle.ak_edit.specs.declared.desk_faults.DeskFault.{DeskFault}
@@ -13,9 +13,9 @@ use Rattle.ak_keep.specs.Collections.{Rows}
 use Rattle.ak_keep.specs.Keepers.{Keeping, WhereTold}
 use Rattle.ak_lab_devices.specs.NewReviews.{AreNewReviews, new_review}
 use Rattle.ak_lab_devices.specs.declared.new_reviews.ReviewPlan.{ReviewPlan}
-use Rattle.ak_calls.proofs.FreeIds.{free_once, none_free}
+use Rattle.ak_edit_calls.proofs.FreeIds.{free_once, none_free}
 use Rattle.ak_base.specs.Names.{next_name}
-use Rattle.ak_calls.specs.NewNames.{IsFreeIn, IsNoneFreeFrom, LacksIds, RefusesIdsFrom}
+use Rattle.ak_edit_calls.specs.NewNames.{IsFreeIn, IsNoneFreeFrom, LacksIds, RefusesIdsFrom}
 
 -- the new reviews are the only ones
 pub reviews_once : (used : Name → Bool) (plan : ReviewPlan) (first : Name) (count : ℕ) (x y : List Review)

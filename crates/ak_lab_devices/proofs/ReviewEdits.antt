@@ -15,14 +15,14 @@ use Rattle.ak_base.specs.declared.names.Table.TheVariants as tables
 use Rattle.ak_base.specs.declared.reviews.Review.{Review}
 use Rattle.ak_base.specs.declared.rows.Row.{Row}
 use Rattle.ak_base.specs.declared.rows.Row.TheVariants as rows
-use Rattle.ak_calls.proofs.Answering.{never_first, passed_first, refused_first}
-use Rattle.ak_calls.proofs.CheckedEdits.{edited_rows_pass}
-use Rattle.ak_calls.proofs.CheckedRows.{checked_edited}
-use Rattle.ak_calls.proofs.Telling.{where_held-both, where_held-map, where_rows_held}
+use Rattle.ak_edit_calls.proofs.Answering.{never_first, passed_first, refused_first}
+use Rattle.ak_edit_calls.proofs.CheckedEdits.{edited_rows_pass}
+use Rattle.ak_edit_calls.proofs.CheckedRows.{checked_edited}
+use Rattle.ak_edit_calls.proofs.Telling.{where_held-both, where_held-map, where_rows_held}
 use Rattle.ak_keep.specs.FreeNames.{is_used}
 use Rattle.ak_edit.proofs.Building.{nothing_asked, put_asked}
 use Rattle.ak_edit.specs.Ends.{AnswersEnd, FinishedBy, IsFinished, IsHeldRightly, RefusesEnd, RefusesRow, RefusesStamp}
-use Rattle.ak_calls.specs.NewNames.{RefusesIdsFrom, first_name}
+use Rattle.ak_edit_calls.specs.NewNames.{RefusesIdsFrom, first_name}
 use Rattle.ak_edit.specs.Overlays.{Overlay, edit_of, put_over, unchanged}
 use Rattle.ak_edit.specs.Refusals.{AnswersBy}
 use Rattle.ak_edit.specs.declared.desk_faults.DeskFault.{DeskFault}

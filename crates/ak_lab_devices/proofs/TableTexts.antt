@@ -4,7 +4,7 @@ use Rattle.std.specs.Prelude.{pos, false}
 use Rattle.std.proofs.lemmas.List.{map-append}
 use Rattle.ak_base.specs.declared.names.Table.{Table}
 use Rattle.ak_base.specs.declared.rows.Row.{Row}
-use Rattle.ak_calls.proofs.Telling.{where_always, where_told-both}
+use Rattle.ak_edit_calls.proofs.Telling.{where_always, where_told-both}
 use Rattle.ak_keep.specs.Collections.{Holding}
 use Rattle.ak_keep.specs.Keepers.{Keeping, WhereTold}
 use Rattle.ak_keep.specs.Walks.{ahead}

@@ -2,15 +2,15 @@
 use Rattle.std.specs.Cmp.Lexicographic.{pointwise}
 use Rattle.std.specs.List.{list_all, slice_get, slice_set}
 use Rattle.std.specs.Prelude.{◌≡◌, ℕ, ℤ, pos, ◌+ℤ◌, Bool, not, ◌&&◌, ◌==◌, ◌<◌, int_lt, if◌then◌else◌, List, [], ◌∷◌, length, Option, Some, None}
+use Rattle.ak_client_wire.specs.Wires.{WireKind, WireState}
 use Rattle.ak_faults.specs.Causes.{Health}
 use Rattle.ak_keep.specs.Collections.{Collection}
 use Rattle.ak_keep.specs.Keepers.{Keeping, all_known}
 use Rattle.ak_lab_devices.specs.RestingKeepers.{kept_of}
 use Rattle.ak_lab_devices.specs.declared.devices.Device.{Device}
 use Rattle.ak_lab_devices.specs.declared.plans.Planned.{Planned}
-use Rattle.ak_loops.specs.declared.mishaps.Mishap.{Mishap}
+use Rattle.ak_sync_in_memory.specs.declared.mishaps.Mishap.{Mishap}
 use Rattle.ak_transfers.specs.Greetings.{TransferOutside}
-use Rattle.ak_wires.specs.Wires.{WireKind, WireState}
 
 -- what is known of the keeper of a device
 abbrev pub keeping_of : Device → Keeping

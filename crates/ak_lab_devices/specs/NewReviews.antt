@@ -6,7 +6,7 @@ use Rattle.ak_base.specs.declared.reviews.Review.{Review}
 use Rattle.ak_base.specs.declared.rows.Row.TheVariants as rows
 use Rattle.ak_keep.specs.FreeNames.{IsFree, is_used}
 use Rattle.ak_edit.specs.Ends.{IsFinished, RefusesStamp}
-use Rattle.ak_calls.specs.NewNames.{RefusesIdsFrom, first_name}
+use Rattle.ak_edit_calls.specs.NewNames.{RefusesIdsFrom, first_name}
 use Rattle.ak_edit.specs.Refusals.{AnswersBy, OrElse, Refusal}
 use Rattle.ak_edit.specs.declared.desk_faults.DeskFault.{DeskFault}
 use Rattle.ak_keep.specs.Collections.{Collection}

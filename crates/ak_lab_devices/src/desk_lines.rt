@@ -1,19 +1,19 @@
 ghost use Rattle.std.specs.Prelude.{◌≡◌, map};
 ghost use Rattle.ak_any_lines.specs.AnyEnds.{AppliesToAny, EndsAnyLine};
 ghost use Rattle.ak_any_lines.specs.LineResults.{RefusalCause};
+ghost use Rattle.ak_desk_language.specs.AnyLines.{IsAnyInRange};
 ghost use Rattle.ak_keep.specs.Keepers.{all_known};
 ghost use Rattle.ak_keep.specs.MemoryKeepers.{health_of};
 ghost use Rattle.ak_lab_devices.specs.RestingKeepers.{IsAtRest};
-ghost use Rattle.ak_lines.specs.AnyLines.{IsAnyInRange};
 ghost use Rattle.ak_study.specs.DayStarts.{IsInDay};
 
 use ak_any_lines::obey_any;
 use ak_desk::Desk;
+use ak_desk_language::AnyLine;
 use ak_desk_lines::Turn;
+use ak_desk_texts::{DeskAnswer, LineRefusal};
 use ak_filters::FieldFilter;
-use ak_lines::AnyLine;
 use ak_memory::MemoryKeeper;
-use ak_texts::{DeskAnswer, LineRefusal};
 use ak_undo::UndoList;
 
 /// Does a line at a desk over the keeper and the list.

@@ -4,7 +4,7 @@ ghost use Rattle.ak_lab_devices.specs.Devices.{IsPlaceOf, device_of};
 use crate::held_collections::HeldCollection;
 use crate::plans::Planned;
 use ak_base::{List, Text};
-use ak_loops::Mishap;
+use ak_sync_in_memory::Mishap;
 use ak_undo::UndoList;
 
 /// A device of a lab.

@@ -12,17 +12,17 @@ use crate::resting_keepers::{head_at_rest, unfailed};
 use crate::review_edits::add_reviews;
 use crate::tables::{grave_texts, row_texts};
 use ak_base::{List, Memory, Text};
+use ak_desk_language::AnyLine;
 use ak_desk_lines::Turn;
+use ak_desk_texts::{DeskAnswer, LineRefusal};
 use ak_edit::DeskFault;
 use ak_filters::FieldFilter;
 use ak_lab_lines::Shown;
-use ak_lines::AnyLine;
-use ak_loops::keeper_with;
 use ak_memory::MemoryKeeper;
 use ak_messages::SanityCounts;
 use ak_openings::Opening;
-use ak_parts::counts_of;
-use ak_texts::{DeskAnswer, LineRefusal};
+use ak_sync_in_memory::keeper_with;
+use ak_sync_rows::counts_of;
 use ak_undo::UndoList;
 use std::alloc::Global;
 use std::marker::Model;
@@ -55,6 +55,8 @@ impl HeldCollection {
     ghost use Rattle.std.specs.Result.{IsErrOf};
     ghost use Rattle.ak_any_lines.specs.AnyEnds.{AppliesToAny, EndsAnyLine};
     ghost use Rattle.ak_base.specs.Heads.{IsWithin};
+    ghost use Rattle.ak_desk_language.specs.AnyLines.{IsAnyInRange};
+    ghost use Rattle.ak_desk_texts.specs.declared.line_refusals.LineRefusal.TheVariants as refusals;
     ghost use Rattle.ak_edit.specs.declared.desk_faults.DeskFault.TheVariants as desks;
     ghost use Rattle.ak_filters.specs.Meanings.{Meaning};
     ghost use Rattle.ak_keep.specs.Collections.{Collection, IsId};
@@ -62,11 +64,9 @@ impl HeldCollection {
     ghost use Rattle.ak_lab_devices.specs.NewReviews.{EndsReviews};
     ghost use Rattle.ak_lab_devices.specs.RestingKeepers.{Holds, kept_of};
     ghost use Rattle.ak_lab_devices.specs.Shows.{shown_lines};
-    ghost use Rattle.ak_lines.specs.AnyLines.{IsAnyInRange};
-    ghost use Rattle.ak_loops.specs.Entries.{collection_in};
     ghost use Rattle.ak_session.specs.Answers.{counts_of};
     ghost use Rattle.ak_study.specs.DayStarts.{IsInDay};
-    ghost use Rattle.ak_texts.specs.declared.line_refusals.LineRefusal.TheVariants as refusals;
+    ghost use Rattle.ak_sync_in_memory.specs.Entries.{collection_in};
 
     /// This whole collection.
     pub fn of(alloc: Global, opening: Opening) -> Result<HeldCollection, Memory>

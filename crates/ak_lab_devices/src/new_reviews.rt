@@ -1,15 +1,15 @@
 ghost use Rattle.std.specs.Prelude.{◌≡◌, ◌≤ℤ◌, pos, IfOk};
 ghost use Rattle.std.specs.FinMap.{get};
-ghost use Rattle.ak_calls.specs.Calls.{AnswersFrom};
-ghost use Rattle.ak_calls.specs.NewNames.{RefusesIdsFrom};
 ghost use Rattle.ak_edit.specs.Refusals.{DeskCause};
+ghost use Rattle.ak_edit_calls.specs.Calls.{AnswersFrom};
+ghost use Rattle.ak_edit_calls.specs.NewNames.{RefusesIdsFrom};
 ghost use Rattle.ak_keep.specs.FreeNames.{is_used};
 ghost use Rattle.ak_keep.specs.Keepers.{WhereTold};
 ghost use Rattle.ak_lab_devices.specs.NewReviews.{AreNewReviews, new_review};
 
 use ak_base::{Name, Review};
-use ak_calls::next_free;
 use ak_edit::DeskFault;
+use ak_edit_calls::next_free;
 use ak_keep::Keeper;
 use std::alloc::Global;
 

@@ -8,8 +8,8 @@ ghost use Rattle.ak_lab_devices.specs.ReviewChanges.{reviews_over};
 
 use crate::new_reviews::{ReviewPlan, new_reviews};
 use ak_base::{Memory, Review, Row, Table};
-use ak_calls::first_name;
 use ak_edit::{Change, DeskFault};
+use ak_edit_calls::first_name;
 use ak_keep::Keeper;
 use ak_undo::UndoList;
 

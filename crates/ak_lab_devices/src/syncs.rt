@@ -4,14 +4,14 @@ ghost use Rattle.ak_client.specs.Syncs.{IsSyncEnded, KeepsDevice};
 ghost use Rattle.ak_client.specs.declared.outcomes.Outcome.TheVariants as outcomes;
 ghost use Rattle.ak_faults.specs.Calls.{names_none};
 ghost use Rattle.ak_keep.specs.Keepers.{all_known};
-ghost use Rattle.ak_loops.specs.LoopWires.{health_over, inside_with, state_of_loop};
+ghost use Rattle.ak_sync_in_memory.specs.LoopWires.{health_over, inside_with, state_of_loop};
 ghost use Rattle.std.specs.Prelude.{◌≡◌, ◌≢◌, [], true, Some};
 
 use crate::held_collections::HeldCollection;
 use ak_base::List;
 use ak_client::{Ids, Outcome, sync_over};
 use ak_io::ListClock;
-use ak_loops::{Between, LoopWire};
+use ak_sync_in_memory::{Between, LoopWire};
 use ak_transfers::{download_over, upload_over};
 use ak_undo::UndoList;
 

@@ -21,10 +21,10 @@ use Rattle.ak_lab_wires.specs.Turns.{plans_nothing}
 use Rattle.ak_lab_wires.specs.declared.crossed_syncs.Crossings.{Crossings}
 use Rattle.ak_lab_wires.specs.declared.lab_sessions.SessionKind.{SessionKind}
 use Rattle.ak_lab_wires.specs.declared.lab_sessions.SessionKind.TheVariants as kinds
-use Rattle.ak_loops.specs.Entries.{LoggedState}
-use Rattle.ak_loops.specs.LoopWires.{LoopInside, state_of_loop}
-use Rattle.ak_loops.specs.Mishaps.{loses_nothing}
-use Rattle.ak_loops.specs.declared.mishaps.Mishap.{Mishap}
+use Rattle.ak_sync_in_memory.specs.Entries.{LoggedState}
+use Rattle.ak_sync_in_memory.specs.LoopWires.{LoopInside, state_of_loop}
+use Rattle.ak_sync_in_memory.specs.Mishaps.{loses_nothing}
+use Rattle.ak_sync_in_memory.specs.declared.mishaps.Mishap.{Mishap}
 
 -- ---- the session
 -- a device had a session of this kind and key with the server, and nobody else came to that meanwhile

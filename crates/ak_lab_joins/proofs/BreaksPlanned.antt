@@ -38,10 +38,10 @@ use Rattle.ak_lab_wires.specs.Turns.{InTurn, due}
 use Rattle.ak_lab_wires.specs.declared.crossed_syncs.Crossings.{Crossings}
 use Rattle.ak_lab_wires.specs.declared.lab_sessions.SessionKind.{SessionKind}
 use Rattle.ak_lab_wires.specs.declared.lab_sessions.SessionKind.TheVariants as kinds
-use Rattle.ak_loops.specs.Betweens.{ActEnd}
-use Rattle.ak_loops.specs.Entries.{LoggedState}
-use Rattle.ak_loops.specs.declared.mishaps.Mishap.{Mishap}
-use Rattle.ak_wires.specs.Tries.{MadeCall}
+use Rattle.ak_sync_in_memory.specs.Betweens.{ActEnd}
+use Rattle.ak_sync_in_memory.specs.Entries.{LoggedState}
+use Rattle.ak_sync_in_memory.specs.declared.mishaps.Mishap.{Mishap}
+use Rattle.ak_client_wire.specs.Tries.{MadeCall}
 
 module _ (name : List ℕ) where
   -- of a device: it has another name, or no call of its keeper is to fail

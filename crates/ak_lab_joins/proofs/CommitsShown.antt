@@ -4,6 +4,7 @@ use Rattle.std.proofs.Common.{refl, ap, ◌∙◌, inl, inr}
 use Rattle.ak_base.specs.Heads.{IsHeadInRange}
 use Rattle.ak_base.specs.Limits.{last_moment}
 use Rattle.ak_base.specs.declared.heads.Head.{Head}
+use Rattle.ak_client_wire.specs.Forms.{is_moment, moment_in}
 use Rattle.ak_lab_joins.proofs.TriesTold.{QuietOrBoth, shows_commit}
 use Rattle.ak_lab_joins.proofs.Worlds.{StaysQuiet}
 use Rattle.ak_messages.specs.declared.replies.Give.TheVariants as gives
@@ -17,7 +18,6 @@ use Rattle.ak_protocol.specs.Serving.{commit_reply}
 use Rattle.ak_session.proofs.Accepting.{between}
 use Rattle.ak_session.specs.Requests.{asks_commit}
 use Rattle.ak_transfers.specs.Forms.{uploaded_in}
-use Rattle.ak_wires.specs.Forms.{is_moment, moment_in}
 
 moment_shown : (moment : ℤ) → is_moment moment ≡ true → is_some (moment_in (gives.Moment moment)) ≡ true
 moment_shown moment is = ap (λ (b : Bool). is_some (if b then Some moment else None)) is

@@ -27,9 +27,6 @@ use Rattle.ak_lab_joins.specs.LabJoins.{HasRisen, HasSession, IsFinish, IsLinked
 use Rattle.ak_lab_wires.specs.CrossedSyncs.{CrossesAt, crosses_nothing}
 use Rattle.ak_lab_wires.specs.LabSessions.{IsSessionOver, lab_host}
 use Rattle.ak_lab_wires.specs.declared.lab_sessions.SessionKind.TheVariants as kinds
-use Rattle.ak_loops.specs.Betweens.{Acting}
-use Rattle.ak_loops.specs.Entries.{LoggedState, log_in}
-use Rattle.ak_loops.specs.declared.mishaps.Mishap.{Mishap}
 use Rattle.ak_merge.specs.Links.{AreLinked}
 use Rattle.ak_messages.specs.declared.requests.Request.{Request}
 use Rattle.ak_protocol.specs.Accounts.{AccountState}
@@ -38,6 +35,9 @@ use Rattle.ak_protocol.specs.LawfulServers.{IsLawfulAccount}
 use Rattle.ak_protocol.specs.Logs.{Event, IsTimely, Log, World, commits_of, events_of, with_growth}
 use Rattle.ak_protocol.specs.Sessions.{IsOwnOrOther}
 use Rattle.ak_protocol.specs.Syncs.{IsUnused, world_of}
+use Rattle.ak_sync_in_memory.specs.Betweens.{Acting}
+use Rattle.ak_sync_in_memory.specs.Entries.{LoggedState, log_in}
+use Rattle.ak_sync_in_memory.specs.declared.mishaps.Mishap.{Mishap}
 
 -- ---- what a device holds after any end but a finished one
 still_held : (c : Collection) (device_at : ℤ) (d made : Device) (to_come : Option (List ℤ)) → keeping_of d ≡ holding c → (o : Outcome)

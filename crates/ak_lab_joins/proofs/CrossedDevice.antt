@@ -11,6 +11,8 @@ use Rattle.ak_client.specs.Outcomes.{is_told_by_meta}
 use Rattle.ak_client.specs.Syncs.{EndsAt, EndsBecause, HasRaised, IsFairEnd, KeepsDevice, MayBegin, Synced, meta_tried, told_by, world_at}
 use Rattle.ak_client.specs.declared.outcomes.Outcome.{Outcome}
 use Rattle.ak_client.specs.declared.outcomes.Outcome.TheVariants as outcomes
+use Rattle.ak_client_wire.specs.Wires.{WireState}
+use Rattle.ak_client_wire.specs.declared.wires.MetaSaid.{MetaSaid}
 use Rattle.ak_device.specs.Devices.{advanced_moment, moments_raised}
 use Rattle.ak_edit.specs.Steps.{reversals_in}
 use Rattle.ak_exchange.specs.Asked.{TriedAsk, answers_in, asker, asks_in}
@@ -32,10 +34,6 @@ use Rattle.ak_lab_joins.specs.LabCrossings.{IsCrossedFresh}
 use Rattle.ak_lab_joins.specs.LabJoins.{IsFinish, IsLinkedDevice, ends_at_check, world_in}
 use Rattle.ak_lab_wires.specs.LabSessions.{IsSessionOver, lab_host}
 use Rattle.ak_lab_wires.specs.declared.lab_sessions.SessionKind.TheVariants as kinds
-use Rattle.ak_loops.specs.Betweens.{Acting}
-use Rattle.ak_loops.specs.Entries.{LoggedState, log_in}
-use Rattle.ak_loops.specs.LoopWires.{health_over, inside_with, loop_kind, state_of_loop}
-use Rattle.ak_loops.specs.declared.mishaps.Mishap.{Mishap}
 use Rattle.ak_merge.specs.Holdings.{IsSingle, row_under}
 use Rattle.ak_merge.specs.Links.{AreLinked}
 use Rattle.ak_merge.specs.declared.checks.CheckFault.{CheckFault}
@@ -46,8 +44,10 @@ use Rattle.ak_protocol.specs.Logs.{Log, World}
 use Rattle.ak_protocol.specs.Syncs.{IsUnused}
 use Rattle.ak_session.specs.Plans.{requests_from}
 use Rattle.ak_session.specs.Requests.{is_meta}
-use Rattle.ak_wires.specs.Wires.{WireState}
-use Rattle.ak_wires.specs.declared.wires.MetaSaid.{MetaSaid}
+use Rattle.ak_sync_in_memory.specs.Betweens.{Acting}
+use Rattle.ak_sync_in_memory.specs.Entries.{LoggedState, log_in}
+use Rattle.ak_sync_in_memory.specs.LoopWires.{health_over, inside_with, loop_kind, state_of_loop}
+use Rattle.ak_sync_in_memory.specs.declared.mishaps.Mishap.{Mishap}
 
 -- ---- what was tried last
 abbrev first_or : TriedAsk → List TriedAsk → TriedAsk

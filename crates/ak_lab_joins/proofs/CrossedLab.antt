@@ -33,12 +33,12 @@ use Rattle.ak_lab_wires.specs.CrossedSyncs.{CrossState, CrossesAt, cross_state, 
 use Rattle.ak_lab_wires.specs.LabSessions.{fails_in, lab_host}
 use Rattle.ak_lab_wires.specs.declared.lab_sessions.SessionKind.{SessionKind}
 use Rattle.ak_lab_wires.specs.declared.lab_sessions.SessionKind.TheVariants as kinds
-use Rattle.ak_loops.specs.Entries.{LoggedState, log_in}
-use Rattle.ak_loops.specs.LoopWires.{health_over, inside_with, state_of_loop}
 use Rattle.ak_protocol.specs.Accounts.{AccountState}
 use Rattle.ak_protocol.specs.Commits.{EachNewer}
 use Rattle.ak_protocol.specs.Logs.{Event, IsTimely, Log, with_growth}
 use Rattle.ak_session.specs.Plans.{requests_from}
+use Rattle.ak_sync_in_memory.specs.Entries.{LoggedState, log_in}
+use Rattle.ak_sync_in_memory.specs.LoopWires.{health_over, inside_with, state_of_loop}
 
 -- ---- a session of any kind
 -- the lab before its first call: a device without a name stands in for the one that has the session

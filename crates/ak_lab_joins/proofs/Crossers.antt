@@ -1,6 +1,7 @@
 -- Each sync that crosses a session leaves what a sync leaves, as long as nothing but finishes is committed meanwhile.
 use Rattle.std.specs.Prelude.{◌≡◌, ℕ, ℤ, ◌≤◌, Bool, true, List, [], ◌∷◌, Ok, Err}
 use Rattle.std.proofs.Common.{refl, sym, ap, inl, inr, append-nil}
+use Rattle.ak_client_wire.specs.Tries.{MadeCall}
 use Rattle.ak_faults.specs.Causes.{one_more}
 use Rattle.ak_lab_devices.specs.declared.plans.Act.{Act}
 use Rattle.ak_lab_devices.specs.declared.plans.Act.TheVariants as acts
@@ -15,12 +16,11 @@ use Rattle.ak_lab_wires.specs.CrossedSyncs.{ActsBy, ActsOnce, CrossState, Crosse
 use Rattle.ak_lab_wires.specs.LabSessions.{ComeInCalls}
 use Rattle.ak_lab_wires.specs.Turns.{InTurn, due}
 use Rattle.ak_lab_wires.specs.declared.crossed_syncs.Crossings.{Crossings}
-use Rattle.ak_loops.specs.Betweens.{ActEnd, Acting}
-use Rattle.ak_loops.specs.Entries.{LoggedState, events_in, log_with}
-use Rattle.ak_loops.specs.LoopWires.{FaresAfter}
-use Rattle.ak_loops.specs.declared.mishaps.Mishap.{Mishap}
 use Rattle.ak_protocol.specs.Accounts.{AccountState}
-use Rattle.ak_wires.specs.Tries.{MadeCall}
+use Rattle.ak_sync_in_memory.specs.Betweens.{ActEnd, Acting}
+use Rattle.ak_sync_in_memory.specs.Entries.{LoggedState, events_in, log_with}
+use Rattle.ak_sync_in_memory.specs.LoopWires.{FaresAfter}
+use Rattle.ak_sync_in_memory.specs.declared.mishaps.Mishap.{Mishap}
 
 module _ (account : AccountState) (ordered : Bool) (place key : ℕ) where
   abbrev Kept : CrossState → LoggedState → Type 0

@@ -31,15 +31,15 @@ use Rattle.ak_lab_wires.specs.Replaying.{ReplaysAt, replays_nothing}
 use Rattle.ak_lab_wires.specs.Servings.{with_line}
 use Rattle.ak_lab_wires.specs.Turns.{due}
 use Rattle.ak_lab_wires.specs.declared.crossed_syncs.Crossings.{Crossings}
-use Rattle.ak_loops.specs.Betweens.{ActEnd}
-use Rattle.ak_loops.specs.Entries.{LoggedState, log_in}
-use Rattle.ak_loops.specs.declared.mishaps.Mishap.{Mishap}
+use Rattle.ak_sync_in_memory.specs.Betweens.{ActEnd}
+use Rattle.ak_sync_in_memory.specs.Entries.{LoggedState, log_in}
+use Rattle.ak_sync_in_memory.specs.declared.mishaps.Mishap.{Mishap}
 use Rattle.ak_messages.specs.declared.requests.Request.{Request}
 use Rattle.ak_protocol.specs.Accounts.{AccountState}
 use Rattle.ak_protocol.specs.Commits.{EachNewer}
 use Rattle.ak_protocol.specs.Logs.{Log}
 use Rattle.ak_protocol.specs.Syncs.{IsUnused, world_of}
-use Rattle.ak_wires.specs.Tries.{MadeCall}
+use Rattle.ak_client_wire.specs.Tries.{MadeCall}
 
 -- ---- a lab that stays
 same_lab : (s : CrossState) → StaysLab s s

@@ -31,7 +31,7 @@ use Rattle.ak_lab_devices.proofs.Places.{found_has_name}
 use Rattle.ak_lab_devices.specs.Devices.{device_of}
 use Rattle.ak_lab_devices.specs.declared.devices.Device.{Device}
 use Rattle.ak_lab_devices.specs.RestingKeepers.{Holds}
-use Rattle.ak_loops.specs.Entries.{account_opened}
+use Rattle.ak_sync_in_memory.specs.Entries.{account_opened}
 use Rattle.ak_merge.specs.Exchanges.{AreExchanged, HoldsJoin}
 use Rattle.ak_merge.specs.Holdings.{SameContent, content_of}
 use Rattle.ak_openings.specs.declared.whole_collections.Opening.{Opening}

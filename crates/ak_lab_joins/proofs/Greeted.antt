@@ -5,6 +5,11 @@ use Rattle.std.proofs.lemmas.Option.{none-some, same_Some}
 use Rattle.ak_client.proofs.Growing.{HasGrown, tried_grows}
 use Rattle.ak_client.specs.Greetings.{meta_of}
 use Rattle.ak_client.specs.Syncs.{told_by}
+use Rattle.ak_client_wire.specs.Forms.{meta_in}
+use Rattle.ak_client_wire.specs.Tries.{Tried}
+use Rattle.ak_client_wire.specs.Wires.{WireKind, Carries, WireState}
+use Rattle.ak_client_wire.specs.declared.wires.MetaSaid.{MetaSaid}
+use Rattle.ak_client_wire.specs.declared.wires.WireEnd.{WireEnd}
 use Rattle.ak_exchange.specs.Asked.{AreTried}
 use Rattle.ak_exchange.specs.declared.envelopes.Ids.{Ids}
 use Rattle.ak_faults.specs.Causes.{Health}
@@ -22,11 +27,6 @@ use Rattle.ak_protocol.specs.Accounts.{AccountState}
 use Rattle.ak_protocol.specs.Commits.{CommitsGrow, EachNewer}
 use Rattle.ak_protocol.specs.Logs.{Asked, Event, Grows, Log, World, events_of, with_growth, world_after}
 use Rattle.ak_protocol.specs.Syncs.{IsUnused, world_of}
-use Rattle.ak_wires.specs.Forms.{meta_in}
-use Rattle.ak_wires.specs.Tries.{Tried}
-use Rattle.ak_wires.specs.Wires.{WireKind, Carries, WireState}
-use Rattle.ak_wires.specs.declared.wires.MetaSaid.{MetaSaid}
-use Rattle.ak_wires.specs.declared.wires.WireEnd.{WireEnd}
 
 module _ (ids : Ids) (account : AccountState) (old now : Log) (unused : IsUnused ids.host.digits ids.session.0 account old)
     (finishes : EachNewer IsFinish (world_of ids.host.digits account old) (world_of ids.host.digits account now)) (said : MetaSaid) where

@@ -3,6 +3,8 @@ use Rattle.std.specs.List.{AllByRecursion}
 use Rattle.std.specs.Prelude.{◌≡◌, ◌≢◌, ℕ, zero, suc, ℤ, ◌+◌, ◌<◌, ◌≤◌, Bool, true, false, List, [], ◌∷◌, ◌++◌, Result}
 use Rattle.std.proofs.Common.{refl, sym, ap, subst, ◌∙◌, inl, inr, arith}
 use Rattle.ak_client.specs.declared.outcomes.Outcome.{Outcome}
+use Rattle.ak_client_wire.specs.Tries.{AreCallsOf, MadeCall, calls_of}
+use Rattle.ak_client_wire.specs.declared.wires.WireEnd.{WireEnd}
 use Rattle.ak_exchange.specs.Asked.{TriedAsk, answers_in, asker, asks_in}
 use Rattle.ak_exchange.specs.Grants.{SendsRows}
 use Rattle.ak_exchange.specs.declared.envelopes.Ids.{Ids}
@@ -22,14 +24,6 @@ use Rattle.ak_lab_wires.specs.Servings.{AreServed, ServesAgain, requests_in, wit
 use Rattle.ak_lab_wires.specs.Turns.{due}
 use Rattle.ak_lab_wires.specs.declared.lab_sessions.SessionKind.TheVariants as kinds
 use Rattle.ak_lab_wires.specs.declared.replayed_requests.Replays.{Replays}
-use Rattle.ak_loops.proofs.Logging.{events_append}
-use Rattle.ak_loops.specs.Betweens.{ActEnd}
-use Rattle.ak_loops.specs.Entries.{LoggedState, entry_of, log_in, log_with, setback_of}
-use Rattle.ak_loops.specs.LoggedServers.{IsServed}
-use Rattle.ak_loops.specs.declared.logs.Entry.{Entry}
-use Rattle.ak_loops.specs.declared.logs.Logged.{Logged}
-use Rattle.ak_loops.specs.declared.logs.Logged.TheVariants as logged
-use Rattle.ak_loops.specs.declared.mishaps.Mishap.{Mishap}
 use Rattle.ak_messages.specs.declared.methods.Method.{Method}
 use Rattle.ak_messages.specs.declared.methods.Method.TheVariants as methods
 use Rattle.ak_messages.specs.declared.replies.Reply.{Reply}
@@ -44,8 +38,14 @@ use Rattle.ak_protocol.specs.Sessions.{IsMetaOrOther}
 use Rattle.ak_protocol.specs.Syncs.{IsUnused}
 use Rattle.ak_session.specs.Plans.{requests_from}
 use Rattle.ak_session.specs.Requests.{asked_method}
-use Rattle.ak_wires.specs.Tries.{AreCallsOf, MadeCall, calls_of}
-use Rattle.ak_wires.specs.declared.wires.WireEnd.{WireEnd}
+use Rattle.ak_sync_in_memory.proofs.Logging.{events_append}
+use Rattle.ak_sync_in_memory.specs.Betweens.{ActEnd}
+use Rattle.ak_sync_in_memory.specs.Entries.{LoggedState, entry_of, log_in, log_with, setback_of}
+use Rattle.ak_sync_in_memory.specs.LoggedServers.{IsServed}
+use Rattle.ak_sync_in_memory.specs.declared.logs.Entry.{Entry}
+use Rattle.ak_sync_in_memory.specs.declared.logs.Logged.{Logged}
+use Rattle.ak_sync_in_memory.specs.declared.logs.Logged.TheVariants as logged
+use Rattle.ak_sync_in_memory.specs.declared.mishaps.Mishap.{Mishap}
 
 -- a request that uploads nothing
 abbrev pub UploadsNone : Request → Type 0

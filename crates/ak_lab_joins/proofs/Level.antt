@@ -10,7 +10,6 @@ use Rattle.ak_lab_joins.proofs.Resent.{number_led}
 use Rattle.ak_lab_joins.proofs.Worlds.{world_grown}
 use Rattle.ak_lab_joins.specs.LabJoins.{HasNoUpload, IsFinish, IsLinkedDevice, IsLinkedServer, world_in}
 use Rattle.ak_lab_wires.specs.LabSessions.{lab_host}
-use Rattle.ak_loops.specs.Entries.{LoggedState, events_in, log_in, log_with}
 use Rattle.ak_merge.specs.Edits.{Reversal}
 use Rattle.ak_merge.specs.Links.{AreLinked}
 use Rattle.ak_merge.specs.Undoing.{StepFits}
@@ -22,6 +21,7 @@ use Rattle.ak_protocol.specs.Commits.{CommitsGrow, EachNewer, HasFreshSchema, Is
 use Rattle.ak_protocol.specs.LawfulServers.{IsLawfulAccount}
 use Rattle.ak_protocol.specs.Logs.{Commit, Event, IsTimely, Log, World, events_of, with_growth, world_after}
 use Rattle.ak_protocol.specs.Syncs.{IsUnused, world_of}
+use Rattle.ak_sync_in_memory.specs.Entries.{LoggedState, events_in, log_in, log_with}
 
 -- ---- finishes
 pub finishes_fresh : (c : Collection) (commits : List Commit) → AllByRecursion IsFinish commits → AllByRecursion (HasFreshSchema c) commits

@@ -42,7 +42,7 @@ use Rattle.ak_lab_devices.specs.Devices.{as_downloaded, device_of, keeping_of, n
 use Rattle.ak_lab_devices.specs.declared.devices.Device.{Device}
 use Rattle.ak_lab_devices.specs.declared.plans.Act.{Act}
 use Rattle.ak_lab_devices.specs.declared.plans.Act.TheVariants as acts
-use Rattle.ak_loops.specs.declared.mishaps.What.{What}
+use Rattle.ak_sync_in_memory.specs.declared.mishaps.What.{What}
 use Rattle.ak_lab_lines.specs.LabLines.{lab_line_of}
 use Rattle.ak_lab_lines.specs.declared.lab_lines.Direction.TheVariants as directions
 use Rattle.ak_lab_lines.specs.declared.lab_lines.LabLine.{LabLine}
@@ -50,8 +50,8 @@ use Rattle.ak_lab_lines.specs.declared.lab_lines.LabLine.TheVariants as lines
 use Rattle.ak_lab_lines.specs.declared.lab_lines.Side.{Side}
 use Rattle.ak_lab_lines.specs.declared.lab_lines.Side.TheVariants as sides
 use Rattle.ak_lab_devices.specs.NewReviews.{EndsReviews, with_reviews}
-use Rattle.ak_lines.specs.declared.any_lines.AnyLine.{AnyLine}
-use Rattle.ak_loops.specs.Entries.{LoggedState, account_opened}
+use Rattle.ak_desk_language.specs.declared.any_lines.AnyLine.{AnyLine}
+use Rattle.ak_sync_in_memory.specs.Entries.{LoggedState, account_opened}
 use Rattle.ak_merge.proofs.EditBuildingLaws.{unedited_is_admitted}
 use Rattle.ak_merge.proofs.FirstLinks.{copies_are_linked}
 use Rattle.ak_merge.specs.Commits.{IsCommitted}
@@ -61,8 +61,8 @@ use Rattle.ak_openings.specs.declared.whole_collections.Opening.{Opening}
 use Rattle.ak_outcomes.specs.OutcomeTexts.{outcome_text}
 use Rattle.ak_protocol.specs.Accounts.{AccountState}
 use Rattle.ak_server_copies.specs.Copies.{IsViewed}
-use Rattle.ak_texts.specs.declared.answers.DeskAnswer.{DeskAnswer}
-use Rattle.ak_texts.specs.declared.line_refusals.LineRefusal.{LineRefusal}
+use Rattle.ak_desk_texts.specs.declared.answers.DeskAnswer.{DeskAnswer}
+use Rattle.ak_desk_texts.specs.declared.line_refusals.LineRefusal.{LineRefusal}
 
 -- a line of the desk is a series of steps
 abbrev pub LinesStep : Type 0

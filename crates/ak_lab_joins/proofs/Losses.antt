@@ -3,6 +3,11 @@ use Rattle.std.specs.Prelude.{◌≡◌, ◌≤◌, ◌-◌, ◌^◌, ℕ, suc, 
 use Rattle.std.proofs.Common.{refl, sym, ap, subst, ◌∙◌, append_assoc, append-nil, arith}
 use Rattle.ak_client.specs.Syncs.{meta_tried}
 use Rattle.ak_client.specs.declared.outcomes.Outcome.TheVariants as outcomes
+use Rattle.ak_client_wire.specs.Tries.{AreCallsOf, MadeCall, calls_of}
+use Rattle.ak_client_wire.specs.Wires.{more}
+use Rattle.ak_client_wire.specs.declared.asks.Unanswered.TheVariants as unanswered
+use Rattle.ak_client_wire.specs.declared.wires.WireEnd.{WireEnd}
+use Rattle.ak_client_wire.specs.declared.wires.WireEnd.TheVariants as ends
 use Rattle.ak_exchange.specs.Asked.{TriedAsk, answers_in}
 use Rattle.ak_exchange.specs.Grants.{EndsUnanswered}
 use Rattle.ak_faults.specs.Causes.{one_more}
@@ -15,18 +20,13 @@ use Rattle.ak_lab_wires.specs.LabSessions.{ComeInCalls, IsSessionOver, sent_by}
 use Rattle.ak_lab_wires.specs.Replaying.{ReplaysAt, replays_nothing}
 use Rattle.ak_lab_wires.specs.Servings.{with_line}
 use Rattle.ak_lab_wires.specs.declared.lab_sessions.SessionKind.TheVariants as kinds
-use Rattle.ak_loops.specs.Betweens.{ActEnd, Acting}
-use Rattle.ak_loops.specs.Entries.{LoggedState}
-use Rattle.ak_loops.specs.LoopWires.{FaresAfter}
-use Rattle.ak_loops.specs.Mishaps.{is_lost}
-use Rattle.ak_loops.specs.declared.mishaps.Mishap.{Mishap}
 use Rattle.ak_messages.specs.declared.replies.Reply.{Reply}
 use Rattle.ak_messages.specs.declared.requests.Request.{Request}
-use Rattle.ak_wires.specs.Tries.{AreCallsOf, MadeCall, calls_of}
-use Rattle.ak_wires.specs.Wires.{more}
-use Rattle.ak_wires.specs.declared.asks.Unanswered.TheVariants as unanswered
-use Rattle.ak_wires.specs.declared.wires.WireEnd.{WireEnd}
-use Rattle.ak_wires.specs.declared.wires.WireEnd.TheVariants as ends
+use Rattle.ak_sync_in_memory.specs.Betweens.{ActEnd, Acting}
+use Rattle.ak_sync_in_memory.specs.Entries.{LoggedState}
+use Rattle.ak_sync_in_memory.specs.LoopWires.{FaresAfter}
+use Rattle.ak_sync_in_memory.specs.Mishaps.{is_lost}
+use Rattle.ak_sync_in_memory.specs.declared.mishaps.Mishap.{Mishap}
 
 -- ---- the last three calls
 -- these calls end with three of one request, which got no answer

@@ -12,6 +12,8 @@ use Rattle.ak_client.specs.Outcomes.{is_told_by_meta, outcome_at}
 use Rattle.ak_client.specs.Syncs.{EndsByMeta}
 use Rattle.ak_client.specs.declared.outcomes.Outcome.{Outcome}
 use Rattle.ak_client.specs.declared.outcomes.Outcome.TheVariants as outcomes
+use Rattle.ak_client_wire.specs.Forms.{is_meta_in_range, meta_in, meta_told}
+use Rattle.ak_client_wire.specs.declared.wires.MetaSaid.{MetaSaid}
 use Rattle.ak_exchange.specs.Phases.{held_by, holding}
 use Rattle.ak_exchange.specs.Stops.{keep_stop}
 use Rattle.ak_exchange.specs.declared.stops.Stop.{Stop}
@@ -24,8 +26,6 @@ use Rattle.ak_merge.specs.Soundness.{first_fault}
 use Rattle.ak_merge.specs.declared.checks.CheckFault.{CheckFault}
 use Rattle.ak_messages.specs.declared.replies.Give.TheVariants as gives
 use Rattle.ak_protocol.specs.Replies.{meta_reply}
-use Rattle.ak_wires.specs.Forms.{is_meta_in_range, meta_in, meta_told}
-use Rattle.ak_wires.specs.declared.wires.MetaSaid.{MetaSaid}
 
 -- ---- what the meta said
 pub is_200 : (status : ℕ) → (status == 200) ≡ true → status ≡ 200

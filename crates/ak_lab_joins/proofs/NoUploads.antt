@@ -13,10 +13,10 @@ use Rattle.ak_lab_joins.proofs.Worlds.{world_grown}
 use Rattle.ak_lab_joins.specs.LabJoins.{HasFreshCommits, HasNoUpload, IsFinish, IsLinkedLab, lab_world, world_in}
 use Rattle.ak_lab_wires.specs.LabSessions.{lab_host}
 use Rattle.ak_lab_wires.specs.Servings.{requests_in, with_served}
-use Rattle.ak_loops.specs.Entries.{LoggedState, event_of, events_in, log_in}
-use Rattle.ak_loops.specs.declared.logs.Entry.{Entry}
-use Rattle.ak_loops.specs.declared.logs.Logged.{Logged}
-use Rattle.ak_loops.specs.declared.logs.Logged.TheVariants as logged
+use Rattle.ak_sync_in_memory.specs.Entries.{LoggedState, event_of, events_in, log_in}
+use Rattle.ak_sync_in_memory.specs.declared.logs.Entry.{Entry}
+use Rattle.ak_sync_in_memory.specs.declared.logs.Logged.{Logged}
+use Rattle.ak_sync_in_memory.specs.declared.logs.Logged.TheVariants as logged
 use Rattle.ak_messages.specs.declared.requests.Ask.{Ask}
 use Rattle.ak_messages.specs.declared.requests.Ask.TheVariants as asks
 use Rattle.ak_messages.specs.declared.methods.Method.{Method}

@@ -56,13 +56,13 @@ use Rattle.ak_lab_lines.specs.declared.lab_lines.LabLine.TheVariants as lines
 use Rattle.ak_lab_lines.specs.declared.lab_lines.Side.{Side}
 use Rattle.ak_lab_lines.specs.declared.lab_lines.Side.TheVariants as sides
 use Rattle.ak_lab_devices.specs.NewReviews.{EndsReviews}
-use Rattle.ak_loops.specs.Entries.{account_opened}
+use Rattle.ak_sync_in_memory.specs.Entries.{account_opened}
 use Rattle.ak_merge.proofs.EditFacts.{advanced_past}
 use Rattle.ak_merge.specs.Edits.{advanced}
 use Rattle.ak_openings.specs.declared.whole_collections.Opening.{Opening}
 use Rattle.ak_protocol.specs.Accounts.{AccountState}
-use Rattle.ak_texts.specs.declared.answers.DeskAnswer.{DeskAnswer}
-use Rattle.ak_texts.specs.declared.line_refusals.LineRefusal.{LineRefusal}
+use Rattle.ak_desk_texts.specs.declared.answers.DeskAnswer.{DeskAnswer}
+use Rattle.ak_desk_texts.specs.declared.line_refusals.LineRefusal.{LineRefusal}
 
 -- ---- what is held
 -- a keeper holds one collection

@@ -17,10 +17,6 @@ use Rattle.ak_lab_joins.specs.LabJoins.{HasFreshCommits, IsLinkedDevice, IsLinke
 use Rattle.ak_lab_wires.proofs.Between.{named_asked}
 use Rattle.ak_lab_wires.specs.LabSessions.{lab_host}
 use Rattle.ak_lab_wires.specs.Servings.{AreServed, named_from, requests_in}
-use Rattle.ak_loops.proofs.Logging.{events_append}
-use Rattle.ak_loops.specs.Entries.{LoggedState, entry_of, events_in, log_in, log_with, setback_of}
-use Rattle.ak_loops.specs.LoggedServers.{IsServed}
-use Rattle.ak_loops.specs.declared.logs.Logged.TheVariants as logged
 use Rattle.ak_merge.specs.Edits.{Reversal}
 use Rattle.ak_merge.specs.Links.{AreLinked}
 use Rattle.ak_merge.specs.Undoing.{StepFits}
@@ -37,6 +33,10 @@ use Rattle.ak_protocol.specs.Servers.{same_host}
 use Rattle.ak_protocol.specs.Serving.{Setback}
 use Rattle.ak_protocol.specs.Sessions.{IsMetaOrOther}
 use Rattle.ak_protocol.specs.Syncs.{IsUnused, world_of}
+use Rattle.ak_sync_in_memory.proofs.Logging.{events_append}
+use Rattle.ak_sync_in_memory.specs.Entries.{LoggedState, entry_of, events_in, log_in, log_with, setback_of}
+use Rattle.ak_sync_in_memory.specs.LoggedServers.{IsServed}
+use Rattle.ak_sync_in_memory.specs.declared.logs.Logged.TheVariants as logged
 
 -- ---- what comes
 -- an event is a request that came before

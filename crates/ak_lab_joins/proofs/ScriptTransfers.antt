@@ -22,9 +22,9 @@ use Rattle.ak_lab_lines.specs.declared.lab_lines.Direction.TheVariants as direct
 use Rattle.ak_lab_lines.specs.declared.lab_lines.LabLine.{LabLine}
 use Rattle.ak_lab_lines.specs.declared.lab_lines.LabLine.TheVariants as lines
 use Rattle.ak_lab_wires.specs.declared.lab_sessions.SessionKind.TheVariants as kinds
-use Rattle.ak_loops.specs.Entries.{account_opened}
 use Rattle.ak_openings.specs.declared.whole_collections.Opening.{Opening}
 use Rattle.ak_protocol.specs.Accounts.{AccountState}
+use Rattle.ak_sync_in_memory.specs.Entries.{account_opened}
 
 -- ---- the number of the line makes no difference
 aside_upload : (account : AccountState) (number : ℕ) (name : List ℕ) (s t : LabState) → LeavesUpload account name (at_line number s) t → LeavesUpload account name s t

@@ -13,10 +13,10 @@ use Rattle.ak_lab_joins.specs.LabJoins.{IsLinkedServer, world_in}
 use Rattle.ak_lab.specs.LabRuns.{IsLabOpening}
 use Rattle.ak_lab.specs.LabSyncs.{with_fails}
 use Rattle.ak_lab_wires.specs.LabSessions.{lab_host}
-use Rattle.ak_loops.proofs.Logging.{events_append}
-use Rattle.ak_loops.specs.Entries.{LoggedState, account_opened, collection_in, entry_of, events_in, log_in, server_of, server_opened}
-use Rattle.ak_loops.specs.LoggedServers.{begins_with}
-use Rattle.ak_loops.specs.declared.logs.Logged.TheVariants as logged
+use Rattle.ak_sync_in_memory.proofs.Logging.{events_append}
+use Rattle.ak_sync_in_memory.specs.Entries.{LoggedState, account_opened, collection_in, entry_of, events_in, log_in, server_of, server_opened}
+use Rattle.ak_sync_in_memory.specs.LoggedServers.{begins_with}
+use Rattle.ak_sync_in_memory.specs.declared.logs.Logged.TheVariants as logged
 use Rattle.ak_merge.specs.Commits.{IsCommitted}
 use Rattle.ak_openings.specs.declared.whole_collections.Opening.{Opening}
 use Rattle.ak_protocol.proofs.ContentLaws.{lawful_stays_lawful, opened_lawful, some_of_all}

@@ -6,13 +6,6 @@ use Rattle.std.proofs.lemmas.Bool.{eqb-true}
 use Rattle.ak_keep.specs.Collections.{Collection}
 use Rattle.ak_lab_joins.proofs.Worlds.{StaysQuiet, world_grown}
 use Rattle.ak_lab_joins.specs.LabJoins.{world_in}
-use Rattle.ak_loops.proofs.Logging.{events_append}
-use Rattle.ak_loops.specs.Entries.{LoggedState, entry_of, health_in, log_in, log_with, server_in, setback_of, trouble_of}
-use Rattle.ak_loops.specs.LoggedServers.{IsServed}
-use Rattle.ak_loops.specs.LoopWires.{ServesInARow, ServesUpTo}
-use Rattle.ak_loops.specs.declared.logs.Logged.TheVariants as logged
-use Rattle.ak_loops.specs.declared.logs.Trouble.{Trouble}
-use Rattle.ak_loops.specs.declared.logs.Trouble.TheVariants as troubles
 use Rattle.ak_messages.specs.declared.replies.Reply.{Reply}
 use Rattle.ak_messages.specs.declared.requests.Ask.{Ask}
 use Rattle.ak_messages.specs.declared.requests.Ask.TheVariants as asks
@@ -29,6 +22,13 @@ use Rattle.ak_protocol.specs.Servers.{by_account, same_host}
 use Rattle.ak_protocol.specs.Serving.{Served, Setback, Undisturbed, commit_reply, kept_of, served, unchanged}
 use Rattle.ak_protocol.specs.Syncs.{world_of}
 use Rattle.ak_session.specs.Requests.{asks_commit, is_download, is_meta}
+use Rattle.ak_sync_in_memory.proofs.Logging.{events_append}
+use Rattle.ak_sync_in_memory.specs.Entries.{LoggedState, entry_of, health_in, log_in, log_with, server_in, setback_of, trouble_of}
+use Rattle.ak_sync_in_memory.specs.LoggedServers.{IsServed}
+use Rattle.ak_sync_in_memory.specs.LoopWires.{ServesInARow, ServesUpTo}
+use Rattle.ak_sync_in_memory.specs.declared.logs.Logged.TheVariants as logged
+use Rattle.ak_sync_in_memory.specs.declared.logs.Trouble.{Trouble}
+use Rattle.ak_sync_in_memory.specs.declared.logs.Trouble.TheVariants as troubles
 
 -- ---- what is committed
 pub nothing_new : (w : World) → StaysQuiet w w

@@ -30,10 +30,10 @@ use Rattle.ak_lab_joins.specs.LabJoins.{HasRisen, ends_at_check, IsLinkedDevice,
 use Rattle.ak_lab_devices.specs.Devices.{keeping_of}
 use Rattle.ak_lab_devices.specs.declared.devices.Device.{Device}
 use Rattle.ak_lab_devices.specs.RestingKeepers.{Holds, kept_of}
-use Rattle.ak_loops.specs.Entries.{LoggedState, log_in}
+use Rattle.ak_sync_in_memory.specs.Entries.{LoggedState, log_in}
 use Rattle.ak_call_counts.specs.CallCounts.{no_calls}
-use Rattle.ak_loops.specs.LoopWires.{health_over, inside_with, loop_kind, state_of_loop}
-use Rattle.ak_loops.specs.declared.mishaps.Mishap.{Mishap}
+use Rattle.ak_sync_in_memory.specs.LoopWires.{health_over, inside_with, loop_kind, state_of_loop}
+use Rattle.ak_sync_in_memory.specs.declared.mishaps.Mishap.{Mishap}
 use Rattle.ak_lab_wires.specs.CrossedSyncs.{CrossesAt, crosses_nothing}
 use Rattle.ak_lab_wires.specs.declared.lab_sessions.SessionKind.TheVariants as kinds
 use Rattle.ak_merge.specs.Edits.{Reversal}
@@ -51,7 +51,7 @@ use Rattle.ak_protocol.specs.Sessions.{IsMetaOrOther}
 use Rattle.ak_protocol.specs.Syncs.{IsUnused}
 use Rattle.ak_session.specs.Plans.{planned}
 use Rattle.ak_undo.specs.declared.steps.Step.{Step}
-use Rattle.ak_wires.specs.Wires.{WireState}
+use Rattle.ak_client_wire.specs.Wires.{WireState}
 
 -- ---- what a device holds
 -- what a device's keeper is known to hold

@@ -11,6 +11,8 @@ use Rattle.ak_client.specs.Outcomes.{is_told_by_meta}
 use Rattle.ak_client.specs.Syncs.{CommitsAlone, CommitsAtMostOnce, EndsBecause, IsCommittedIn, IsSync, IsSyncFinished, MayBegin, Synced, Syncs, ends_before_finish, told_by, world_at}
 use Rattle.ak_client.specs.declared.outcomes.Outcome.{Outcome}
 use Rattle.ak_client.specs.declared.outcomes.Outcome.TheVariants as outcomes
+use Rattle.ak_client_wire.specs.Wires.{WireKind, WireState}
+use Rattle.ak_client_wire.specs.declared.wires.MetaSaid.{MetaSaid}
 use Rattle.ak_exchange.specs.Asked.{AreTried, TriedAsk, answers_in, asker, asks_in}
 use Rattle.ak_exchange.specs.Phases.{holding}
 use Rattle.ak_exchange.specs.declared.envelopes.Ids.{Ids}
@@ -31,8 +33,6 @@ use Rattle.ak_protocol.specs.Commits.{EachNewer, HasFreshSchema, IsMade}
 use Rattle.ak_protocol.specs.LawfulServers.{IsLawfulAccount}
 use Rattle.ak_protocol.specs.Logs.{Commit, Event, IsTimely, Log, World, events_of, world_after}
 use Rattle.ak_session.specs.Plans.{Asker, requests_from}
-use Rattle.ak_wires.specs.Wires.{WireKind, WireState}
-use Rattle.ak_wires.specs.declared.wires.MetaSaid.{MetaSaid}
 
 -- a commit leaves the schema moment
 abbrev pub LeavesSchema : Commit → Type 0

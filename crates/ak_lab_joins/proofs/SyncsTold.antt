@@ -6,6 +6,9 @@ use Rattle.ak_call_counts.specs.CallCounts.{no_calls}
 use Rattle.ak_client.specs.Syncs.{EndsAt, ends_before_finish, meta_tried}
 use Rattle.ak_client.specs.declared.outcomes.Outcome.{Outcome}
 use Rattle.ak_client.specs.declared.outcomes.Outcome.TheVariants as outcomes
+use Rattle.ak_client_wire.specs.Wires.{WireState}
+use Rattle.ak_client_wire.specs.declared.asks.Unanswered.TheVariants as unanswered
+use Rattle.ak_client_wire.specs.declared.wires.WireEnd.{WireEnd}
 use Rattle.ak_exchange.proofs.Tried.{asks_append, requests_append}
 use Rattle.ak_exchange.specs.Asked.{TriedAsk, asker, asks_in, request_at}
 use Rattle.ak_exchange.specs.Grants.{EndsUnanswered, IsNotGranted, SendsRows, is_in_form}
@@ -25,9 +28,6 @@ use Rattle.ak_lab_joins.specs.LabJoins.{HasSession, IsLinkedDevice, IsLinkedLab,
 use Rattle.ak_lab_joins.specs.LabWords.{hides_commit}
 use Rattle.ak_lab_wires.specs.CrossedSyncs.{CrossesAt, crosses_nothing}
 use Rattle.ak_lab_wires.specs.declared.lab_sessions.SessionKind.TheVariants as kinds
-use Rattle.ak_loops.specs.Entries.{LoggedState, health_in}
-use Rattle.ak_loops.specs.LoopWires.{health_over, inside_with, loop_kind, state_of_loop}
-use Rattle.ak_loops.specs.declared.mishaps.Mishap.{Mishap}
 use Rattle.ak_messages.specs.declared.replies.Reply.{Reply}
 use Rattle.ak_messages.specs.declared.replies.Word.{Word}
 use Rattle.ak_messages.specs.declared.requests.Ask.{Ask}
@@ -38,9 +38,9 @@ use Rattle.ak_protocol.specs.Accounts.{AccountState}
 use Rattle.ak_session.proofs.PlanLaws.{finish_is_last}
 use Rattle.ak_session.specs.Plans.{Asker, planned, requests_from}
 use Rattle.ak_session.specs.Requests.{asks_commit}
-use Rattle.ak_wires.specs.Wires.{WireState}
-use Rattle.ak_wires.specs.declared.asks.Unanswered.TheVariants as unanswered
-use Rattle.ak_wires.specs.declared.wires.WireEnd.{WireEnd}
+use Rattle.ak_sync_in_memory.specs.Entries.{LoggedState, health_in}
+use Rattle.ak_sync_in_memory.specs.LoopWires.{health_over, inside_with, loop_kind, state_of_loop}
+use Rattle.ak_sync_in_memory.specs.declared.mishaps.Mishap.{Mishap}
 
 -- ---- what a sync asked before its last request
 module _ (who : Asker) (c s : Collection) where

@@ -36,9 +36,9 @@ use Rattle.ak_lab_joins.specs.LabJoins.{IsLinkedDevice, IsLinkedServer, may_have
 use Rattle.ak_lab_lines.specs.declared.lab_lines.Direction.{Direction}
 use Rattle.ak_lab_lines.specs.declared.lab_lines.Direction.TheVariants as directions
 use Rattle.ak_lab_devices.specs.RestingKeepers.{kept_of}
-use Rattle.ak_loops.specs.Entries.{LoggedState, log_in}
-use Rattle.ak_loops.specs.LoopWires.{state_of_loop}
-use Rattle.ak_loops.specs.declared.mishaps.Mishap.{Mishap}
+use Rattle.ak_sync_in_memory.specs.Entries.{LoggedState, log_in}
+use Rattle.ak_sync_in_memory.specs.LoopWires.{state_of_loop}
+use Rattle.ak_sync_in_memory.specs.declared.mishaps.Mishap.{Mishap}
 use Rattle.ak_merge.proofs.FirstLinks.{copies_are_linked}
 use Rattle.ak_merge.specs.Commits.{IsCommitted, IsCopyOf}
 use Rattle.ak_merge.specs.Edits.{Reversal, second_of}
@@ -55,11 +55,11 @@ use Rattle.ak_protocol.specs.Logs.{Asked, Commit, Event, IsTimely, Log, World, c
 use Rattle.ak_transfers.specs.Greetings.{Line, TransferOutside}
 use Rattle.ak_transfers.specs.Transfers.{Continues, Downloaded, Follows, HoldsUpload, IsServedOver, IsTransfer, MayTransfer, StaysUnlessFinished, TransferEnds, Uploaded, UploadedAt, UploadsAtMostOnce, download_errand, upload_errand}
 use Rattle.ak_transfers.specs.declared.asks.UploadMoments.{UploadMoments}
-use Rattle.ak_wires.specs.Wires.{WireKind}
-use Rattle.ak_wires.specs.declared.asks.Unanswered.{Unanswered}
-use Rattle.ak_wires.specs.declared.asks.Unanswered.TheVariants as unanswered
-use Rattle.ak_wires.specs.declared.wires.MetaSaid.{MetaSaid}
-use Rattle.ak_wires.specs.declared.wires.WireEnd.{WireEnd}
+use Rattle.ak_client_wire.specs.Wires.{WireKind}
+use Rattle.ak_client_wire.specs.declared.asks.Unanswered.{Unanswered}
+use Rattle.ak_client_wire.specs.declared.asks.Unanswered.TheVariants as unanswered
+use Rattle.ak_client_wire.specs.declared.wires.MetaSaid.{MetaSaid}
+use Rattle.ak_client_wire.specs.declared.wires.WireEnd.{WireEnd}
 
 -- ---- what is committed
 -- what is committed is as it was; or the session committed once, the upload

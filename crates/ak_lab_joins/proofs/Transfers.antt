@@ -26,7 +26,7 @@ use Rattle.ak_lab_joins.specs.LabJoins.{CommitsOnceIn, DeviceHolds, LeavesDownlo
 use Rattle.ak_lab_devices.specs.RestingKeepers.{kept_of}
 use Rattle.ak_lab_lines.specs.declared.lab_lines.Direction.{Direction}
 use Rattle.ak_lab_lines.specs.declared.lab_lines.Direction.TheVariants as directions
-use Rattle.ak_loops.specs.Entries.{log_in}
+use Rattle.ak_sync_in_memory.specs.Entries.{log_in}
 use Rattle.ak_merge.proofs.FirstLinks.{copies_are_linked}
 use Rattle.ak_merge.specs.Commits.{IsCopyOf}
 use Rattle.ak_protocol.specs.Accounts.{AccountState}

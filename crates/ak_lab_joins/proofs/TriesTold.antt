@@ -3,6 +3,11 @@ use Rattle.std.specs.List.{AllByRecursion}
 use Rattle.std.specs.Prelude.{◌≡◌, ◌≢◌, ◌⊎◌, ℕ, zero, suc, ◌+◌, ℤ, Bool, true, false, is_some, List, [], ◌∷◌, Some, Result, Ok, Err, ⊤}
 use Rattle.std.proofs.Common.{refl, sym, ap, subst, ◌∙◌, inl, inr, arith}
 use Rattle.ak_client.specs.Greetings.{meta_of}
+use Rattle.ak_client_wire.specs.Forms.{moment_in}
+use Rattle.ak_client_wire.specs.Tries.{AreCalls, Tried}
+use Rattle.ak_client_wire.specs.Wires.{WireState}
+use Rattle.ak_client_wire.specs.declared.wires.WireEnd.{WireEnd}
+use Rattle.ak_client_wire.specs.declared.wires.WireEnd.TheVariants as ends
 use Rattle.ak_exchange.specs.Asked.{AreTried, TriedAsk, answers_in, asker, asks_in}
 use Rattle.ak_exchange.specs.declared.envelopes.Ids.{Ids}
 use Rattle.ak_faults.specs.Causes.{Health}
@@ -11,11 +16,6 @@ use Rattle.ak_lab_joins.proofs.ServingsTold.{QuietOrGranted, QuietOrKept, Stands
 use Rattle.ak_lab_joins.proofs.Worlds.{StaysQuiet}
 use Rattle.ak_lab_joins.specs.LabJoins.{world_in}
 use Rattle.ak_lab_wires.specs.LabSessions.{sent_by}
-use Rattle.ak_loops.specs.Betweens.{ActEnd, Acting}
-use Rattle.ak_loops.specs.Entries.{LoggedState, health_in, log_in}
-use Rattle.ak_loops.specs.LoopWires.{CallsLoop, FaresAfter, LoopInside, ServesInARow, loop_kind}
-use Rattle.ak_loops.specs.Mishaps.{is_lost, servings}
-use Rattle.ak_loops.specs.declared.mishaps.Mishap.{Mishap}
 use Rattle.ak_messages.specs.declared.replies.Give.{Give}
 use Rattle.ak_messages.specs.declared.replies.Reply.{Reply}
 use Rattle.ak_messages.specs.declared.requests.Ask.{Ask}
@@ -27,12 +27,12 @@ use Rattle.ak_protocol.specs.Logs.{World}
 use Rattle.ak_protocol.specs.Serving.{commit_reply}
 use Rattle.ak_session.specs.Plans.{Asker, requests_from}
 use Rattle.ak_session.specs.Requests.{asks_commit}
+use Rattle.ak_sync_in_memory.specs.Betweens.{ActEnd, Acting}
+use Rattle.ak_sync_in_memory.specs.Entries.{LoggedState, health_in, log_in}
+use Rattle.ak_sync_in_memory.specs.LoopWires.{CallsLoop, FaresAfter, LoopInside, ServesInARow, loop_kind}
+use Rattle.ak_sync_in_memory.specs.Mishaps.{is_lost, servings}
+use Rattle.ak_sync_in_memory.specs.declared.mishaps.Mishap.{Mishap}
 use Rattle.ak_transfers.specs.Forms.{uploaded_in}
-use Rattle.ak_wires.specs.Forms.{moment_in}
-use Rattle.ak_wires.specs.Tries.{AreCalls, Tried}
-use Rattle.ak_wires.specs.Wires.{WireState}
-use Rattle.ak_wires.specs.declared.wires.WireEnd.{WireEnd}
-use Rattle.ak_wires.specs.declared.wires.WireEnd.TheVariants as ends
 
 -- ---- answers
 -- whether what is given has the form of the reply to a commit: its moment, and of an upload its schema moment too

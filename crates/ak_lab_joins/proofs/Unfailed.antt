@@ -23,12 +23,12 @@ use Rattle.ak_lab_wires.specs.declared.crossed_syncs.Crossings.{Crossings}
 use Rattle.ak_lab_wires.specs.declared.lab_sessions.SessionKind.{SessionKind}
 use Rattle.ak_lab_wires.specs.declared.lab_sessions.SessionKind.TheVariants as kinds
 use Rattle.ak_lab_wires.specs.declared.replayed_requests.Replays.{Replays}
-use Rattle.ak_loops.specs.Betweens.{ActEnd, Acting}
-use Rattle.ak_loops.specs.Entries.{LoggedState, entry_of, health_in}
-use Rattle.ak_loops.specs.LoggedServers.{IsServed}
-use Rattle.ak_loops.specs.declared.logs.Entry.{Entry}
-use Rattle.ak_loops.specs.declared.logs.Logged.TheVariants as logged
-use Rattle.ak_loops.specs.declared.mishaps.Mishap.{Mishap}
+use Rattle.ak_sync_in_memory.specs.Betweens.{ActEnd, Acting}
+use Rattle.ak_sync_in_memory.specs.Entries.{LoggedState, entry_of, health_in}
+use Rattle.ak_sync_in_memory.specs.LoggedServers.{IsServed}
+use Rattle.ak_sync_in_memory.specs.declared.logs.Entry.{Entry}
+use Rattle.ak_sync_in_memory.specs.declared.logs.Logged.TheVariants as logged
+use Rattle.ak_sync_in_memory.specs.declared.mishaps.Mishap.{Mishap}
 use Rattle.ak_messages.specs.declared.replies.Reply.{Reply}
 use Rattle.ak_messages.specs.declared.requests.Request.{Request}
 

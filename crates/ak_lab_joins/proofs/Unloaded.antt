@@ -4,6 +4,9 @@ use Rattle.std.specs.Prelude.{◌≡◌, ℕ, zero, suc, ℤ, false, List, [], �
 use Rattle.std.proofs.Common.{sym, ap, subst, inl, inr}
 use Rattle.ak_client.specs.Greetings.{clock_stop}
 use Rattle.ak_client.specs.declared.outcomes.Outcome.{Outcome}
+use Rattle.ak_client_wire.specs.Wires.{WireKind}
+use Rattle.ak_client_wire.specs.declared.asks.Unanswered.{Unanswered}
+use Rattle.ak_client_wire.specs.declared.wires.MetaSaid.{MetaSaid}
 use Rattle.ak_exchange.specs.Asked.{answers_in}
 use Rattle.ak_exchange.specs.Grants.{SendsRows}
 use Rattle.ak_exchange.specs.declared.envelopes.Ids.{Ids}
@@ -29,17 +32,14 @@ use Rattle.ak_lab_wires.proofs.Between.{named_asked}
 use Rattle.ak_lab_wires.specs.LabSessions.{moment_told}
 use Rattle.ak_lab_wires.specs.Servings.{named_from, requests_in}
 use Rattle.ak_lab_wires.specs.declared.lab_sessions.SessionKind.TheVariants as kinds
-use Rattle.ak_loops.specs.Entries.{LoggedState, entry_of, log_in}
-use Rattle.ak_loops.specs.declared.logs.Logged.TheVariants as logged
 use Rattle.ak_merge.specs.Edits.{second_of}
 use Rattle.ak_messages.specs.declared.requests.Ask.{Ask}
 use Rattle.ak_protocol.specs.Accounts.{AccountState}
 use Rattle.ak_server_copies.specs.Copies.{IsViewed}
+use Rattle.ak_sync_in_memory.specs.Entries.{LoggedState, entry_of, log_in}
+use Rattle.ak_sync_in_memory.specs.declared.logs.Logged.TheVariants as logged
 use Rattle.ak_transfers.specs.Greetings.{Line as WireLine, TransferOutside}
 use Rattle.ak_transfers.specs.Transfers.{AsksNothing, AsksOnce, Continues, Follows, IsDownload, MayAsk, download_errand}
-use Rattle.ak_wires.specs.Wires.{WireKind}
-use Rattle.ak_wires.specs.declared.asks.Unanswered.{Unanswered}
-use Rattle.ak_wires.specs.declared.wires.MetaSaid.{MetaSaid}
 
 -- ---- a download
 -- it asks for a download after its meta, and for nothing else

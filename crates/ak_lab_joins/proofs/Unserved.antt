@@ -16,16 +16,16 @@ use Rattle.ak_lab_joins.specs.LabJoins.{KeepsCommitted, lab_world}
 use Rattle.ak_lab_joins.specs.LabWords.{AsksNoCommit, ServesNoCommit}
 use Rattle.ak_lab_wires.specs.LabSessions.{lab_host}
 use Rattle.ak_lab_wires.specs.declared.lab_sessions.SessionKind.{SessionKind}
-use Rattle.ak_loops.proofs.Logging.{events_append}
-use Rattle.ak_loops.specs.Entries.{event_of, events_in, log_in}
-use Rattle.ak_loops.specs.declared.logs.Entry.{Entry}
-use Rattle.ak_loops.specs.declared.logs.Logged.{Logged}
-use Rattle.ak_loops.specs.declared.logs.Logged.TheVariants as logged
 use Rattle.ak_protocol.proofs.ContentLaws.{some_of_all}
 use Rattle.ak_protocol.specs.Accounts.{AccountState}
 use Rattle.ak_protocol.specs.Logs.{Asked, Event, Log, View, World, events_of, world_after, world_next}
 use Rattle.ak_protocol.specs.Syncs.{world_of}
 use Rattle.ak_session.specs.Requests.{asks_commit}
+use Rattle.ak_sync_in_memory.proofs.Logging.{events_append}
+use Rattle.ak_sync_in_memory.specs.Entries.{event_of, events_in, log_in}
+use Rattle.ak_sync_in_memory.specs.declared.logs.Entry.{Entry}
+use Rattle.ak_sync_in_memory.specs.declared.logs.Logged.{Logged}
+use Rattle.ak_sync_in_memory.specs.declared.logs.Logged.TheVariants as logged
 
 -- an event is no finish and no upload
 abbrev IsPlain : Event → Type 0

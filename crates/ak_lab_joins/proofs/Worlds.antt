@@ -18,8 +18,8 @@ use Rattle.ak_protocol.specs.Sessions.{IsMetaOrOther}
 use Rattle.ak_protocol.specs.Syncs.{world_of}
 use Rattle.ak_session.specs.Plans.{Asker, requests_from}
 use Rattle.ak_session.specs.Requests.{is_meta}
-use Rattle.ak_wires.specs.Wires.{WireKind, Carries, GrowsByServings, IsServing, WireState}
-use Rattle.ak_wires.specs.declared.wires.WireEnd.{WireEnd}
+use Rattle.ak_client_wire.specs.Wires.{WireKind, Carries, GrowsByServings, IsServing, WireState}
+use Rattle.ak_client_wire.specs.declared.wires.WireEnd.{WireEnd}
 
 -- ---- events that commit nothing
 -- a view or a meta

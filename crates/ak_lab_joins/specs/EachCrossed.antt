@@ -2,6 +2,7 @@
 use Rattle.std.specs.Prelude.{ℕ, ℤ, List, [], ◌∷◌, Ok, Err, ⊤}
 use Rattle.std.proofs.Common.{inl, inr}
 use Rattle.ak_client.specs.declared.outcomes.Outcome.{Outcome}
+use Rattle.ak_client_wire.specs.Tries.{MadeCall}
 use Rattle.ak_faults.specs.Causes.{one_more}
 use Rattle.ak_lab.specs.LabStates.{LabState}
 use Rattle.ak_lab.specs.LabSyncs.{EndsLabSession, mishaps_for, server_met, with_fails}
@@ -13,10 +14,9 @@ use Rattle.ak_lab_wires.specs.LabSessions.{ComeInCalls}
 use Rattle.ak_lab_wires.specs.Turns.{InTurn, due}
 use Rattle.ak_lab_wires.specs.declared.crossed_syncs.Crossings.{Crossings}
 use Rattle.ak_lab_wires.specs.declared.lab_sessions.SessionKind.{SessionKind}
-use Rattle.ak_loops.specs.Betweens.{ActEnd}
-use Rattle.ak_loops.specs.Entries.{LoggedState}
-use Rattle.ak_loops.specs.declared.mishaps.Mishap.{Mishap}
-use Rattle.ak_wires.specs.Tries.{MadeCall}
+use Rattle.ak_sync_in_memory.specs.Betweens.{ActEnd}
+use Rattle.ak_sync_in_memory.specs.Entries.{LoggedState}
+use Rattle.ak_sync_in_memory.specs.declared.mishaps.Mishap.{Mishap}
 
 -- something that may be said of a sync that crosses a session
 abbrev pub SaidOfCrossed : Type 1

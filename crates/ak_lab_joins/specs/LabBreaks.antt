@@ -15,8 +15,8 @@ use Rattle.ak_lab_joins.specs.LabMishaps.{AreFaultless}
 use Rattle.ak_lab_lines.specs.declared.lab_lines.LabLine.{LabLine}
 use Rattle.ak_lab_lines.specs.declared.lab_lines.LabLine.TheVariants as lines
 use Rattle.ak_lab_lines.specs.declared.lab_lines.Side.TheVariants as sides
-use Rattle.ak_loops.specs.Entries.{health_in}
-use Rattle.ak_loops.specs.declared.logs.Entry.{Entry}
+use Rattle.ak_sync_in_memory.specs.Entries.{health_in}
+use Rattle.ak_sync_in_memory.specs.declared.logs.Entry.{Entry}
 
 -- ---- a device's keeper
 -- a break of the device of this name stands: a call of its keeper is to fail in its next sync

@@ -18,7 +18,6 @@ use Rattle.ak_lab_devices.specs.declared.devices.Device.{Device}
 use Rattle.ak_lab_joins.specs.EachCrossed.{SaidOfCrossed}
 use Rattle.ak_lab_joins.specs.LabJoins.{StillHolds, lab_world}
 use Rattle.ak_lab_wires.specs.LabSessions.{lab_host}
-use Rattle.ak_loops.specs.Entries.{log_in}
 use Rattle.ak_merge.specs.Exchanges.{AreExchanged}
 use Rattle.ak_merge.specs.Holdings.{row_under}
 use Rattle.ak_messages.specs.declared.requests.Request.{Request}
@@ -28,6 +27,7 @@ use Rattle.ak_protocol.specs.Logs.{Event, IsTimely, Log, World, commits_of, even
 use Rattle.ak_protocol.specs.Sessions.{IsOwnOrOther}
 use Rattle.ak_protocol.specs.Syncs.{world_of}
 use Rattle.ak_session.specs.Plans.{requests_from}
+use Rattle.ak_sync_in_memory.specs.Entries.{log_in}
 
 -- each commit that came while a device synced left the server's schema moment, or took one that the device did not have when its sync began
 abbrev pub IsCrossedFresh : Device → World → World → Type 0

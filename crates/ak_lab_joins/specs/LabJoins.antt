@@ -25,7 +25,7 @@ use Rattle.ak_lab_lines.specs.declared.lab_lines.Direction.{Direction}
 use Rattle.ak_lab_lines.specs.declared.lab_lines.Direction.TheVariants as directions
 use Rattle.ak_lab_lines.specs.declared.lab_lines.LabLine.{LabLine}
 use Rattle.ak_lab_lines.specs.declared.lab_lines.LabLine.TheVariants as lines
-use Rattle.ak_loops.specs.Entries.{LoggedState, account_opened, log_in}
+use Rattle.ak_sync_in_memory.specs.Entries.{LoggedState, account_opened, log_in}
 use Rattle.ak_merge.specs.Commits.{IsCopyOf, Received}
 use Rattle.ak_merge.specs.Exchanges.{HoldsJoin}
 use Rattle.ak_merge.specs.Holdings.{AreNamed, SameContent, content_of, row_under}

@@ -1,21 +1,21 @@
 -- What a session of a lab is to meet and met: losses, and no fault of the server's keeper.
 use Rattle.std.specs.List.{AllByRecursion}
 use Rattle.std.specs.Prelude.{◌≡◌, ◌≢◌, ℕ, true, List, [], ◌∷◌, ◌++◌, length, Some, Err, ⊤}
+use Rattle.ak_client_wire.specs.Tries.{MadeCall}
+use Rattle.ak_client_wire.specs.Wires.{more}
+use Rattle.ak_client_wire.specs.declared.wires.WireEnd.TheVariants as ends
 use Rattle.ak_faults.specs.Causes.{one_more}
 use Rattle.ak_lab.specs.LabStates.{LabState}
 use Rattle.ak_lab_devices.specs.Devices.{device_of}
 use Rattle.ak_lab_devices.specs.declared.devices.Device.{Device}
-use Rattle.ak_loops.specs.Entries.{LoggedState}
-use Rattle.ak_loops.specs.Mishaps.{is_lost, loses_nothing}
-use Rattle.ak_loops.specs.declared.logs.Entry.{Entry}
-use Rattle.ak_loops.specs.declared.logs.Logged.{Logged}
-use Rattle.ak_loops.specs.declared.logs.Logged.TheVariants as logged
-use Rattle.ak_loops.specs.declared.logs.Trouble.TheVariants as troubles
-use Rattle.ak_loops.specs.declared.mishaps.Mishap.{Mishap}
 use Rattle.ak_messages.specs.declared.requests.Request.{Request}
-use Rattle.ak_wires.specs.Tries.{MadeCall}
-use Rattle.ak_wires.specs.Wires.{more}
-use Rattle.ak_wires.specs.declared.wires.WireEnd.TheVariants as ends
+use Rattle.ak_sync_in_memory.specs.Entries.{LoggedState}
+use Rattle.ak_sync_in_memory.specs.Mishaps.{is_lost, loses_nothing}
+use Rattle.ak_sync_in_memory.specs.declared.logs.Entry.{Entry}
+use Rattle.ak_sync_in_memory.specs.declared.logs.Logged.{Logged}
+use Rattle.ak_sync_in_memory.specs.declared.logs.Logged.TheVariants as logged
+use Rattle.ak_sync_in_memory.specs.declared.logs.Trouble.TheVariants as troubles
+use Rattle.ak_sync_in_memory.specs.declared.mishaps.Mishap.{Mishap}
 
 -- none of the messages of the next sync of the device of this name is to be lost. They may be repeated
 abbrev pub LosesNothing : List ℕ → LabState → Type 0

@@ -6,12 +6,12 @@ use Rattle.ak_client.specs.declared.outcomes.Outcome.TheVariants as outcomes
 use Rattle.ak_lab.specs.LabStates.{LabState}
 use Rattle.ak_lab_joins.specs.LabBreaks.{HasNoBreak}
 use Rattle.ak_lab_joins.specs.LabJoins.{Finishes, HasSession, IsLinkedLab, KeepsCommitted, LeavesUpload, PlansNothing, lab_world}
-use Rattle.ak_loops.specs.Entries.{LoggedState}
-use Rattle.ak_loops.specs.declared.logs.Entry.{Entry}
-use Rattle.ak_loops.specs.declared.logs.Logged.{Logged}
-use Rattle.ak_loops.specs.declared.logs.Logged.TheVariants as logged
 use Rattle.ak_protocol.specs.Accounts.{AccountState}
 use Rattle.ak_session.specs.Requests.{asks_commit}
+use Rattle.ak_sync_in_memory.specs.Entries.{LoggedState}
+use Rattle.ak_sync_in_memory.specs.declared.logs.Entry.{Entry}
+use Rattle.ak_sync_in_memory.specs.declared.logs.Logged.{Logged}
+use Rattle.ak_sync_in_memory.specs.declared.logs.Logged.TheVariants as logged
 
 -- ---- by the outcome
 -- a sync of the device of this name may begin in a linked lab. Nothing is planned between its calls, and no call of the device's keeper is to fail.

@@ -83,12 +83,12 @@ ghost use Rattle.ak_lab_wires.specs.CrossedSyncs.{SyncsCrossed};
 ghost use Rattle.ak_lab_wires.specs.LabSessions.{fails_in};
 ghost use Rattle.ak_lab_wires.specs.declared.lab_sessions.SessionKind.{SessionKind};
 ghost use Rattle.ak_lab_wires.specs.declared.lab_sessions.SessionKind.TheVariants as kinds;
-ghost use Rattle.ak_loops.specs.Entries.{LoggedState, account_opened};
-ghost use Rattle.ak_loops.specs.declared.logs.Entry.{Entry};
 ghost use Rattle.ak_openings.specs.declared.whole_collections.Opening.{Opening};
 ghost use Rattle.ak_protocol.specs.Accounts.{AccountState};
 ghost use Rattle.ak_protocol.specs.Commits.{EachNewer};
 ghost use Rattle.ak_protocol.specs.Logs.{World};
+ghost use Rattle.ak_sync_in_memory.specs.Entries.{LoggedState, account_opened};
+ghost use Rattle.ak_sync_in_memory.specs.declared.logs.Entry.{Entry};
 
 use ak_any_lines::any_lines_are_steps;
 

@@ -6,8 +6,8 @@ use Rattle.std.specs.Fmt.{decimal, signed_decimal}
 use Rattle.std.specs.Int.RustNames.{unsigned_abs}
 use Rattle.ak_base.specs.Heads.{IsWithin}
 use Rattle.ak_base.specs.declared.names.Table.TheVariants as tables
-use Rattle.ak_lines.specs.Reading.{number_in, next_number}
-use Rattle.ak_lines.proofs.Numerals.{number_read}
+use Rattle.ak_desk_language.specs.Reading.{number_in, next_number}
+use Rattle.ak_desk_language.proofs.Numerals.{number_read}
 use Rattle.ak_lab_lines.specs.LabLines.{side_of, shown_of, signed_number, reviews_of, lost_of, losing_of, another_word, crossing_of, replaying_of, lab_line_of}
 use Rattle.ak_lab_lines.specs.Written.{IsShown, AreReviews, IsLabNumber, IsCrossing, IsReplaying, IsLabLine, side_word, shown_word, reviews_text, replaying_text, line_text, IsMinusZero, SaysLine}
 use Rattle.ak_lab_lines.specs.declared.lab_lines.Direction.TheVariants as directions
@@ -15,8 +15,8 @@ use Rattle.ak_lab_lines.specs.declared.lab_lines.LabLine.{LabLine}
 use Rattle.ak_lab_lines.specs.declared.lab_lines.LabLine.TheVariants as lines
 use Rattle.ak_lab_lines.specs.declared.lab_lines.Shown.{Shown}
 use Rattle.ak_lab_lines.specs.declared.lab_lines.Shown.TheVariants as shown
-use Rattle.ak_loops.specs.declared.mishaps.What.{What}
-use Rattle.ak_loops.specs.declared.mishaps.What.TheVariants as whats
+use Rattle.ak_sync_in_memory.specs.declared.mishaps.What.{What}
+use Rattle.ak_sync_in_memory.specs.declared.mishaps.What.TheVariants as whats
 use Rattle.ak_lab_lines.proofs.WordsRead.{word_read, another_read, next_word_read, side_filled, side_read, next_number_read, signed_read, minus_zero_read}
 
 reviews_within : (count : ℕ) → 1 ≤ count → count ≤ 100_000 → IsWithin (pos 1) (pos 100_000) (pos count)

@@ -13,10 +13,10 @@ use Rattle.ak_base.specs.Cuts.{begins, has, front, behind}
 use Rattle.ak_base.specs.Decimals.{number_of}
 use Rattle.ak_base.specs.Heads.{IsWithin}
 use Rattle.ak_base.specs.declared.names.Table.TheVariants as tables
-use Rattle.ak_lines.specs.Reading.{number_in, next_number}
+use Rattle.ak_desk_language.specs.Reading.{number_in, next_number}
 use Rattle.ak_search.specs.Terms.{is_word}
-use Rattle.ak_lines.proofs.Numerals.{number_written}
-use Rattle.ak_lines.proofs.Spaces.{cut_back}
+use Rattle.ak_desk_language.proofs.Numerals.{number_written}
+use Rattle.ak_desk_language.proofs.Spaces.{cut_back}
 use Rattle.ak_lab_lines.specs.LabLines.{filled, word_of, next_word, is_device_name, side_of, shown_of, negated, signed_number, clock_line, device_line, shift_line, reviews_of, review_line, do_line, sync_line, lost_of, lose_line, repeat_line, another_word, cross_line, replay_line, resend_line, break_line, transfer_line, show_line, count_line, requests_line, line_of, lab_line_of}
 use Rattle.ak_lab_lines.specs.LabTexts.{direction_word}
 use Rattle.ak_lab_lines.specs.Written.{IsWord, IsSide, IsShown, AreReviews, IsLabNumber, IsCrossing, IsReplaying, side_word, shown_word, reviews_text, replaying_text, SaysLine}
@@ -27,8 +27,8 @@ use Rattle.ak_lab_lines.specs.declared.lab_lines.LabLine.TheVariants as lines
 use Rattle.ak_lab_lines.specs.declared.lab_lines.Shown.{Shown}
 use Rattle.ak_lab_lines.specs.declared.lab_lines.Shown.TheVariants as shown
 use Rattle.ak_lab_lines.specs.declared.lab_lines.Side.TheVariants as sides
-use Rattle.ak_loops.specs.declared.mishaps.What.{What}
-use Rattle.ak_loops.specs.declared.mishaps.What.TheVariants as whats
+use Rattle.ak_sync_in_memory.specs.declared.mishaps.What.{What}
+use Rattle.ak_sync_in_memory.specs.declared.mishaps.What.TheVariants as whats
 use Rattle.ak_lab_lines.proofs.WordsRead.{below_zero}
 
 map_some : {A B P : Type 0} (f : A → B) (o : Option A) (y : B) → option_map f o ≡ Some y → ((x : A) → o ≡ Some x → f x ≡ y → P) → P

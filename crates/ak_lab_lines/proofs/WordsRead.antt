@@ -14,10 +14,10 @@ use Rattle.ak_base.specs.Cuts.{begins, has}
 use Rattle.ak_base.specs.Decimals.{number_of}
 use Rattle.ak_base.specs.Heads.{IsWithin}
 use Rattle.ak_base.proofs.Numerals.{decimal_read}
-use Rattle.ak_lines.specs.Reading.{next_number}
+use Rattle.ak_desk_language.specs.Reading.{next_number}
 use Rattle.ak_search.specs.Terms.{is_word}
-use Rattle.ak_lines.proofs.Numerals.{number_read, number_spaceless}
-use Rattle.ak_lines.proofs.Spaces.{is_spaceless, cut_at}
+use Rattle.ak_desk_language.proofs.Numerals.{number_read, number_spaceless}
+use Rattle.ak_desk_language.proofs.Spaces.{is_spaceless, cut_at}
 use Rattle.ak_lab_lines.specs.LabLines.{filled, word_of, another_word, next_word, side_of, negated, signed_number}
 use Rattle.ak_lab_lines.specs.Written.{IsWord, IsSide, side_word}
 use Rattle.ak_lab_lines.specs.declared.lab_lines.Side.{Side}

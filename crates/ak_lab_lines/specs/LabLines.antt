@@ -6,7 +6,7 @@ use Rattle.std.specs.List.{list_all}
 use Rattle.ak_base.specs.Cuts.{begins, has, front, behind}
 use Rattle.ak_base.specs.Decimals.{number_of}
 use Rattle.ak_base.specs.declared.names.Table.TheVariants as tables
-use Rattle.ak_lines.specs.Reading.{number_in, next_number}
+use Rattle.ak_desk_language.specs.Reading.{number_in, next_number}
 use Rattle.ak_search.specs.Terms.{is_word}
 use Rattle.ak_lab_lines.specs.declared.lab_lines.Direction.{Direction}
 use Rattle.ak_lab_lines.specs.declared.lab_lines.Direction.TheVariants as directions
@@ -16,8 +16,8 @@ use Rattle.ak_lab_lines.specs.declared.lab_lines.Shown.{Shown}
 use Rattle.ak_lab_lines.specs.declared.lab_lines.Shown.TheVariants as shown
 use Rattle.ak_lab_lines.specs.declared.lab_lines.Side.{Side}
 use Rattle.ak_lab_lines.specs.declared.lab_lines.Side.TheVariants as sides
-use Rattle.ak_loops.specs.declared.mishaps.What.{What}
-use Rattle.ak_loops.specs.declared.mishaps.What.TheVariants as whats
+use Rattle.ak_sync_in_memory.specs.declared.mishaps.What.{What}
+use Rattle.ak_sync_in_memory.specs.declared.mishaps.What.TheVariants as whats
 
 -- ---- words
 -- the text, if it is not empty

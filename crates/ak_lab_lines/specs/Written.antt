@@ -14,8 +14,8 @@ use Rattle.ak_lab_lines.specs.declared.lab_lines.Shown.{Shown}
 use Rattle.ak_lab_lines.specs.declared.lab_lines.Shown.TheVariants as shown
 use Rattle.ak_lab_lines.specs.declared.lab_lines.Side.{Side}
 use Rattle.ak_lab_lines.specs.declared.lab_lines.Side.TheVariants as sides
-use Rattle.ak_loops.specs.declared.mishaps.What.{What}
-use Rattle.ak_loops.specs.declared.mishaps.What.TheVariants as whats
+use Rattle.ak_sync_in_memory.specs.declared.mishaps.What.{What}
+use Rattle.ak_sync_in_memory.specs.declared.mishaps.What.TheVariants as whats
 
 -- ---- the parts of a line are in their ranges
 -- a word: not empty, and without a space

@@ -6,8 +6,8 @@ ghost use Rattle.ak_lab_lines.specs.Written.{IsLabLine};
 use crate::LabLineFault;
 use crate::words::{another_word, is_device_name, next_word, signed_number, word_of};
 use ak_base::{Memory, Table, Text, cut};
-use ak_lines::{next_number, number_in};
-use ak_loops::What;
+use ak_desk_language::{next_number, number_in};
+use ak_sync_in_memory::What;
 use std::alloc::Global;
 
 /// The greatest number of a call or of a request: it fits 64 bits with its sign.

@@ -7,7 +7,7 @@ ghost use Rattle.ak_base.specs.Decimals.{number_of};
 ghost use Rattle.ak_lab_lines.specs.LabLines.{word_of, another_word, next_word, is_device_name, negated, signed_number};
 
 use ak_base::{cut, read_number};
-use ak_lines::number_in;
+use ak_desk_language::number_in;
 
 /// The text, if it is one word.
 pub(crate) fn word_of(text: &str) -> Option<&str>

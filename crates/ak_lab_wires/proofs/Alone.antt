@@ -11,9 +11,9 @@ use Rattle.ak_lab_wires.specs.LabSessions.{IsSessionOver}
 use Rattle.ak_lab_wires.specs.Turns.{InTurn, due}
 use Rattle.ak_lab_wires.specs.declared.crossed_syncs.Crossings.{Crossings}
 use Rattle.ak_lab_wires.specs.declared.lab_sessions.SessionKind.{SessionKind}
-use Rattle.ak_loops.specs.Betweens.{ActEnd}
-use Rattle.ak_loops.specs.Entries.{LoggedState}
-use Rattle.ak_loops.specs.declared.mishaps.Mishap.{Mishap}
+use Rattle.ak_sync_in_memory.specs.Betweens.{ActEnd}
+use Rattle.ak_sync_in_memory.specs.Entries.{LoggedState}
+use Rattle.ak_sync_in_memory.specs.declared.mishaps.Mishap.{Mishap}
 
 -- ---- what acts between the calls
 -- whoever has nothing planned leaves all as it was, and has nothing planned then

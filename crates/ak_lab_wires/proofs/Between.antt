@@ -2,6 +2,8 @@
 use Rattle.std.specs.List.{AllByRecursion}
 use Rattle.std.specs.Prelude.{◌≡◌, ◌≤◌, ◌+◌, ℕ, zero, suc, ℤ, true, List, [], ◌∷◌, ◌++◌, drop, take, Result}
 use Rattle.std.proofs.Common.{refl, sym, ap, subst, ◌∙◌, inl, inr, arith}
+use Rattle.ak_client_wire.specs.Tries.{AreCallsOf, MadeCall, calls_of}
+use Rattle.ak_client_wire.specs.declared.wires.WireEnd.{WireEnd}
 use Rattle.ak_exchange.specs.Asked.{TriedAsk, answers_in, asker, asks_in}
 use Rattle.ak_exchange.specs.declared.envelopes.Ids.{Ids}
 use Rattle.ak_io.specs.Arrivals.{IsClockMoment}
@@ -16,19 +18,17 @@ use Rattle.ak_lab_wires.specs.Servings.{AreServed, ServesAgain, ServesNamed, nam
 use Rattle.ak_lab_wires.specs.Turns.{InTurn, due, plans_nothing}
 use Rattle.ak_lab_wires.specs.declared.crossed_syncs.Crossings.{Crossings}
 use Rattle.ak_lab_wires.specs.declared.replayed_requests.Replays.{Replays}
-use Rattle.ak_loops.proofs.Growing.{comes_further, comes_lined, comes_nothing, comes_request}
-use Rattle.ak_loops.specs.Betweens.{ActEnd, ComesBetween, StaysIdle}
-use Rattle.ak_loops.specs.Entries.{LoggedState, event_of, events_in, log_in}
-use Rattle.ak_loops.specs.declared.logs.Entry.{Entry}
-use Rattle.ak_loops.specs.declared.logs.Logged.{Logged}
-use Rattle.ak_loops.specs.declared.logs.Logged.TheVariants as logged
 use Rattle.ak_messages.specs.declared.replies.Reply.{Reply}
 use Rattle.ak_messages.specs.declared.requests.Ask.{Ask}
 use Rattle.ak_messages.specs.declared.requests.Request.{Request}
 use Rattle.ak_protocol.specs.Logs.{Asked, Event, HasAsked, View}
 use Rattle.ak_session.specs.Plans.{requests_from}
-use Rattle.ak_wires.specs.Tries.{AreCallsOf, MadeCall, calls_of}
-use Rattle.ak_wires.specs.declared.wires.WireEnd.{WireEnd}
+use Rattle.ak_sync_in_memory.proofs.Growing.{comes_further, comes_lined, comes_nothing, comes_request}
+use Rattle.ak_sync_in_memory.specs.Betweens.{ActEnd, ComesBetween, StaysIdle}
+use Rattle.ak_sync_in_memory.specs.Entries.{LoggedState, event_of, events_in, log_in}
+use Rattle.ak_sync_in_memory.specs.declared.logs.Entry.{Entry}
+use Rattle.ak_sync_in_memory.specs.declared.logs.Logged.{Logged}
+use Rattle.ak_sync_in_memory.specs.declared.logs.Logged.TheVariants as logged
 
 -- ---- requests of the log
 -- a request that came came also if more comes

@@ -17,10 +17,10 @@ use Rattle.ak_lab_wires.specs.Servings.{with_line}
 use Rattle.ak_lab_wires.specs.declared.crossed_syncs.Prepared.{Prepared}
 use Rattle.ak_lab_wires.specs.declared.lab_sessions.SessionKind.TheVariants as kinds
 use Rattle.ak_lab_wires.specs.declared.replayed_requests.Replays.{Replays}
-use Rattle.ak_loops.specs.Betweens.{ActEnd}
-use Rattle.ak_loops.specs.Entries.{LoggedState}
-use Rattle.ak_loops.specs.declared.mishaps.Mishap.{Mishap}
 use Rattle.ak_outcomes.specs.OutcomeTexts.{outcome_text}
+use Rattle.ak_sync_in_memory.specs.Betweens.{ActEnd}
+use Rattle.ak_sync_in_memory.specs.Entries.{LoggedState}
+use Rattle.ak_sync_in_memory.specs.declared.mishaps.Mishap.{Mishap}
 
 -- nothing was done
 pub crosses_not : (s : CrossState) (server : LoggedState) (end : Memory) → CrossesNot s s server server (Err end)

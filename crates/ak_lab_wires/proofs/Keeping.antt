@@ -2,22 +2,22 @@
 use Rattle.std.specs.List.{AllByRecursion}
 use Rattle.std.specs.Prelude.{◌≡◌, ℕ, zero, suc, ℤ, Bool, List, [], ◌∷◌, Ok, Err, Result}
 use Rattle.std.proofs.Common.{refl, sym, subst, inl, inr}
+use Rattle.ak_client_wire.specs.Tries.{MadeCall}
+use Rattle.ak_client_wire.specs.declared.wires.WireEnd.{WireEnd}
+use Rattle.ak_client_wire.specs.declared.wires.WireEnd.TheVariants as ends
 use Rattle.ak_faults.specs.Causes.{one_more}
 use Rattle.ak_lab_devices.specs.declared.plans.Planned.{Planned}
 use Rattle.ak_lab_wires.specs.LabSessions.{ComeInCalls}
 use Rattle.ak_lab_wires.specs.Servings.{AreServed}
 use Rattle.ak_lab_wires.specs.Turns.{InTurn, TurnKind}
-use Rattle.ak_loops.specs.Betweens.{ActEnd, Acting}
-use Rattle.ak_loops.specs.Entries.{LoggedState}
-use Rattle.ak_loops.specs.LoggedServers.{IsServed}
-use Rattle.ak_loops.specs.LoopWires.{Delivers, Fares, FaresAfter, ServesInARow, ServesUpTo}
-use Rattle.ak_loops.specs.Mishaps.{is_lost, servings}
-use Rattle.ak_loops.specs.declared.mishaps.Mishap.{Mishap}
 use Rattle.ak_messages.specs.declared.replies.Reply.{Reply}
 use Rattle.ak_messages.specs.declared.requests.Request.{Request}
-use Rattle.ak_wires.specs.Tries.{MadeCall}
-use Rattle.ak_wires.specs.declared.wires.WireEnd.{WireEnd}
-use Rattle.ak_wires.specs.declared.wires.WireEnd.TheVariants as ends
+use Rattle.ak_sync_in_memory.specs.Betweens.{ActEnd, Acting}
+use Rattle.ak_sync_in_memory.specs.Entries.{LoggedState}
+use Rattle.ak_sync_in_memory.specs.LoggedServers.{IsServed}
+use Rattle.ak_sync_in_memory.specs.LoopWires.{Delivers, Fares, FaresAfter, ServesInARow, ServesUpTo}
+use Rattle.ak_sync_in_memory.specs.Mishaps.{is_lost, servings}
+use Rattle.ak_sync_in_memory.specs.declared.mishaps.Mishap.{Mishap}
 
 -- a relation between what a server was and what it is that holds of itself and goes on
 pub record KeepsOn {X : Type 0} (R : X → X → LoggedState → LoggedState → Type 0) : Type 0 where

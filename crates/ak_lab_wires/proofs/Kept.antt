@@ -14,13 +14,13 @@ use Rattle.ak_lab_wires.specs.Turns.{due}
 use Rattle.ak_lab_wires.specs.declared.crossed_syncs.Crossings.{Crossings}
 use Rattle.ak_lab_wires.specs.declared.lab_sessions.SessionKind.{SessionKind}
 use Rattle.ak_client.specs.declared.outcomes.Outcome.{Outcome}
-use Rattle.ak_loops.specs.Betweens.{ActEnd}
-use Rattle.ak_loops.specs.Entries.{LoggedState, health_in}
-use Rattle.ak_loops.specs.LoggedServers.{IsServed}
-use Rattle.ak_loops.specs.declared.mishaps.Mishap.{Mishap}
+use Rattle.ak_sync_in_memory.specs.Betweens.{ActEnd}
+use Rattle.ak_sync_in_memory.specs.Entries.{LoggedState, health_in}
+use Rattle.ak_sync_in_memory.specs.LoggedServers.{IsServed}
+use Rattle.ak_sync_in_memory.specs.declared.mishaps.Mishap.{Mishap}
 use Rattle.ak_messages.specs.declared.replies.Reply.{Reply}
 use Rattle.ak_messages.specs.declared.requests.Request.{Request}
-use Rattle.ak_wires.specs.Tries.{MadeCall}
+use Rattle.ak_client_wire.specs.Tries.{MadeCall}
 
 -- of any request
 abbrev pub Any : Request → Type 0

@@ -1,8 +1,8 @@
 -- The requests of a log that a line names, entry by entry.
 use Rattle.std.proofs.Common.{◌≡◌, ◌≢◌, ◌<◌, ◌≤◌, ◌+◌, ◌-◌, ℕ, zero, suc, List, [], ◌∷◌, ◌++◌, length, drop, take, get_or, refl, sym, ap, ◌∙◌, add-one, append-nil, append_assoc, arith, drop-cons}
 use Rattle.ak_lab_wires.specs.Servings.{named_from, requests_in, with_served}
-use Rattle.ak_loops.specs.declared.logs.Entry.{Entry}
 use Rattle.ak_messages.specs.declared.requests.Request.{Request}
+use Rattle.ak_sync_in_memory.specs.declared.logs.Entry.{Entry}
 
 -- what is left from a place on
 pub from_place : {A : Type 0} (list : List A) (place : ℕ) (it : A) → place < length list → it ≡ get_or list place it

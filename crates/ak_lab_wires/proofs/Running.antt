@@ -5,6 +5,8 @@ use Rattle.ak_call_counts.specs.declared.call_counts.CallCounts.{CallCounts}
 use Rattle.ak_client.specs.Outcomes.{HasOutcomeCause}
 use Rattle.ak_client.specs.declared.outcomes.Outcome.{Outcome}
 use Rattle.ak_client.specs.declared.outcomes.Outcome.TheVariants as outcomes
+use Rattle.ak_client_wire.specs.Tries.{AreMade, MadeCall}
+use Rattle.ak_client_wire.specs.Wires.{more}
 use Rattle.ak_exchange.proofs.Calls.{calls_made}
 use Rattle.ak_exchange.specs.Asked.{answers_in}
 use Rattle.ak_exchange.specs.declared.envelopes.Ids.{Ids}
@@ -18,13 +20,11 @@ use Rattle.ak_lab_wires.proofs.Transferring.{transfer_tried}
 use Rattle.ak_lab_wires.specs.LabSessions.{CallsByKind, ComeInCalls, EndsByKind, IsLabIds, IsSessionOver, LeavesDevice, MayEnd, before_calls, calls_known_after, fails_after, fails_in, moment_told, sent_by}
 use Rattle.ak_lab_wires.specs.declared.lab_sessions.SessionKind.{SessionKind}
 use Rattle.ak_lab_wires.specs.declared.lab_sessions.SessionKind.TheVariants as kinds
-use Rattle.ak_loops.specs.Betweens.{Acting}
-use Rattle.ak_loops.specs.Entries.{LoggedState}
-use Rattle.ak_loops.specs.LoopWires.{CallsLoop, LoopInside, health_over, inside_with, loop_kind, state_of_loop}
-use Rattle.ak_loops.specs.declared.mishaps.Mishap.{Mishap}
+use Rattle.ak_sync_in_memory.specs.Betweens.{Acting}
+use Rattle.ak_sync_in_memory.specs.Entries.{LoggedState}
+use Rattle.ak_sync_in_memory.specs.LoopWires.{CallsLoop, LoopInside, health_over, inside_with, loop_kind, state_of_loop}
+use Rattle.ak_sync_in_memory.specs.declared.mishaps.Mishap.{Mishap}
 use Rattle.ak_transfers.specs.Transfers.{download_errand, upload_errand}
-use Rattle.ak_wires.specs.Tries.{AreMade, MadeCall}
-use Rattle.ak_wires.specs.Wires.{more}
 
 -- ---- counts
 abbrev last : ℕ

@@ -4,10 +4,10 @@ use Rattle.ak_base.specs.declared.errors.Memory.{Memory}
 use Rattle.ak_lab_wires.proofs.Named.{from_place}
 use Rattle.ak_io.specs.Arrivals.{IsClockMoment}
 use Rattle.ak_lab_wires.specs.Servings.{ServesAgain, ServesFront, named_from, requests_in, with_line}
-use Rattle.ak_loops.specs.Betweens.{ActEnd}
-use Rattle.ak_loops.specs.Entries.{LoggedState}
-use Rattle.ak_loops.specs.LoggedServers.{IsServed}
-use Rattle.ak_loops.specs.declared.logs.Entry.{Entry}
+use Rattle.ak_sync_in_memory.specs.Betweens.{ActEnd}
+use Rattle.ak_sync_in_memory.specs.Entries.{LoggedState}
+use Rattle.ak_sync_in_memory.specs.LoggedServers.{IsServed}
+use Rattle.ak_sync_in_memory.specs.declared.logs.Entry.{Entry}
 use Rattle.ak_messages.specs.declared.replies.Reply.{Reply}
 use Rattle.ak_messages.specs.declared.requests.Request.{Request}
 

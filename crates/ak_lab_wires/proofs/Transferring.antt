@@ -2,6 +2,10 @@
 use Rattle.std.proofs.Common.{◌≡◌, ℤ, pos, [], ◌∷◌, List, Option, Some, None, Result, Ok, Err, refl, sym, subst, inl, inr}
 use Rattle.ak_client.specs.Greetings.{clock_stop}
 use Rattle.ak_client.specs.declared.outcomes.Outcome.{Outcome}
+use Rattle.ak_client_wire.specs.Wires.{WireKind}
+use Rattle.ak_client_wire.specs.declared.asks.Unanswered.{Unanswered}
+use Rattle.ak_client_wire.specs.declared.wires.MetaSaid.{MetaSaid}
+use Rattle.ak_client_wire.specs.declared.wires.WireEnd.{WireEnd}
 use Rattle.ak_exchange.specs.Asked.{AreTried, TriedAsk, answers_in, asks_in}
 use Rattle.ak_exchange.specs.declared.envelopes.Ids.{Ids}
 use Rattle.ak_exchange.specs.declared.stops.Stop.{Stop}
@@ -11,10 +15,6 @@ use Rattle.ak_messages.specs.declared.replies.Reply.{Reply}
 use Rattle.ak_messages.specs.declared.requests.Ask.{Ask}
 use Rattle.ak_transfers.specs.Greetings.{Line, TransferOutside}
 use Rattle.ak_transfers.specs.Transfers.{AsksNothing, AsksOnce, Continues, Errand, Follows, IsTransfer, MayAsk}
-use Rattle.ak_wires.specs.Wires.{WireKind}
-use Rattle.ak_wires.specs.declared.asks.Unanswered.{Unanswered}
-use Rattle.ak_wires.specs.declared.wires.MetaSaid.{MetaSaid}
-use Rattle.ak_wires.specs.declared.wires.WireEnd.{WireEnd}
 
 -- these were tried over this moment after a meta that came to this, one after the other
 pub record TriesInTurn {kind : WireKind} (ids : Ids) (moment : ℤ) (meta : Result Reply WireEnd) (asked : List Ask) (was now : Line kind) : Type 0 where

@@ -4,8 +4,8 @@ use Rattle.ak_base.specs.declared.errors.Memory.{Memory}
 use Rattle.ak_lab_devices.specs.declared.plans.Planned.{Planned}
 use Rattle.ak_lab_wires.proofs.Named.{from_place, past_end}
 use Rattle.ak_lab_wires.specs.Turns.{InTurn, TurnKind, due}
-use Rattle.ak_loops.specs.Betweens.{ActEnd}
-use Rattle.ak_loops.specs.Entries.{LoggedState}
+use Rattle.ak_sync_in_memory.specs.Betweens.{ActEnd}
+use Rattle.ak_sync_in_memory.specs.Entries.{LoggedState}
 
 module _ {X : Type 0} (act : TurnKind X) where
   -- ---- one line, due or not

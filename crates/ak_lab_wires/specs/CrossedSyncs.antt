@@ -17,9 +17,9 @@ use Rattle.ak_lab_wires.specs.declared.crossed_syncs.Crossings.{Crossings}
 use Rattle.ak_lab_wires.specs.declared.crossed_syncs.Prepared.{Prepared}
 use Rattle.ak_lab_wires.specs.declared.lab_sessions.SessionKind.TheVariants as kinds
 use Rattle.ak_lab_wires.specs.declared.replayed_requests.Replays.{Replays}
-use Rattle.ak_loops.specs.Betweens.{ActEnd, Acting}
-use Rattle.ak_loops.specs.Entries.{LoggedState}
 use Rattle.ak_outcomes.specs.OutcomeTexts.{outcome_text}
+use Rattle.ak_sync_in_memory.specs.Betweens.{ActEnd, Acting}
+use Rattle.ak_sync_in_memory.specs.Entries.{LoggedState}
 
 -- ---- the lab in which they sync
 -- its clock in milliseconds, how many sessions began, its devices in the order of their lines, and what crossed syncs printed so far

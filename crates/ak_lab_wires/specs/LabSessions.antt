@@ -5,6 +5,11 @@ use Rattle.ak_client.specs.Greetings.{meta_of}
 use Rattle.ak_client.specs.Syncs.{IsSyncEnded, KeepsDevice}
 use Rattle.ak_client.specs.declared.outcomes.Outcome.{Outcome}
 use Rattle.ak_client.specs.declared.outcomes.Outcome.TheVariants as outcomes
+use Rattle.ak_client_wire.specs.Tries.{AreCallsOf, MadeCall}
+use Rattle.ak_client_wire.specs.Wires.{WireKind, more}
+use Rattle.ak_client_wire.specs.declared.asks.Unanswered.{Unanswered}
+use Rattle.ak_client_wire.specs.declared.wires.MetaSaid.{MetaSaid}
+use Rattle.ak_client_wire.specs.declared.wires.WireEnd.{WireEnd}
 use Rattle.ak_exchange.specs.Asked.{TriedAsk, answers_in, asker, asks_in}
 use Rattle.ak_exchange.specs.declared.envelopes.Ids.{Ids}
 use Rattle.ak_faults.specs.Calls.{names_none}
@@ -15,22 +20,17 @@ use Rattle.ak_lab_devices.specs.declared.devices.Device.{Device}
 use Rattle.ak_lab_lines.specs.declared.lab_lines.Direction.TheVariants as directions
 use Rattle.ak_lab_wires.specs.declared.lab_sessions.SessionKind.{SessionKind}
 use Rattle.ak_lab_wires.specs.declared.lab_sessions.SessionKind.TheVariants as kinds
-use Rattle.ak_loops.specs.Betweens.{Acting}
-use Rattle.ak_loops.specs.Entries.{LoggedState}
-use Rattle.ak_loops.specs.LoopWires.{Delivers, LoopInside, health_over, inside_with, loop_kind, state_of_loop}
-use Rattle.ak_loops.specs.Mishaps.{loses_nothing}
-use Rattle.ak_loops.specs.declared.mishaps.Mishap.{Mishap}
 use Rattle.ak_messages.specs.declared.replies.Reply.{Reply}
 use Rattle.ak_messages.specs.declared.requests.Ask.{Ask}
 use Rattle.ak_messages.specs.declared.requests.Request.{Request}
 use Rattle.ak_session.specs.Plans.{requests_from}
+use Rattle.ak_sync_in_memory.specs.Betweens.{Acting}
+use Rattle.ak_sync_in_memory.specs.Entries.{LoggedState}
+use Rattle.ak_sync_in_memory.specs.LoopWires.{Delivers, LoopInside, health_over, inside_with, loop_kind, state_of_loop}
+use Rattle.ak_sync_in_memory.specs.Mishaps.{loses_nothing}
+use Rattle.ak_sync_in_memory.specs.declared.mishaps.Mishap.{Mishap}
 use Rattle.ak_transfers.specs.Greetings.{TransferOutside}
 use Rattle.ak_transfers.specs.Transfers.{IsDownload, IsUpload, StaysUnlessFinished, may_end_download, may_end_upload}
-use Rattle.ak_wires.specs.Tries.{AreCallsOf, MadeCall}
-use Rattle.ak_wires.specs.Wires.{WireKind, more}
-use Rattle.ak_wires.specs.declared.asks.Unanswered.{Unanswered}
-use Rattle.ak_wires.specs.declared.wires.MetaSaid.{MetaSaid}
-use Rattle.ak_wires.specs.declared.wires.WireEnd.{WireEnd}
 
 -- ---- what is asked
 -- the digits of the host key of the server's account

@@ -5,8 +5,8 @@ use Rattle.ak_lab_devices.specs.declared.plans.Act.TheVariants as acts
 use Rattle.ak_lab_wires.specs.Servings.{ServesAgain}
 use Rattle.ak_lab_wires.specs.Turns.{InTurn, TurnKind, due, plans_nothing}
 use Rattle.ak_lab_wires.specs.declared.replayed_requests.Replays.{Replays}
-use Rattle.ak_loops.specs.Betweens.{ActEnd, Acting}
-use Rattle.ak_loops.specs.Entries.{LoggedState}
+use Rattle.ak_sync_in_memory.specs.Betweens.{ActEnd, Acting}
+use Rattle.ak_sync_in_memory.specs.Entries.{LoggedState}
 
 -- an act at this moment, written down with a line. What makes another device sync is left
 abbrev pub ReplaysBy : Act → ℕ → ℤ → LoggedState → LoggedState → ActEnd → Type 0

@@ -2,14 +2,14 @@
 use Rattle.std.specs.Prelude.{◌≡◌, ◌⊎◌, ◌+◌, ℕ, ℤ, List, [], ◌∷◌, ◌++◌, drop, length, take, Ok, Err}
 use Rattle.ak_base.specs.declared.errors.Memory.{Memory}
 use Rattle.ak_io.specs.Arrivals.{IsClockMoment}
-use Rattle.ak_loops.specs.Betweens.{ActEnd}
-use Rattle.ak_loops.specs.Entries.{LoggedState}
-use Rattle.ak_loops.specs.LoggedServers.{IsServed}
-use Rattle.ak_loops.specs.declared.logs.Entry.{Entry}
-use Rattle.ak_loops.specs.declared.logs.Logged.{Logged}
-use Rattle.ak_loops.specs.declared.logs.Logged.TheVariants as logged
 use Rattle.ak_messages.specs.declared.replies.Reply.{Reply}
 use Rattle.ak_messages.specs.declared.requests.Request.{Request}
+use Rattle.ak_sync_in_memory.specs.Betweens.{ActEnd}
+use Rattle.ak_sync_in_memory.specs.Entries.{LoggedState}
+use Rattle.ak_sync_in_memory.specs.LoggedServers.{IsServed}
+use Rattle.ak_sync_in_memory.specs.declared.logs.Entry.{Entry}
+use Rattle.ak_sync_in_memory.specs.declared.logs.Logged.{Logged}
+use Rattle.ak_sync_in_memory.specs.declared.logs.Logged.TheVariants as logged
 
 -- ---- the requests of a log
 -- the request that came, before these. A view is none

@@ -2,8 +2,8 @@
 use Rattle.std.specs.Prelude.{◌≡◌, ◌⊎◌, ℕ, ◌==◌, Bool, true, false, List, [], ◌∷◌, filter, Ok, Err}
 use Rattle.ak_base.specs.declared.errors.Memory.{Memory}
 use Rattle.ak_lab_devices.specs.declared.plans.Planned.{Planned}
-use Rattle.ak_loops.specs.Betweens.{ActEnd}
-use Rattle.ak_loops.specs.Entries.{LoggedState}
+use Rattle.ak_sync_in_memory.specs.Betweens.{ActEnd}
+use Rattle.ak_sync_in_memory.specs.Entries.{LoggedState}
 
 -- what is planned before the call of this number
 abbrev pub due : ℕ → List Planned → List Planned

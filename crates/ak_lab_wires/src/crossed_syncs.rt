@@ -17,8 +17,8 @@ use ak_client::Outcome;
 use ak_io::ListClock;
 use ak_lab_devices::{Act, Device, Planned, crossings_in, is_clock_moment, place_of};
 use ak_lab_lines::write_ending;
-use ak_loops::{Between, LoggedServer, LoopWire, Mishap};
 use ak_outcomes::outcome_text;
+use ak_sync_in_memory::{Between, LoggedServer, LoopWire, Mishap};
 use std::alloc::Global;
 use std::mem;
 

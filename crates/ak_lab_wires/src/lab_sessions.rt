@@ -7,14 +7,14 @@ ghost use Rattle.ak_faults.specs.Calls.{names_none};
 ghost use Rattle.ak_io.specs.Arrivals.{IsClockMoment};
 ghost use Rattle.ak_lab_devices.specs.Devices.{given_outside, keeping_of};
 ghost use Rattle.ak_lab_wires.specs.LabSessions.{EndsByKind, IsSessionOver, LeavesDevice, MayEnd, calls_known_after, fails_after, fails_in, lab_host};
-ghost use Rattle.ak_loops.specs.LoopWires.{health_over, inside_with, state_of_loop};
+ghost use Rattle.ak_sync_in_memory.specs.LoopWires.{health_over, inside_with, state_of_loop};
 
 use ak_base::{HostKey, List, Memory, SessionKey};
 use ak_client::{Ids, Outcome};
 use ak_io::ListClock;
 use ak_lab_devices::Device;
 use ak_lab_lines::Direction;
-use ak_loops::{Between, LoggedServer, LoopWire};
+use ak_sync_in_memory::{Between, LoggedServer, LoopWire};
 use std::alloc::Global;
 use std::mem;
 

@@ -5,8 +5,8 @@ ghost use Rattle.ak_lab_wires.specs.Servings.{ServesFront, named_from, requests_
 ghost use Rattle.ak_messages.specs.declared.requests.Request.{Request};
 
 use ak_base::{List, Memory};
-use ak_loops::{Entry, Logged, LoggedServer};
 use ak_messages::Request;
+use ak_sync_in_memory::{Entry, Logged, LoggedServer};
 use std::alloc::Global;
 
 /// How many requests are passed over, and how many after them are named.

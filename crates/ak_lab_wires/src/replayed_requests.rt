@@ -4,13 +4,13 @@ ghost use Rattle.ak_io.specs.Arrivals.{IsClockMoment};
 ghost use Rattle.ak_lab_wires.specs.Replaying.{ReplaysBy, ReplaysOne};
 ghost use Rattle.ak_lab_wires.specs.Servings.{ServesAgain, ServesFront, with_line};
 ghost use Rattle.ak_lab_wires.specs.Turns.{InTurn, due};
-ghost use Rattle.ak_loops.specs.Entries.{LoggedState};
+ghost use Rattle.ak_sync_in_memory.specs.Entries.{LoggedState};
 
 use crate::named_requests::{requests_named, serve_each};
 use ak_base::{List, Memory, SessionKey};
 use ak_lab_devices::{Act, Planned, is_clock_moment};
-use ak_loops::{Between, LoggedServer};
 use ak_messages::Request;
+use ak_sync_in_memory::{Between, LoggedServer};
 use std::alloc::Global;
 
 /// Whoever serves requests of the log again, at one moment, in milliseconds.

@@ -5,8 +5,8 @@ ghost use Rattle.ak_lab_devices.specs.declared.devices.Device.{Device};
 use crate::lab_sessions::lab_key;
 use ak_base::{List, Memory, Text};
 use ak_lab_devices::{Device, HeldCollection};
-use ak_loops::LoggedServer;
 use ak_openings::opening;
+use ak_sync_in_memory::LoggedServer;
 use ak_undo::UndoList;
 use std::alloc::Global;
 

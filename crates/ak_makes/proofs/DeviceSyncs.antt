@@ -8,12 +8,12 @@ use Rattle.ak_client.specs.declared.outcomes.Outcome.TheVariants as outcomes
 use Rattle.ak_client.specs.declared.outcomes.Outcome.{Outcome}
 use Rattle.ak_exchange.specs.declared.envelopes.Ids.{Ids}
 use Rattle.ak_keep.specs.Keepers.{Keeping}
-use Rattle.ak_loops.specs.Betweens.{always_idle, does_nothing}
-use Rattle.ak_loops.specs.Entries.{LoggedState}
-use Rattle.ak_loops.specs.LoopWires.{LoopInside, health_over, inside_with, state_of_loop}
-use Rattle.ak_loops.specs.Mishaps.{loses_nothing}
-use Rattle.ak_loops.specs.declared.betweens.NothingBetween.{NothingBetween}
-use Rattle.ak_loops.specs.declared.mishaps.Mishap.{Mishap}
+use Rattle.ak_sync_in_memory.specs.Betweens.{always_idle, does_nothing}
+use Rattle.ak_sync_in_memory.specs.Entries.{LoggedState}
+use Rattle.ak_sync_in_memory.specs.LoopWires.{LoopInside, health_over, inside_with, state_of_loop}
+use Rattle.ak_sync_in_memory.specs.Mishaps.{loses_nothing}
+use Rattle.ak_sync_in_memory.specs.declared.betweens.NothingBetween.{NothingBetween}
+use Rattle.ak_sync_in_memory.specs.declared.mishaps.Mishap.{Mishap}
 use Rattle.ak_makes.specs.MadeServers.{make_host}
 use Rattle.ak_makes.specs.Measures.{IsSynced, sync_moment}
 

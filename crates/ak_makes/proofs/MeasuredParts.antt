@@ -4,13 +4,13 @@ use Rattle.std.proofs.lemmas.Option.{same_Some}
 use Rattle.ak_client.specs.declared.outcomes.Outcome.{Outcome}
 use Rattle.ak_keep.specs.Collections.{Collection}
 use Rattle.ak_keep.specs.Keepers.{Keeping}
-use Rattle.ak_loops.specs.Entries.{LoggedState, collection_in}
 use Rattle.ak_makes.specs.Days.{DoesDay}
 use Rattle.ak_makes.specs.MadeServers.{AreCountsOn, HoldsCopy, IsServerOf}
 use Rattle.ak_makes.specs.Measures.{IsMeasured, IsSynced}
 use Rattle.ak_merge.specs.Commits.{IsCopyOf}
 use Rattle.ak_messages.specs.declared.requests.SanityCounts.{SanityCounts}
 use Rattle.ak_server_copies.specs.Copies.{IsViewed, committed_in}
+use Rattle.ak_sync_in_memory.specs.Entries.{LoggedState, collection_in}
 use Rattle.ak_undo.specs.declared.steps.Step.{Step}
 
 pub measured : (seed size : ℕ) (server viewed after : LoggedState) (begun worked left : Keeping) (none steps : List Step) (counts : SanityCounts) (calls : ℕ) (outcome : Outcome)

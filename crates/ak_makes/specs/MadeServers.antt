@@ -3,14 +3,14 @@ use Rattle.std.specs.Prelude.{◌≡◌, ℕ, List, Some, codes}
 use Rattle.ak_exchange.specs.Phases.{holding}
 use Rattle.ak_keep.specs.Collections.{Collection}
 use Rattle.ak_keep.specs.Keepers.{Keeping}
-use Rattle.ak_loops.specs.Entries.{LoggedState}
-use Rattle.ak_loops.specs.LoggedServers.{begins_with}
 use Rattle.ak_made_collections.specs.MadeCollections.{IsMade}
 use Rattle.ak_merge.specs.Commits.{IsCopyOf}
 use Rattle.ak_messages.specs.declared.requests.SanityCounts.{SanityCounts}
 use Rattle.ak_openings.specs.declared.whole_collections.Opening.{Opening}
 use Rattle.ak_server_copies.specs.Copies.{committed_in}
 use Rattle.ak_session.specs.Answers.{counts_of}
+use Rattle.ak_sync_in_memory.specs.Entries.{LoggedState}
+use Rattle.ak_sync_in_memory.specs.LoggedServers.{begins_with}
 
 -- the digits of the host key of the server's account
 abbrev pub make_host : List ℕ

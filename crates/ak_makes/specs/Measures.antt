@@ -9,11 +9,11 @@ use Rattle.ak_exchange.specs.declared.envelopes.Ids.{Ids}
 use Rattle.ak_faults.specs.Causes.{Health}
 use Rattle.ak_keep.specs.Collections.{Collection}
 use Rattle.ak_keep.specs.Keepers.{Keeping}
-use Rattle.ak_loops.specs.Betweens.{always_idle, does_nothing}
-use Rattle.ak_loops.specs.Entries.{LoggedState, collection_in}
-use Rattle.ak_loops.specs.LoggedServers.{begins_with}
-use Rattle.ak_loops.specs.LoopWires.{LoopInside, health_over, inside_with, state_of_loop}
-use Rattle.ak_loops.specs.declared.betweens.NothingBetween.{NothingBetween}
+use Rattle.ak_sync_in_memory.specs.Betweens.{always_idle, does_nothing}
+use Rattle.ak_sync_in_memory.specs.Entries.{LoggedState, collection_in}
+use Rattle.ak_sync_in_memory.specs.LoggedServers.{begins_with}
+use Rattle.ak_sync_in_memory.specs.LoopWires.{LoopInside, health_over, inside_with, state_of_loop}
+use Rattle.ak_sync_in_memory.specs.declared.betweens.NothingBetween.{NothingBetween}
 use Rattle.ak_makes.specs.Days.{DoesDay}
 use Rattle.ak_made_collections.specs.MadeCollections.{IsMade}
 use Rattle.ak_makes.specs.MadeServers.{AreCountsOn, make_host}

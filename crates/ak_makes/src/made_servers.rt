@@ -6,19 +6,19 @@ ghost use Rattle.ak_base.specs.Heads.{IsHeadInRange};
 ghost use Rattle.ak_base.specs.Names.{name_cmp};
 ghost use Rattle.ak_base.specs.Rows.{IsChecked, name_of};
 ghost use Rattle.ak_keep.specs.Keepers.{all_known, is_marked};
-ghost use Rattle.ak_loops.specs.Entries.{collection_in};
 ghost use Rattle.ak_makes.specs.MadeServers.{AreCountsOn, HoldsCopy, IsServerOf, make_host};
 ghost use Rattle.ak_server_copies.specs.Copies.{IsViewed, committed_in};
+ghost use Rattle.ak_sync_in_memory.specs.Entries.{collection_in};
 
 use ak_base::{HostKey, Text};
 use ak_edit::DeskFault;
-use ak_loops::{LoggedServer, keeper_with};
 use ak_made_collections::{MakePlan, made_collection};
 use ak_memory::MemoryKeeper;
 use ak_messages::SanityCounts;
 use ak_openings::Opening;
-use ak_parts::counts_of;
 use ak_server_copies::view_all;
+use ak_sync_in_memory::{LoggedServer, keeper_with};
+use ak_sync_rows::counts_of;
 use std::alloc::Global;
 
 /// A server that was opened with the collection of the plan.

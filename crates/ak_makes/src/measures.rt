@@ -9,10 +9,10 @@ use ak_base::{List, SessionKey};
 use ak_client::{Ids, Outcome, sync_over};
 use ak_edit::DeskFault;
 use ak_io::ListClock;
-use ak_loops::{LoggedServer, LoopWire, NothingBetween};
 use ak_made_collections::MakePlan;
 use ak_memory::MemoryKeeper;
 use ak_messages::SanityCounts;
+use ak_sync_in_memory::{LoggedServer, LoopWire, NothingBetween};
 use ak_undo::UndoList;
 use std::alloc::Global;
 

@@ -3,9 +3,9 @@ use Rattle.std.specs.Prelude.{◌≡◌, ◌⊎◌, ℕ, ℤ, pos, length, map, 
 use Rattle.std.specs.List.{AllByRecursion}
 use Rattle.ak_base.specs.NoteTexts.{fields_in, tags_in}
 use Rattle.ak_base.specs.declared.notes.Note.{Note}
-use Rattle.ak_calls.specs.NoteTags.{stored_tags}
 use Rattle.ak_csv.specs.NotesAgain.{BeginsPlainly, IsReadable, record_of_note}
 use Rattle.ak_edit.specs.Ends.{holding_now}
+use Rattle.ak_edit_calls.specs.NoteTags.{stored_tags}
 use Rattle.ak_imports.specs.NewNotes.{AreNewGuids, AreTextsOf, HaveCome, texts_of_note}
 use Rattle.ak_imports.specs.NotesOfTypes.{notes_of_type}
 use Rattle.ak_imports.specs.declared.imports.Imported.{Imported}

@@ -11,10 +11,10 @@ use Rattle.ak_base.specs.declared.names.Name.{Name}
 use Rattle.ak_base.specs.declared.names.Table.TheVariants as tables
 use Rattle.ak_base.specs.declared.note_types.NoteType.{NoteType}
 use Rattle.ak_base.specs.declared.notes.Note.{Note}
-use Rattle.ak_calls.proofs.Answering.{passed_first, refused_first}
-use Rattle.ak_calls.proofs.Telling.{where_always, where_held-both, where_held-map, where_rows_held, where_told-both}
+use Rattle.ak_edit_calls.proofs.Answering.{passed_first, refused_first}
+use Rattle.ak_edit_calls.proofs.Telling.{where_always, where_held-both, where_held-map, where_rows_held, where_told-both}
 use Rattle.ak_keep.specs.FreeNames.{is_used}
-use Rattle.ak_calls.specs.NewNames.{IsNewName, RefusesId, first_name}
+use Rattle.ak_edit_calls.specs.NewNames.{IsNewName, RefusesId, first_name}
 use Rattle.ak_cardgen.specs.Generation.{AreOrds}
 use Rattle.ak_edit.specs.Ends.{AnswersEnd, FinishedBy, IsFinished, RefusesEnd}
 use Rattle.ak_edit.specs.Overlays.{Overlay, edit_of, unchanged}
@@ -28,7 +28,7 @@ use Rattle.ak_keep.specs.Collections.{Collection, Holding, Rows, collection_of}
 use Rattle.ak_keep.specs.Keepers.{Keeping, WhereHeld, WhereTold}
 use Rattle.ak_keep.specs.Lookups.{note_type_at}
 use Rattle.ak_merge.specs.Edits.{Edit}
-use Rattle.ak_calls.proofs.FreeIds.{free_once}
+use Rattle.ak_edit_calls.proofs.FreeIds.{free_once}
 use Rattle.ak_notes.proofs.NewCards.{card_ids_answer, cards_of_once}
 use Rattle.ak_notes.proofs.MadeNotes.{made_answer, made_asked}
 use Rattle.ak_notes.proofs.Needing.{other_answer, other_refusal}

@@ -6,7 +6,7 @@ use Rattle.ak_base.specs.declared.names.Table.{Table}
 use Rattle.ak_base.specs.declared.names.Table.TheVariants as tables
 use Rattle.ak_base.specs.declared.rows.Row.{Row}
 use Rattle.ak_base.specs.declared.rows.Row.TheVariants as rows
-use Rattle.ak_calls.specs.Calls.{has_id}
+use Rattle.ak_edit_calls.specs.Calls.{has_id}
 use Rattle.ak_keep.specs.Collections.{Collection}
 use Rattle.ak_merge.proofs.EditBuildingLaws.{unedited_is_admitted}
 use Rattle.ak_merge.proofs.Sweeps.{sweeps_are_admitted}

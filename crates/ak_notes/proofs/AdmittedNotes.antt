@@ -9,8 +9,8 @@ use Rattle.ak_base.specs.declared.notes.Note.{Note}
 use Rattle.ak_base.specs.declared.rows.Row.{Row}
 use Rattle.ak_base.specs.declared.rows.Row.TheVariants as rows
 use Rattle.ak_keep.specs.FreeNames.{IsFree, is_used}
-use Rattle.ak_calls.proofs.FreeIds.{not_dead}
-use Rattle.ak_calls.specs.NewNames.{first_name}
+use Rattle.ak_edit_calls.proofs.FreeIds.{not_dead}
+use Rattle.ak_edit_calls.specs.NewNames.{first_name}
 use Rattle.ak_keep.specs.Collections.{Collection}
 use Rattle.ak_keep.specs.Lookups.{as_note, note_at}
 use Rattle.ak_merge.proofs.EditBuildingLaws.{puts_are_admitted, settings_are_admitted, tags_are_admitted, unedited_is_admitted}

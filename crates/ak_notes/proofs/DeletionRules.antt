@@ -18,10 +18,10 @@ use Rattle.ak_base.specs.declared.names.Table.{Table}
 use Rattle.ak_base.specs.declared.names.Table.TheVariants as tables
 use Rattle.ak_base.specs.declared.rows.Row.{Row}
 use Rattle.ak_base.specs.declared.rows.Row.TheVariants as rows
-use Rattle.ak_calls.proofs.Answering.{never_first, passed_first}
-use Rattle.ak_calls.proofs.Overlaying.{edit_by_names, none_noted, removed_under, rest_of}
-use Rattle.ak_calls.proofs.Telling.{where_held-both, where_rows_held, where_told-both}
-use Rattle.ak_calls.specs.Calls.{DoesEdit, RefusesMissing, has_id}
+use Rattle.ak_edit_calls.proofs.Answering.{never_first, passed_first}
+use Rattle.ak_edit_calls.proofs.Overlaying.{edit_by_names, none_noted, removed_under, rest_of}
+use Rattle.ak_edit_calls.proofs.Telling.{where_held-both, where_rows_held, where_told-both}
+use Rattle.ak_edit_calls.specs.Calls.{DoesEdit, RefusesMissing, has_id}
 use Rattle.ak_edit.specs.Ends.{AnswersEnd, FinishedBy, IsFinished, IsHeldRightly, RefusesEnd, RefusesRow, RefusesStamp}
 use Rattle.ak_edit.specs.Overlays.{Overlay, edit_of, removed_over, row_over, unchanged}
 use Rattle.ak_edit.specs.Refusals.{AnswersBy}

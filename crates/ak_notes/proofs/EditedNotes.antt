@@ -9,12 +9,12 @@ use Rattle.ak_base.specs.declared.names.Name.{Name}
 use Rattle.ak_base.specs.declared.names.Table.TheVariants as tables
 use Rattle.ak_base.specs.declared.note_types.NoteType.{NoteType}
 use Rattle.ak_base.specs.declared.notes.Note.{Note}
-use Rattle.ak_calls.proofs.Answering.{passed_first, refused_first}
-use Rattle.ak_calls.proofs.Telling.{where_held-both, where_held-map, where_rows_held, where_told-both}
+use Rattle.ak_edit_calls.proofs.Answering.{passed_first, refused_first}
+use Rattle.ak_edit_calls.proofs.Telling.{where_held-both, where_held-map, where_rows_held, where_told-both}
 use Rattle.ak_keep.specs.FreeNames.{is_used}
 use Rattle.ak_cardgen.specs.Generation.{AreOrds}
 use Rattle.ak_edit.specs.Ends.{AnswersEnd, FinishedBy, IsFinished, RefusesEnd}
-use Rattle.ak_calls.specs.NewNames.{RefusesIdsFrom, first_name}
+use Rattle.ak_edit_calls.specs.NewNames.{RefusesIdsFrom, first_name}
 use Rattle.ak_edit.specs.Overlays.{Overlay, edit_of, unchanged}
 use Rattle.ak_edit.specs.Refusals.{AnswersBy, IsEndFault}
 use Rattle.ak_edit.specs.declared.desk_faults.DeskFault.{DeskFault}

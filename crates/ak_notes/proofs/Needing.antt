@@ -2,10 +2,10 @@
 use Rattle.std.specs.Prelude.{◌≡◌, Option, Some, None, Result, Ok, Err}
 use Rattle.std.proofs.Common.{sym, subst, inl, inr}
 use Rattle.ak_base.specs.declared.names.Name.{Name}
-use Rattle.ak_calls.proofs.Answering.{passed_first, refused_first}
-use Rattle.ak_calls.proofs.Telling.{where_always, where_told-both}
 use Rattle.ak_edit.specs.Refusals.{AnswersBy, OrElse, Refusal}
 use Rattle.ak_edit.specs.declared.desk_faults.DeskFault.{DeskFault}
+use Rattle.ak_edit_calls.proofs.Answering.{passed_first, refused_first}
+use Rattle.ak_edit_calls.proofs.Telling.{where_always, where_told-both}
 use Rattle.ak_keep.proofs.Told.{where_told-map}
 use Rattle.ak_keep.specs.Collections.{Rows}
 use Rattle.ak_keep.specs.Keepers.{Keeping, WhereTold}

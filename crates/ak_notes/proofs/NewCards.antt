@@ -8,11 +8,11 @@ use Rattle.ak_base.specs.declared.names.Name.{Name}
 use Rattle.ak_base.specs.declared.names.Table.{Table}
 use Rattle.ak_base.specs.declared.names.Table.TheVariants as tables
 use Rattle.ak_base.specs.declared.note_types.NoteType.{NoteType}
-use Rattle.ak_calls.proofs.FreeIds.{made_once}
-use Rattle.ak_calls.specs.NewNames.{first_name}
 use Rattle.ak_cardgen.specs.Generation.{AreOrds}
 use Rattle.ak_edit.specs.Refusals.{AnswersBy}
 use Rattle.ak_edit.specs.declared.desk_faults.DeskFault.{DeskFault}
+use Rattle.ak_edit_calls.proofs.FreeIds.{made_once}
+use Rattle.ak_edit_calls.specs.NewNames.{first_name}
 use Rattle.ak_keep.specs.Collections.{Rows}
 use Rattle.ak_keep.specs.FreeNames.{is_used}
 use Rattle.ak_merge.specs.Holdings.{name_in}

@@ -9,7 +9,7 @@ use Rattle.ak_base.specs.declared.names.Table.TheVariants as tables
 use Rattle.ak_base.specs.declared.note_types.NoteType.{NoteType}
 use Rattle.ak_base.specs.declared.notes.Note.{Note}
 use Rattle.ak_keep.specs.FreeNames.{is_used}
-use Rattle.ak_calls.specs.NewNames.{IsNewName, RefusesId, first_name}
+use Rattle.ak_edit_calls.specs.NewNames.{IsNewName, RefusesId, first_name}
 use Rattle.ak_edit.specs.Ends.{IsFinished}
 use Rattle.ak_edit.specs.Refusals.{OrElse, Refusal}
 use Rattle.ak_edit.specs.declared.desk_faults.DeskFault.{DeskFault}

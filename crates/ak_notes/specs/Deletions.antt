@@ -4,10 +4,10 @@ use Rattle.ak_base.specs.declared.names.Name.{Name}
 use Rattle.ak_base.specs.declared.names.Table.TheVariants as tables
 use Rattle.ak_base.specs.declared.rows.Row.{Row}
 use Rattle.ak_base.specs.declared.rows.Row.TheVariants as rows
-use Rattle.ak_calls.specs.Calls.{RefusesMissing, has_id}
 use Rattle.ak_edit.specs.Ends.{RefusesStamp}
 use Rattle.ak_edit.specs.Overlays.{Overlay, removed_over}
 use Rattle.ak_edit.specs.Refusals.{OrElse, Refusal}
+use Rattle.ak_edit_calls.specs.Calls.{RefusesMissing, has_id}
 use Rattle.ak_keep.specs.Collections.{Collection, Rows, cards_of}
 use Rattle.ak_merge.specs.EditBuilding.{unedited, without_rows}
 use Rattle.ak_merge.specs.Edits.{Edit}

@@ -6,9 +6,9 @@ use Rattle.ak_base.specs.Heads.{IsConfInRange}
 use Rattle.ak_base.specs.declared.cards.Card.{Card}
 use Rattle.ak_base.specs.declared.heads.Conf.{Conf}
 use Rattle.ak_base.specs.declared.names.Table.TheVariants as tables
-use Rattle.ak_calls.specs.Calls.{has_id}
+use Rattle.ak_edit_calls.specs.Calls.{has_id}
 use Rattle.ak_keep.specs.FreeNames.{is_used}
-use Rattle.ak_calls.specs.NewNames.{RefusesIdsFrom, first_name}
+use Rattle.ak_edit_calls.specs.NewNames.{RefusesIdsFrom, first_name}
 use Rattle.ak_edit.specs.Refusals.{Refusal}
 use Rattle.ak_keep.specs.Collections.{Holding, Rows, cards_of}
 use Rattle.ak_keep.specs.Lookups.{card_at}

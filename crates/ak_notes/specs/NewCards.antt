@@ -6,10 +6,10 @@ use Rattle.ak_base.specs.declared.heads.Conf.{Conf}
 use Rattle.ak_base.specs.declared.names.Name.{Name}
 use Rattle.ak_base.specs.declared.names.Table.TheVariants as tables
 use Rattle.ak_base.specs.declared.note_types.NoteType.{NoteType}
-use Rattle.ak_calls.specs.NewNames.{AreMadeOf, RefusesIdsFrom, first_name}
 use Rattle.ak_cardgen.specs.Generation.{AreOrds, generation_fault}
 use Rattle.ak_edit.specs.Refusals.{Refusal}
 use Rattle.ak_edit.specs.declared.desk_faults.DeskFault.TheVariants as faults
+use Rattle.ak_edit_calls.specs.NewNames.{AreMadeOf, RefusesIdsFrom, first_name}
 use Rattle.ak_keep.specs.Collections.{Holding, Rows}
 use Rattle.ak_keep.specs.FreeNames.{is_used}
 use Rattle.ak_merge.specs.Holdings.{name_in}

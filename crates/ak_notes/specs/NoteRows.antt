@@ -4,9 +4,9 @@ use Rattle.std.specs.Fmt.{signed_decimal}
 use Rattle.std.specs.List.{join_with_byte}
 use Rattle.ak_base.specs.declared.note_types.NoteType.{NoteType}
 use Rattle.ak_base.specs.declared.notes.Note.{Note}
-use Rattle.ak_calls.specs.NoteTags.{stored_tags}
 use Rattle.ak_cardgen.specs.Checksums.{checksum}
 use Rattle.ak_cardgen.specs.SortTexts.{field_at, sort_text_of}
+use Rattle.ak_edit_calls.specs.NoteTags.{stored_tags}
 
 -- ---- fields
 -- the texts, each after this byte

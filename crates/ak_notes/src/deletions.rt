@@ -1,15 +1,15 @@
 ghost use Rattle.std.specs.Prelude.{◌≡◌, ◌⊎◌, true, false, IfErr, OnOk};
 ghost use Rattle.std.specs.FinMap.{get};
 ghost use Rattle.ak_base.specs.declared.names.Table.TheVariants as tables;
-ghost use Rattle.ak_calls.specs.Calls.{ChangesBy, EditsBy, IsMissingOrEnd, RefusesAbsent, RefusesMissing};
 ghost use Rattle.ak_edit.specs.Refusals.{AnswersBy, DeskCause, IsFromOutside};
 ghost use Rattle.ak_edit.specs.declared.desk_faults.DeskFault.TheVariants as faults;
+ghost use Rattle.ak_edit_calls.specs.Calls.{ChangesBy, EditsBy, IsMissingOrEnd, RefusesAbsent, RefusesMissing};
 ghost use Rattle.ak_keep.specs.Keepers.{KeepCause, WhereTold, is_marked};
 ghost use Rattle.ak_notes.specs.Deletions.{RefusesDeletion, deletion, without_cards, without_each, without_note};
 
 use ak_base::{Memory, Name, Table};
-use ak_calls::held_row;
 use ak_edit::{Change, DeskFault};
+use ak_edit_calls::held_row;
 use ak_keep::{KeepFault, Keeper};
 use ak_undo::UndoList;
 

@@ -2,9 +2,9 @@
 ghost use Rattle.std.specs.Prelude.{◌≡◌, ◌++◌, true, IfErr, IfOk, IfSome, OnOk};
 ghost use Rattle.ak_base.specs.Heads.{IsConfInRange};
 ghost use Rattle.ak_base.specs.declared.names.Table.TheVariants as tables;
-ghost use Rattle.ak_calls.specs.Calls.{has_id};
-ghost use Rattle.ak_calls.specs.NewNames.{IsIdFault, first_name};
 ghost use Rattle.ak_edit.specs.Refusals.{DeskCause};
+ghost use Rattle.ak_edit_calls.specs.Calls.{has_id};
+ghost use Rattle.ak_edit_calls.specs.NewNames.{IsIdFault, first_name};
 ghost use Rattle.ak_keep.specs.Lookups.{card_at};
 ghost use Rattle.ak_keep.specs.Readings.{ReadsBy};
 ghost use Rattle.ak_notes.specs.LackingNotes.{AreMissingIn, IsReady, RefusesMissingIds, cards_held, deck_in, first_deck, held_ord, held_ords, lacked_ords, missing_from, missing_place, next_after, next_at, or_first};
@@ -12,8 +12,8 @@ ghost use Rattle.ak_notes.specs.MadeNotes.{AnswersIn, MakesIn};
 
 use crate::new_cards::{CardPlace, at_least_one, conf_after, held_conf, new_cards};
 use ak_base::{Card, Conf, List, Memory, Name, Table};
-use ak_calls::first_name;
 use ak_edit::DeskFault;
+use ak_edit_calls::first_name;
 use ak_keep::{KeepFault, Keeper, Lookup, card_at};
 use std::alloc::Global;
 

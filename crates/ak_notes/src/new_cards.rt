@@ -1,18 +1,18 @@
 ghost use Rattle.std.specs.Prelude.{◌≡◌, ◌≤ℤ◌, pos, length, true, IfErr, IfOk, IfSome};
 ghost use Rattle.ak_base.specs.Heads.{IsConfInRange, IsWithin};
-ghost use Rattle.ak_calls.specs.Calls.{AnswersFrom};
-ghost use Rattle.ak_calls.specs.NewNames.{IsIdFault, RefusesIdsFrom};
 ghost use Rattle.ak_cardgen.specs.Generation.{AreOrds};
 ghost use Rattle.ak_edit.specs.Refusals.{AnswersBy, DeskCause};
+ghost use Rattle.ak_edit_calls.specs.Calls.{AnswersFrom};
+ghost use Rattle.ak_edit_calls.specs.NewNames.{IsIdFault, RefusesIdsFrom};
 ghost use Rattle.ak_keep.specs.Keepers.{WhereTold};
 ghost use Rattle.ak_keep.specs.Readings.{ReadsBy};
 ghost use Rattle.ak_notes.specs.MadeNotes.{IsGivenFault};
 ghost use Rattle.ak_notes.specs.NewCards.{AreNewIn, RefusesFronts, at_least_one, conf_after, first_after, new_card, place_after};
 
 use ak_base::{Card, Conf, LAST_COUNT, List, Memory, Name, NoteType, Text};
-use ak_calls::next_free;
 use ak_cardgen::{GenFault, ords_of};
 use ak_edit::{Change, DeskFault};
+use ak_edit_calls::next_free;
 use ak_keep::{KeepFault, Keeper};
 use std::alloc::Global;
 

@@ -6,8 +6,8 @@ ghost use Rattle.ak_cardgen.specs.SortTexts.{field_at};
 ghost use Rattle.ak_notes.specs.NoteRows.{blank_note, hex_digit, led_by, made_guid, with_fields, with_texts};
 
 use ak_base::{List, Memory, Note, NoteType, Text};
-use ak_calls::stored_tags;
 use ak_cardgen::{csum, sort_text};
+use ak_edit_calls::stored_tags;
 use std::alloc::Global;
 
 /// The note with these fields and tags, as one of this type.

@@ -10,20 +10,20 @@ use Rattle.ak_base.specs.declared.names.Table.TheVariants as tables
 use Rattle.ak_base.specs.declared.option_groups.Options.{Options}
 use Rattle.ak_base.specs.declared.rows.Row.{Row}
 use Rattle.ak_base.specs.declared.rows.Row.TheVariants as rows
-use Rattle.ak_calls.proofs.Adding.{kept_as_is, row_added}
-use Rattle.ak_calls.proofs.Answering.{passed_first, refused_first}
-use Rattle.ak_calls.proofs.CheckedRows.{of_faultless}
-use Rattle.ak_calls.proofs.Ids.{id_fits}
-use Rattle.ak_calls.proofs.Taking.{no_cause_here, where_held-all}
-use Rattle.ak_calls.proofs.Telling.{where_held-map, where_rows_held}
-use Rattle.ak_calls.specs.Additions.{EndsAddition, RefusesNewStamp}
-use Rattle.ak_calls.specs.Calls.{EndsEdit}
-use Rattle.ak_calls.specs.NewNames.{IsNewName, RefusesId}
-use Rattle.ak_calls.specs.RowEdits.{RefusesRowEdit, row_edit}
 use Rattle.ak_edit.specs.Ends.{RefusesStamp}
 use Rattle.ak_edit.specs.Refusals.{AnswersBy, DeskCause, IsEndFault}
 use Rattle.ak_edit.specs.declared.desk_faults.DeskFault.{DeskFault}
 use Rattle.ak_edit.specs.declared.desk_faults.DeskFault.TheVariants as faults
+use Rattle.ak_edit_calls.proofs.Adding.{kept_as_is, row_added}
+use Rattle.ak_edit_calls.proofs.Answering.{passed_first, refused_first}
+use Rattle.ak_edit_calls.proofs.CheckedRows.{of_faultless}
+use Rattle.ak_edit_calls.proofs.Ids.{id_fits}
+use Rattle.ak_edit_calls.proofs.Taking.{no_cause_here, where_held-all}
+use Rattle.ak_edit_calls.proofs.Telling.{where_held-map, where_rows_held}
+use Rattle.ak_edit_calls.specs.Additions.{EndsAddition, RefusesNewStamp}
+use Rattle.ak_edit_calls.specs.Calls.{EndsEdit}
+use Rattle.ak_edit_calls.specs.NewNames.{IsNewName, RefusesId}
+use Rattle.ak_edit_calls.specs.RowEdits.{RefusesRowEdit, row_edit}
 use Rattle.ak_faults.specs.Causes.{Health}
 use Rattle.ak_keep.specs.Collections.{Collection, IsId, Rows}
 use Rattle.ak_keep.specs.Keepers.{Keeping, WhereHeld, WhereTold}

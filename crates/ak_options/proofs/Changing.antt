@@ -7,13 +7,13 @@ use Rattle.ak_base.specs.declared.names.Table.TheVariants as tables
 use Rattle.ak_base.specs.declared.option_groups.Options.{Options}
 use Rattle.ak_base.specs.declared.rows.Row.{Row}
 use Rattle.ak_base.specs.declared.rows.Row.TheVariants as rows
-use Rattle.ak_calls.proofs.Answering.{passed_first, refused_first}
-use Rattle.ak_calls.proofs.Telling.{where_held-both, where_held-map, where_rows_held}
-use Rattle.ak_calls.specs.Calls.{EndsEdit, RefusesAbsent}
-use Rattle.ak_calls.specs.RowEdits.{RefusesRowEdit, row_edit}
 use Rattle.ak_edit.specs.Ends.{RefusesStamp}
 use Rattle.ak_edit.specs.Refusals.{AnswersBy, OrElse}
 use Rattle.ak_edit.specs.declared.desk_faults.DeskFault.{DeskFault}
+use Rattle.ak_edit_calls.proofs.Answering.{passed_first, refused_first}
+use Rattle.ak_edit_calls.proofs.Telling.{where_held-both, where_held-map, where_rows_held}
+use Rattle.ak_edit_calls.specs.Calls.{EndsEdit, RefusesAbsent}
+use Rattle.ak_edit_calls.specs.RowEdits.{RefusesRowEdit, row_edit}
 use Rattle.ak_keep.specs.Keepers.{Keeping, WhereHeld, WhereTold}
 use Rattle.ak_merge.specs.Holdings.{name_in}
 use Rattle.ak_options.specs.OptionGroups.{RefusesChange, RefusesGiven, RefusesNoGroup, as_given, options_change}

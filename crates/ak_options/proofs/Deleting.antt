@@ -14,18 +14,18 @@ use Rattle.ak_base.specs.declared.names.Name.{Name}
 use Rattle.ak_base.specs.declared.names.Table.TheVariants as tables
 use Rattle.ak_base.specs.declared.rows.Row.{Row}
 use Rattle.ak_base.specs.declared.rows.Row.TheVariants as rows
-use Rattle.ak_calls.proofs.Answering.{never_first, on_ok-map, passed_first, refused_first}
-use Rattle.ak_calls.proofs.CheckedEdits.{checked_edits_pass}
-use Rattle.ak_calls.proofs.CheckedRows.{of_faultless}
-use Rattle.ak_calls.proofs.Ids.{id_fits}
-use Rattle.ak_calls.proofs.Overlaying.{edit_by_names}
-use Rattle.ak_calls.proofs.Telling.{where_held-both, where_held-map, where_rows_held, where_told-both}
-use Rattle.ak_calls.specs.Calls.{DoesEdit, EndsEdit, RefusesAbsent}
 use Rattle.ak_edit.proofs.Building.{removal_asked}
 use Rattle.ak_edit.specs.Ends.{AnswersEnd, FinishedBy, IsFinished, IsHeldRightly, RefusesEnd, RefusesRow, RefusesStamp}
 use Rattle.ak_edit.specs.Overlays.{Overlay, edit_of, removed_over, schema_over, unchanged}
 use Rattle.ak_edit.specs.Refusals.{AnswersBy, OrElse, Refusal}
 use Rattle.ak_edit.specs.declared.desk_faults.DeskFault.{DeskFault}
+use Rattle.ak_edit_calls.proofs.Answering.{never_first, on_ok-map, passed_first, refused_first}
+use Rattle.ak_edit_calls.proofs.CheckedEdits.{checked_edits_pass}
+use Rattle.ak_edit_calls.proofs.CheckedRows.{of_faultless}
+use Rattle.ak_edit_calls.proofs.Ids.{id_fits}
+use Rattle.ak_edit_calls.proofs.Overlaying.{edit_by_names}
+use Rattle.ak_edit_calls.proofs.Telling.{where_held-both, where_held-map, where_rows_held, where_told-both}
+use Rattle.ak_edit_calls.specs.Calls.{DoesEdit, EndsEdit, RefusesAbsent}
 use Rattle.ak_keep.proofs.Told.{where_told-map}
 use Rattle.ak_keep.specs.Collections.{Collection, Holding, IsId, Rows, rows_past}
 use Rattle.ak_keep.specs.Keepers.{Keeping, WhereHeld, WhereTold}

@@ -3,15 +3,15 @@ use Rattle.std.specs.Prelude.{◌≡◌, ℤ, List, Option, Some, None, IfSome, 
 use Rattle.std.proofs.Common.{ap, subst, ◌∙◌}
 use Rattle.ak_base.specs.declared.heads.Conf.{Conf}
 use Rattle.ak_base.specs.declared.heads.Head.{Head}
-use Rattle.ak_calls.proofs.Answering.{never_first, on_ok-map}
-use Rattle.ak_calls.proofs.CheckedEdits.{checked_edits_pass}
-use Rattle.ak_calls.proofs.Telling.{where_held-both}
-use Rattle.ak_calls.specs.Calls.{DoesEdit, EndsEdit}
 use Rattle.ak_edit.proofs.Building.{nothing_asked}
 use Rattle.ak_edit.specs.Ends.{AnswersEnd, FinishedBy, IsFinished, IsHeldRightly, RefusesEnd, RefusesRow, RefusesStamp}
 use Rattle.ak_edit.specs.Overlays.{IsConfOver, Overlay, conf_over, edit_of, unchanged}
 use Rattle.ak_edit.specs.Refusals.{AnswersBy}
 use Rattle.ak_edit.specs.declared.desk_faults.DeskFault.{DeskFault}
+use Rattle.ak_edit_calls.proofs.Answering.{never_first, on_ok-map}
+use Rattle.ak_edit_calls.proofs.CheckedEdits.{checked_edits_pass}
+use Rattle.ak_edit_calls.proofs.Telling.{where_held-both}
+use Rattle.ak_edit_calls.specs.Calls.{DoesEdit, EndsEdit}
 use Rattle.ak_keep.proofs.Told.{where_told-map}
 use Rattle.ak_keep.specs.Collections.{Collection, Holding, collection_of}
 use Rattle.ak_keep.specs.Keepers.{Keeping, WhereHeld, WhereTold}

@@ -5,14 +5,14 @@ use Rattle.ak_base.specs.declared.errors.RowFault.{RowFault}
 use Rattle.ak_base.specs.declared.names.Table.TheVariants as tables
 use Rattle.ak_base.specs.declared.option_groups.Options.{Options}
 use Rattle.ak_base.specs.declared.rows.Row.TheVariants as rows
-use Rattle.ak_calls.specs.Additions.{RefusesNewStamp}
-use Rattle.ak_calls.specs.Calls.{RefusesAbsent}
-use Rattle.ak_calls.specs.NewNames.{RefusesId}
-use Rattle.ak_calls.specs.RowEdits.{row_edit}
 use Rattle.ak_edit.specs.Ends.{RefusesStamp}
 use Rattle.ak_edit.specs.Refusals.{IsEndFault, OrElse, Refusal}
 use Rattle.ak_edit.specs.declared.desk_faults.DeskFault.{DeskFault}
 use Rattle.ak_edit.specs.declared.desk_faults.DeskFault.TheVariants as faults
+use Rattle.ak_edit_calls.specs.Additions.{RefusesNewStamp}
+use Rattle.ak_edit_calls.specs.Calls.{RefusesAbsent}
+use Rattle.ak_edit_calls.specs.NewNames.{RefusesId}
+use Rattle.ak_edit_calls.specs.RowEdits.{row_edit}
 use Rattle.ak_keep.specs.Collections.{Collection}
 use Rattle.ak_merge.specs.Edits.{Edit}
 use Rattle.ak_merge.specs.Holdings.{name_in, row_under}

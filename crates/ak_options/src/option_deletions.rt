@@ -1,12 +1,12 @@
 ghost use Rattle.std.specs.Prelude.{◌≡◌, true, false, IfErr, OnOk};
-ghost use Rattle.ak_calls.specs.Calls.{ChangesBy, EditsBy};
 ghost use Rattle.ak_edit.specs.Refusals.{AnswersBy, DeskCause};
+ghost use Rattle.ak_edit_calls.specs.Calls.{ChangesBy, EditsBy};
 ghost use Rattle.ak_keep.specs.Keepers.{KeepCause, is_marked};
 ghost use Rattle.ak_options.specs.OptionDeletions.{IsAskedFault, IsDeletionFault, RefusesAsked, RefusesDeletion, has_options, held_defaults, options_deletion, put_default, put_defaults, with_default};
 
 use ak_base::{Memory, Name, Row, Table};
-use ak_calls::held_row;
 use ak_edit::{Change, DeskFault};
+use ak_edit_calls::held_row;
 use ak_keep::{KeepFault, Keeper, Walk};
 use ak_undo::UndoList;
 

@@ -1,16 +1,16 @@
 ghost use Rattle.std.specs.Prelude.{◌≡◌, true, false, IfErr, IfOk, OnOk};
 ghost use Rattle.ak_base.specs.OptionGroups.{IsCheckedOptions};
 ghost use Rattle.ak_base.specs.declared.names.Table.TheVariants as tables;
-ghost use Rattle.ak_calls.specs.Additions.{AddsBy};
-ghost use Rattle.ak_calls.specs.Calls.{EditsBy};
 ghost use Rattle.ak_edit.specs.Refusals.{AnswersBy, DeskCause};
+ghost use Rattle.ak_edit_calls.specs.Additions.{AddsBy};
+ghost use Rattle.ak_edit_calls.specs.Calls.{EditsBy};
 ghost use Rattle.ak_keep.specs.Collections.{IsId};
 ghost use Rattle.ak_keep.specs.Keepers.{is_marked};
 ghost use Rattle.ak_options.specs.OptionGroups.{IsAdditionFault, IsChangeFault, RefusesAddition, RefusesChange, RefusesGiven, RefusesNewGroup, as_given, group_addition, options_addition, options_change, with_id};
 
 use ak_base::{Name, Options, Row, Table};
-use ak_calls::{add_row, edit_row, held_row, new_name};
 use ak_edit::DeskFault;
+use ak_edit_calls::{add_row, edit_row, held_row, new_name};
 use ak_keep::Keeper;
 use ak_undo::UndoList;
 

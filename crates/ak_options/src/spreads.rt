@@ -1,7 +1,7 @@
 ghost use Rattle.std.specs.Prelude.{◌≡◌, pos, true, false, IfErr};
 ghost use Rattle.ak_base.specs.Heads.{IsConfInRange, IsWithin};
-ghost use Rattle.ak_calls.specs.Calls.{EditsBy};
 ghost use Rattle.ak_edit.specs.Refusals.{DeskCause, IsEndFault};
+ghost use Rattle.ak_edit_calls.specs.Calls.{EditsBy};
 ghost use Rattle.ak_keep.specs.Keepers.{is_marked};
 ghost use Rattle.ak_options.specs.Spreads.{RefusesSpread, spreading, with_spread};
 

@@ -3,8 +3,8 @@ use Rattle.std.specs.Prelude.{ℕ, Bool, true, false, List, ◌++◌, Option, So
 use Rattle.std.specs.Fmt.{signed_decimal}
 use Rattle.ak_client.specs.declared.outcomes.Outcome.{Outcome}
 use Rattle.ak_client.specs.declared.outcomes.Outcome.TheVariants as outcomes
+use Rattle.ak_desk_texts.specs.AnswerTexts.{check_fault_text}
 use Rattle.ak_messages.specs.declared.requests.SanityCounts.{SanityCounts}
-use Rattle.ak_texts.specs.AnswerTexts.{check_fault_text}
 use Rattle.ak_wire.specs.Words.{word_text}
 
 -- how many rows of each kind a side has, in the order of a sanity check, with commas between

@@ -1,14 +1,14 @@
 ghost use Rattle.std.specs.Prelude.{◌≡◌, ◌++◌, Some, IfOk, IfSome, codes, decimal, is_some};
 ghost use Rattle.std.specs.Fmt.{signed_decimal};
+ghost use Rattle.ak_desk_texts.specs.AnswerTexts.{check_fault_text};
 ghost use Rattle.ak_outcomes.specs.OutcomeTexts.{counts_text, has_fixed_text, outcome_text};
-ghost use Rattle.ak_texts.specs.AnswerTexts.{check_fault_text};
 ghost use Rattle.ak_wire.specs.Words.{word_text};
 
 use ak_base::{Memory, Text};
 use ak_client::Outcome;
+use ak_desk_texts::write_check_fault;
 use ak_merge::CheckFault;
 use ak_messages::{SanityCounts, Word};
-use ak_texts::write_check_fault;
 use ak_wire::word_text;
 use std::alloc::Global;
 

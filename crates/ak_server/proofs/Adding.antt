@@ -8,7 +8,6 @@ use Rattle.std.proofs.lemmas.List.Folds.{find-append}
 use Rattle.ak_base.specs.declared.keys.HostKey.{HostKey}
 use Rattle.ak_keep.specs.Collections.{Collection}
 use Rattle.ak_keep.specs.Keepers.{IsNamedRightly, Keeping, is_marked}
-use Rattle.ak_machine.specs.Summaries.{account_summary}
 use Rattle.ak_protocol.proofs.Isolation.{host_is, same_as_itself}
 use Rattle.ak_protocol.specs.Accounts.{AccountState}
 use Rattle.ak_protocol.specs.Servers.{ServerState, same_host, with_account}
@@ -18,6 +17,7 @@ use Rattle.ak_server.proofs.Seeing.{seen_as}
 use Rattle.ak_server.specs.Accounts.{IsRight, StandsFor, account_at, account_seen, committed_in}
 use Rattle.ak_server.specs.Servers.{account_added}
 use Rattle.ak_server.specs.declared.accounts.Account.{Account}
+use Rattle.ak_server_rules.specs.Summaries.{account_summary}
 
 -- what follows from what holds if a call was not refused
 pub on_so : {T E : Type 0} (r : Result T E) (P Q : Type 0) → (P → Q) → OnOk r P → OnOk r Q

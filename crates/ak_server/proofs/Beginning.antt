@@ -11,12 +11,6 @@ use Rattle.ak_keep.specs.Keepers.{KeepCause, Keeping, WhereTold, back, is_marked
 use Rattle.ak_keep.specs.declared.head_numbers.Numbers.{Numbers}
 use Rattle.ak_keep.specs.declared.keepers.KeepFault.{KeepFault}
 use Rattle.ak_keep.specs.declared.keepers.KeepFault.TheVariants as keep_faults
-use Rattle.ak_machine.specs.Decisions.{setback_of, setback_reply}
-use Rattle.ak_machine.specs.Serving.{Did, begun, by_repeat, does, opened, struck}
-use Rattle.ak_machine.specs.Sessions.{IsCounted, first_place, has_mark, kept_seen, session_seen}
-use Rattle.ak_machine.specs.Summaries.{AccountSummary, SessionSummary}
-use Rattle.ak_machine.specs.declared.sessions.Kept.{Kept}
-use Rattle.ak_machine.specs.declared.sessions.Session.{Session}
 use Rattle.ak_messages.specs.declared.methods.Method.{Method}
 use Rattle.ak_messages.specs.declared.methods.Method.TheVariants as methods
 use Rattle.ak_messages.specs.declared.replies.Give.TheVariants as gives
@@ -31,6 +25,12 @@ use Rattle.ak_server.specs.Accounts.{AreGranted, IsKept, IsOver, IsRight, accoun
 use Rattle.ak_server.specs.Servers.{DoesSo, DoesUndisturbed, GivesAgain, IsStruck, LeavesCommitted, ServeCause, StrikesOne}
 use Rattle.ak_server.specs.Serving.{Does, FindsAgain, IsDecided}
 use Rattle.ak_server.specs.declared.accounts.Account.{Account}
+use Rattle.ak_server_rules.specs.Decisions.{setback_of, setback_reply}
+use Rattle.ak_server_rules.specs.Serving.{Did, begun, by_repeat, does, opened, struck}
+use Rattle.ak_server_rules.specs.Sessions.{IsCounted, first_place, has_mark, kept_seen, session_seen}
+use Rattle.ak_server_rules.specs.Summaries.{AccountSummary, SessionSummary}
+use Rattle.ak_server_rules.specs.declared.sessions.Kept.{Kept}
+use Rattle.ak_server_rules.specs.declared.sessions.Session.{Session}
 use Rattle.ak_session.proofs.Ranges.{not_both}
 use Rattle.ak_session.specs.NextMethods.{methods_after}
 use Rattle.ak_session.specs.Requests.{is_meta, same_method}

@@ -5,9 +5,6 @@ use Rattle.std.specs.Prelude.{◌≡◌, ◌||◌, ◌+ℤ◌, ◌≤ℤ◌, ◌
 use Rattle.std.proofs.Common.{sym, ap, subst, ◌∙◌, arith}
 use Rattle.std.proofs.lemmas.Bool.{or_parts}
 use Rattle.std.proofs.lemmas.Int.{int_min_is, ints}
-use Rattle.ak_answers.specs.Answers.{expects_mark}
-use Rattle.ak_answers.specs.Closings.{finished_moment, finished_usn, uploaded_head}
-use Rattle.ak_answers.specs.declared.answers.Basis.{Basis}
 use Rattle.ak_base.specs.Heads.{IsMoment}
 use Rattle.ak_base.specs.Limits.{last_head_usn, last_moment}
 use Rattle.ak_base.specs.declared.heads.Head.{Head}
@@ -16,10 +13,6 @@ use Rattle.ak_keep.specs.Collections.{Collection, rows_of}
 use Rattle.ak_keep.specs.HeadNumbers.{numbered, numbers_of}
 use Rattle.ak_keep.specs.Keepers.{Keeping, back, committed, is_marked, marked_here, moments_set, replaced}
 use Rattle.ak_keep.specs.declared.head_numbers.Numbers.{Numbers}
-use Rattle.ak_machine.specs.Serving.{Did, accepted, closed_by, ended, finished, is_bad_check, tests_of, went_on}
-use Rattle.ak_machine.specs.Sessions.{IsCounted, has_mark, kept_seen, session_seen}
-use Rattle.ak_machine.specs.Summaries.{AccountSummary, SessionSummary}
-use Rattle.ak_machine.specs.declared.sessions.Session.{Session}
 use Rattle.ak_merge.specs.Commits.{uploaded_rows}
 use Rattle.ak_messages.specs.declared.methods.Method.TheVariants as methods
 use Rattle.ak_messages.specs.declared.replies.Give.TheVariants as gives
@@ -37,6 +30,13 @@ use Rattle.ak_server.proofs.Seeing.{for_some, same_some, see, seen_as}
 use Rattle.ak_server.specs.Accounts.{IsOver, IsRight, account_seen, committed_in, gives_moment, is_started, tables_in}
 use Rattle.ak_server.specs.Serving.{Accepts, IsAccepted}
 use Rattle.ak_server.specs.declared.accounts.Account.{Account}
+use Rattle.ak_server_rules.specs.Serving.{Did, accepted, closed_by, ended, finished, is_bad_check, tests_of, went_on}
+use Rattle.ak_server_rules.specs.Sessions.{IsCounted, has_mark, kept_seen, session_seen}
+use Rattle.ak_server_rules.specs.Summaries.{AccountSummary, SessionSummary}
+use Rattle.ak_server_rules.specs.declared.sessions.Session.{Session}
+use Rattle.ak_server_steps.specs.Answers.{expects_mark}
+use Rattle.ak_server_steps.specs.Closings.{finished_moment, finished_usn, uploaded_head}
+use Rattle.ak_server_steps.specs.declared.answers.Basis.{Basis}
 use Rattle.ak_session.proofs.Ranges.{moment_fits, none_first, none_rest, untrue}
 use Rattle.ak_session.specs.Closings.{moment_past}
 use Rattle.ak_session.specs.Objections.{NoNumber, WrongRow}

@@ -7,12 +7,12 @@ use Rattle.std.proofs.Common.{refl, sym, ap, subst, ◌∙◌, arith, inl, inr}
 use Rattle.std.proofs.lemmas.Bool.{eqb-true}
 use Rattle.ak_base.specs.Limits.{last_head_usn}
 use Rattle.ak_base.specs.declared.names.Name.{Name}
-use Rattle.ak_answers.specs.Answers.{is_chunk}
+use Rattle.ak_server_steps.specs.Answers.{is_chunk}
 use Rattle.ak_keep.specs.Collections.{Collection}
-use Rattle.ak_machine.specs.Serving.{has_next_step, tests_of}
-use Rattle.ak_machine.specs.Sessions.{IsCounted, has_mark, is_before_chunks, session_seen}
-use Rattle.ak_machine.specs.Summaries.{SessionSummary, told_moment, told_usn, with_request}
-use Rattle.ak_machine.specs.declared.sessions.Session.{Session}
+use Rattle.ak_server_rules.specs.Serving.{has_next_step, tests_of}
+use Rattle.ak_server_rules.specs.Sessions.{IsCounted, has_mark, is_before_chunks, session_seen}
+use Rattle.ak_server_rules.specs.Summaries.{SessionSummary, told_moment, told_usn, with_request}
+use Rattle.ak_server_rules.specs.declared.sessions.Session.{Session}
 use Rattle.ak_merge.specs.Commits.{with_received}
 use Rattle.ak_messages.specs.declared.methods.Method.{Method}
 use Rattle.ak_messages.specs.declared.methods.Method.TheVariants as methods

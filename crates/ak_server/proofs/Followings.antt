@@ -3,9 +3,9 @@ use Rattle.std.specs.Cmp.{first_so, second_so}
 use Rattle.std.specs.List.{list_all, list_any}
 use Rattle.std.specs.Prelude.{◌≡◌, ◌&&◌, ◌||◌, Bool, true, false, not, if◌then◌else◌, List, [], ◌∷◌}
 use Rattle.std.proofs.Common.{refl, sym, ap, ◌∙◌}
-use Rattle.ak_answers.specs.Answers.{answered, expects_mark}
+use Rattle.ak_server_steps.specs.Answers.{answered, expects_mark}
 use Rattle.ak_keep.specs.Keepers.{Keeping, is_marked}
-use Rattle.ak_machine.specs.Sessions.{has_mark, is_before_chunks}
+use Rattle.ak_server_rules.specs.Sessions.{has_mark, is_before_chunks}
 use Rattle.ak_messages.specs.declared.methods.Method.{Method}
 use Rattle.ak_messages.specs.declared.methods.Method.TheVariants as methods
 use Rattle.ak_messages.specs.declared.requests.Ask.{Ask}

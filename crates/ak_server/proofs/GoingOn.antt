@@ -3,21 +3,12 @@ use Rattle.std.specs.List.{list_any}
 use Rattle.std.specs.Option.{option_map}
 use Rattle.std.specs.Prelude.{◌≡◌, ◌<◌, ◌≤ℤ◌, ℤ, Bool, true, false, if◌then◌else◌, Option, Some, None, IfSome}
 use Rattle.std.proofs.Common.{refl, sym, ap, subst, ◌∙◌}
-use Rattle.ak_answers.specs.Answers.{Answers, answered, expects_mark, is_chunk}
-use Rattle.ak_answers.specs.declared.answers.Answered.{Answered}
-use Rattle.ak_answers.specs.declared.answers.Basis.{Basis}
 use Rattle.ak_base.specs.Limits.{last_head_usn}
 use Rattle.ak_keep.proofs.HeadNumbers.{some_collection}
 use Rattle.ak_keep.specs.Collections.{Collection}
 use Rattle.ak_keep.specs.HeadNumbers.{numbered, numbers_of}
 use Rattle.ak_keep.specs.Keepers.{Keeping, WhereHeld, back, is_marked}
 use Rattle.ak_keep.specs.declared.head_numbers.Numbers.{Numbers}
-use Rattle.ak_machine.specs.Decisions.{refusal_of}
-use Rattle.ak_machine.specs.Serving.{Did, accepted, ended, finished, is_bad_check, reply_to, went_on}
-use Rattle.ak_machine.specs.Sessions.{IsCounted, has_mark, kept_seen, session_seen}
-use Rattle.ak_machine.specs.Summaries.{SessionSummary, with_request}
-use Rattle.ak_machine.specs.declared.sessions.Kept.{Kept}
-use Rattle.ak_machine.specs.declared.sessions.Session.{Session}
 use Rattle.ak_merge.specs.Commits.{with_received}
 use Rattle.ak_messages.specs.declared.methods.Method.{Method}
 use Rattle.ak_messages.specs.declared.methods.Method.TheVariants as methods
@@ -25,7 +16,6 @@ use Rattle.ak_messages.specs.declared.replies.Reply.{Reply}
 use Rattle.ak_messages.specs.declared.requests.Ask.{Ask}
 use Rattle.ak_messages.specs.declared.requests.Ask.TheVariants as asks
 use Rattle.ak_messages.specs.declared.requests.Request.{Request}
-use Rattle.ak_parts.specs.Takes.{MayBeTaken}
 use Rattle.ak_protocol.proofs.Cases.{not_none}
 use Rattle.ak_protocol.proofs.Methods.{same_method_is}
 use Rattle.ak_protocol.specs.Accounts.{KeptReply}
@@ -41,10 +31,20 @@ use Rattle.ak_server.proofs.Seeing.{for_some, numbered_same, numbers_alike, numb
 use Rattle.ak_server.specs.Accounts.{AreGranted, IsOver, IsRight, account_seen, committed_in, gives_moment, is_started, tables_in}
 use Rattle.ak_server.specs.Serving.{Accepts, IsAccepted, is_bad}
 use Rattle.ak_server.specs.declared.accounts.Account.{Account}
+use Rattle.ak_server_rules.specs.Decisions.{refusal_of}
+use Rattle.ak_server_rules.specs.Serving.{Did, accepted, ended, finished, is_bad_check, reply_to, went_on}
+use Rattle.ak_server_rules.specs.Sessions.{IsCounted, has_mark, kept_seen, session_seen}
+use Rattle.ak_server_rules.specs.Summaries.{SessionSummary, with_request}
+use Rattle.ak_server_rules.specs.declared.sessions.Kept.{Kept}
+use Rattle.ak_server_rules.specs.declared.sessions.Session.{Session}
+use Rattle.ak_server_steps.specs.Answers.{Answers, answered, expects_mark, is_chunk}
+use Rattle.ak_server_steps.specs.declared.answers.Answered.{Answered}
+use Rattle.ak_server_steps.specs.declared.answers.Basis.{Basis}
 use Rattle.ak_session.proofs.Ranges.{not_both}
 use Rattle.ak_session.specs.Asks.{brought, nothing}
 use Rattle.ak_session.specs.NextMethods.{methods_after}
 use Rattle.ak_session.specs.Requests.{asked_method, asks_commit, is_download, same_method}
+use Rattle.ak_sync_rows.specs.Takes.{MayBeTaken}
 
 -- ---- the current collection
 nothing_received : (o : Option Collection) → o ≡ option_map (with_received nothing) o

@@ -2,7 +2,6 @@
 use Rattle.std.specs.Option.{option_and_then, option_map, unwrap_or}
 use Rattle.std.specs.Prelude.{◌≡◌, ℤ, Bool, true, false, is_some, List, Option, Some, None, IfSome}
 use Rattle.std.proofs.Common.{refl, sym, ap, ◌∙◌, arith}
-use Rattle.ak_answers.specs.Answers.{held_with}
 use Rattle.ak_base.specs.declared.heads.Head.{Head}
 use Rattle.ak_base.specs.declared.rows.Row.{Row}
 use Rattle.ak_keep.specs.Collections.{Collection, Holding, collection_of, is_headed, rows_of}
@@ -12,6 +11,7 @@ use Rattle.ak_keep.specs.Marks.{WithMark}
 use Rattle.ak_merge.specs.Commits.{Received, with_received}
 use Rattle.ak_protocol.proofs.Cases.{not_none}
 use Rattle.ak_server.specs.Accounts.{committed_in, tables_in}
+use Rattle.ak_server_steps.specs.Answers.{held_with}
 
 -- ---- back at the mark
 back_told : (t : Option (WithMark Holding)) → option_map marks.back (option_map marks.back t) ≡ option_map marks.back t

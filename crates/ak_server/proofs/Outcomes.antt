@@ -7,9 +7,9 @@ use Rattle.ak_messages.specs.declared.requests.Request.{Request}
 use Rattle.ak_protocol.specs.Accounts.{repeated}
 use Rattle.ak_protocol.specs.Replies.{Refusal, NoSession, Objected, refused}
 use Rattle.ak_protocol.specs.Serving.{Undisturbed}
-use Rattle.ak_machine.specs.Decisions.{refusal_in, refusal_of}
-use Rattle.ak_machine.specs.Serving.{Did, accepted, by_objection, by_repeat, by_session, does, has_next_step, objection_to, session_of, unchanged}
-use Rattle.ak_machine.specs.Summaries.{AccountSummary, SessionSummary}
+use Rattle.ak_server_rules.specs.Decisions.{refusal_in, refusal_of}
+use Rattle.ak_server_rules.specs.Serving.{Did, accepted, by_objection, by_repeat, by_session, does, has_next_step, objection_to, session_of, unchanged}
+use Rattle.ak_server_rules.specs.Summaries.{AccountSummary, SessionSummary}
 use Rattle.ak_session.specs.Objections.{Objection}
 use Rattle.ak_session.specs.Requests.{is_meta}
 

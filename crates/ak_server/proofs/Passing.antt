@@ -8,23 +8,23 @@ use Rattle.ak_base.specs.Heads.{IsConfInRange, IsWithin}
 use Rattle.ak_base.specs.Limits.{last_stamp}
 use Rattle.ak_base.specs.Rows.{IsChecked}
 use Rattle.ak_keep.specs.Collections.{Collection}
-use Rattle.ak_machine.proofs.Deciding.{refused_for, refused_key, refused_over, refused_past, refused_step}
-use Rattle.ak_machine.specs.Decisions.{refusal_in, refusal_of}
-use Rattle.ak_machine.specs.Serving.{has_next_step, is_device_newer, may_come, objection_to, session_of, tests_of}
-use Rattle.ak_machine.specs.Summaries.{SessionSummary}
 use Rattle.ak_merge.specs.Commits.{Settings}
 use Rattle.ak_merge.specs.Tags.{IsTagName}
 use Rattle.ak_messages.specs.declared.requests.Ask.{Ask}
 use Rattle.ak_messages.specs.declared.requests.Ask.TheVariants as asks
 use Rattle.ak_messages.specs.declared.requests.Request.{Request}
-use Rattle.ak_parts.specs.Takes.{MayBeTaken}
 use Rattle.ak_protocol.proofs.Cases.{not_none}
 use Rattle.ak_protocol.specs.Replies.{Refusal, Objected, PastBase, WrongStep}
+use Rattle.ak_server_rules.proofs.Deciding.{refused_for, refused_key, refused_over, refused_past, refused_step}
+use Rattle.ak_server_rules.specs.Decisions.{refusal_in, refusal_of}
+use Rattle.ak_server_rules.specs.Serving.{has_next_step, is_device_newer, may_come, objection_to, session_of, tests_of}
+use Rattle.ak_server_rules.specs.Summaries.{SessionSummary}
 use Rattle.ak_session.proofs.Ranges.{Fits, SettingsFit, brought_fits, none_first, none_rest, untrue}
 use Rattle.ak_session.specs.Asks.{brought}
 use Rattle.ak_session.specs.Objections.{Objection, MayNotCome}
 use Rattle.ak_session.specs.Refusals as refusals
 use Rattle.ak_session.specs.Refusals.{Test, first_objection, test}
+use Rattle.ak_sync_rows.specs.Takes.{MayBeTaken}
 
 pub none_mapped : {X Y : Type 0} (f : X → Y) (o : Option X) → option_map f o ≡ None → o ≡ None
 none_mapped f None is = refl

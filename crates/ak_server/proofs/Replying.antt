@@ -6,17 +6,17 @@ use Rattle.std.proofs.lemmas.Bool.{eqb-true}
 use Rattle.std.proofs.lemmas.Int.{ints}
 use Rattle.std.proofs.lemmas.List.{append-nil, drop-append-le, drop-drop, drop_all, take-append-le, take_all}
 use Rattle.std.specs.Ordering.{int_eq}
-use Rattle.ak_answers.specs.Answers.{Answers, IsAnswer, IsNextChunk}
-use Rattle.ak_answers.specs.declared.answers.Answered.{Answered}
+use Rattle.ak_server_steps.specs.Answers.{Answers, IsAnswer, IsNextChunk}
+use Rattle.ak_server_steps.specs.declared.answers.Answered.{Answered}
 use Rattle.ak_base.specs.Limits.{last_head_usn}
 use Rattle.ak_base.specs.declared.names.Name.{Name}
 use Rattle.ak_base.specs.declared.rows.Row.{Row}
 use Rattle.ak_keep.specs.Collections.{Collection, Rows}
 use Rattle.ak_keep.specs.declared.keepers.Wanted.TheVariants.{From}
-use Rattle.ak_machine.specs.Serving.{is_bad_check, reply_to}
-use Rattle.ak_machine.specs.Sessions.{IsCounted, first_place, has_mark, is_before_chunks, session_seen}
-use Rattle.ak_machine.specs.Summaries.{SessionSummary, is_last_chunk, told_usn}
-use Rattle.ak_machine.specs.declared.sessions.Session.{Session}
+use Rattle.ak_server_rules.specs.Serving.{is_bad_check, reply_to}
+use Rattle.ak_server_rules.specs.Sessions.{IsCounted, first_place, has_mark, is_before_chunks, session_seen}
+use Rattle.ak_server_rules.specs.Summaries.{SessionSummary, is_last_chunk, told_usn}
+use Rattle.ak_server_rules.specs.declared.sessions.Session.{Session}
 use Rattle.ak_merge.specs.Commits.{settings_of, with_received}
 use Rattle.ak_merge.specs.Exchanges.{wanted_tags}
 use Rattle.ak_merge.specs.Soundness.{first_fault}
@@ -30,7 +30,7 @@ use Rattle.ak_messages.specs.declared.requests.Ask.{Ask}
 use Rattle.ak_messages.specs.declared.requests.Ask.TheVariants as asks
 use Rattle.ak_messages.specs.declared.requests.Request.{Request}
 use Rattle.ak_messages.specs.declared.requests.SanityCounts.{SanityCounts}
-use Rattle.ak_parts.specs.Chunks.{IsSlice, ahead_of}
+use Rattle.ak_sync_rows.specs.Chunks.{IsSlice, ahead_of}
 use Rattle.ak_protocol.proofs.Methods.{same_method_is}
 use Rattle.ak_protocol.specs.Replies.{download_reply, granted}
 use Rattle.ak_server.proofs.Counting.{IsFirst, IsLater, first_or_later, is_meta_so}

@@ -9,16 +9,16 @@ use Rattle.ak_keep.specs.HeadNumbers.{numbered, numbers_of}
 use Rattle.ak_keep.specs.Keepers.{IsNamedRightly, Keeping, WhereHeld, WhereTold, is_marked}
 use Rattle.ak_keep.specs.Marks.{WithMark}
 use Rattle.ak_keep.specs.declared.head_numbers.Numbers.{Numbers}
-use Rattle.ak_machine.specs.Sessions.{kept_seen, session_seen}
-use Rattle.ak_machine.specs.Summaries.{AccountSummary, SessionSummary}
-use Rattle.ak_machine.specs.declared.sessions.Kept.{Kept}
-use Rattle.ak_machine.specs.declared.sessions.Session.{Session}
 use Rattle.ak_protocol.proofs.Cases.{not_none}
 use Rattle.ak_protocol.specs.Accounts.{KeptReply}
 use Rattle.ak_server.proofs.Keepings.{unmarked_tables}
 use Rattle.ak_server.proofs.Passing.{AlikeNumbers}
 use Rattle.ak_server.specs.Accounts.{IsKept, IsOver, account_seen, committed_in, is_started, seen, tables_in}
 use Rattle.ak_server.specs.declared.accounts.Account.{Account}
+use Rattle.ak_server_rules.specs.Sessions.{kept_seen, session_seen}
+use Rattle.ak_server_rules.specs.Summaries.{AccountSummary, SessionSummary}
+use Rattle.ak_server_rules.specs.declared.sessions.Kept.{Kept}
+use Rattle.ak_server_rules.specs.declared.sessions.Session.{Session}
 
 pub same_some : {X : Type 0} (a b : X) → Some a ≡ Some b → a ≡ b
 same_some a b is = cc

@@ -2,20 +2,12 @@
 use Rattle.std.specs.Option.{option_and_then, option_map, unwrap_or}
 use Rattle.std.specs.Prelude.{◌≡◌, ℕ, ℤ, Bool, true, false, if◌then◌else◌, Option, Some, None, Result, Ok, IfSome, IfOk, IfErr, ⊤, ◌⊎◌}
 use Rattle.std.proofs.Common.{refl, sym, ap, subst, ◌∙◌, inl, inr, arith}
-use Rattle.ak_answers.specs.Answers.{HasNumbers}
-use Rattle.ak_answers.specs.declared.answers.Basis.{Basis}
 use Rattle.ak_keep.specs.Collections.{Collection, collection_of}
 use Rattle.ak_keep.specs.HeadNumbers.{AreNumbersInRange, numbered, numbers_of}
 use Rattle.ak_keep.specs.Keepers.{IsNamedRightly, Keeping, WhereTold, back}
 use Rattle.ak_keep.specs.declared.head_numbers.Numbers.{Numbers}
 use Rattle.ak_keep.specs.declared.keepers.KeepFault.{KeepFault}
 use Rattle.ak_keep.specs.declared.keepers.KeepFault.TheVariants.{Failed, Memory}
-use Rattle.ak_machine.specs.Decisions.{refusal_of, setback_reply}
-use Rattle.ak_machine.specs.Serving.{Did, accepted, begun, by_repeat, does, unchanged}
-use Rattle.ak_machine.specs.Sessions.{IsCounted, kept_seen, session_seen}
-use Rattle.ak_machine.specs.Summaries.{AccountSummary, SessionSummary}
-use Rattle.ak_machine.specs.declared.sessions.Kept.{Kept}
-use Rattle.ak_machine.specs.declared.sessions.Session.{Session}
 use Rattle.ak_messages.specs.declared.replies.Reply.{Reply}
 use Rattle.ak_messages.specs.declared.requests.Ask.{Ask}
 use Rattle.ak_messages.specs.declared.requests.Ask.TheVariants as asks
@@ -33,6 +25,14 @@ use Rattle.ak_server.specs.Accounts.{AreGranted, IsKept, IsOver, IsRight, IsSame
 use Rattle.ak_server.specs.Servers.{DoesUndisturbed, IsTested, LeavesCommitted}
 use Rattle.ak_server.specs.Serving.{Accepts, Does, FindsAgain, IsAccepted, IsDecided, IsGivenAgain, IsOnlyRead}
 use Rattle.ak_server.specs.declared.accounts.Account.{Account}
+use Rattle.ak_server_rules.specs.Decisions.{refusal_of, setback_reply}
+use Rattle.ak_server_rules.specs.Serving.{Did, accepted, begun, by_repeat, does, unchanged}
+use Rattle.ak_server_rules.specs.Sessions.{IsCounted, kept_seen, session_seen}
+use Rattle.ak_server_rules.specs.Summaries.{AccountSummary, SessionSummary}
+use Rattle.ak_server_rules.specs.declared.sessions.Kept.{Kept}
+use Rattle.ak_server_rules.specs.declared.sessions.Session.{Session}
+use Rattle.ak_server_steps.specs.Answers.{HasNumbers}
+use Rattle.ak_server_steps.specs.declared.answers.Basis.{Basis}
 use Rattle.ak_session.specs.Objections.{Objection, MayNotCome, WrongUsn, NoNumber, TooManyRows, WrongRow, WrongNewer}
 use Rattle.ak_session.specs.Requests.{asks_commit, is_meta}
 

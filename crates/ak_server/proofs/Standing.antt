@@ -3,9 +3,6 @@ use Rattle.std.specs.Option.{option_map}
 use Rattle.std.specs.Prelude.{◌≡◌, ℕ, ℤ, true, false, if◌then◌else◌, List, Option, Some, None, IfSome, slice_get, slice_set}
 use Rattle.std.proofs.Common.{refl, sym, ap, subst, ◌∙◌}
 use Rattle.ak_keep.specs.Keepers.{Keeping}
-use Rattle.ak_machine.proofs.Summing.{same_served}
-use Rattle.ak_machine.specs.Serving.{Did, does}
-use Rattle.ak_machine.specs.Summaries.{AccountSummary, account_summary}
 use Rattle.ak_messages.specs.declared.replies.Reply.{Reply}
 use Rattle.ak_messages.specs.declared.requests.Request.{Request}
 use Rattle.ak_protocol.proofs.Cases.{not_none}
@@ -18,6 +15,9 @@ use Rattle.ak_server.proofs.Seeing.{of_some, same_some}
 use Rattle.ak_server.specs.Accounts.{IsPlaceOf, StandsFor, account_at, account_seen}
 use Rattle.ak_server.specs.Servers.{DoesSo, OthersStay, Serves, ServesFor}
 use Rattle.ak_server.specs.declared.accounts.Account.{Account}
+use Rattle.ak_server_rules.proofs.Summing.{same_served}
+use Rattle.ak_server_rules.specs.Serving.{Did, does}
+use Rattle.ak_server_rules.specs.Summaries.{AccountSummary, account_summary}
 
 of_state : (o : Option AccountState) (x : Option AccountSummary) → Some x ≡ option_map (λ (s : AccountState). Some (account_summary s)) o
     → (s : AccountState) × ((o ≡ Some s) × (x ≡ Some (account_summary s)))

@@ -8,8 +8,6 @@ use Rattle.ak_base.specs.declared.rows.Row.{Row}
 use Rattle.ak_keep.specs.Collections.{Collection, Holding, IsPageOf, Rows, collection_of, rows_past}
 use Rattle.ak_keep.specs.Keepers.{Keeping, WhereTold, back}
 use Rattle.ak_keep.specs.Marks.{WithMark}
-use Rattle.ak_machine.specs.Sessions.{kept_seen, session_seen}
-use Rattle.ak_machine.specs.Summaries.{account_summary}
 use Rattle.ak_protocol.proofs.Cases.{not_none}
 use Rattle.ak_protocol.specs.Accounts.{AccountState, viewed}
 use Rattle.ak_protocol.specs.Logs.{View, server_next}
@@ -21,6 +19,8 @@ use Rattle.ak_server.proofs.Standing.{none_state, stands_next, state_of}
 use Rattle.ak_server.specs.Accounts.{AreGranted, IsPlaceOf, IsRight, StandsFor, account_at, account_seen, tables_in}
 use Rattle.ak_server.specs.Servers.{IsViewed, ViewsRows}
 use Rattle.ak_server.specs.declared.accounts.Account.{Account}
+use Rattle.ak_server_rules.specs.Sessions.{kept_seen, session_seen}
+use Rattle.ak_server_rules.specs.Summaries.{account_summary}
 
 -- ---- one account
 module _ {K : Type 0} (keeping : K → Keeping) (old new : Account K) (right : IsRight keeping old) (view : IsViewed keeping old new) where

@@ -11,14 +11,14 @@ use Rattle.ak_keep.specs.Marks.{WithMark}
 use Rattle.ak_messages.specs.MessageForms.{is_given_to}
 use Rattle.ak_messages.specs.declared.methods.Method.TheVariants as methods
 use Rattle.ak_messages.specs.declared.replies.Reply.{Reply}
-use Rattle.ak_parts.specs.Chunks.{ahead_of}
+use Rattle.ak_sync_rows.specs.Chunks.{ahead_of}
 use Rattle.ak_protocol.specs.Accounts.{AccountState}
 use Rattle.ak_protocol.specs.Servers.{ServerState, same_host}
-use Rattle.ak_machine.specs.Sessions.{IsCounted, has_mark, kept_seen, session_seen}
-use Rattle.ak_machine.specs.Summaries.{AccountSummary, account_summary}
+use Rattle.ak_server_rules.specs.Sessions.{IsCounted, has_mark, kept_seen, session_seen}
+use Rattle.ak_server_rules.specs.Summaries.{AccountSummary, account_summary}
 use Rattle.ak_server.specs.declared.accounts.Account.{Account}
-use Rattle.ak_machine.specs.declared.sessions.Kept.{Kept}
-use Rattle.ak_machine.specs.declared.sessions.Session.{Session}
+use Rattle.ak_server_rules.specs.declared.sessions.Kept.{Kept}
+use Rattle.ak_server_rules.specs.declared.sessions.Session.{Session}
 use Rattle.ak_session.specs.NextMethods.{methods_after}
 use Rattle.ak_session.specs.Refusals.{has_no_next}
 use Rattle.ak_session.specs.Requests.{same_method}

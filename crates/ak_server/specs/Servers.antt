@@ -7,14 +7,14 @@ use Rattle.ak_faults.specs.Causes.{Health, GoesOn, Rose}
 use Rattle.ak_base.specs.declared.heads.Head.{Head}
 use Rattle.ak_base.specs.declared.names.Table.{Table}
 use Rattle.ak_base.specs.declared.rows.Row.{Row}
-use Rattle.ak_answers.specs.Answers.{HasNumbers}
+use Rattle.ak_server_steps.specs.Answers.{HasNumbers}
 use Rattle.ak_keep.specs.Collections.{Collection, IsPageOf, rows_past}
 use Rattle.ak_keep.specs.HeadNumbers.{numbered}
 use Rattle.ak_keep.specs.Keepers.{Keeping, KeepCause, WhereTold, back}
 use Rattle.ak_keep.specs.MemoryKeepers.{MemoryState}
 use Rattle.ak_keep.specs.declared.head_numbers.Numbers.{Numbers}
 use Rattle.ak_keep.specs.declared.keepers.KeepFault.{KeepFault}
-use Rattle.ak_machine.specs.Decisions.{refusal_of}
+use Rattle.ak_server_rules.specs.Decisions.{refusal_of}
 use Rattle.ak_merge.specs.Commits.{IsCommitted}
 use Rattle.ak_merge.specs.Links.{AreLinked}
 use Rattle.ak_messages.specs.declared.replies.Reply.{Reply}
@@ -26,9 +26,9 @@ use Rattle.ak_protocol.specs.Logs.{View, commit_by, server_next}
 use Rattle.ak_protocol.specs.Servers.{ServerState, same_host, server_served, with_account}
 use Rattle.ak_protocol.specs.Serving.{Setback, Undisturbed, served}
 use Rattle.ak_server.specs.Accounts.{StandsFor, IsRight, IsSameAccount, account_at, account_seen, committed_in}
-use Rattle.ak_machine.specs.Serving.{does}
-use Rattle.ak_machine.specs.Sessions.{kept_seen, session_seen}
-use Rattle.ak_machine.specs.Summaries.{AccountSummary, account_summary}
+use Rattle.ak_server_rules.specs.Serving.{does}
+use Rattle.ak_server_rules.specs.Sessions.{kept_seen, session_seen}
+use Rattle.ak_server_rules.specs.Summaries.{AccountSummary, account_summary}
 use Rattle.ak_server.specs.declared.accounts.Account.{Account}
 use Rattle.ak_session.specs.Requests.{is_meta}
 

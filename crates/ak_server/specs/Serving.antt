@@ -1,21 +1,21 @@
 -- What one account makes of a request, step by step.
 use Rattle.std.specs.Option.{option_map}
 use Rattle.std.specs.Prelude.{◌≡◌, ◌≢◌, ℤ, Bool, true, false, not, Some, None, Result, IfSome, IfOk, IfErr}
-use Rattle.ak_answers.specs.Answers.{HasNumbers}
-use Rattle.ak_answers.specs.declared.answers.Basis.{Basis}
+use Rattle.ak_server_steps.specs.Answers.{HasNumbers}
+use Rattle.ak_server_steps.specs.declared.answers.Basis.{Basis}
 use Rattle.ak_keep.specs.Collections.{Collection}
 use Rattle.ak_keep.specs.HeadNumbers.{numbered}
 use Rattle.ak_keep.specs.Keepers.{IsNamedRightly, Keeping}
-use Rattle.ak_machine.specs.Decisions.{refusal_of}
-use Rattle.ak_machine.specs.Serving.{accepted}
+use Rattle.ak_server_rules.specs.Decisions.{refusal_of}
+use Rattle.ak_server_rules.specs.Serving.{accepted}
 use Rattle.ak_keep.specs.declared.keepers.KeepFault.{KeepFault}
 use Rattle.ak_keep.specs.declared.keepers.KeepFault.TheVariants.{Memory}
-use Rattle.ak_machine.specs.Sessions.{kept_seen, session_seen}
+use Rattle.ak_server_rules.specs.Sessions.{kept_seen, session_seen}
 use Rattle.ak_messages.specs.declared.replies.Give.{Give}
 use Rattle.ak_messages.specs.declared.replies.Give.TheVariants as gives
 use Rattle.ak_messages.specs.declared.replies.Reply.{Reply}
 use Rattle.ak_messages.specs.declared.requests.Request.{Request}
-use Rattle.ak_machine.specs.Summaries.{AccountSummary}
+use Rattle.ak_server_rules.specs.Summaries.{AccountSummary}
 use Rattle.ak_protocol.specs.Accounts.{given_again, is_repeat, repeated}
 use Rattle.ak_server.specs.Accounts.{account_seen}
 use Rattle.ak_server.specs.Servers.{DoesUndisturbed}

@@ -1,6 +1,6 @@
 // What a server has of an account.
 use ak_base::{HostKey, Text};
-use ak_machine::{Kept, Session};
+use ak_server_rules::{Kept, Session};
 
 /// An account: its keeper, the session that is live, and the reply that is kept. While a session has started the keeper is
 /// marked, so that its current collection is what the session made, and its mark the committed one.

@@ -5,9 +5,9 @@ use crate::accounts::Account;
 use crate::serving::{end_session, serve_account};
 use ak_base::{Head, HostKey, List, Row, Table, Text};
 use ak_keep::{KeepFault, Keeper};
-use ak_machine::unknown_key;
 use ak_memory::MemoryKeeper;
 use ak_messages::{Reply, Request};
+use ak_server_rules::unknown_key;
 use std::alloc::Global;
 use std::marker::Model;
 

@@ -6,7 +6,7 @@ ghost use Rattle.ak_keep.specs.Collections.{collection_of};
 ghost use Rattle.ak_keep.specs.Keepers.{IsNamedRightly, KeepCause, back, committed, is_marked};
 ghost use Rattle.ak_keep.specs.declared.keepers.KeepFault.TheVariants.{Memory as WantOfMemory};
 ghost use Rattle.ak_keep.specs.Readings.{ReadsBy};
-ghost use Rattle.ak_machine.specs.Sessions.{kept_seen};
+ghost use Rattle.ak_server_rules.specs.Sessions.{kept_seen};
 ghost use Rattle.ak_messages.specs.MessageForms.{is_given_to};
 ghost use Rattle.ak_messages.specs.declared.methods.Method.TheVariants as methods;
 ghost use Rattle.ak_messages.specs.declared.requests.Ask.TheVariants as asks;
@@ -20,11 +20,13 @@ ghost use Rattle.ak_session.specs.Requests.{asks_commit, is_meta};
 ghost use Rattle.std.specs.Option.{option_map};
 
 use crate::accounts::Account;
-use ak_answers::{Answered, Basis, answer, finish, read_whole, upload};
 use ak_keep::{KeepFault, Keeper};
-use ak_machine::{Kept, Session, declined_reply, granted, meta_reply, refusal_of, setback_reply};
 use ak_messages::{Ask, Give, Reply, Request, Whole};
-use ak_parts::held_numbers;
+use ak_server_rules::{
+    Kept, Session, declined_reply, granted, meta_reply, refusal_of, setback_reply,
+};
+use ak_server_steps::{Answered, Basis, answer, finish, read_whole, upload};
+use ak_sync_rows::held_numbers;
 use std::alloc::Global;
 
 /// Serves a request at a moment, in milliseconds. If the keeper fails or memory runs out the session is over.

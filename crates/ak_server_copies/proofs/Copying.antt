@@ -11,8 +11,6 @@ use Rattle.std.specs.declared.cmp.Ordering.TheVariants.{Less}
 use Rattle.std.proofs.Common.{◌≤◌, refl, sym, ap, subst, ◌∙◌}
 use Rattle.std.proofs.lemmas.Map.Keys.{IsDistinct-from_sorted}
 use Rattle.std.proofs.lemmas.Option.{none-some, same_Some}
-use Rattle.ak_answers.proofs.InTables.{rows_in_all, table_read, tables_read}
-use Rattle.ak_answers.specs.Wholes.{rows_in}
 use Rattle.ak_base.proofs.NameOrder.{names_exact}
 use Rattle.ak_base.specs.Names.{name_cmp, names_total}
 use Rattle.ak_base.specs.Rows.{IsChecked, name_of}
@@ -24,13 +22,15 @@ use Rattle.ak_base.specs.declared.rows.Row.{Row}
 use Rattle.ak_keep.proofs.RowsByName.{all_from_gets, both_first, both_second, is_less}
 use Rattle.ak_keep.specs.Collections.{Collection, Holding, IsWellFormed, Rows, StandsUnderNames, rows_of}
 use Rattle.ak_keep.specs.Keepers.{Keeping, all_known}
-use Rattle.ak_loops.specs.Entries.{LoggedState, collection_in, server_in}
 use Rattle.ak_merge.specs.Commits.{IsCommitted}
 use Rattle.ak_openings.specs.declared.whole_collections.Opening.{Opening}
 use Rattle.ak_protocol.specs.Accounts.{AccountState}
 use Rattle.ak_protocol.specs.LawfulServers.{IsLawful, IsLawfulUnder}
 use Rattle.ak_server_copies.proofs.Viewing.{collection_stays}
 use Rattle.ak_server_copies.specs.Copies.{IsViewed, committed_in}
+use Rattle.ak_server_steps.proofs.InTables.{rows_in_all, table_read, tables_read}
+use Rattle.ak_server_steps.specs.Wholes.{rows_in}
+use Rattle.ak_sync_in_memory.specs.Entries.{LoggedState, collection_in, server_in}
 
 -- ---- what is committed
 -- a collection as a keeper that is not marked would hold it

@@ -9,17 +9,17 @@ use Rattle.ak_base.specs.declared.rows.Row.{Row}
 use Rattle.ak_keep.specs.Collections.{Collection, IsPageOf, rows_past}
 use Rattle.ak_keep.specs.declared.keepers.KeepFault.{KeepFault}
 use Rattle.ak_keep.specs.declared.keepers.KeepFault.TheVariants as faults
-use Rattle.ak_loops.proofs.Logging.{after_append, events_append}
-use Rattle.ak_loops.specs.Entries.{LoggedState, entry_of, events_in, server_in, server_opened}
-use Rattle.ak_loops.specs.LoggedServers.{Adds, AddsView}
-use Rattle.ak_loops.specs.declared.logs.Entry.{Entry}
-use Rattle.ak_loops.specs.declared.logs.Logged.TheVariants as logged
 use Rattle.ak_protocol.proofs.Isolation.{same_as_itself}
 use Rattle.ak_protocol.specs.Accounts.{AccountState, viewed}
 use Rattle.ak_protocol.specs.Logs.{Event, View, server_after, server_next}
 use Rattle.ak_protocol.specs.Servers.{ServerState, by_view}
 use Rattle.ak_server.specs.Servers.{ViewsRows}
 use Rattle.ak_server_copies.specs.Copies.{IsViewed, committed_in, committed_under}
+use Rattle.ak_sync_in_memory.proofs.Logging.{after_append, events_append}
+use Rattle.ak_sync_in_memory.specs.Entries.{LoggedState, entry_of, events_in, server_in, server_opened}
+use Rattle.ak_sync_in_memory.specs.LoggedServers.{Adds, AddsView}
+use Rattle.ak_sync_in_memory.specs.declared.logs.Entry.{Entry}
+use Rattle.ak_sync_in_memory.specs.declared.logs.Logged.TheVariants as logged
 
 -- ---- views add up
 pub viewed_nothing : (s : LoggedState) → IsViewed s s

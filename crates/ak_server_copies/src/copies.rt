@@ -2,21 +2,21 @@ ghost use Rattle.std.specs.FinMap.{entries};
 ghost use Rattle.std.specs.List.{All, IsDistinct};
 ghost use Rattle.std.specs.Ordering.{eq_by_cmp};
 ghost use Rattle.std.specs.Prelude.{◌≡◌, ◌++◌, Some, map, IfOk, OnOk};
-ghost use Rattle.ak_answers.specs.Wholes.{rows_in};
 ghost use Rattle.ak_base.specs.Heads.{IsHeadInRange};
 ghost use Rattle.ak_base.specs.Names.{name_cmp};
 ghost use Rattle.ak_base.specs.Rows.{IsChecked, name_of};
 ghost use Rattle.ak_keep.specs.Collections.{Collection};
 ghost use Rattle.ak_keep.specs.Keepers.{KeepCause};
-ghost use Rattle.ak_loops.specs.Entries.{LoggedState, collection_in, health_in};
 ghost use Rattle.ak_server_copies.specs.Copies.{IsViewed, committed_in};
+ghost use Rattle.ak_server_steps.specs.Wholes.{rows_in};
+ghost use Rattle.ak_sync_in_memory.specs.Entries.{LoggedState, collection_in, health_in};
 
 use crate::table_views::TableViews;
 use ak_base::{List, Row, Table};
 use ak_keep::KeepFault;
-use ak_loops::LoggedServer;
 use ak_openings::Opening;
-use ak_parts::append_page;
+use ak_sync_in_memory::LoggedServer;
+use ak_sync_rows::append_page;
 use std::alloc::Global;
 
 /// What a logged server committed, its rows by table and id. It ends the live session.

@@ -6,8 +6,8 @@ use Rattle.ak_base.specs.declared.days.Day.{Day}
 use Rattle.ak_base.specs.declared.names.Table.TheVariants as tables
 use Rattle.ak_base.specs.declared.rows.Row.{Row}
 use Rattle.ak_base.specs.declared.rows.Row.TheVariants as rows
-use Rattle.ak_calls.proofs.AdmittedEdits.{card_edits_are_admitted}
-use Rattle.ak_calls.specs.CardEdits.{card_edit}
+use Rattle.ak_edit_calls.proofs.AdmittedEdits.{card_edits_are_admitted}
+use Rattle.ak_edit_calls.specs.CardEdits.{card_edit}
 use Rattle.ak_keep.specs.Collections.{Collection}
 use Rattle.ak_merge.proofs.EditBuildingLaws.{maps_are_admitted, settings_are_admitted, unedited_is_admitted}
 use Rattle.ak_merge.specs.EditBuilding.{MayMap, unedited, with_conf, with_rows_mapped}

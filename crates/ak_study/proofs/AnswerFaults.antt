@@ -2,11 +2,11 @@
 use Rattle.std.specs.Prelude.{◌≡◌, ◌⊎◌, ℤ, Option, Some, None, IfSome, Result, Ok, Err}
 use Rattle.std.proofs.Common.{inl, inr, refl, sym, ap, arith, ◌∙◌}
 use Rattle.std.specs.Result.{IsErrOf}
-use Rattle.ak_calls.proofs.Telling.{where_always, where_held-map}
 use Rattle.ak_edit.specs.DeskFaults.{of_keep_fault}
 use Rattle.ak_edit.specs.Refusals.{AnswersBy, DeskCause, IsFromOutside, Refusal}
 use Rattle.ak_edit.specs.declared.desk_faults.DeskFault.{DeskFault}
 use Rattle.ak_edit.specs.declared.desk_faults.DeskFault.TheVariants as faults
+use Rattle.ak_edit_calls.proofs.Telling.{where_always, where_held-map}
 use Rattle.ak_faults.proofs.Healths.{goes_further}
 use Rattle.ak_faults.specs.Causes.{GoesOn, Health}
 use Rattle.ak_keep.specs.Collections.{Collection, collection_of}

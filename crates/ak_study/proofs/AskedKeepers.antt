@@ -12,10 +12,10 @@ use Rattle.ak_base.specs.declared.heads.Head.{Head}
 use Rattle.ak_base.specs.declared.names.Name.{Name}
 use Rattle.ak_base.specs.declared.names.Table.{Table}
 use Rattle.ak_base.specs.declared.names.Table.TheVariants as tables
-use Rattle.ak_calls.proofs.Telling.{where_held-both, where_told-both}
+use Rattle.ak_edit_calls.proofs.Telling.{where_held-both, where_told-both}
 use Rattle.ak_keep.specs.FreeNames.{IsFree, is_used}
-use Rattle.ak_calls.proofs.FreeIds.{none_free}
-use Rattle.ak_calls.specs.NewNames.{first_name}
+use Rattle.ak_edit_calls.proofs.FreeIds.{none_free}
+use Rattle.ak_edit_calls.specs.NewNames.{first_name}
 use Rattle.ak_edit.specs.Overlays.{Overlay, unchanged}
 use Rattle.ak_edit.specs.Refusals.{AnswersBy, DeskCause, IsFromOutside}
 use Rattle.ak_edit.specs.declared.desk_faults.DeskFault.{DeskFault}
@@ -27,7 +27,7 @@ use Rattle.ak_merge.proofs.EditFacts.{false_true, true_false}
 use Rattle.ak_merge.specs.Holdings.{name_in}
 use Rattle.std.proofs.lemmas.Option.{same_Some}
 use Rattle.ak_base.specs.declared.option_groups.Options.{Options}
-use Rattle.ak_calls.specs.Calls.{RefusesAbsent}
+use Rattle.ak_edit_calls.specs.Calls.{RefusesAbsent}
 use Rattle.ak_keep.proofs.Told.{where_told-map}
 use Rattle.ak_sched.specs.Answers.{can_answer}
 use Rattle.ak_study.proofs.AnswerFaults.{cause_ok}

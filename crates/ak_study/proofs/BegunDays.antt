@@ -10,8 +10,8 @@ use Rattle.ak_base.specs.declared.names.Name.{Name}
 use Rattle.ak_base.specs.declared.names.Table.TheVariants as tables
 use Rattle.ak_base.specs.declared.rows.Row.{Row}
 use Rattle.ak_base.specs.declared.rows.Row.TheVariants as rows
-use Rattle.ak_calls.proofs.Overlaying.{none_noted, rest_of}
 use Rattle.ak_edit.specs.Overlays.{conf_over, row_over, unchanged}
+use Rattle.ak_edit_calls.proofs.Overlaying.{none_noted, rest_of}
 use Rattle.ak_keep.specs.Collections.{Rows, rows_past}
 use Rattle.ak_merge.specs.Holdings.{AreChecked, AreNamed}
 use Rattle.ak_study.proofs.ChangedRows.{ChangesTable, changed_rest, changed_under}

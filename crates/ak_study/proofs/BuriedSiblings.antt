@@ -17,13 +17,13 @@ use Rattle.ak_base.specs.declared.names.Table.TheVariants as tables
 use Rattle.ak_base.specs.declared.option_groups.Options.{Options}
 use Rattle.ak_base.specs.declared.rows.Row.{Row}
 use Rattle.ak_base.specs.declared.rows.Row.TheVariants as rows
-use Rattle.ak_calls.proofs.Overlaying.{rest_of}
+use Rattle.ak_edit_calls.proofs.Overlaying.{rest_of}
 use Rattle.ak_edit.proofs.Viewing.{get-rows_over, has_cards, same_id}
 use Rattle.ak_edit.specs.Overlays.{Overlay, row_over}
 use Rattle.ak_edit.specs.Views.{has_id, is_card, rows_over}
 use Rattle.ak_keep.proofs.RowsByName.{same_of_tied}
 use Rattle.ak_keep.specs.Collections.{Rows, StandsUnderNames, cards_of}
-use Rattle.ak_calls.proofs.Telling.{where_told-both}
+use Rattle.ak_edit_calls.proofs.Telling.{where_told-both}
 use Rattle.ak_keep.specs.Keepers.{Keeping, WhereTold}
 use Rattle.ak_keep.specs.Lookups.{as_card}
 use Rattle.ak_keep.specs.Graves.{RowsByName}

@@ -11,7 +11,7 @@ use Rattle.ak_base.specs.Rows.{name_of}
 use Rattle.ak_base.specs.declared.names.Name.{Name}
 use Rattle.ak_base.specs.declared.names.Table.{Table}
 use Rattle.ak_base.specs.declared.rows.Row.{Row}
-use Rattle.ak_calls.proofs.Overlaying.{put_under, rest_of}
+use Rattle.ak_edit_calls.proofs.Overlaying.{put_under, rest_of}
 use Rattle.ak_edit.specs.Overlays.{Overlay, row_over}
 use Rattle.ak_keep.proofs.RowsByName.{all_from_gets, entries_found, same_of_tied}
 use Rattle.ak_keep.specs.Collections.{Rows, StandsUnderNames, is_past, rows_past}

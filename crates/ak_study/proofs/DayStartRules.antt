@@ -13,10 +13,10 @@ use Rattle.ak_base.specs.declared.heads.Head.{Head}
 use Rattle.ak_base.specs.declared.names.Name.{Name}
 use Rattle.ak_base.specs.declared.rows.Row.{Row}
 use Rattle.ak_base.specs.declared.rows.Row.TheVariants as rows
-use Rattle.ak_calls.proofs.Answering.{never_first}
-use Rattle.ak_calls.proofs.CheckedEdits.{checked_edits_pass}
-use Rattle.ak_calls.proofs.Overlaying.{rest_of}
-use Rattle.ak_calls.proofs.Telling.{where_held-both}
+use Rattle.ak_edit_calls.proofs.Answering.{never_first}
+use Rattle.ak_edit_calls.proofs.CheckedEdits.{checked_edits_pass}
+use Rattle.ak_edit_calls.proofs.Overlaying.{rest_of}
+use Rattle.ak_edit_calls.proofs.Telling.{where_held-both}
 use Rattle.ak_edit.specs.Ends.{AnswersEnd, FinishedBy, IsFinished, IsHeldRightly, RefusesEnd, RefusesRow, RefusesStamp}
 use Rattle.ak_edit.specs.Overlays.{Overlay, edit_of, row_over, unchanged}
 use Rattle.ak_edit.specs.Refusals.{AnswersBy, Refusal}

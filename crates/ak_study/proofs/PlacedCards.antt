@@ -8,8 +8,8 @@ use Rattle.ak_base.specs.Cards.{IsCheckedCard, place_faults, schedule_faults, ma
 use Rattle.ak_base.specs.Columns.{code_fault}
 use Rattle.ak_base.specs.declared.cards.Card.{Card}
 use Rattle.ak_base.specs.declared.errors.RowFault.TheVariants as row_faults
-use Rattle.ak_calls.proofs.CheckedRows.{of_faultless}
-use Rattle.ak_calls.specs.CardEdits.{KeepsCards}
+use Rattle.ak_edit_calls.proofs.CheckedRows.{of_faultless}
+use Rattle.ak_edit_calls.specs.CardEdits.{KeepsCards}
 use Rattle.ak_merge.proofs.CheckedRows.{faultless_of}
 use Rattle.ak_queue.specs.Burials.{restored_queue}
 use Rattle.ak_study.specs.CardPlaces.{buried_by_hand, lies_buried, queued, restored, suspended, unburied, unsuspended}

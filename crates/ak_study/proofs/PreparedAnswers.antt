@@ -9,9 +9,9 @@ use Rattle.ak_base.specs.declared.days.Day.{Day}
 use Rattle.ak_base.specs.declared.decks.Deck.{Deck}
 use Rattle.ak_base.specs.declared.names.Table.TheVariants as tables
 use Rattle.ak_base.specs.declared.rows.Row.TheVariants as rows
-use Rattle.ak_calls.proofs.Telling.{where_told-both}
+use Rattle.ak_edit_calls.proofs.Telling.{where_told-both}
 use Rattle.ak_keep.specs.FreeNames.{IsFirstFree, is_used}
-use Rattle.ak_calls.specs.NewNames.{first_name}
+use Rattle.ak_edit_calls.specs.NewNames.{first_name}
 use Rattle.ak_edit.specs.Overlays.{Overlay, put_over, unchanged}
 use Rattle.ak_edit.specs.Views.{rows_over}
 use Rattle.ak_keep.specs.Collections.{Rows, rows_past}

@@ -12,10 +12,10 @@ use Rattle.ak_base.specs.declared.notes.Note.{Note}
 use Rattle.ak_base.specs.declared.option_groups.Options.{Options}
 use Rattle.ak_base.specs.declared.rows.Row.{Row}
 use Rattle.ak_base.specs.declared.rows.Row.TheVariants as rows
-use Rattle.ak_calls.specs.Calls.{RefusesAbsent}
+use Rattle.ak_edit_calls.specs.Calls.{RefusesAbsent}
 use Rattle.ak_edit.specs.Ends.{IsFinished, RefusesEnd}
 use Rattle.ak_keep.specs.FreeNames.{IsFirstFree, is_used}
-use Rattle.ak_calls.specs.NewNames.{first_name}
+use Rattle.ak_edit_calls.specs.NewNames.{first_name}
 use Rattle.ak_edit.specs.Overlays.{Overlay, put_over, tag_over}
 use Rattle.ak_edit.specs.Views.{rows_over}
 use Rattle.ak_edit.specs.Refusals.{IsEndFault, OrElse, Refusal}

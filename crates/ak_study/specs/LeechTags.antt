@@ -2,7 +2,7 @@
 use Rattle.std.specs.Prelude.{ℕ, if◌then◌else◌, List, [], ◌∷◌, ◌++◌, codes}
 use Rattle.ak_base.specs.NoteTexts.{tags_in}
 use Rattle.ak_base.specs.declared.notes.Note.{Note}
-use Rattle.ak_calls.specs.NoteTags.{stored_tags}
+use Rattle.ak_edit_calls.specs.NoteTags.{stored_tags}
 use Rattle.ak_merge.specs.Tags.{has_name}
 
 -- the tag

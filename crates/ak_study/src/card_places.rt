@@ -1,14 +1,14 @@
 ghost use Rattle.std.specs.Prelude.{◌≡◌, true, false, IfErr};
 ghost use Rattle.ak_base.specs.declared.names.Table.TheVariants as tables;
-ghost use Rattle.ak_calls.specs.Calls.{EditsBy, IsMissingOrEnd};
-ghost use Rattle.ak_calls.specs.CardEdits.{RefusesCardEdit, card_edit};
 ghost use Rattle.ak_edit.specs.Refusals.{DeskCause};
+ghost use Rattle.ak_edit_calls.specs.Calls.{EditsBy, IsMissingOrEnd};
+ghost use Rattle.ak_edit_calls.specs.CardEdits.{RefusesCardEdit, card_edit};
 ghost use Rattle.ak_keep.specs.Keepers.{is_marked};
 ghost use Rattle.ak_study.specs.CardPlaces.{buried_by_hand, lies_buried, queued, restored, suspended, unsuspended};
 
 use ak_base::Card;
-use ak_calls::{CardChange, CardEdit, edit_cards};
 use ak_edit::DeskFault;
+use ak_edit_calls::{CardChange, CardEdit, edit_cards};
 use ak_keep::Keeper;
 use ak_queue::restored_queue;
 use ak_undo::UndoList;

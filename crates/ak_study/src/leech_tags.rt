@@ -4,7 +4,7 @@ ghost use Rattle.ak_merge.specs.Tags.{has_name};
 ghost use Rattle.ak_study.specs.LeechTags.{leech_tag, leech_tagged, with_leech};
 
 use ak_base::{Memory, Note, Text};
-use ak_calls::stored_tags;
+use ak_edit_calls::stored_tags;
 use std::alloc::Global;
 
 /// The tag.

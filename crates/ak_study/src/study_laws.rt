@@ -1,7 +1,7 @@
 // What follows for every caller from the rules of the calls.
 ghost use Rattle.std.specs.Prelude.{ℤ, List};
 ghost use Rattle.ak_base.specs.declared.days.Day.{Day};
-ghost use Rattle.ak_calls.specs.CardEdits.{card_edit};
+ghost use Rattle.ak_edit_calls.specs.CardEdits.{card_edit};
 ghost use Rattle.ak_keep.specs.Collections.{Collection};
 ghost use Rattle.ak_merge.specs.Edits.{Admits};
 ghost use Rattle.ak_merge.specs.Holdings.{AreNamed, row_under};

@@ -7,6 +7,7 @@ use Rattle.std.proofs.lemmas.List.Elements.{filter-append}
 use Rattle.ak_base.specs.Limits.{last_moment}
 use Rattle.ak_client.proofs.Growing.{commits_grown, lawful_grown}
 use Rattle.ak_client.specs.Syncs.{world_at}
+use Rattle.ak_client_wire.specs.Forms.{is_moment}
 use Rattle.ak_keep.specs.Collections.{Collection}
 use Rattle.ak_protocol.proofs.Syncs.{all_append, unused_keys_commit_nothing}
 use Rattle.ak_protocol.specs.Accounts.{AccountState}
@@ -16,7 +17,6 @@ use Rattle.ak_protocol.specs.Logs.{Commit, Event, Log, IsTimely, commits_of, wit
 use Rattle.ak_protocol.specs.Syncs.{IsUnused}
 use Rattle.ak_session.proofs.Accepting.{between}
 use Rattle.ak_session.specs.Plans.{Asker}
-use Rattle.ak_wires.specs.Forms.{is_moment}
 
 -- ---- one collection of each moment
 -- commits that lead on make later moments

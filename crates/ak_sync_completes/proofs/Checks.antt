@@ -4,6 +4,7 @@ use Rattle.std.specs.Option.{option_map_or}
 use Rattle.std.specs.Prelude.{◌≡◌, Bool, true, false, not, if◌then◌else◌, List, Option, Some, None, IfSome, option_and_then, Result, Ok, Err}
 use Rattle.std.proofs.Common.{refl, sym, ap, subst, ◌∙◌, arith}
 use Rattle.std.proofs.lemmas.Option.{none-some}
+use Rattle.ak_client_wire.specs.Forms.{shows_cause, verdict_in}
 use Rattle.ak_exchange.specs.Stops.{check_stop, verdict_of}
 use Rattle.ak_exchange.specs.declared.stops.Stop.{Stop}
 use Rattle.ak_exchange.specs.declared.stops.Stop.TheVariants as stops
@@ -25,7 +26,6 @@ use Rattle.ak_session.specs.Refusals.{is_id}
 use Rattle.ak_session.specs.Sessions.{MaySync}
 use Rattle.ak_sync_completes.proofs.Faults.{first_by_content}
 use Rattle.ak_sync_completes.proofs.Metas.{one_of}
-use Rattle.ak_wires.specs.Forms.{shows_cause, verdict_in}
 
 -- the reply that was shown is the one that was given
 given_is : (own reply : SanityReply) → verdict_in (gives.Sanity own) ≡ Some reply → own ≡ reply

@@ -44,9 +44,9 @@ use Rattle.ak_sync_completes.proofs.Serving.{IsQuiet}
 use Rattle.ak_sync_completes.proofs.Sides.{checked_of, named_of, sides_may_sync}
 use Rattle.ak_sync_completes.proofs.Undisturbed.{granted_last, quiet_or_out}
 use Rattle.ak_sync_completes.specs.Completing.{AreJoinable, EndsWell, IsSyncOver, IsUnhindered, RanOutOfMemory, SyncEnds}
-use Rattle.ak_wires.specs.Forms.{is_moment}
-use Rattle.ak_wires.specs.declared.wires.MetaSaid.{MetaSaid}
-use Rattle.ak_wires.specs.Wires.{WireKind}
+use Rattle.ak_client_wire.specs.Forms.{is_moment}
+use Rattle.ak_client_wire.specs.declared.wires.MetaSaid.{MetaSaid}
+use Rattle.ak_client_wire.specs.Wires.{WireKind}
 
 -- ---- the two sides
 module _ (c s : Collection) (joinable : AreJoinable c s) (lawful : IsCommitted s) (linked : AreLinked c s) where

@@ -14,6 +14,11 @@ use Rattle.ak_client.specs.Outcomes.{HasOutcomeCause, is_told_by_meta, outcome_a
 use Rattle.ak_client.specs.Syncs.{EndsAt, EndsByMeta, IsCommittedIn, IsShown, IsSync, meta_tried, told_by, world_at}
 use Rattle.ak_client.specs.declared.outcomes.Outcome.{Outcome}
 use Rattle.ak_client.specs.declared.outcomes.Outcome.TheVariants as outcomes
+use Rattle.ak_client_wire.specs.Forms.{is_meta_in_range, is_moment, meta_told, verdict_in}
+use Rattle.ak_client_wire.specs.Wires.{WireKind, Carries}
+use Rattle.ak_client_wire.specs.declared.wires.MetaSaid.{MetaSaid}
+use Rattle.ak_client_wire.specs.declared.wires.WireEnd.{WireEnd}
+use Rattle.ak_client_wire.specs.declared.wires.WireEnd.TheVariants as ends
 use Rattle.ak_exchange.proofs.Tried.{answers_append, tried_reads}
 use Rattle.ak_exchange.specs.Asked.{AreTried, TriedAsk, answers_in, asker, asks_in}
 use Rattle.ak_exchange.specs.Grants.{AllGrantedButLast, IsCheckedLast, IsGranted, is_in_form}
@@ -65,11 +70,6 @@ use Rattle.ak_sync_completes.proofs.Serving.{Answer, TriedLast, same_growth, tri
 use Rattle.ak_sync_completes.proofs.Sides.{sides_may_sync}
 use Rattle.ak_sync_completes.specs.Causes.{IsSyncTold}
 use Rattle.ak_sync_completes.specs.Completing.{SyncEnds}
-use Rattle.ak_wires.specs.Forms.{is_meta_in_range, is_moment, meta_told, verdict_in}
-use Rattle.ak_wires.specs.Wires.{WireKind, Carries}
-use Rattle.ak_wires.specs.declared.wires.MetaSaid.{MetaSaid}
-use Rattle.ak_wires.specs.declared.wires.WireEnd.{WireEnd}
-use Rattle.ak_wires.specs.declared.wires.WireEnd.TheVariants as ends
 
 -- ---- the meta
 -- a meta that was granted was answered over what was committed at its place, and the sync is under way from there on

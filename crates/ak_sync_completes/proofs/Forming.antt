@@ -52,7 +52,7 @@ use Rattle.ak_session.specs.Refusals.{are_changes_in_range, is_checked, is_id, i
 use Rattle.ak_session.specs.Requests.{asks_commit, is_download, is_meta}
 use Rattle.ak_session.specs.Sessions.{MaySync}
 use Rattle.ak_session.specs.Slices.{slice, filled_slices, slices_until_short, wanted_changes, wanted_graves, wanted_in_chunks}
-use Rattle.ak_wires.specs.Forms.{is_chunk_in_form, is_meta_in_range, verdict_in}
+use Rattle.ak_client_wire.specs.Forms.{is_chunk_in_form, is_meta_in_range, verdict_in}
 
 -- what passes its test is in its form
 pub formed : {X : Type 0} (b : Bool) (x : X) → b ≡ true → is_some (if b then Some x else None) ≡ true

@@ -5,6 +5,7 @@ use Rattle.std.proofs.lemmas.Option.{same_Some}
 use Rattle.ak_client.specs.Syncs.{CommitsAlone, IsSync, IsSyncFinished, Synced, Syncs, ends_before_finish, world_at}
 use Rattle.ak_client.specs.declared.outcomes.Outcome.{Outcome}
 use Rattle.ak_client.specs.declared.outcomes.Outcome.TheVariants as outcomes
+use Rattle.ak_client_wire.specs.Wires.{WireKind, WireState}
 use Rattle.ak_exchange.specs.Asked.{asker, asks_in}
 use Rattle.ak_exchange.specs.declared.envelopes.Ids.{Ids}
 use Rattle.ak_faults.specs.Causes.{Health}
@@ -14,7 +15,6 @@ use Rattle.ak_merge.specs.Exchanges.{AreExchanged}
 use Rattle.ak_protocol.specs.Accounts.{AccountState}
 use Rattle.ak_protocol.specs.Logs.{Log}
 use Rattle.ak_sync_completes.specs.Alone.{BeginsAlone, LeavesTheJoin}
-use Rattle.ak_wires.specs.Wires.{WireKind, WireState}
 
 module _ {kind : WireKind} (ids : Ids) (c : Collection) (account : AccountState) (old now : Log) (before left : Keeping) (h0 h1 : Health) (w0 w1 : WireState kind) (outcome : Outcome)
     (begins : BeginsAlone ids c account old now before w0 w1) (sync : IsSync ids before left h0 h1 w0 w1 outcome) where

@@ -37,9 +37,9 @@ use Rattle.ak_protocol.specs.Replies.{granted, meta_reply}
 use Rattle.ak_protocol.specs.Serving.{Setback, Undisturbed, KeeperFault, OutOfMemory, served}
 use Rattle.ak_sync_completes.proofs.Serving.{Answer, all_own, same_growth, reply_at_place, served_alone, servings_are_of}
 use Rattle.ak_sync_completes.specs.Completing.{IsMetaNear, have_nothing_to_sync}
-use Rattle.ak_wires.specs.Forms.{is_meta_in_range, meta_told}
-use Rattle.ak_wires.specs.Wires.{WireKind, IsServing, WireState}
-use Rattle.ak_wires.specs.declared.wires.MetaSaid.{MetaSaid}
+use Rattle.ak_client_wire.specs.Forms.{is_meta_in_range, meta_told}
+use Rattle.ak_client_wire.specs.Wires.{WireKind, IsServing, WireState}
+use Rattle.ak_client_wire.specs.declared.wires.MetaSaid.{MetaSaid}
 
 -- ---- the meta
 -- a meta leaves what is committed

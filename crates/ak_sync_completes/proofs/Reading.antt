@@ -8,6 +8,12 @@ use Rattle.ak_base.specs.declared.keys.SessionKey.{SessionKey}
 use Rattle.ak_client.proofs.Alone.{alone_stays}
 use Rattle.ak_client.specs.Greetings.{meta_of}
 use Rattle.ak_client.specs.Syncs.{meta_tried, world_at}
+use Rattle.ak_client_wire.specs.Forms.{is_meta_in_range, is_moment, meta_told}
+use Rattle.ak_client_wire.specs.Tries.{Tried}
+use Rattle.ak_client_wire.specs.Wires.{WireKind, Carries, WireState}
+use Rattle.ak_client_wire.specs.declared.asks.Unanswered.TheVariants as unanswered
+use Rattle.ak_client_wire.specs.declared.wires.WireEnd.{WireEnd}
+use Rattle.ak_client_wire.specs.declared.wires.WireEnd.TheVariants as ends
 use Rattle.ak_exchange.proofs.Tried.{answers_append, tried_reads}
 use Rattle.ak_exchange.specs.Asked.{AreTried, TriedAsk, answers_in, asker, asks_in}
 use Rattle.ak_exchange.specs.Grants.{AllGranted, AllGrantedButLast, IsNotGranted, is_in_form}
@@ -40,12 +46,6 @@ use Rattle.ak_sync_completes.proofs.Asking.{IsAskedOf, first_and_others, granted
 use Rattle.ak_sync_completes.proofs.Forming.{answers_fit, formed, metas_fit}
 use Rattle.ak_sync_completes.proofs.Metas.{held_at_meta}
 use Rattle.ak_sync_completes.proofs.Serving.{Answer, IsServedAlone, TriedLast, grows_by, served_alone, tried_last}
-use Rattle.ak_wires.specs.Forms.{is_meta_in_range, is_moment, meta_told}
-use Rattle.ak_wires.specs.Tries.{Tried}
-use Rattle.ak_wires.specs.Wires.{WireKind, Carries, WireState}
-use Rattle.ak_wires.specs.declared.asks.Unanswered.TheVariants as unanswered
-use Rattle.ak_wires.specs.declared.wires.WireEnd.{WireEnd}
-use Rattle.ak_wires.specs.declared.wires.WireEnd.TheVariants as ends
 
 -- ---- a sync under way
 module _ (who : Asker) (c s : Collection) (account : AccountState) where

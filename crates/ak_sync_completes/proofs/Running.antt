@@ -7,6 +7,7 @@ use Rattle.ak_base.specs.declared.keys.HostKey.{HostKey}
 use Rattle.ak_client.specs.Syncs.{IsSyncEnded}
 use Rattle.ak_client.specs.declared.outcomes.Outcome.{Outcome}
 use Rattle.ak_client.specs.declared.outcomes.Outcome.TheVariants as outcomes
+use Rattle.ak_client_wire.specs.Wires.{WireKind}
 use Rattle.ak_faults.specs.Causes.{Rose}
 use Rattle.ak_io.specs.Arrivals.{GivesNext}
 use Rattle.ak_keep.specs.Collections.{Collection}
@@ -18,7 +19,6 @@ use Rattle.ak_sync_completes.proofs.Completing.{ends_by_fault}
 use Rattle.ak_sync_completes.specs.Completing.{EndsWell}
 use Rattle.ak_sync_completes.specs.Runs.{RunEndsWell, RunsUnhindered, ends_of}
 use Rattle.ak_sync_runs.specs.SyncRuns.{EndsPrinting, EndsSync, EndsSyncOn, HasStatusCause, SyncOutside, TellsOutcome, ids_of}
-use Rattle.ak_wires.specs.Wires.{WireKind}
 
 -- chance gives the word that it told
 pub word_told : (word other : ℕ) (words : List ℕ) (new : Option (List ℕ)) → GivesNext (Some (word ∷ words)) new other → other ≡ word

@@ -3,6 +3,9 @@ use Rattle.std.specs.List.{AllByRecursion}
 use Rattle.std.specs.Prelude.{◌≡◌, if◌then◌else◌, Bool, ℕ, true, ⊤, List, [], ◌∷◌, ◌++◌, Option, Some, Result, Ok, IfOk}
 use Rattle.std.proofs.Common.{refl, sym, ap, subst, ◌∙◌, inl, inr, append_assoc, append-nil}
 use Rattle.std.proofs.lemmas.List.{append_cancel_left}
+use Rattle.ak_client_wire.specs.Tries.{Tried}
+use Rattle.ak_client_wire.specs.Wires.{WireKind, Carries, GrowsByServings, IsServing, WireState}
+use Rattle.ak_client_wire.specs.declared.wires.WireEnd.{WireEnd}
 use Rattle.ak_exchange.specs.Asked.{AreTried}
 use Rattle.ak_faults.specs.Causes.{Health}
 use Rattle.ak_messages.specs.declared.replies.Reply.{Reply}
@@ -15,9 +18,6 @@ use Rattle.ak_protocol.specs.Servers.{by_account, same_host}
 use Rattle.ak_protocol.specs.Serving.{Undisturbed, served}
 use Rattle.ak_protocol.specs.Sessions.{AreUndisturbed}
 use Rattle.ak_protocol.specs.Syncs.{world_of}
-use Rattle.ak_wires.specs.Tries.{Tried}
-use Rattle.ak_wires.specs.Wires.{WireKind, Carries, GrowsByServings, IsServing, WireState}
-use Rattle.ak_wires.specs.declared.wires.WireEnd.{WireEnd}
 
 abbrev pub Answer : Type 0
 Answer = Result Reply WireEnd

@@ -10,6 +10,9 @@ use Rattle.ak_client.specs.Outcomes.{is_told_by_meta, outcome_at}
 use Rattle.ak_client.specs.Syncs.{IsSyncEnded, told_by}
 use Rattle.ak_client.specs.declared.outcomes.Outcome.{Outcome}
 use Rattle.ak_client.specs.declared.outcomes.Outcome.TheVariants as outcomes
+use Rattle.ak_client_wire.specs.Forms.{is_meta_in_range, meta_told}
+use Rattle.ak_client_wire.specs.Wires.{WireKind, Carries, WireState}
+use Rattle.ak_client_wire.specs.declared.wires.MetaSaid.{MetaSaid}
 use Rattle.ak_exchange.specs.Asked.{AreTried, answers_in, asker, asks_in}
 use Rattle.ak_exchange.specs.Phases.{held_by, holding}
 use Rattle.ak_exchange.specs.declared.envelopes.Ids.{Ids}
@@ -33,9 +36,6 @@ use Rattle.ak_protocol.specs.Syncs.{world_of}
 use Rattle.ak_session.specs.Plans.{requests_from}
 use Rattle.ak_sync_completes.proofs.Metas.{one_of}
 use Rattle.ak_sync_completes.proofs.Serving.{Answer, reply_at_place}
-use Rattle.ak_wires.specs.Forms.{is_meta_in_range, meta_told}
-use Rattle.ak_wires.specs.Wires.{WireKind, Carries, WireState}
-use Rattle.ak_wires.specs.declared.wires.MetaSaid.{MetaSaid}
 
 -- ---- what is no such end
 abbrev pub is_stopped : Outcome → Bool

@@ -7,6 +7,7 @@ use Rattle.ak_base.specs.declared.keys.HostKey.{HostKey}
 use Rattle.ak_client.proofs.Growing.{world_grown}
 use Rattle.ak_client.specs.Greetings.{meta_of}
 use Rattle.ak_client.specs.Syncs.{meta_tried, world_at}
+use Rattle.ak_client_wire.specs.Wires.{WireKind, IsServing, WireState}
 use Rattle.ak_exchange.proofs.Tried.{answers_append}
 use Rattle.ak_exchange.specs.Asked.{AreTried, TriedAsk, answers_in, asker, asks_in}
 use Rattle.ak_exchange.specs.Grants.{AllGrantedButLast}
@@ -30,7 +31,6 @@ use Rattle.ak_sync_completes.proofs.Asking.{IsAskedOf, first_and_others, granted
 use Rattle.ak_sync_completes.proofs.Granting.{granted_again}
 use Rattle.ak_sync_completes.proofs.Serving.{Answer, CameInOrder, IsQuiet, IsServedAlone, TriedLast, all_own, came_in_order, quiet_servings, reply_at_place, same_growth, served_alone, servings_are_of, tried_last}
 use Rattle.ak_sync_completes.specs.Completing.{HasNoKeeperFault, RanOutOfMemory}
-use Rattle.ak_wires.specs.Wires.{WireKind, IsServing, WireState}
 
 -- ---- setbacks
 -- if the server's keeper never failed, nothing came in between, or memory ran out

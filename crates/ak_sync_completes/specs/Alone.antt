@@ -1,6 +1,7 @@
 -- A sync to whose server nothing else comes.
 use Rattle.std.specs.Prelude.{◌≡◌, true, Some}
 use Rattle.ak_client.specs.Syncs.{MayBegin, world_at}
+use Rattle.ak_client_wire.specs.Wires.{WireKind, WireState}
 use Rattle.ak_exchange.specs.Asked.{asker}
 use Rattle.ak_exchange.specs.Phases.{holding}
 use Rattle.ak_exchange.specs.declared.envelopes.Ids.{Ids}
@@ -10,7 +11,6 @@ use Rattle.ak_merge.specs.Exchanges.{AreExchanged}
 use Rattle.ak_protocol.specs.Accounts.{AccountState}
 use Rattle.ak_protocol.specs.Commits.{EachNewer, HasFreshSchema}
 use Rattle.ak_protocol.specs.Logs.{Log, World}
-use Rattle.ak_wires.specs.Wires.{WireKind, WireState}
 
 -- a sync with a device's c may begin over a wire that nothing else uses and that tells its log, which is this one after it; what is
 -- committed meanwhile leaves the schema moment, or gives one that is not the device's

@@ -2,6 +2,7 @@
 use Rattle.std.specs.Prelude.{◌≡◌, Some}
 use Rattle.ak_client.specs.Syncs.{IsSyncEnded, MayBegin, Synced, world_at}
 use Rattle.ak_client.specs.declared.outcomes.Outcome.{Outcome}
+use Rattle.ak_client_wire.specs.Wires.{WireKind}
 use Rattle.ak_exchange.specs.Asked.{asker, asks_in}
 use Rattle.ak_exchange.specs.Phases.{held_by, holding}
 use Rattle.ak_exchange.specs.declared.envelopes.Ids.{Ids}
@@ -10,7 +11,6 @@ use Rattle.ak_protocol.specs.Accounts.{AccountState}
 use Rattle.ak_protocol.specs.Commits.{EachNewer, HasFreshSchema}
 use Rattle.ak_protocol.specs.Logs.{Log}
 use Rattle.ak_sync_completes.specs.Completing.{SyncEnds}
-use Rattle.ak_wires.specs.Wires.{WireKind}
 
 -- a sync of a device's c, which its keeper tells, ended so. It might begin over the log that its wire told: an account has its host key and is
 -- lawful, nothing but metas has its session key so far, and the device is linked. No upload meanwhile gave just the device's schema moment. Others

@@ -8,6 +8,7 @@ use Rattle.ak_client.specs.Syncs.{IsSyncEnded, MayBegin, world_at}
 use Rattle.ak_client.specs.Unsent.{has_unsent}
 use Rattle.ak_client.specs.declared.outcomes.Outcome.{Outcome}
 use Rattle.ak_client.specs.declared.outcomes.Outcome.TheVariants as outcomes
+use Rattle.ak_client_wire.specs.Wires.{WireKind, WireState}
 use Rattle.ak_exchange.specs.Asked.{asker}
 use Rattle.ak_exchange.specs.Phases.{held_by, holding}
 use Rattle.ak_exchange.specs.declared.envelopes.Ids.{Ids}
@@ -25,7 +26,6 @@ use Rattle.ak_protocol.specs.Serving.{KeeperFault, OutOfMemory}
 use Rattle.ak_session.specs.Requests.{is_meta}
 use Rattle.ak_session.specs.Sessions.{HaveRoom}
 use Rattle.ak_session.specs.Slices.{wanted_in_chunks}
-use Rattle.ak_wires.specs.Wires.{WireKind, WireState}
 
 -- ---- a sync and its ends to the outside
 -- what is known of a sync's keeper, its wire and its clock

@@ -2,13 +2,13 @@
 use Rattle.std.specs.Prelude.{◌≡◌, ◌⊎◌, ℕ, List, [], ◌∷◌, ◌++◌, Option, Some, codes}
 use Rattle.std.specs.Io.KnownBytes.{Appends}
 use Rattle.ak_base.specs.declared.keys.HostKey.{HostKey}
+use Rattle.ak_client_wire.specs.Wires.{WireKind}
 use Rattle.ak_faults.specs.Causes.{Health, Rose}
 use Rattle.ak_keep.specs.Collections.{Collection}
 use Rattle.ak_protocol.specs.Accounts.{AccountState}
 use Rattle.ak_protocol.specs.Logs.{Event}
 use Rattle.ak_sync_completes.specs.Completing.{IsUnhindered, RanOutOfMemory, SyncEnds}
 use Rattle.ak_sync_runs.specs.SyncRuns.{HasStatusCause, SyncOutside, ids_of}
-use Rattle.ak_wires.specs.Wires.{WireKind}
 
 -- what is known of the ends of a run's sync, with how many calls of its keeper failed
 abbrev pub ends_of : {kind : WireKind} → Health → SyncOutside kind → SyncEnds kind

@@ -3,6 +3,7 @@ ghost use Rattle.std.specs.Prelude.{◌≡◌, true};
 ghost use Rattle.ak_client.specs.Syncs.{IsSync, ends_before_finish, world_at};
 ghost use Rattle.ak_client.specs.declared.outcomes.Outcome.{Outcome};
 ghost use Rattle.ak_client.specs.declared.outcomes.Outcome.TheVariants as outcomes;
+ghost use Rattle.ak_client_wire.specs.Wires.{WireState};
 ghost use Rattle.ak_exchange.specs.Asked.{asker};
 ghost use Rattle.ak_exchange.specs.declared.envelopes.Ids.{Ids};
 ghost use Rattle.ak_faults.specs.Causes.{Health};
@@ -11,9 +12,8 @@ ghost use Rattle.ak_keep.specs.Keepers.{Keeping};
 ghost use Rattle.ak_protocol.specs.Accounts.{AccountState};
 ghost use Rattle.ak_protocol.specs.Logs.{Log};
 ghost use Rattle.ak_sync_completes.specs.Alone.{BeginsAlone, LeavesTheJoin};
-ghost use Rattle.ak_wires.specs.Wires.{WireState};
 
-use ak_wires::Wire;
+use ak_client_wire::Wire;
 
 /// If nothing else comes to the server, a sync that reports that it is finished leaves both sides with the join of what
 /// they held before it. One that ended before its finish leaves what is committed.

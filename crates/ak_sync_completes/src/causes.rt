@@ -13,7 +13,7 @@ ghost use Rattle.ak_protocol.specs.Accounts.{AccountState};
 ghost use Rattle.ak_sync_completes.specs.Causes.{IsSyncTold};
 ghost use Rattle.ak_sync_completes.specs.Completing.{SyncEnds};
 
-use ak_wires::Wire;
+use ak_client_wire::Wire;
 
 /// Whoever else uses the server, a sync whose keeper and wire tell what they hold ends at a bad reply only if the wire counted one that
 /// can't be read, and never over a wire that is known to read all. A bad row that it shows is the first fault of the join of the device

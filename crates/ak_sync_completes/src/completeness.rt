@@ -8,7 +8,7 @@ ghost use Rattle.ak_keep.specs.Collections.{Collection};
 ghost use Rattle.ak_protocol.specs.Accounts.{AccountState};
 ghost use Rattle.ak_sync_completes.specs.Completing.{EndsWell, IsSyncOver, IsUnhindered, SyncEnds};
 
-use ak_wires::Wire;
+use ak_client_wire::Wire;
 
 /// A sync that nothing stops is finished, or memory ran out, on the device or at the server. If calls of its wire fail too, one of its
 /// requests may be lost besides. A sync over a wire within the program to whose server nobody else comes, with keepers in memory and a

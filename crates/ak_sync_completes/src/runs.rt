@@ -7,7 +7,7 @@ ghost use Rattle.ak_protocol.specs.Accounts.{AccountState};
 ghost use Rattle.ak_sync_completes.specs.Runs.{RunEndsWell, RunsUnhindered};
 ghost use Rattle.ak_sync_runs.specs.SyncRuns.{EndsSync, HasStatusCause, SyncOutside};
 
-use ak_wires::Wire;
+use ak_client_wire::Wire;
 
 /// If nothing stops the sync, and the output does not fail, the command `sync` prints `finished` and ends with 0, or
 /// memory ran out: it ends with 8, or with 13 where the server's did. If calls of its wire fail, it may end with 7 besides.

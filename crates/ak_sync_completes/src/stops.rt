@@ -3,15 +3,15 @@ ghost use Rattle.std.specs.Prelude.{◌≡◌, ◌≢◌, ℤ, List, Option, Som
 ghost use Rattle.ak_client.specs.Syncs.{IsSyncEnded};
 ghost use Rattle.ak_client.specs.declared.outcomes.Outcome.{Outcome};
 ghost use Rattle.ak_client.specs.declared.outcomes.Outcome.TheVariants as outcomes;
+ghost use Rattle.ak_client_wire.specs.Wires.{WireState};
 ghost use Rattle.ak_exchange.specs.Phases.{holding};
 ghost use Rattle.ak_exchange.specs.declared.envelopes.Ids.{Ids};
 ghost use Rattle.ak_faults.specs.Causes.{Health};
 ghost use Rattle.ak_keep.specs.Collections.{Collection};
 ghost use Rattle.ak_keep.specs.Keepers.{Keeping};
 ghost use Rattle.ak_protocol.specs.Logs.{Log};
-ghost use Rattle.ak_wires.specs.Wires.{WireState};
 
-use ak_wires::Wire;
+use ak_client_wire::Wire;
 
 /// Over a wire that tells its log a sync of a collection that the keeper tells never ends as stopped, whatever its host key
 /// is and whatever else comes to the server: each meta that is granted lets the sync go on.

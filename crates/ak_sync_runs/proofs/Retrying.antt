@@ -26,7 +26,7 @@ use Rattle.ak_session.specs.Plans.{Asker, requests_from}
 use Rattle.ak_sync_runs.proofs.Telling.{finished_by, finished_line}
 use Rattle.ak_sync_runs.specs.Retries.{AreInARow, HasHealed, Heals, HealsNext}
 use Rattle.ak_sync_runs.specs.SyncRuns.{EndsSync, EndsSyncOn, IsSyncRun, SyncOutside, ids_of}
-use Rattle.ak_wires.specs.Wires.{WireKind}
+use Rattle.ak_client_wire.specs.Wires.{WireKind}
 
 -- ---- between two worlds
 -- what holds of each commit from the first on holds up to the middle, and from there on

@@ -7,11 +7,11 @@ use Rattle.ak_client.specs.Outcomes.{HasOutcomeCause}
 use Rattle.ak_client.specs.Syncs.{HasRaised, KeepsDevice, ends_before_finish}
 use Rattle.ak_client.specs.declared.outcomes.Outcome.{Outcome}
 use Rattle.ak_client.specs.declared.outcomes.Outcome.TheVariants as outcomes
+use Rattle.ak_client_wire.specs.Wires.{WireKind}
 use Rattle.ak_faults.specs.Causes.{Health}
 use Rattle.ak_keep.specs.Keepers.{Keeping}
 use Rattle.ak_outcomes.specs.OutcomeTexts.{has_fixed_text, outcome_text, outcome_status}
 use Rattle.ak_sync_runs.specs.SyncRuns.{AgreesNext, CommitsNextOnce, EndsPrinting, EndsSync, EndsSyncOn, FinishesNext, HasRunOutEarly, HasStatusCause, IsSyncRun, RunsOutNextEarly, SyncOutside, TellsOutcome, ids_of, is_early_status, is_sync_status}
-use Rattle.ak_wires.specs.Wires.{WireKind}
 
 -- the line of a sync that is finished
 abbrev pub finished_line : List ℕ

@@ -1,7 +1,7 @@
 -- A wire that leads to no server.
 use Rattle.std.specs.Prelude.{ℕ, false, true, None}
+use Rattle.ak_client_wire.specs.Wires.{WireState, plain_kind}
 use Rattle.ak_faults.specs.Causes.{Health}
-use Rattle.ak_wires.specs.Wires.{WireState, plain_kind}
 
 -- each of its calls failed
 abbrev pub all_failed : ℕ → Health

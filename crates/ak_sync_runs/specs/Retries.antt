@@ -2,6 +2,7 @@
 use Rattle.std.specs.Prelude.{◌≡◌, ◌⊎◌, ℕ, true, Some}
 use Rattle.ak_base.specs.declared.keys.HostKey.{HostKey}
 use Rattle.ak_client.specs.Syncs.{IsSyncFinished, MayBegin, world_at}
+use Rattle.ak_client_wire.specs.Wires.{WireKind}
 use Rattle.ak_exchange.specs.Asked.{asker}
 use Rattle.ak_exchange.specs.Phases.{holding}
 use Rattle.ak_exchange.specs.declared.envelopes.Ids.{Ids}
@@ -13,7 +14,6 @@ use Rattle.ak_protocol.specs.Accounts.{AccountState}
 use Rattle.ak_protocol.specs.Logs.{Log}
 use Rattle.ak_protocol.specs.Syncs.{IsUnused}
 use Rattle.ak_sync_runs.specs.SyncRuns.{SyncOutside, ids_of}
-use Rattle.ak_wires.specs.Wires.{WireKind}
 
 -- two syncs of c in these sessions, the second of which goes on where the first one ended: nobody changed the device between them, and nothing
 -- at all came to the server, nor anything else during them

@@ -6,6 +6,7 @@ use Rattle.ak_client.specs.Outcomes.{HasLostThrice, ShowsRefusal}
 use Rattle.ak_client.specs.Syncs.{IsCommittedIn, IsSyncFinished, IsSyncSparing, KeepsDevice, LacksMemoryEarly, MayBegin, StaysOnce, TakesMoments, meta_tried, world_at}
 use Rattle.ak_client.specs.declared.outcomes.Outcome.{Outcome}
 use Rattle.ak_client.specs.declared.outcomes.Outcome.TheVariants as outcomes
+use Rattle.ak_client_wire.specs.Wires.{WireKind, WireState}
 use Rattle.ak_exchange.specs.Asked.{asker}
 use Rattle.ak_exchange.specs.Phases.{holding}
 use Rattle.ak_exchange.specs.declared.envelopes.Ids.{Ids}
@@ -20,7 +21,6 @@ use Rattle.ak_outcomes.specs.OutcomeTexts.{has_fixed_text, outcome_text, outcome
 use Rattle.ak_protocol.specs.Accounts.{AccountState}
 use Rattle.ak_protocol.specs.Commits.{EachNewer, HasFreshSchema}
 use Rattle.ak_protocol.specs.Logs.{Event, Log, commits_of, with_growth}
-use Rattle.ak_wires.specs.Wires.{WireKind, WireState}
 
 -- ---- what is printed
 -- the text is written as a line, and the status is this one; or a front of the line is, and it is 5

@@ -1,8 +1,8 @@
 ghost use Rattle.std.specs.Prelude.{◌≡◌};
 
+use ak_client_wire::{Said, Wire, WireEnd};
 use ak_io::End;
 use ak_messages::{Reply, Request};
-use ak_wires::{Said, Wire, WireEnd};
 
 /// The wire of a program that was given no server: no call gets an answer.
 #[derive(Debug, Drop)]
@@ -32,9 +32,9 @@ impl End for NoServer {
 
 impl Wire for NoServer {
     ghost use Rattle.std.specs.Prelude.{◌≡◌, Err};
+    ghost use Rattle.ak_client_wire.specs.Wires.{Called, more, plain_kind};
+    ghost use Rattle.ak_client_wire.specs.declared.wires.WireEnd.TheVariants as ends;
     ghost use Rattle.ak_sync_runs.specs.NoServers.{all_failed, all_silent};
-    ghost use Rattle.ak_wires.specs.Wires.{Called, more, plain_kind};
-    ghost use Rattle.ak_wires.specs.declared.wires.WireEnd.TheVariants as ends;
 
     ghost kind = { plain_kind };
 

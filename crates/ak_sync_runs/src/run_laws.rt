@@ -5,7 +5,7 @@ ghost use Rattle.ak_client.specs.Syncs.{HasRaised};
 ghost use Rattle.ak_sync_runs.specs.Retries.{HealsNext};
 ghost use Rattle.ak_sync_runs.specs.SyncRuns.{AgreesNext, CommitsNextOnce, EndsSync, FinishesNext, RunsOutNextEarly, SyncOutside};
 
-use ak_wires::Wire;
+use ak_client_wire::Wire;
 
 /// If `finished` is what was printed, and the status is 0, then the device holds the join of what it and the server held, and so
 /// does what the server committed for this sync, once.

@@ -5,11 +5,11 @@ ghost use Rattle.ak_sync_runs.specs.SyncRuns.{EndsPrinting, EndsSync, HasStatusC
 
 use ak_base::{HostKey, Memory, SessionKey};
 use ak_client::{Ids, Outcome, sync_over};
+use ak_client_wire::Wire;
 use ak_io::{Chance, Clock, Failed, Sink, print_line};
 use ak_keep::Keeper;
 use ak_outcomes::{NO_MEMORY, fixed_text, outcome_status, outcome_text};
 use ak_undo::UndoList;
-use ak_wires::Wire;
 use std::alloc::Global;
 
 /// The status of a command that finds no collection.

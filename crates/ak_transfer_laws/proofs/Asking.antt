@@ -7,6 +7,8 @@ use Rattle.ak_base.specs.Limits.{last_moment}
 use Rattle.ak_client.proofs.Growing.{lawful_grown, timely_growth, world_grown}
 use Rattle.ak_client.specs.Greetings.{meta_of}
 use Rattle.ak_client.specs.Syncs.{world_at}
+use Rattle.ak_client_wire.specs.Tries.{Tried}
+use Rattle.ak_client_wire.specs.Wires.{WireKind, IsServing, WireState}
 use Rattle.ak_exchange.specs.Asked.{asker, request_at}
 use Rattle.ak_exchange.specs.declared.envelopes.Ids.{Ids}
 use Rattle.ak_faults.specs.Causes.{Health}
@@ -43,8 +45,6 @@ use Rattle.ak_transfer_laws.proofs.Wholes.{committed_may_be_held}
 use Rattle.ak_transfer_laws.specs.Completing.{IsLeftAlone, committed_before}
 use Rattle.ak_transfers.specs.Forms.{MayBeHeld, uploaded_in, whole_in}
 use Rattle.ak_transfers.specs.declared.asks.UploadMoments.{UploadMoments}
-use Rattle.ak_wires.specs.Tries.{Tried}
-use Rattle.ak_wires.specs.Wires.{WireKind, IsServing, WireState}
 
 -- ---- a request that is next after a meta
 module _ (w : World) (meta request : Request) (begins : is_meta meta.ask ≡ true) (key : meta.session.0 ≡ request.session.0) (step : request.step ≡ 1)

@@ -29,13 +29,13 @@ use Rattle.ak_transfer_laws.proofs.Meeting.{Comes, clock_is, err_ok, meta_comes,
 use Rattle.ak_transfer_laws.specs.Completing.{IsLeftAlone, committed_before}
 use Rattle.ak_transfers.specs.Greetings.{Line}
 use Rattle.ak_transfers.specs.Transfers.{AsksNothing, AsksOnce, Continues, Errand, Follows, IsTransfer, MayAsk, TransferEnds}
-use Rattle.ak_wires.specs.Forms.{meta_in}
-use Rattle.ak_wires.specs.Tries.{Tried, granted_in, in_form}
-use Rattle.ak_wires.specs.declared.asks.Unanswered.{Unanswered}
-use Rattle.ak_wires.specs.declared.asks.Unanswered.TheVariants as unanswered
-use Rattle.ak_wires.specs.declared.wires.MetaSaid.{MetaSaid}
-use Rattle.ak_wires.specs.declared.wires.WireEnd.TheVariants as ends
-use Rattle.ak_wires.specs.Wires.{WireKind}
+use Rattle.ak_client_wire.specs.Forms.{meta_in}
+use Rattle.ak_client_wire.specs.Tries.{Tried, granted_in, in_form}
+use Rattle.ak_client_wire.specs.declared.asks.Unanswered.{Unanswered}
+use Rattle.ak_client_wire.specs.declared.asks.Unanswered.TheVariants as unanswered
+use Rattle.ak_client_wire.specs.declared.wires.MetaSaid.{MetaSaid}
+use Rattle.ak_client_wire.specs.declared.wires.WireEnd.TheVariants as ends
+use Rattle.ak_client_wire.specs.Wires.{WireKind}
 
 -- ---- answers by their form
 refused_as : {T : Type 0} (part : Give → Option T) (reply : Reply) → reply.status ≢ 200

@@ -28,10 +28,10 @@ use Rattle.ak_sync_completes.proofs.Metas.{Says, gives_told, held_at_meta, meta_
 use Rattle.ak_sync_completes.proofs.Serving.{Answer, IsServedAlone, reply_at_place, same_growth, served_alone}
 use Rattle.ak_sync_completes.specs.Completing.{HasNoKeeperFault, RanOutOfMemory, SyncEnds}
 use Rattle.ak_transfer_laws.specs.Completing.{IsLeftAlone, committed_before}
-use Rattle.ak_wires.specs.Forms.{meta_in, meta_told}
-use Rattle.ak_wires.specs.declared.wires.MetaSaid.{MetaSaid}
-use Rattle.ak_wires.specs.declared.wires.WireEnd.TheVariants as ends
-use Rattle.ak_wires.specs.Wires.{WireKind}
+use Rattle.ak_client_wire.specs.Forms.{meta_in, meta_told}
+use Rattle.ak_client_wire.specs.declared.wires.MetaSaid.{MetaSaid}
+use Rattle.ak_client_wire.specs.declared.wires.WireEnd.TheVariants as ends
+use Rattle.ak_client_wire.specs.Wires.{WireKind}
 
 -- ---- where memory ran out
 out_there : (xs ys : List Event) (request : Request) (now : ℤ) → RanOutOfMemory (xs ++ Asked request now OutOfMemory ∷ ys)

@@ -4,6 +4,7 @@ use Rattle.std.proofs.Common.{refl, sym, subst, arith}
 use Rattle.std.proofs.lemmas.Int.{ints}
 use Rattle.ak_client.specs.declared.outcomes.Outcome.{Outcome}
 use Rattle.ak_client.specs.declared.outcomes.Outcome.TheVariants as outcomes
+use Rattle.ak_client_wire.specs.Wires.{WireKind}
 use Rattle.ak_exchange.specs.declared.envelopes.Ids.{Ids}
 use Rattle.ak_exchange.specs.declared.stops.Stop.TheVariants as stops
 use Rattle.ak_keep.specs.Collections.{Collection}
@@ -19,7 +20,6 @@ use Rattle.ak_transfer_laws.proofs.Reasons.{copies_stop, equal_sides_stop, schem
 use Rattle.ak_transfer_laws.proofs.Syncing.{syncs_end}
 use Rattle.ak_transfer_laws.specs.Completing.{EndsWith, IsLeftAlone, committed_before}
 use Rattle.ak_transfers.specs.Transfers.{Downloaded, HoldsUpload, Uploaded}
-use Rattle.ak_wires.specs.Wires.{WireKind}
 
 -- a device that holds a copy of what is committed, or has nothing to sync for another reason, or has another schema moment
 module _ {kind : WireKind} (ids : Ids) (d : Collection) (account : AccountState) (before after : SyncEnds kind) (outcome : Outcome) (it : IsLeftAlone ids d account before after)

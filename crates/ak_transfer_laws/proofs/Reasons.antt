@@ -8,6 +8,7 @@ use Rattle.ak_base.specs.Limits.{last_head_usn}
 use Rattle.ak_base.specs.declared.heads.Head.{Head}
 use Rattle.ak_client.specs.Greetings.{device_stop, is_unchanged}
 use Rattle.ak_client.specs.Unsent.{has_unsent}
+use Rattle.ak_client_wire.specs.declared.wires.MetaSaid.{MetaSaid}
 use Rattle.ak_exchange.specs.Phases.{held_by}
 use Rattle.ak_exchange.specs.declared.stops.Stop.{Stop}
 use Rattle.ak_exchange.specs.declared.stops.Stop.TheVariants as stops
@@ -19,7 +20,6 @@ use Rattle.ak_protocol.proofs.Commits.{not_both}
 use Rattle.ak_sync_completes.proofs.Metas.{Says}
 use Rattle.ak_sync_completes.specs.Completing.{have_nothing_to_sync}
 use Rattle.ak_transfer_laws.proofs.Sent.{all_sent}
-use Rattle.ak_wires.specs.declared.wires.MetaSaid.{MetaSaid}
 
 abbrev own_faults : Collection → Option Stop
 own_faults c = option_map (λ (fault : CheckFault). stops.OwnCheck fault) (first_fault c.rows)

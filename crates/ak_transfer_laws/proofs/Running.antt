@@ -5,6 +5,7 @@ use Rattle.std.proofs.lemmas.Option.{none-some}
 use Rattle.ak_base.specs.declared.keys.HostKey.{HostKey}
 use Rattle.ak_client.specs.declared.outcomes.Outcome.{Outcome}
 use Rattle.ak_client.specs.declared.outcomes.Outcome.TheVariants as outcomes
+use Rattle.ak_client_wire.specs.Wires.{WireKind}
 use Rattle.ak_exchange.specs.Asked.{asker, request_at}
 use Rattle.ak_exchange.specs.declared.envelopes.Ids.{Ids}
 use Rattle.ak_faults.specs.Causes.{Rose}
@@ -34,7 +35,6 @@ use Rattle.ak_transfer_runs.specs.TransferRuns.{Downloads, EndsDownload, EndsTra
 use Rattle.ak_transfers.specs.Forms.{MayBeHeld}
 use Rattle.ak_transfers.specs.Transfers.{AsksUpload, DownloadEnds, IsTransfer, StopsUpload, UploadEnds, download_errand, upload_errand}
 use Rattle.ak_transfers.specs.declared.asks.UploadMoments.{UploadMoments}
-use Rattle.ak_wires.specs.Wires.{WireKind}
 
 -- well, or because a request was lost, or the device's keeper failed
 abbrev Ends : List Event → Outcome → Type 0

@@ -6,6 +6,13 @@ use Rattle.ak_client.specs.Outcomes.{outcome_at}
 use Rattle.ak_client.specs.Syncs.{told_by}
 use Rattle.ak_client.specs.declared.outcomes.Outcome.{Outcome}
 use Rattle.ak_client.specs.declared.outcomes.Outcome.TheVariants as outcomes
+use Rattle.ak_client_wire.specs.Forms.{meta_in}
+use Rattle.ak_client_wire.specs.Tries.{Answered, granted_in, in_form}
+use Rattle.ak_client_wire.specs.Wires.{WireKind}
+use Rattle.ak_client_wire.specs.declared.asks.Unanswered.{Unanswered}
+use Rattle.ak_client_wire.specs.declared.asks.Unanswered.TheVariants as unanswered
+use Rattle.ak_client_wire.specs.declared.wires.MetaSaid.{MetaSaid}
+use Rattle.ak_client_wire.specs.declared.wires.WireEnd.TheVariants as ends
 use Rattle.ak_exchange.specs.Stops.{wire_stop}
 use Rattle.ak_exchange.specs.declared.envelopes.Ids.{Ids}
 use Rattle.ak_exchange.specs.declared.stops.Stop.{Stop}
@@ -22,13 +29,6 @@ use Rattle.ak_transfer_laws.proofs.Meeting.{err_ok, ok_same}
 use Rattle.ak_transfers.specs.Greetings.{Line, TransferOutside}
 use Rattle.ak_transfers.specs.Transfers.{Continues, DownloadEnds, Errand, Follows, IsDownload, IsTransfer, IsUpload, StopsUpload, TransferEnds, UploadEnds, download_errand, upload_errand}
 use Rattle.ak_transfers.specs.declared.asks.UploadMoments.{UploadMoments}
-use Rattle.ak_wires.specs.Forms.{meta_in}
-use Rattle.ak_wires.specs.Tries.{Answered, granted_in, in_form}
-use Rattle.ak_wires.specs.Wires.{WireKind}
-use Rattle.ak_wires.specs.declared.asks.Unanswered.{Unanswered}
-use Rattle.ak_wires.specs.declared.asks.Unanswered.TheVariants as unanswered
-use Rattle.ak_wires.specs.declared.wires.MetaSaid.{MetaSaid}
-use Rattle.ak_wires.specs.declared.wires.WireEnd.TheVariants as ends
 
 -- a meta whose answer comes to this said it
 said_by : (answer : Answer) (said : MetaSaid) → in_form meta_in (granted_in answer) ≡ Ok said → told_by answer ≡ Some said

@@ -33,11 +33,11 @@ use Rattle.ak_sync_completes.proofs.Serving.{Answer}
 use Rattle.ak_sync_completes.specs.Completing.{IsSyncOver, RanOutOfMemory, SyncEnds}
 use Rattle.ak_transfer_laws.proofs.Meeting.{Comes, clock_is, err_ok, meta_comes, not_granted, ok_same, told_of}
 use Rattle.ak_transfer_laws.specs.Completing.{EndsWith, IsLeftAlone, committed_before}
-use Rattle.ak_wires.specs.Forms.{meta_in}
-use Rattle.ak_wires.specs.declared.asks.Unanswered.TheVariants as unanswered
-use Rattle.ak_wires.specs.declared.wires.MetaSaid.{MetaSaid}
-use Rattle.ak_wires.specs.declared.wires.WireEnd.TheVariants as ends
-use Rattle.ak_wires.specs.Wires.{WireKind}
+use Rattle.ak_client_wire.specs.Forms.{meta_in}
+use Rattle.ak_client_wire.specs.declared.asks.Unanswered.TheVariants as unanswered
+use Rattle.ak_client_wire.specs.declared.wires.MetaSaid.{MetaSaid}
+use Rattle.ak_client_wire.specs.declared.wires.WireEnd.TheVariants as ends
+use Rattle.ak_client_wire.specs.Wires.{WireKind}
 
 -- ---- answers
 failed_read : ◌≡◌ {A = Answer} (Err ends.Failed) (Err ends.BadReply) → ⊥

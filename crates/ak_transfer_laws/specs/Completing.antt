@@ -6,6 +6,7 @@ use Rattle.ak_base.specs.declared.keys.HostKey.{HostKey}
 use Rattle.ak_client.specs.Syncs.{world_at}
 use Rattle.ak_client.specs.declared.outcomes.Outcome.{Outcome}
 use Rattle.ak_client.specs.declared.outcomes.Outcome.TheVariants as outcomes
+use Rattle.ak_client_wire.specs.Wires.{WireKind}
 use Rattle.ak_exchange.specs.Asked.{asker}
 use Rattle.ak_exchange.specs.Phases.{held_by, holding}
 use Rattle.ak_exchange.specs.declared.envelopes.Ids.{Ids}
@@ -18,7 +19,6 @@ use Rattle.ak_sync_completes.specs.Completing.{HasNoKeeperFault, IsMetaNear, Ran
 use Rattle.ak_sync_completes.specs.Runs.{ends_of}
 use Rattle.ak_sync_runs.specs.SyncRuns.{HasStatusCause, SyncOutside, ids_of}
 use Rattle.ak_transfers.specs.Transfers.{MayTransfer}
-use Rattle.ak_wires.specs.Wires.{WireKind}
 
 -- ---- when nothing stops it
 -- a session of a device, whose keeper holds c, over a wire that nothing else uses and that tells its log, which is this one after it. Its host key is a

@@ -11,7 +11,7 @@ ghost use Rattle.ak_sync_runs.specs.SyncRuns.{SyncOutside, ids_of};
 ghost use Rattle.ak_transfer_laws.specs.Completing.{HaveMomentsLeft, RunsAlone, committed_before};
 ghost use Rattle.ak_transfer_runs.specs.TransferRuns.{EndsDownload, EndsUpload};
 
-use ak_wires::Wire;
+use ak_client_wire::Wire;
 
 /// If nothing stops it, the device's collection is sound and no moment of either side is the last one, the command `upload` prints
 /// `finished` and ends with 0; or memory ran out: it ends with 8, or with 13 where the server's did. If calls of its wire fail, it may

@@ -17,7 +17,7 @@ ghost use Rattle.ak_sync_completes.specs.Completing.{IsSyncOver, SyncEnds, have_
 ghost use Rattle.ak_transfer_laws.specs.Completing.{EndsWith, IsLeftAlone, committed_before};
 ghost use Rattle.ak_transfers.specs.Transfers.{Downloaded, HoldsUpload, MayTransfer, Uploaded};
 
-use ak_wires::Wire;
+use ak_client_wire::Wire;
 
 /// A device that holds a copy of what is committed, as after an upload and a download, has nothing to sync: a sync that nothing stops says
 /// that there are no changes, or memory ran out. If calls of its wire fail, its meta may be lost besides.

@@ -8,7 +8,7 @@ ghost use Rattle.ak_protocol.specs.Logs.{Log};
 ghost use Rattle.ak_transfers.specs.Greetings.{TransferOutside};
 ghost use Rattle.ak_transfers.specs.Transfers.{IsDownload, IsUpload};
 
-use ak_wires::Wire;
+use ak_client_wire::Wire;
 
 /// Over a wire that tells its log no upload and no download ends as stopped, whatever its host key is, whatever the keeper holds and whatever
 /// else comes to the server: each meta that is granted lets the session go on.

@@ -4,12 +4,12 @@ use Rattle.std.proofs.Common.{refl, sym, ap, ◌∙◌, subst, inl, inr, rules}
 use Rattle.ak_base.specs.declared.keys.HostKey.{HostKey}
 use Rattle.ak_client.specs.declared.outcomes.Outcome.{Outcome}
 use Rattle.ak_client.specs.declared.outcomes.Outcome.TheVariants as outcomes
+use Rattle.ak_client_wire.specs.Wires.{WireKind}
 use Rattle.ak_keep.specs.Keepers.{Keeping}
 use Rattle.ak_outcomes.specs.OutcomeTexts.{has_fixed_text, outcome_status}
 use Rattle.ak_sync_runs.specs.SyncRuns.{EndsPrinting, SyncOutside, TellsOutcome}
 use Rattle.ak_transfer_runs.specs.TransferRuns.{CommitsNothing, CommitsUploadOnce, Downloads, EndsDownload, EndsTransferOn, EndsUpload, HasDownloaded, HasUploaded, IsTransferRun, OfNext, Transfer, Uploads, is_download_status, is_upload_status}
 use Rattle.ak_transfers.specs.Transfers.{StaysUnlessFinished, may_end_download, may_end_upload}
-use Rattle.ak_wires.specs.Wires.{WireKind}
 
 -- over a keeper that holds a collection, a run of a transfer is how it ends
 pub ran : {kind : WireKind} (Does : Transfer kind) (host : HostKey) (status : ℕ) (before after : SyncOutside kind) (old new : Option (List ℕ))

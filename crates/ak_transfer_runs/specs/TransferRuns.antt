@@ -3,6 +3,7 @@ use Rattle.std.specs.Prelude.{◌≡◌, ◌≢◌, ◌⊎◌, ℕ, ◌==◌, �
 use Rattle.ak_base.specs.declared.keys.HostKey.{HostKey}
 use Rattle.ak_client.specs.Outcomes.{HasLostThrice, ShowsRefusal}
 use Rattle.ak_client.specs.declared.outcomes.Outcome.{Outcome}
+use Rattle.ak_client_wire.specs.Wires.{WireKind}
 use Rattle.ak_exchange.specs.Asked.{asker}
 use Rattle.ak_exchange.specs.Phases.{holding}
 use Rattle.ak_exchange.specs.declared.envelopes.Ids.{Ids}
@@ -14,7 +15,6 @@ use Rattle.ak_protocol.specs.Logs.{Log, commits_of}
 use Rattle.ak_sync_runs.specs.SyncRuns.{EndsPrinting, EndsUntold, SyncOutside, TellsOutcome, ids_of}
 use Rattle.ak_transfers.specs.Greetings.{TransferOutside}
 use Rattle.ak_transfers.specs.Transfers.{HoldsLater, IsDownload, IsDownloaded, IsUpload, IsUploaded, MayTransfer, StaysUnlessFinished, UploadsAtMostOnce, may_end_download, may_end_upload}
-use Rattle.ak_wires.specs.Wires.{WireKind}
 
 -- ---- the run
 -- what a transfer is given of it: its wire, and the moments of its clock

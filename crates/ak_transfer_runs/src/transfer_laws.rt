@@ -4,7 +4,7 @@ ghost use Rattle.ak_base.specs.declared.keys.HostKey.{HostKey};
 ghost use Rattle.ak_sync_runs.specs.SyncRuns.{SyncOutside};
 ghost use Rattle.ak_transfer_runs.specs.TransferRuns.{CommitsNothing, CommitsUploadOnce, EndsDownload, EndsUpload, HasDownloaded, HasUploaded, OfNext};
 
-use ak_wires::Wire;
+use ak_client_wire::Wire;
 
 /// If an upload ends with status 0, then its session committed the device's content without its graves, once, and the device holds
 /// that collection.

@@ -6,13 +6,13 @@ ghost use Rattle.ak_transfer_runs.specs.TransferRuns.{EndsDownload, EndsUpload, 
 
 use ak_base::{HostKey, Memory, SessionKey};
 use ak_client::Ids;
+use ak_client_wire::Wire;
 use ak_io::{Chance, Clock, Sink};
 use ak_keep::Keeper;
 use ak_outcomes::NO_MEMORY;
 use ak_sync_runs::{NO_COLLECTION, print_ending, tell_outcome};
 use ak_transfers::{download_over, upload_over};
 use ak_undo::UndoList;
-use ak_wires::Wire;
 use std::alloc::Global;
 
 /// Uploads the collection that is held to the account of the host key, and prints how that ended. It answers the status for it.

@@ -44,13 +44,13 @@ use Rattle.ak_transfers.proofs.Logs.{Met, carried, grew_on, grew_once, grown_twi
 use Rattle.ak_transfers.specs.Forms.{downloaded_head, whole_in}
 use Rattle.ak_transfers.specs.Greetings.{Line, TransferOutside}
 use Rattle.ak_transfers.specs.Transfers.{AsksNothing, AsksOnce, Continues, DownloadEnds, Downloaded, DownloadsTold, Follows, Grew, HoldsLater, IsDownloaded, IsServedOver, IsTransfer, MayTransfer, TransferEnds, download_errand, put_in_place}
-use Rattle.ak_wires.specs.Tries.{granted_in, in_form}
-use Rattle.ak_wires.specs.declared.asks.Unanswered.{Unanswered}
-use Rattle.ak_wires.specs.declared.asks.Unanswered.TheVariants as unanswered
-use Rattle.ak_wires.specs.declared.wires.MetaSaid.{MetaSaid}
-use Rattle.ak_wires.specs.declared.wires.WireEnd.{WireEnd}
-use Rattle.ak_wires.specs.declared.wires.WireEnd.TheVariants as ends
-use Rattle.ak_wires.specs.Wires.{WireKind}
+use Rattle.ak_client_wire.specs.Tries.{granted_in, in_form}
+use Rattle.ak_client_wire.specs.declared.asks.Unanswered.{Unanswered}
+use Rattle.ak_client_wire.specs.declared.asks.Unanswered.TheVariants as unanswered
+use Rattle.ak_client_wire.specs.declared.wires.MetaSaid.{MetaSaid}
+use Rattle.ak_client_wire.specs.declared.wires.WireEnd.{WireEnd}
+use Rattle.ak_client_wire.specs.declared.wires.WireEnd.TheVariants as ends
+use Rattle.ak_client_wire.specs.Wires.{WireKind}
 
 -- ---- the rows of a collection, put in place again
 abbrev listed : Rows → List Row

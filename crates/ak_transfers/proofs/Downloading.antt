@@ -21,10 +21,10 @@ use Rattle.ak_transfers.proofs.Greeted.{met_on}
 use Rattle.ak_transfers.specs.Forms.{MayBeHeld, downloaded_head, whole_in}
 use Rattle.ak_transfers.specs.Greetings.{GreetsFirst, Line, TransferOutside}
 use Rattle.ak_transfers.specs.Transfers.{DownloadEnds, IsTransfer, TransferEnds, download_errand, put_in_place}
-use Rattle.ak_wires.specs.Tries.{Answered}
-use Rattle.ak_wires.specs.declared.asks.Unanswered.{Unanswered}
-use Rattle.ak_wires.specs.declared.wires.MetaSaid.{MetaSaid}
-use Rattle.ak_wires.specs.Wires.{WireKind}
+use Rattle.ak_client_wire.specs.Tries.{Answered}
+use Rattle.ak_client_wire.specs.declared.asks.Unanswered.{Unanswered}
+use Rattle.ak_client_wire.specs.declared.wires.MetaSaid.{MetaSaid}
+use Rattle.ak_client_wire.specs.Wires.{WireKind}
 
 module _ {kind : WireKind} (ids : Ids) (before left : Keeping) (was mid : TransferOutside kind) (line : Line kind) (said : MetaSaid) (greets : GreetsFirst ids was mid (Ok said))
     (answer : Result Whole Unanswered)

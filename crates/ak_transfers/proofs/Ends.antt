@@ -6,6 +6,15 @@ use Rattle.ak_client.specs.Greetings.{are_far_apart, clock_stop, meta_of}
 use Rattle.ak_client.specs.Outcomes.{HasLostThrice, HasOutcomeCause, ShowsRefusal, outcome_at, outcome_of}
 use Rattle.ak_client.specs.declared.outcomes.Outcome.{Outcome}
 use Rattle.ak_client.specs.declared.outcomes.Outcome.TheVariants as outcomes
+use Rattle.ak_client_wire.specs.Forms.{meta_in}
+use Rattle.ak_client_wire.specs.Tries.{Tried, granted_in, in_form, silence_tried}
+use Rattle.ak_client_wire.specs.Wires.{WireKind, more, said_after, said_of}
+use Rattle.ak_client_wire.specs.declared.asks.Unanswered.{Unanswered}
+use Rattle.ak_client_wire.specs.declared.asks.Unanswered.TheVariants as unanswered
+use Rattle.ak_client_wire.specs.declared.wires.MetaSaid.{MetaSaid}
+use Rattle.ak_client_wire.specs.declared.wires.Said.{Said}
+use Rattle.ak_client_wire.specs.declared.wires.WireEnd.{WireEnd}
+use Rattle.ak_client_wire.specs.declared.wires.WireEnd.TheVariants as ends
 use Rattle.ak_exchange.specs.Asked.{asker, request_at}
 use Rattle.ak_exchange.specs.Stops.{wire_stop}
 use Rattle.ak_exchange.specs.declared.envelopes.Ids.{Ids}
@@ -24,15 +33,6 @@ use Rattle.ak_messages.specs.declared.requests.Whole.{Whole}
 use Rattle.ak_transfers.specs.Greetings.{Line, TransferOutside}
 use Rattle.ak_transfers.specs.Transfers.{AsksNothing, AsksOnce, Continues, DownloadEnds, Errand, Follows, IsTransfer, StaysUnlessFinished, StopsUpload, TransferEnds, UploadEnds, download_errand, may_end_download, may_end_upload, upload_errand}
 use Rattle.ak_transfers.specs.declared.asks.UploadMoments.{UploadMoments}
-use Rattle.ak_wires.specs.Forms.{meta_in}
-use Rattle.ak_wires.specs.Tries.{Tried, granted_in, in_form, silence_tried}
-use Rattle.ak_wires.specs.Wires.{WireKind, more, said_after, said_of}
-use Rattle.ak_wires.specs.declared.asks.Unanswered.{Unanswered}
-use Rattle.ak_wires.specs.declared.asks.Unanswered.TheVariants as unanswered
-use Rattle.ak_wires.specs.declared.wires.MetaSaid.{MetaSaid}
-use Rattle.ak_wires.specs.declared.wires.Said.{Said}
-use Rattle.ak_wires.specs.declared.wires.WireEnd.{WireEnd}
-use Rattle.ak_wires.specs.declared.wires.WireEnd.TheVariants as ends
 
 -- ---- what was not granted
 -- why an answer grants nothing

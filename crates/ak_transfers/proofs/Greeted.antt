@@ -13,12 +13,12 @@ use Rattle.ak_merge.specs.Edits.{second_of}
 use Rattle.ak_messages.specs.declared.requests.Ask.{Ask}
 use Rattle.ak_transfers.specs.Greetings.{GreetsBy, GreetsFirst, Line, TransferOutside, met_or}
 use Rattle.ak_transfers.specs.Transfers.{Continues, Errand, Follows, IsTransfer, MayAsk}
-use Rattle.ak_wires.specs.Forms.{meta_in}
-use Rattle.ak_wires.specs.Tries.{Answered}
-use Rattle.ak_wires.specs.declared.asks.Unanswered.{Unanswered}
-use Rattle.ak_wires.specs.declared.asks.Unanswered.TheVariants as unanswered
-use Rattle.ak_wires.specs.declared.wires.MetaSaid.{MetaSaid}
-use Rattle.ak_wires.specs.Wires.{WireKind}
+use Rattle.ak_client_wire.specs.Forms.{meta_in}
+use Rattle.ak_client_wire.specs.Tries.{Answered}
+use Rattle.ak_client_wire.specs.declared.asks.Unanswered.{Unanswered}
+use Rattle.ak_client_wire.specs.declared.asks.Unanswered.TheVariants as unanswered
+use Rattle.ak_client_wire.specs.declared.wires.MetaSaid.{MetaSaid}
+use Rattle.ak_client_wire.specs.Wires.{WireKind}
 
 same_stop : {T : Type 0} (one other : Stop) → (let stopped : Result T Stop = Err one in stopped ≡ Err other) → one ≡ other
 same_stop one other is = grind (arith, is)

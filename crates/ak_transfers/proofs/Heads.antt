@@ -15,9 +15,9 @@ use Rattle.ak_base.specs.declared.heads.Head.{Head}
 use Rattle.ak_base.specs.declared.heads.Tag.{Tag}
 use Rattle.ak_base.specs.declared.names.Table.TheVariants as tables
 use Rattle.ak_base.specs.declared.rows.Row.{Row}
-use Rattle.ak_answers.proofs.InTables.{rows_in_all}
+use Rattle.ak_server_steps.proofs.InTables.{rows_in_all}
 use Rattle.ak_keep.specs.Keepers.{Keeping, WhereTold}
-use Rattle.ak_parts.proofs.Gathering.{where_all}
+use Rattle.ak_sync_rows.proofs.Gathering.{where_all}
 use Rattle.ak_merge.proofs.TagLaws.{tags_stay_in_range, tags_stay_ordered}
 use Rattle.ak_merge.specs.Tags.{IsTagName, tags_taken}
 use Rattle.ak_transfers.specs.UploadParts.{MayBePutBefore, prepared_head}

@@ -27,12 +27,12 @@ use Rattle.ak_protocol.specs.Syncs.{IsUnused}
 use Rattle.ak_session.specs.Plans.{Asker}
 use Rattle.ak_session.specs.Requests.{is_meta}
 use Rattle.ak_transfers.specs.Transfers.{Grew}
-use Rattle.ak_wires.specs.Forms.{meta_in}
-use Rattle.ak_wires.specs.Tries.{Answered}
-use Rattle.ak_wires.specs.Wires.{WireKind, Carries, WireState}
-use Rattle.ak_wires.specs.declared.asks.Unanswered.{Unanswered}
-use Rattle.ak_wires.specs.declared.wires.MetaSaid.{MetaSaid}
-use Rattle.ak_wires.specs.declared.wires.WireEnd.{WireEnd}
+use Rattle.ak_client_wire.specs.Forms.{meta_in}
+use Rattle.ak_client_wire.specs.Tries.{Answered}
+use Rattle.ak_client_wire.specs.Wires.{WireKind, Carries, WireState}
+use Rattle.ak_client_wire.specs.declared.asks.Unanswered.{Unanswered}
+use Rattle.ak_client_wire.specs.declared.wires.MetaSaid.{MetaSaid}
+use Rattle.ak_client_wire.specs.declared.wires.WireEnd.{WireEnd}
 
 -- ---- outcomes
 pub unfinished : (outcome : Outcome) (stop : Stop) → outcome ≡ outcome_at stop → outcome ≡ outcomes.Finished → ⊥

@@ -32,9 +32,9 @@ use Rattle.ak_transfers.specs.Greetings.{Line}
 use Rattle.ak_transfers.specs.Transfers.{MayAsk, StopsUpload, TransferEnds, UploadEnds, put_in_place, upload_errand}
 use Rattle.ak_transfers.specs.UploadParts.{Sends, SendsOnce, prepared, uploaded_device_head, wired}
 use Rattle.ak_transfers.specs.declared.asks.UploadMoments.{UploadMoments}
-use Rattle.ak_wires.specs.Forms.{is_moment}
-use Rattle.ak_wires.specs.declared.asks.Unanswered.{Unanswered}
-use Rattle.ak_wires.specs.Wires.{WireKind}
+use Rattle.ak_client_wire.specs.Forms.{is_moment}
+use Rattle.ak_client_wire.specs.declared.asks.Unanswered.{Unanswered}
+use Rattle.ak_client_wire.specs.Wires.{WireKind}
 
 -- ---- the moments that are told
 same_if : (b : Bool) (own told : UploadMoments) → (if b then Some own else None) ≡ Some told → (own ≡ told) × (b ≡ true)

@@ -45,11 +45,11 @@ use Rattle.ak_transfers.specs.Greetings.{Line, TransferOutside}
 use Rattle.ak_transfers.specs.Transfers.{AsksNothing, AsksOnce, Continues, Follows, Grew, HoldsLater, HoldsUpload, IsTransfer, IsUploaded, MayTransfer, StopsUpload, TransferEnds, UploadEnds, Uploaded, UploadsAtMostOnce, UploadsTold, put_in_place, upload_errand}
 use Rattle.ak_transfers.specs.UploadParts.{uploaded_device_head}
 use Rattle.ak_transfers.specs.declared.asks.UploadMoments.{UploadMoments}
-use Rattle.ak_wires.specs.Forms.{is_moment}
-use Rattle.ak_wires.specs.Tries.{Answered}
-use Rattle.ak_wires.specs.declared.asks.Unanswered.{Unanswered}
-use Rattle.ak_wires.specs.declared.wires.MetaSaid.{MetaSaid}
-use Rattle.ak_wires.specs.Wires.{WireKind}
+use Rattle.ak_client_wire.specs.Forms.{is_moment}
+use Rattle.ak_client_wire.specs.Tries.{Answered}
+use Rattle.ak_client_wire.specs.declared.asks.Unanswered.{Unanswered}
+use Rattle.ak_client_wire.specs.declared.wires.MetaSaid.{MetaSaid}
+use Rattle.ak_client_wire.specs.Wires.{WireKind}
 
 -- ---- what is committed
 each_place : (P : Request → Type 0) (before : List Request) (request : Request) (after : List Request)

@@ -6,11 +6,11 @@ use Rattle.ak_base.specs.Heads.{IsHeadInRange}
 use Rattle.ak_base.specs.Names.{name_cmp}
 use Rattle.ak_base.specs.Rows.{IsChecked, name_of}
 use Rattle.ak_base.specs.declared.heads.Head.{Head}
+use Rattle.ak_client_wire.specs.Forms.{is_moment}
 use Rattle.ak_messages.specs.declared.replies.Give.{Give}
 use Rattle.ak_messages.specs.declared.replies.Give.TheVariants as gives
 use Rattle.ak_messages.specs.declared.requests.Whole.{Whole}
 use Rattle.ak_transfers.specs.declared.asks.UploadMoments.{UploadMoments}
-use Rattle.ak_wires.specs.Forms.{is_moment}
 
 -- what an upload is given: the moment and the schema moment of what the server committed, each in its range
 abbrev pub uploaded_in : Give → Option UploadMoments

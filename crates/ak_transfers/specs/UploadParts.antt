@@ -23,9 +23,9 @@ use Rattle.ak_session.specs.Uploads.{is_plain, whole_to_send}
 use Rattle.ak_transfers.specs.Forms.{uploaded_in}
 use Rattle.ak_transfers.specs.Greetings.{Line}
 use Rattle.ak_transfers.specs.declared.asks.UploadMoments.{UploadMoments}
-use Rattle.ak_wires.specs.Tries.{Answered}
-use Rattle.ak_wires.specs.declared.asks.Unanswered.{Unanswered}
-use Rattle.ak_wires.specs.Wires.{WireKind}
+use Rattle.ak_client_wire.specs.Tries.{Answered}
+use Rattle.ak_client_wire.specs.declared.asks.Unanswered.{Unanswered}
+use Rattle.ak_client_wire.specs.Wires.{WireKind}
 
 -- all rows that are held, by table and id
 abbrev pub all_rows : Rows → List Row

@@ -1,12 +1,12 @@
 // The two requests that carry a whole collection: each is tried, and its reply is read by its form.
 ghost use Rattle.std.specs.Prelude.{◌≡◌};
+ghost use Rattle.ak_client_wire.specs.Tries.{Answered, granted_in, in_form};
 ghost use Rattle.ak_exchange.specs.Asked.{asker, request_at};
 ghost use Rattle.ak_transfers.specs.Forms.{uploaded_in, whole_in};
-ghost use Rattle.ak_wires.specs.Tries.{Answered, granted_in, in_form};
 
+use ak_client_wire::{Unanswered, Wire, granted_in, in_form, is_moment, try_thrice};
 use ak_exchange::Ids;
 use ak_messages::{Ask, Give, Request, Whole};
-use ak_wires::{Unanswered, Wire, granted_in, in_form, is_moment, try_thrice};
 
 /// The moments of what an upload committed, in milliseconds.
 #[derive(Clone, Copy, Debug, PartialEq, Eq)]

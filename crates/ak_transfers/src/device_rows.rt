@@ -1,11 +1,11 @@
 // What a device sends of its own collection in an upload, and what it puts in its place before it asks.
 ghost use Rattle.std.specs.Prelude.{◌≡◌, ◌+◌, ◌++◌, ◌∷◌, [], true, filter, IfOk, OnOk};
-ghost use Rattle.ak_answers.specs.Wholes.{rows_in};
 ghost use Rattle.ak_base.specs.Heads.{IsHeadInRange, tag_names};
 ghost use Rattle.ak_base.specs.Names.{table_place};
 ghost use Rattle.ak_keep.specs.Keepers.{IsMarkedAt, KeepCause, WhereHeld, back, is_marked};
 ghost use Rattle.ak_keep.specs.Readings.{ReadsBy};
 ghost use Rattle.ak_merge.specs.Commits.{uploaded_rows};
+ghost use Rattle.ak_server_steps.specs.Wholes.{rows_in};
 ghost use Rattle.ak_session.specs.Uploads.{is_plain, whole_to_send};
 ghost use Rattle.ak_transfers.specs.UploadParts.{MayBePut, MayBePutBefore, all_rows, plain_rows, prepared, prepared_head, whole_sent_with};
 
@@ -13,7 +13,7 @@ use ak_base::{Head, List, Memory, Row, Table};
 use ak_keep::{KeepFault, Keeper, Walk};
 use ak_merge::take_tags;
 use ak_messages::Whole;
-use ak_parts::{append_page, head_of, tag_names, uploaded_rows};
+use ak_sync_rows::{append_page, head_of, tag_names, uploaded_rows};
 use std::alloc::Global;
 
 /// Puts what an upload leaves in place of all that is held, but for the moments that the server gives, and answers what is to

@@ -15,12 +15,12 @@ use crate::asks::{ask_whole, first_request};
 use crate::forms::{Held, held_of};
 use crate::greetings::greet;
 use ak_client::{Outcome, outcome_of};
+use ak_client_wire::Wire;
 use ak_exchange::{Ids, Stop};
 use ak_io::Clock;
 use ak_keep::{KeepFault, Keeper, keep_or_back};
 use ak_messages::Ask;
 use ak_undo::UndoList;
-use ak_wires::Wire;
 use std::alloc::Global;
 
 /// Downloads the committed collection: the device then holds it, with its graves and usns, and with the last sync at its

@@ -10,8 +10,8 @@ ghost use Rattle.ak_transfers.specs.Forms.{MayBeHeld, downloaded_head};
 
 use ak_base::{Head, List, Memory, Row};
 use ak_exchange::Stop;
-use ak_machine::{are_checked, has_twin_rows};
 use ak_messages::Whole;
+use ak_server_rules::{are_checked, has_twin_rows};
 use std::alloc::Global;
 
 /// The rows and the head of a whole collection that a device may hold. The last sync is at its moment.

@@ -2,9 +2,9 @@
 ghost use Rattle.ak_transfers.specs.Greetings.{GreetsFirst};
 
 use ak_client::{second_of, test_clocks};
+use ak_client_wire::{MetaSaid, Wire, ask_meta};
 use ak_exchange::{Ids, Stop, meta_request};
 use ak_io::Clock;
-use ak_wires::{MetaSaid, Wire, ask_meta};
 
 /// Sends the meta, and tests what it says: whether the transfer may go on, and then the clocks.
 pub(crate) fn greet<W: Wire, C: Clock>(

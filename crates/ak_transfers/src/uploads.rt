@@ -14,13 +14,13 @@ use crate::asks::{UploadMoments, ask_upload, first_request};
 use crate::device_rows::prepare;
 use crate::greetings::greet;
 use ak_client::{Outcome, outcome_of, test_rows};
+use ak_client_wire::Wire;
 use ak_device::commit_at;
 use ak_exchange::{Ids, Stop};
 use ak_io::Clock;
 use ak_keep::Keeper;
 use ak_messages::Ask;
 use ak_undo::UndoList;
-use ak_wires::Wire;
 use std::alloc::Global;
 
 /// Uploads the device's collection: the server commits it without its graves, with the usn 1 and a new schema moment, and

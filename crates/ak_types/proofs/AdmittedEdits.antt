@@ -11,7 +11,7 @@ use Rattle.ak_base.specs.declared.names.Table.TheVariants as tables
 use Rattle.ak_base.specs.declared.note_types.NoteType.{NoteType}
 use Rattle.ak_base.specs.declared.rows.Row.{Row}
 use Rattle.ak_base.specs.declared.rows.Row.TheVariants as rows
-use Rattle.ak_calls.proofs.AdmittedEdits.{row_edits_are_admitted}
+use Rattle.ak_edit_calls.proofs.AdmittedEdits.{row_edits_are_admitted}
 use Rattle.ak_keep.specs.Collections.{Collection}
 use Rattle.ak_merge.proofs.EditBuildingLaws.{maps_are_admitted, puts_are_admitted, removals_are_admitted, schema_changes_are_admitted, settings_are_admitted, unedited_is_admitted}
 use Rattle.ak_merge.proofs.EditFacts.{false_true}

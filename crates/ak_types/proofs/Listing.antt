@@ -8,7 +8,7 @@ use Rattle.ak_keep.specs.Collections.{Rows}
 use Rattle.ak_keep.specs.Keepers.{Keeping}
 use Rattle.ak_merge.specs.Holdings.{name_in}
 use Rattle.ak_notes.specs.MadeNotes.{IsMissingIn}
-use Rattle.ak_calls.specs.NewNames.{IsIdFault}
+use Rattle.ak_edit_calls.specs.NewNames.{IsIdFault}
 use Rattle.ak_types.specs.TypeEdits.{IsAskedFault, IsFormFault, IsTestFault, IsTypeEditFault}
 
 pub outside_in : (id : ℤ) (fault : DeskFault) → IsFromOutside fault → IsTypeEditFault id fault

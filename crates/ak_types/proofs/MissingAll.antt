@@ -6,7 +6,7 @@ use Rattle.std.specs.FinMap.{get}
 use Rattle.ak_base.specs.declared.cards.Card.{Card}
 use Rattle.ak_base.specs.declared.names.Name.{Name}
 use Rattle.ak_base.specs.declared.names.Table.{Table}
-use Rattle.ak_calls.proofs.Telling.{where_always, where_told-both}
+use Rattle.ak_edit_calls.proofs.Telling.{where_always, where_told-both}
 use Rattle.ak_keep.specs.FreeNames.{IsFree, is_used}
 use Rattle.ak_edit.specs.Refusals.{AnswersBy}
 use Rattle.ak_edit.specs.declared.desk_faults.DeskFault.{DeskFault}
@@ -14,11 +14,11 @@ use Rattle.ak_keep.proofs.Told.{where_told-map}
 use Rattle.ak_keep.specs.Collections.{Rows}
 use Rattle.ak_keep.specs.Keepers.{Keeping, WhereTold}
 use Rattle.ak_merge.specs.Holdings.{name_in}
-use Rattle.ak_calls.proofs.FreeIds.{free_once, none_free}
+use Rattle.ak_edit_calls.proofs.FreeIds.{free_once, none_free}
 use Rattle.ak_notes.proofs.NewCards.{cards_once}
 use Rattle.ak_notes.specs.LackingNotes.{RefusesMissingIds, lacked_ords, missing_place, next_after}
 use Rattle.ak_base.specs.Names.{next_name}
-use Rattle.ak_calls.specs.NewNames.{LacksIds}
+use Rattle.ak_edit_calls.specs.NewNames.{LacksIds}
 use Rattle.ak_notes.specs.NewCards.{AreNewCards, first_after}
 use Rattle.ak_notes.specs.declared.lacking_notes.LackingNote.{LackingNote}
 use Rattle.ak_notes.specs.declared.lacking_notes.MissingCards.{MissingCards}

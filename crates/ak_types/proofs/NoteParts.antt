@@ -7,8 +7,8 @@ use Rattle.ak_base.specs.declared.cards.Card.{Card}
 use Rattle.ak_base.specs.declared.note_types.NoteType.{NoteType}
 use Rattle.ak_base.specs.declared.notes.Note.{Note}
 use Rattle.ak_base.specs.declared.rows.Row.TheVariants as rows
-use Rattle.ak_calls.proofs.Telling.{where_always, where_told-both}
 use Rattle.ak_edit.specs.Overlays.{Overlay, put_over}
+use Rattle.ak_edit_calls.proofs.Telling.{where_always, where_told-both}
 use Rattle.ak_keep.proofs.Told.{where_told-map}
 use Rattle.ak_keep.specs.Collections.{Rows, cards_of}
 use Rattle.ak_keep.specs.Keepers.{Keeping, WhereTold}

@@ -6,8 +6,8 @@ use Rattle.ak_base.specs.declared.names.Table.TheVariants as tables
 use Rattle.ak_base.specs.declared.note_types.NoteType.{NoteType}
 use Rattle.ak_base.specs.declared.notes.Note.{Note}
 use Rattle.ak_base.specs.declared.rows.Row.{Row}
-use Rattle.ak_calls.proofs.Telling.{where_told-both}
 use Rattle.ak_edit.specs.Overlays.{Overlay, unchanged}
+use Rattle.ak_edit_calls.proofs.Telling.{where_told-both}
 use Rattle.ak_keep.proofs.Told.{where_told-map}
 use Rattle.ak_keep.specs.Collections.{Holding, Rows, rows_past}
 use Rattle.ak_keep.specs.Keepers.{Keeping, WhereTold}

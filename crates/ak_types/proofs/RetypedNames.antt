@@ -18,7 +18,7 @@ use Rattle.ak_base.specs.declared.note_types.NoteType.{NoteType}
 use Rattle.ak_base.specs.declared.notes.Note.{Note}
 use Rattle.ak_base.specs.declared.rows.Row.{Row}
 use Rattle.ak_base.specs.declared.rows.Row.TheVariants as rows
-use Rattle.ak_calls.proofs.Overlaying.{none_noted, put_under, removed_under, rest_of}
+use Rattle.ak_edit_calls.proofs.Overlaying.{none_noted, put_under, removed_under, rest_of}
 use Rattle.ak_edit.specs.Overlays.{Overlay, put_over, removed_over, row_over, unchanged}
 use Rattle.ak_keep.proofs.RowsByName.{all_from_gets, same_of_tied}
 use Rattle.ak_keep.specs.Collections.{Rows, cards_of, is_card_of, is_past, rows_past}

@@ -1,10 +1,10 @@
 -- Tests that follow one another, over rows that are told.
 use Rattle.std.specs.Prelude.{◌≡◌, ℤ, Bool, true, false, not, Result, Ok, Err}
 use Rattle.std.proofs.Common.{refl, sym, inl, inr, ◌∙◌}
-use Rattle.ak_calls.proofs.Telling.{where_always}
+use Rattle.ak_edit_calls.proofs.Telling.{where_always}
 use Rattle.ak_base.specs.declared.names.Table.TheVariants as tables
 use Rattle.ak_base.specs.declared.note_types.NoteType.{NoteType}
-use Rattle.ak_calls.proofs.Answering.{passed_first, refused_first}
+use Rattle.ak_edit_calls.proofs.Answering.{passed_first, refused_first}
 use Rattle.ak_edit.specs.Refusals.{AnswersBy, OrElse, Refusal}
 use Rattle.ak_edit.specs.declared.desk_faults.DeskFault.{DeskFault}
 use Rattle.ak_edit.specs.declared.desk_faults.DeskFault.TheVariants as faults

@@ -12,9 +12,9 @@ use Rattle.ak_base.specs.declared.note_types.NoteType.{NoteType}
 use Rattle.ak_base.specs.declared.notes.Note.{Note}
 use Rattle.ak_base.specs.declared.rows.Row.{Row}
 use Rattle.ak_base.specs.declared.rows.Row.TheVariants as rows
-use Rattle.ak_calls.proofs.Answering.{passed_first, refused_first}
-use Rattle.ak_calls.proofs.Overlaying.{edit_by_names}
-use Rattle.ak_calls.proofs.Telling.{where_held-both, where_held-map, where_rows_held, where_told-both}
+use Rattle.ak_edit_calls.proofs.Answering.{passed_first, refused_first}
+use Rattle.ak_edit_calls.proofs.Overlaying.{edit_by_names}
+use Rattle.ak_edit_calls.proofs.Telling.{where_held-both, where_held-map, where_rows_held, where_told-both}
 use Rattle.ak_edit.proofs.Building.{put_asked}
 use Rattle.ak_edit.specs.Ends.{AnswersEnd, FinishedBy, IsFinished, IsHeldRightly, RefusesEnd}
 use Rattle.ak_edit.specs.Overlays.{Overlay, edit_of, put_over, unchanged}
@@ -36,7 +36,7 @@ use Rattle.ak_notes.specs.declared.lacking_notes.MissingCards.{MissingCards}
 use Rattle.ak_notes.specs.declared.lacking_notes.NextCards.{NextCards}
 use Rattle.ak_types.proofs.MissingAll.{all_once}
 use Rattle.ak_types.proofs.RetypedNames.{retyped_asked, retyped_rest}
-use Rattle.ak_calls.proofs.Taking.{err_too, ok_too, outside_held}
+use Rattle.ak_edit_calls.proofs.Taking.{err_too, ok_too, outside_held}
 use Rattle.ak_types.specs.GivenTypes.{as_given}
 use Rattle.ak_types.specs.RetypedCards.{AreAllMissing, AreLacking, IsLackingWith, IsRetypedBy, RefusesAllIds, notes_of}
 use Rattle.ak_types.specs.RetypedRows.{is_dropped, retyped}

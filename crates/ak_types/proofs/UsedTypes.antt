@@ -4,7 +4,7 @@ use Rattle.std.proofs.Common.{refl, sym, ap, ◌∙◌}
 use Rattle.std.specs.List.{list_any}
 use Rattle.ak_base.specs.declared.names.Table.TheVariants as tables
 use Rattle.ak_base.specs.declared.rows.Row.{Row}
-use Rattle.ak_calls.proofs.Telling.{where_told-both}
+use Rattle.ak_edit_calls.proofs.Telling.{where_told-both}
 use Rattle.ak_keep.proofs.Told.{where_told-map}
 use Rattle.ak_keep.specs.Collections.{Holding, Rows, rows_past}
 use Rattle.ak_keep.specs.Keepers.{Keeping, WhereTold}

@@ -18,7 +18,7 @@ use Rattle.ak_keep.specs.Collections.{Rows, cards_of, rows_past}
 use Rattle.ak_keep.specs.Keepers.{WhereTold}
 use Rattle.ak_keep.specs.declared.readables.Lookup.{Ghosts}
 use Rattle.ak_notes.specs.LackingNotes.{AreMissing, lacked_ords, next_after}
-use Rattle.ak_calls.specs.NewNames.{LacksIds}
+use Rattle.ak_edit_calls.specs.NewNames.{LacksIds}
 use Rattle.ak_notes.specs.declared.lacking_notes.HeldCards.{HeldCards}
 use Rattle.ak_notes.specs.declared.lacking_notes.LackingNote.{LackingNote}
 use Rattle.ak_notes.specs.declared.lacking_notes.MissingCards.{MissingCards}

@@ -1,11 +1,11 @@
 -- Note types that are deleted.
 use Rattle.std.specs.Prelude.{◌≡◌, ◌⊎◌, ℤ, Bool}
 use Rattle.ak_base.specs.declared.names.Table.TheVariants as tables
-use Rattle.ak_calls.specs.Calls.{RefusesAbsent}
 use Rattle.ak_edit.specs.Ends.{RefusesStamp}
 use Rattle.ak_edit.specs.Refusals.{IsEndFault, IsFromOutside, OrElse, Refusal}
 use Rattle.ak_edit.specs.declared.desk_faults.DeskFault.{DeskFault}
 use Rattle.ak_edit.specs.declared.desk_faults.DeskFault.TheVariants as faults
+use Rattle.ak_edit_calls.specs.Calls.{RefusesAbsent}
 use Rattle.ak_keep.specs.Collections.{Collection, Rows}
 use Rattle.ak_merge.specs.EditBuilding.{unedited, with_schema, without_row}
 use Rattle.ak_merge.specs.Edits.{Edit}

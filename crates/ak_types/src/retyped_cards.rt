@@ -5,7 +5,7 @@ ghost use Rattle.ak_edit.specs.Refusals.{DeskCause};
 ghost use Rattle.ak_keep.specs.Keepers.{WhereTold};
 ghost use Rattle.ak_notes.specs.LackingNotes.{AreMissing, IsReady, RefusesMissingIds, next_after};
 ghost use Rattle.ak_notes.specs.MadeNotes.{AnswersIn};
-ghost use Rattle.ak_calls.specs.NewNames.{IsIdFault};
+ghost use Rattle.ak_edit_calls.specs.NewNames.{IsIdFault};
 ghost use Rattle.ak_types.specs.RetypedCards.{AreAllMissing, IsNextMissing, RefusesAllIds};
 
 use ak_base::{Card, List, Memory};

@@ -1,8 +1,8 @@
 ghost use Rattle.std.specs.Prelude.{◌≡◌, true, false, IfErr, IfOk};
 ghost use Rattle.ak_base.specs.NoteTypes.{IsCheckedNoteType};
 ghost use Rattle.ak_base.specs.declared.names.Table.TheVariants as tables;
-ghost use Rattle.ak_calls.specs.Additions.{AddsBy};
 ghost use Rattle.ak_edit.specs.Refusals.{DeskCause};
+ghost use Rattle.ak_edit_calls.specs.Additions.{AddsBy};
 ghost use Rattle.ak_keep.specs.Collections.{IsId};
 ghost use Rattle.ak_keep.specs.Keepers.{is_marked};
 ghost use Rattle.ak_types.specs.GivenTypes.{as_given};
@@ -10,8 +10,8 @@ ghost use Rattle.ak_types.specs.TypeAdditions.{IsAdditionFault, RefusesNewType, 
 
 use crate::given_types::{as_given, check_given, check_sides, with_id};
 use ak_base::{NoteType, Row, Table};
-use ak_calls::{add_row, new_name};
 use ak_edit::DeskFault;
+use ak_edit_calls::{add_row, new_name};
 use ak_keep::Keeper;
 use ak_undo::UndoList;
 

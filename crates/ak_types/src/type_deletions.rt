@@ -1,14 +1,14 @@
 ghost use Rattle.std.specs.Prelude.{◌≡◌, true, false, IfErr};
-ghost use Rattle.ak_calls.specs.Calls.{EditsBy};
 ghost use Rattle.ak_edit.specs.Refusals.{DeskCause};
+ghost use Rattle.ak_edit_calls.specs.Calls.{EditsBy};
 ghost use Rattle.ak_keep.specs.Keepers.{is_marked};
 ghost use Rattle.ak_notes.specs.MadeNotes.{AnswersIn};
 ghost use Rattle.ak_types.specs.TypeDeletions.{IsKeptFault, IsDeletionFault, RefusesKept, RefusesDeletion, type_deletion};
 
 use crate::used_types::has_notes;
 use ak_base::{Name, Table};
-use ak_calls::held_row;
 use ak_edit::{Change, DeskFault};
+use ak_edit_calls::held_row;
 use ak_keep::Keeper;
 use ak_undo::UndoList;
 

@@ -13,10 +13,10 @@ use Rattle.ak_base.specs.declared.heads.Tag.{Tag}
 use Rattle.ak_base.specs.declared.names.Name.{Name}
 use Rattle.ak_base.specs.declared.rows.Row.{Row}
 use Rattle.ak_keep.specs.Collections.{rows_of}
-use Rattle.ak_loops.specs.Entries.{collection_in}
 use Rattle.ak_merge.specs.Commits.{IsCommitted}
 use Rattle.ak_merge.specs.Holdings.{tag_usn}
 use Rattle.ak_merge.specs.Links.{IsGiven}
+use Rattle.ak_sync_in_memory.specs.Entries.{collection_in}
 
 -- nothing is held under any name
 nothing : (name : Name) → get (rows_of []) name ≡ None

@@ -1,13 +1,13 @@
 ghost use Rattle.std.specs.Prelude.{◌≡◌, false, [], IfOk};
 ghost use Rattle.ak_base.specs.Heads.{IsHeadInRange};
 ghost use Rattle.ak_keep.specs.Keepers.{all_known, is_marked};
-ghost use Rattle.ak_loops.specs.Entries.{collection_in};
 ghost use Rattle.ak_merge.specs.Commits.{IsCommitted};
+ghost use Rattle.ak_sync_in_memory.specs.Entries.{collection_in};
 
 use ak_base::{Head, HostKey, List, Text};
-use ak_loops::{LoggedServer, keeper_with};
 use ak_memory::MemoryKeeper;
 use ak_openings::{Opening, opening_conf};
+use ak_sync_in_memory::{LoggedServer, keeper_with};
 use cases_lines::Unread;
 use std::alloc::Global;
 

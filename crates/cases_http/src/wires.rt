@@ -2,12 +2,12 @@ use crate::bytes::{bytes_of, text_of};
 use crate::links::link_of;
 use crate::moments::number_in;
 use ak_base::{HostKey, List, SessionKey, Text, cut};
+use ak_client_wire::{Wire, WireEnd};
 use ak_http_wires::{HttpWire, request_text};
 use ak_io::End;
 use ak_links::{MemoryDial, MemoryLink};
 use ak_messages::{Envelope, Request, method_of};
 use ak_wire::{read_request, write_reply};
-use ak_wires::{Wire, WireEnd};
 use cases_lines::Unread;
 use std::alloc::Global;
 

@@ -6,7 +6,7 @@ use crate::disks::CrashDisk;
 use crate::journals::CaseJournal;
 use crate::runs::run_text;
 use ak_base::List;
-use ak_loops::{LoopWire, Mishap, NothingBetween, What};
+use ak_sync_in_memory::{LoopWire, Mishap, NothingBetween, What};
 use cases_accounts::{empty_account, moment_at};
 use cases_lines::Unread;
 use serde_json::Value;

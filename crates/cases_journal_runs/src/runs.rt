@@ -1,10 +1,10 @@
 use ak_base::List;
 use ak_cli::run;
+use ak_client_wire::Wire;
 use ak_filters::FieldFilter;
 use ak_io::{ListChance, ListClock, MemorySink, MemorySource};
 use ak_keep::Keeper;
-use ak_loops::Log;
-use ak_wires::Wire;
+use ak_sync_in_memory::Log;
 use cases_accounts::moment_at;
 use cases_lines::{Unread, natural_at, quoted, text_at, words_at};
 use serde_json::Value;

@@ -1,6 +1,6 @@
 use ak_keep::KeepFault;
-use ak_loops::LoggedServer;
 use ak_memory::MemoryKeeper;
+use ak_sync_in_memory::LoggedServer;
 use ak_tables::{OpenTables, TableKeeper};
 use std::fs;
 use std::rt::HostRuntime;

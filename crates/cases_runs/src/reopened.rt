@@ -3,7 +3,7 @@ use crate::run_lists::{RunsCases, run_texts};
 use crate::servers::row_counts;
 use crate::synced::text_over;
 use crate::twins::hold_the_same;
-use ak_loops::LoggedServer;
+use ak_sync_in_memory::LoggedServer;
 use ak_tables::OpenTables;
 use cases_accounts::{empty_account, moment_at};
 use cases_lines::Unread;

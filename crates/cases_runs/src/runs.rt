@@ -1,11 +1,11 @@
 use crate::times::{chance_at, clock_at};
 use ak_base::List;
 use ak_cli::run;
+use ak_client_wire::Wire;
 use ak_filters::{FieldFilter, FuriganaFilter, HintFilter, KanaFilter, KanjiFilter, TextFilter};
 use ak_io::{End, MemorySink, MemorySource, Sink, Source};
 use ak_keep::Keeper;
-use ak_loops::Log;
-use ak_wires::Wire;
+use ak_sync_in_memory::Log;
 use cases_lines::{Unread, list_at, natural_at, quoted, text_at};
 use serde_json::Value;
 use std::alloc::Global;

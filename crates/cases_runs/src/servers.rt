@@ -3,7 +3,7 @@ ghost use Rattle.ak_io.specs.Arrivals.{IsClockMoment};
 
 use ak_base::Table;
 use ak_keep::KeepFault;
-use ak_loops::LoggedServer;
+use ak_sync_in_memory::LoggedServer;
 use cases_accounts::moment_at;
 use cases_lines::Unread;
 use serde_json::Value;

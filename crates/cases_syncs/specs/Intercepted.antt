@@ -1,7 +1,7 @@
 -- What is known of a wire on which somebody acts.
 use Rattle.std.specs.Prelude.{false, None}
+use Rattle.ak_client_wire.specs.Wires.{WireState, plain_kind}
 use Rattle.ak_faults.specs.Causes.{Health}
-use Rattle.ak_wires.specs.Wires.{WireState, plain_kind}
 use Rattle.cases_syncs.specs.declared.intercepted_counts.InterceptedCounts.{InterceptedCounts}
 
 -- how many of its calls failed. Some may fail

@@ -1,10 +1,10 @@
 use crate::errands::Errand;
 use crate::intercepted_wires::Interceptor;
 use ak_client::Outcome;
-use ak_loops::{LoopWire, NothingBetween};
+use ak_client_wire::{Wire, WireEnd};
 use ak_memory::MemoryKeeper;
 use ak_messages::{Reply, Request};
-use ak_wires::{Wire, WireEnd};
+use ak_sync_in_memory::{LoopWire, NothingBetween};
 use cases_lines::Unread;
 use std::alloc::Global;
 

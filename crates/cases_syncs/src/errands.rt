@@ -1,11 +1,11 @@
 use ak_base::{HostKey, List, SessionKey};
 use ak_client::{Ids, Outcome, sync_over};
+use ak_client_wire::Wire;
 use ak_io::ListClock;
 use ak_keep::{Keeper, Lookup};
 use ak_memory::MemoryKeeper;
 use ak_transfers::{download_over, upload_over};
 use ak_undo::UndoList;
-use ak_wires::Wire;
 use cases_accounts::moment_at;
 use cases_lines::{Unread, natural_at};
 use serde_json::Value;

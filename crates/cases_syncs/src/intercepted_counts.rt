@@ -1,9 +1,9 @@
 ghost use Rattle.std.specs.Prelude.{◌≡◌};
-ghost use Rattle.ak_wires.specs.Wires.{Called, said_after};
+ghost use Rattle.ak_client_wire.specs.Wires.{Called, said_after};
 ghost use Rattle.cases_syncs.specs.Intercepted.{health_over, state_over};
 
+use ak_client_wire::{Said, WireEnd, said_of};
 use ak_messages::{Reply, Request};
-use ak_wires::{Said, WireEnd, said_of};
 
 /// What a wire counts of its calls, and what the reply of the last one said. Each count stays at the last `u64`.
 #[derive(Drop)]

@@ -1,8 +1,8 @@
 use crate::intercepted_counts::InterceptedCounts;
+use ak_client_wire::{Said, Wire, WireEnd};
 use ak_io::End;
-use ak_loops::{LoopWire, NothingBetween};
 use ak_messages::{Reply, Request};
-use ak_wires::{Said, Wire, WireEnd};
+use ak_sync_in_memory::{LoopWire, NothingBetween};
 
 /// Who gets each call of a device before the server does.
 pub trait Interceptor {
@@ -55,7 +55,7 @@ impl<I: Interceptor> End for InterceptedWire<I> {
 }
 
 impl<I: Interceptor> Wire for InterceptedWire<I> {
-    ghost use Rattle.ak_wires.specs.Wires.{plain_kind};
+    ghost use Rattle.ak_client_wire.specs.Wires.{plain_kind};
     ghost use Rattle.cases_syncs.specs.Intercepted.{state_over};
 
     ghost kind = { plain_kind };

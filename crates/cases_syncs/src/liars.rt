@@ -1,7 +1,7 @@
 use crate::intercepted_wires::Interceptor;
-use ak_loops::{LoopWire, NothingBetween};
+use ak_client_wire::{Wire, WireEnd};
 use ak_messages::{Reply, Request};
-use ak_wires::{Wire, WireEnd};
+use ak_sync_in_memory::{LoopWire, NothingBetween};
 
 /// Answers, from a call on, another reply than the server's, or what can't be read. The server serves each call all the same.
 #[derive(Drop)]

@@ -2,12 +2,12 @@ ghost use Rattle.std.specs.Prelude.{IfOk};
 ghost use Rattle.ak_io.specs.Arrivals.{IsClockMoment};
 
 use crate::shown::{all, sum};
-use ak_answers::whole_of;
 use ak_base::SessionKey;
 use ak_keep::{KeepFault, Lookup};
-use ak_loops::{LoggedServer, LoopWire, NothingBetween, keeper_with};
 use ak_memory::MemoryKeeper;
 use ak_server_copies::view_all;
+use ak_server_steps::whole_of;
+use ak_sync_in_memory::{LoggedServer, LoopWire, NothingBetween, keeper_with};
 use ak_wire::{Ask, Reply, Request, Whole, write_reply};
 use cases_accounts::{empty_account, host_key, moment_at};
 use cases_keepers::{answer_of, calls_of, value_of};

@@ -1,7 +1,7 @@
 use crate::words::push_quoted;
 use ak_base::{List, Text};
-use ak_lines::{AnyLine, DeskLine, LineFault, read_line};
-use ak_texts::write_line_fault;
+use ak_desk_language::{AnyLine, DeskLine, LineFault, read_line};
+use ak_desk_texts::write_line_fault;
 use cases_lines::{Unread, listed, quoted};
 use std::alloc::Global;
 

@@ -1,7 +1,7 @@
 use Rattle.std.proofs.Common.{refl, rules, w64, SFits}
 use Rattle.std.proofs.lemmas.Int.{to_z-of_z}
 use Rattle.ak_any_lines.proofs.CalledEnds.{call_cause}
-use Rattle.ak_texts.specs.declared.answers.DeskAnswer.TheVariants as answers
+use Rattle.ak_desk_texts.specs.declared.answers.DeskAnswer.TheVariants as answers
 use Rattle.ak_any_lines.proofs.filtered_lines.empty_deck.Goals as goal
 
 pub returns-clause-ends : goal.returns-clause-ends

@@ -4,7 +4,7 @@ use Rattle.std.proofs.lemmas.Result.{err_from_is_err_and}
 use Rattle.ak_away_answers.proofs.EarlyEnds.{IsReady, early_done, early_no_id, early_outside, early_refused, ready}
 use Rattle.ak_base.specs.Columns.{id_fault}
 use Rattle.ak_base.specs.Reviews.{IsCheckedReview}
-use Rattle.ak_calls.proofs.Ids.{id_fits}
+use Rattle.ak_edit_calls.proofs.Ids.{id_fits}
 use Rattle.ak_edit.specs.DeskFaults.{of_keep_fault}
 use Rattle.ak_edit.specs.Ends.{IsHeldRightly}
 use Rattle.ak_edit.specs.declared.desk_faults.DeskFault.TheVariants as faults

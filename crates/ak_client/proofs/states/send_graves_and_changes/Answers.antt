@@ -1,7 +1,7 @@
 use Rattle.ak_client.proofs.Stating.{changes_exchanged}
 use Rattle.ak_exchange.proofs.Passing.{advances_held}
 use Rattle.ak_keep.specs.Keepers.{back}
-use Rattle.ak_parts.proofs.Taking.{stays_marked}
+use Rattle.ak_sync_rows.proofs.Taking.{stays_marked}
 use Rattle.ak_client.proofs.states.send_graves_and_changes.Goals as goal
 
 pub exchange_changes-requires-clause-marked : goal.exchange_changes-requires-clause-marked

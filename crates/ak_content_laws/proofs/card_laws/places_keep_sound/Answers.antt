@@ -1,7 +1,7 @@
-use Rattle.ak_calls.specs.CardEdits.{RefusesCardEdit, card_edit}
 use Rattle.ak_content_laws.proofs.CallEnds.{asks_alike}
 use Rattle.ak_content_laws.proofs.CardCalls.{buried_place, card_edit_alike, unsuspended_place}
 use Rattle.ak_content_laws.proofs.Keepings.{rule_keeps}
+use Rattle.ak_edit_calls.specs.CardEdits.{RefusesCardEdit, card_edit}
 use Rattle.ak_study.specs.CardPlaces.{buried_by_hand, suspended, unsuspended}
 use Rattle.std.proofs.Common.{refl}
 use Rattle.ak_content_laws.proofs.card_laws.places_keep_sound.Goals as goal

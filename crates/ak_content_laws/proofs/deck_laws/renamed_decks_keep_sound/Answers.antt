@@ -1,6 +1,6 @@
 use Rattle.ak_content_laws.proofs.CallEnds.{deck_moved}
 use Rattle.ak_content_laws.proofs.Keepings.{ends_keeps, where_told}
-use Rattle.ak_calls.specs.DeckPaths.{path_at}
+use Rattle.ak_edit_calls.specs.DeckPaths.{path_at}
 use Rattle.ak_deck_paths.specs.Renames.{DoesRename, IsMoved}
 use Rattle.ak_content_laws.proofs.deck_laws.renamed_decks_keep_sound.Goals as goal
 

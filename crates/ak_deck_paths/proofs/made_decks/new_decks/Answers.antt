@@ -2,8 +2,8 @@ use Rattle.std.proofs.Common.{◌≤ℤ◌, ℕ, List, [], length, pos, refl, ap
 use Rattle.std.proofs.lemmas.Int.{ints, to_z-of_z}
 use Rattle.ak_base.specs.declared.names.Name.{Name}
 use Rattle.ak_base.specs.declared.names.Table.TheVariants as tables
-use Rattle.ak_calls.proofs.MakingRows.{made_all, made_answers, makes_all, makes_one, one_lacks}
-use Rattle.ak_calls.specs.NewNames.{first_name}
+use Rattle.ak_edit_calls.proofs.MakingRows.{made_all, made_answers, makes_all, makes_one, one_lacks}
+use Rattle.ak_edit_calls.specs.NewNames.{first_name}
 use Rattle.ak_faults.proofs.Healths.{goes_further, goes_nowhere}
 use Rattle.ak_deck_paths.proofs.MakingDecks.{last_in_range}
 use Rattle.ak_deck_paths.specs.NewDecks.{IsNewDeck}

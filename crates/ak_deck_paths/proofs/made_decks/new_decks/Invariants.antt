@@ -1,7 +1,7 @@
 use Rattle.std.proofs.Common.{◌≡◌, ◌<◌, ◌≤ℤ◌, pos, drop}
 use Rattle.ak_base.specs.declared.names.Table.TheVariants as tables
-use Rattle.ak_calls.proofs.MakingRows.{MakesMoreIn}
-use Rattle.ak_calls.specs.NewNames.{first_name}
+use Rattle.ak_edit_calls.proofs.MakingRows.{MakesMoreIn}
+use Rattle.ak_edit_calls.specs.NewNames.{first_name}
 use Rattle.ak_faults.specs.Causes.{GoesOn}
 use Rattle.ak_keep.specs.Collections.{IsId}
 use Rattle.ak_keep.specs.Keepers.{WhereTold}

@@ -1,7 +1,7 @@
 use Rattle.std.proofs.Common.{ℤ, rules, w64, SFits}
 use Rattle.std.proofs.lemmas.Int.{to_z-of_z}
 use Rattle.ak_base.specs.declared.names.Table.TheVariants as tables
-use Rattle.ak_calls.proofs.Ids.{id_of_checked}
+use Rattle.ak_edit_calls.proofs.Ids.{id_of_checked}
 use Rattle.ak_decks.proofs.MovedCards.{move_ended, move_keeps, move_listed}
 use Rattle.ak_keep.specs.Collections.{IsId}
 use Rattle.ak_merge.specs.Holdings.{name_in}

@@ -3,8 +3,8 @@ use Rattle.std.proofs.lemmas.Int.{to_z-of_z}
 use Rattle.ak_base.specs.declared.names.Table.TheVariants as tables
 use Rattle.ak_base.specs.Tables.{buried_in}
 use Rattle.ak_base.specs.declared.names.Name.{Name}
-use Rattle.ak_calls.proofs.CheckedRows.{checked_edited}
-use Rattle.ak_calls.proofs.Ids.{id_of_checked}
+use Rattle.ak_edit_calls.proofs.CheckedRows.{checked_edited}
+use Rattle.ak_edit_calls.proofs.Ids.{id_of_checked}
 use Rattle.ak_decks.proofs.UsedOptions.{checked_using, second_cause, unheld_listed, use_ended, use_listed, use_refused, using_named}
 use Rattle.ak_decks.specs.DeckOptions.{using_options}
 use Rattle.ak_keep.specs.Collections.{IsId}

@@ -3,7 +3,7 @@ use Rattle.std.proofs.lemmas.Int.{to_z-of_z}
 use Rattle.ak_desk_lines.proofs.EndedLines.{call_line}
 use Rattle.ak_desk_lines.specs.Accepted.{card_answer, given_answer}
 use Rattle.ak_desk_lines.specs.DeskStates.{state_of}
-use Rattle.ak_lines.specs.declared.desk_lines.DeskLine.TheVariants as lines
+use Rattle.ak_desk_language.specs.declared.desk_lines.DeskLine.TheVariants as lines
 use Rattle.ak_study.specs.Answers.{IsAnswered, RefusesAnswer}
 use Rattle.ak_desk_lines.proofs.asking_lines.answer_card.Goals as goal
 

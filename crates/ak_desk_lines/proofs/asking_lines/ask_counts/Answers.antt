@@ -4,7 +4,7 @@ use Rattle.std.proofs.lemmas.Int.{to_z-of_z}
 use Rattle.ak_desk_lines.proofs.AskedQueues.{counts_held, queue_line, unstarted_line}
 use Rattle.ak_desk_lines.specs.Accepted.{TellsCounts, counts_answer}
 use Rattle.ak_desk_lines.specs.DeskStates.{state_of}
-use Rattle.ak_lines.specs.declared.desk_lines.DeskLine.TheVariants as lines
+use Rattle.ak_desk_language.specs.declared.desk_lines.DeskLine.TheVariants as lines
 use Rattle.ak_queue.specs.Queues.{counts_in}
 use Rattle.ak_desk_lines.proofs.asking_lines.ask_counts.Goals as goal
 

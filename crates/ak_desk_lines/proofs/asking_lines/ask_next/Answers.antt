@@ -4,9 +4,9 @@ use Rattle.std.proofs.lemmas.Int.{to_z-of_z}
 use Rattle.ak_desk_lines.proofs.AskedQueues.{next_held, queue_line, unstarted_line}
 use Rattle.ak_desk_lines.specs.Accepted.{TellsNext}
 use Rattle.ak_desk_lines.specs.DeskStates.{state_of}
-use Rattle.ak_lines.specs.declared.desk_lines.DeskLine.TheVariants as lines
+use Rattle.ak_desk_language.specs.declared.desk_lines.DeskLine.TheVariants as lines
 use Rattle.ak_queue.specs.Nexts.{next_in}
-use Rattle.ak_texts.specs.declared.answers.DeskAnswer.TheVariants as answers
+use Rattle.ak_desk_texts.specs.declared.answers.DeskAnswer.TheVariants as answers
 use Rattle.ak_desk_lines.proofs.asking_lines.ask_next.Goals as goal
 
 pub returns-in-Err-clause-ends : goal.returns-in-Err-clause-ends

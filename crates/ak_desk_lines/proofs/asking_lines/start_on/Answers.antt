@@ -2,8 +2,8 @@ use Rattle.std.specs.Prelude.{Ok, Err}
 use Rattle.std.proofs.Common.{w64, SFits}
 use Rattle.std.proofs.lemmas.Int.{to_z-of_z}
 use Rattle.ak_base.specs.declared.days.Day.{Day}
-use Rattle.ak_calls.proofs.Telling.{where_held-map}
-use Rattle.ak_calls.proofs.Taking.{err_too, ok_too}
+use Rattle.ak_edit_calls.proofs.Telling.{where_held-map}
+use Rattle.ak_edit_calls.proofs.Taking.{err_too, ok_too}
 use Rattle.ak_edit.specs.Refusals.{AnswersBy}
 use Rattle.ak_study.specs.DayStarts.{RefusesStart}
 use Rattle.ak_desk_lines.proofs.asking_lines.start_on.Goals as goal

@@ -1,9 +1,9 @@
 use Rattle.std.proofs.Common.{rules, refl, w64, SFits}
 use Rattle.std.proofs.lemmas.Int.{to_z-of_z}
-use Rattle.ak_calls.specs.CardEdits.{RefusesCardEdit, card_edit}
+use Rattle.ak_edit_calls.specs.CardEdits.{RefusesCardEdit, card_edit}
 use Rattle.ak_desk_lines.proofs.EndedLines.{edit_line}
 use Rattle.ak_desk_lines.specs.DeskStates.{state_of}
-use Rattle.ak_lines.specs.declared.desk_lines.DeskLine.TheVariants as lines
+use Rattle.ak_desk_language.specs.declared.desk_lines.DeskLine.TheVariants as lines
 use Rattle.ak_study.specs.CardPlaces.{buried_by_hand}
 use Rattle.ak_desk_lines.proofs.card_lines.bury.Goals as goal
 

@@ -3,7 +3,7 @@ use Rattle.std.proofs.lemmas.Int.{to_z-of_z}
 use Rattle.ak_decks.specs.Flags.{RefusesFlag, flagging}
 use Rattle.ak_desk_lines.proofs.EndedLines.{edit_line}
 use Rattle.ak_desk_lines.specs.DeskStates.{state_of}
-use Rattle.ak_lines.specs.declared.desk_lines.DeskLine.TheVariants as lines
+use Rattle.ak_desk_language.specs.declared.desk_lines.DeskLine.TheVariants as lines
 use Rattle.ak_desk_lines.proofs.card_lines.flag.Goals as goal
 
 pub returns-clause-ends : goal.returns-clause-ends

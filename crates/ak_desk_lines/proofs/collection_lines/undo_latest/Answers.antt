@@ -4,7 +4,7 @@ use Rattle.ak_desk_lines.proofs.EndedLines.{call_line, done_by}
 use Rattle.ak_desk_lines.specs.Accepted.{done_answer}
 use Rattle.ak_desk_lines.specs.DeskStates.{state_of}
 use Rattle.ak_edit.specs.Undos.{IsLatestUndone, RefusesUndo}
-use Rattle.ak_lines.specs.declared.desk_lines.DeskLine.TheVariants as lines
+use Rattle.ak_desk_language.specs.declared.desk_lines.DeskLine.TheVariants as lines
 use Rattle.ak_desk_lines.proofs.collection_lines.undo_latest.Goals as goal
 
 pub returns-clause-ends : goal.returns-clause-ends

@@ -1,8 +1,8 @@
 use Rattle.std.proofs.Common.{rules, refl, w64, SFits}
 use Rattle.std.proofs.lemmas.Int.{to_z-of_z}
 use Rattle.ak_desk_lines.specs.DeskStates.{state_of}
-use Rattle.ak_lines.specs.declared.desk_lines.DeskLine.TheVariants as lines
-use Rattle.ak_texts.specs.declared.answers.DeskAnswer.TheVariants as answers
+use Rattle.ak_desk_language.specs.declared.desk_lines.DeskLine.TheVariants as lines
+use Rattle.ak_desk_texts.specs.declared.answers.DeskAnswer.TheVariants as answers
 use Rattle.ak_deck_paths.specs.Additions.{IsAdded, RefusesAddition}
 use Rattle.ak_desk_lines.proofs.EndedLines.{call_line}
 use Rattle.ak_desk_lines.proofs.deck_lines.add_deck.Goals as goal

@@ -3,7 +3,7 @@ use Rattle.std.proofs.lemmas.Int.{to_z-of_z}
 use Rattle.ak_deck_trees.specs.DeckDeletions.{RefusesDeckDeletion, deck_deletion}
 use Rattle.ak_desk_lines.proofs.EndedLines.{edit_line}
 use Rattle.ak_desk_lines.specs.DeskStates.{state_of}
-use Rattle.ak_lines.specs.declared.desk_lines.DeskLine.TheVariants as lines
+use Rattle.ak_desk_language.specs.declared.desk_lines.DeskLine.TheVariants as lines
 use Rattle.ak_desk_lines.proofs.deck_lines.delete_deck.Goals as goal
 
 pub returns-clause-ends : goal.returns-clause-ends

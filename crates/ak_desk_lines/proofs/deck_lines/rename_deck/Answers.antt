@@ -4,7 +4,7 @@ use Rattle.ak_deck_paths.specs.Renames.{RefusesRename}
 use Rattle.ak_desk_lines.proofs.EndedLines.{call_line, done_by}
 use Rattle.ak_desk_lines.specs.Accepted.{RenamesDeck, done_answer}
 use Rattle.ak_desk_lines.specs.DeskStates.{state_of}
-use Rattle.ak_lines.specs.declared.desk_lines.DeskLine.TheVariants as lines
+use Rattle.ak_desk_language.specs.declared.desk_lines.DeskLine.TheVariants as lines
 use Rattle.ak_desk_lines.proofs.deck_lines.rename_deck.Goals as goal
 
 pub returns-clause-ends : goal.returns-clause-ends

@@ -5,7 +5,7 @@ use Rattle.ak_desk_lines.proofs.EndedLines.{refused_line}
 use Rattle.ak_desk_lines.specs.Accepted.{other_fields}
 use Rattle.ak_desk_lines.specs.DeskStates.{state_of}
 use Rattle.ak_desk_lines.specs.Refused.{RefusesChangedNote}
-use Rattle.ak_lines.specs.declared.desk_lines.DeskLine.TheVariants as lines
+use Rattle.ak_desk_language.specs.declared.desk_lines.DeskLine.TheVariants as lines
 use Rattle.ak_desk_lines.proofs.note_lines.set_fields.Goals as goal
 
 pub returns-in-Ok-clause-ends : goal.returns-in-Ok-clause-ends

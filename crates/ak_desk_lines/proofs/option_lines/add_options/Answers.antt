@@ -1,10 +1,10 @@
 use Rattle.std.proofs.Common.{rules, refl, w64, SFits}
 use Rattle.std.proofs.lemmas.Int.{to_z-of_z}
 use Rattle.ak_base.specs.declared.names.Table.TheVariants as tables
-use Rattle.ak_calls.specs.Additions.{EndsAddition, IsNewRow}
+use Rattle.ak_edit_calls.specs.Additions.{EndsAddition, IsNewRow}
 use Rattle.ak_desk_lines.specs.DeskStates.{Edits, state_of}
-use Rattle.ak_lines.specs.declared.desk_lines.DeskLine.TheVariants as lines
-use Rattle.ak_texts.specs.declared.answers.DeskAnswer.TheVariants as answers
+use Rattle.ak_desk_language.specs.declared.desk_lines.DeskLine.TheVariants as lines
+use Rattle.ak_desk_texts.specs.declared.answers.DeskAnswer.TheVariants as answers
 use Rattle.ak_desk_lines.proofs.EndedLines.{answered_cause, both_done, call_line}
 use Rattle.ak_options.specs.OptionGroups.{RefusesAddition, options_addition}
 use Rattle.ak_desk_lines.proofs.option_lines.add_options.Goals as goal

@@ -2,7 +2,7 @@ use Rattle.std.proofs.Common.{rules, refl, w64, SFits}
 use Rattle.std.proofs.lemmas.Int.{to_z-of_z}
 use Rattle.ak_desk_lines.proofs.EndedLines.{edit_line}
 use Rattle.ak_desk_lines.specs.DeskStates.{state_of}
-use Rattle.ak_lines.specs.declared.desk_lines.DeskLine.TheVariants as lines
+use Rattle.ak_desk_language.specs.declared.desk_lines.DeskLine.TheVariants as lines
 use Rattle.ak_options.specs.OptionDeletions.{RefusesDeletion, options_deletion}
 use Rattle.ak_desk_lines.proofs.option_lines.delete_options.Goals as goal
 

@@ -1,12 +1,12 @@
 use Rattle.std.proofs.Common.{rules, refl, w64, SFits}
 use Rattle.std.proofs.lemmas.Int.{to_z-of_z}
-use Rattle.ak_calls.specs.Calls.{EndsEdit}
+use Rattle.ak_edit_calls.specs.Calls.{EndsEdit}
 use Rattle.ak_desk_lines.proofs.EndedLines.{answered_cause, call_line, done_by}
 use Rattle.ak_desk_lines.specs.DeskStates.{Edits}
 use Rattle.ak_desk_lines.specs.DeskStates.{state_of}
-use Rattle.ak_lines.specs.declared.desk_lines.DeskLine.TheVariants as lines
+use Rattle.ak_desk_language.specs.declared.desk_lines.DeskLine.TheVariants as lines
 use Rattle.ak_options.specs.OptionGroups.{RefusesChange, options_change}
-use Rattle.ak_texts.specs.declared.answers.DeskAnswer.TheVariants as answers
+use Rattle.ak_desk_texts.specs.declared.answers.DeskAnswer.TheVariants as answers
 use Rattle.ak_desk_lines.proofs.option_lines.set_options.Goals as goal
 
 pub returns-clause-ends : goal.returns-clause-ends

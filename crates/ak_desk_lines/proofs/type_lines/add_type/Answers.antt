@@ -1,12 +1,12 @@
 use Rattle.std.proofs.Common.{rules, refl, w64, SFits}
 use Rattle.std.proofs.lemmas.Int.{to_z-of_z}
 use Rattle.ak_base.specs.declared.names.Table.TheVariants as tables
-use Rattle.ak_calls.specs.Additions.{EndsAddition, IsNewRow}
+use Rattle.ak_edit_calls.specs.Additions.{EndsAddition, IsNewRow}
 use Rattle.ak_desk_lines.proofs.EndedLines.{both_done, call_line}
 use Rattle.ak_desk_lines.specs.DeskStates.{Edits}
 use Rattle.ak_desk_lines.specs.DeskStates.{state_of}
-use Rattle.ak_lines.specs.declared.desk_lines.DeskLine.TheVariants as lines
-use Rattle.ak_texts.specs.declared.answers.DeskAnswer.TheVariants as answers
+use Rattle.ak_desk_language.specs.declared.desk_lines.DeskLine.TheVariants as lines
+use Rattle.ak_desk_texts.specs.declared.answers.DeskAnswer.TheVariants as answers
 use Rattle.ak_types.specs.TypeAdditions.{RefusesTypeAddition, given_addition}
 use Rattle.ak_desk_lines.proofs.type_lines.add_type.Goals as goal
 

@@ -3,7 +3,7 @@ use Rattle.std.proofs.lemmas.Int.{to_z-of_z}
 use Rattle.ak_desk_lines.proofs.EndedLines.{call_line, done_by}
 use Rattle.ak_desk_lines.specs.Accepted.{EditsType, done_answer}
 use Rattle.ak_desk_lines.specs.DeskStates.{state_of}
-use Rattle.ak_lines.specs.declared.desk_lines.DeskLine.TheVariants as lines
+use Rattle.ak_desk_language.specs.declared.desk_lines.DeskLine.TheVariants as lines
 use Rattle.ak_types.specs.TypeEdits.{RefusesTypeEdit}
 use Rattle.ak_desk_lines.proofs.type_lines.edit_type.Goals as goal
 

@@ -1,11 +1,11 @@
 use Rattle.std.proofs.Common.{rules, refl, w64, SFits}
 use Rattle.std.proofs.lemmas.Int.{to_z-of_z}
+use Rattle.ak_desk_language.specs.declared.desk_lines.DeskLine.TheVariants as lines
 use Rattle.ak_desk_lines.proofs.EndedLines.{read_line}
 use Rattle.ak_desk_lines.proofs.FoundDays.{found_held}
 use Rattle.ak_desk_lines.specs.Accepted.{AreFound}
 use Rattle.ak_desk_lines.specs.DeskStates.{state_of}
-use Rattle.ak_lines.specs.declared.desk_lines.DeskLine.TheVariants as lines
-use Rattle.ak_texts.specs.declared.answers.DeskAnswer.TheVariants as answers
+use Rattle.ak_desk_texts.specs.declared.answers.DeskAnswer.TheVariants as answers
 use Rattle.std.specs.Prelude.{IfSome}
 use Rattle.ak_desk_lines.proofs.view_lines.find_cards.Goals as goal
 

@@ -1,6 +1,6 @@
 use Rattle.std.proofs.lemmas.Result.{on_err_weaker}
 use Rattle.ak_io.proofs.Scripts.{part_after, part_longer}
-use Rattle.ak_texts.specs.AnswerTexts.{ids_text}
+use Rattle.ak_desk_texts.specs.AnswerTexts.{ids_text}
 use Rattle.ak_desk_runs.proofs.Pieces.{told}
 use Rattle.ak_desk_runs.proofs.answer_pieces.put_found.Goals as goal
 

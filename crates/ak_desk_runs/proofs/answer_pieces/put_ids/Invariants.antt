@@ -1,7 +1,7 @@
 use Rattle.std.proofs.Common.{drop}
 use Rattle.ak_faults.specs.Causes.{GoesOn}
 use Rattle.ak_io.specs.Scripts.{Reached}
-use Rattle.ak_texts.specs.AnswerTexts.{ids_text}
+use Rattle.ak_desk_texts.specs.AnswerTexts.{ids_text}
 use Rattle.ak_desk_runs.proofs.answer_pieces.put_ids.Given as goal
 
 -- the ids that are left are still to be written

@@ -2,7 +2,7 @@ use Rattle.std.proofs.Common.{codes}
 use Rattle.std.proofs.KnownBytes.{Appends-trans}
 use Rattle.std.proofs.lemmas.Result.{on_err_weaker}
 use Rattle.ak_io.proofs.Scripts.{part_after, part_longer}
-use Rattle.ak_texts.specs.AnswerTexts.{ids_text}
+use Rattle.ak_desk_texts.specs.AnswerTexts.{ids_text}
 use Rattle.ak_desk_runs.proofs.Pieces.{longer, told}
 use Rattle.ak_desk_runs.proofs.answer_pieces.put_note.Goals as goal
 

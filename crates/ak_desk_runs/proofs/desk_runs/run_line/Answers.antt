@@ -2,7 +2,7 @@ use Rattle.std.proofs.Common.{◌≡◌, ◌+◌, [], ◌∷◌, ◌∙◌}
 use Rattle.std.proofs.KnownBytes.{Appends-nil}
 use Rattle.ak_desk_runs.proofs.Stopping.{answer_not_done, refusal_not_done, stops_in_answer, stops_out, stops_refused}
 use Rattle.ak_io.proofs.Readings.{counted}
-use Rattle.ak_texts.specs.AnswerTexts.{answer_text}
+use Rattle.ak_desk_texts.specs.AnswerTexts.{answer_text}
 use Rattle.ak_desk_runs.proofs.desk_runs.run_line.Goals as goal
 
 pub returns-in-Ok-None-obey_line-clause-steps : goal.returns-in-Ok-None-obey_line-clause-steps

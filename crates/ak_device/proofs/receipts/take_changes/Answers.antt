@@ -3,8 +3,8 @@ use Rattle.std.proofs.lemmas.Int.{to_z-of_z}
 use Rattle.ak_device.proofs.Receiving.{changes_came}
 use Rattle.ak_keep.specs.Keepers.{changed}
 use Rattle.ak_messages.specs.declared.replies.Give.TheVariants as gives
-use Rattle.ak_parts.proofs.Parted.{if_ok}
-use Rattle.ak_parts.specs.Takes.{with_all_taken}
+use Rattle.ak_sync_rows.proofs.Parted.{if_ok}
+use Rattle.ak_sync_rows.specs.Takes.{with_all_taken}
 use Rattle.ak_session.specs.Messages.{change_rows}
 use Rattle.ak_session.specs.Replies.{replied}
 use Rattle.ak_device.proofs.receipts.take_changes.Goals as goal

@@ -1,7 +1,7 @@
 use Rattle.std.proofs.Common.{◌∙◌, rules, w64, SFits}
 use Rattle.std.proofs.lemmas.Int.{to_z-of_z}
 use Rattle.ak_device.proofs.Receiving.{rows_came}
-use Rattle.ak_parts.proofs.Parted.{if_ok}
+use Rattle.ak_sync_rows.proofs.Parted.{if_ok}
 use Rattle.ak_session.specs.Messages.{graves_from}
 use Rattle.ak_device.proofs.receipts.take_graves.Goals as goal
 

@@ -1,7 +1,7 @@
 use Rattle.std.proofs.Common.{rules, w64, SFits}
 use Rattle.std.proofs.lemmas.Int.{to_z-of_z}
 use Rattle.ak_device.proofs.Settling.{changes_settled, decks_named, options_named, types_named}
-use Rattle.ak_parts.proofs.Parted.{if_ok}
+use Rattle.ak_sync_rows.proofs.Parted.{if_ok}
 use Rattle.ak_device.proofs.settlings.settle_changes.Goals as goal
 
 pub returns-clause-ok : goal.returns-clause-ok

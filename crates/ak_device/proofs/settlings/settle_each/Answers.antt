@@ -2,7 +2,7 @@ use Rattle.std.proofs.Common.{refl, map}
 use Rattle.ak_device.proofs.Settling.{in_one, next_settled}
 use Rattle.ak_faults.proofs.Healths.{goes_further, goes_nowhere}
 use Rattle.ak_keep.specs.Keepers.{back}
-use Rattle.ak_parts.proofs.Taking.{stays_marked}
+use Rattle.ak_sync_rows.proofs.Taking.{stays_marked}
 use Rattle.ak_device.proofs.settlings.settle_each.Goals as goal
 
 pub loop-one-init : goal.loop-one-init

@@ -3,7 +3,7 @@ use Rattle.std.proofs.lemmas.Int.{to_z-of_z}
 use Rattle.ak_device.proofs.Settling.{settles_tags}
 use Rattle.ak_faults.proofs.Healths.{cause_after}
 use Rattle.ak_keep.specs.Keepers.{head_set}
-use Rattle.ak_parts.proofs.Parted.{if_ok}
+use Rattle.ak_sync_rows.proofs.Parted.{if_ok}
 use Rattle.ak_device.proofs.settlings.settle_head.Goals as goal
 
 pub returns-clause-ok : goal.returns-clause-ok

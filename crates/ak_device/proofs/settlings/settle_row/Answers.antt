@@ -3,7 +3,7 @@ use Rattle.std.proofs.lemmas.Int.{to_z-of_z}
 use Rattle.ak_base.specs.declared.rows.Row.{Row}
 use Rattle.ak_device.proofs.Settling.{settles_put, settles_sent}
 use Rattle.ak_keep.specs.Keepers.{put}
-use Rattle.ak_parts.proofs.Parted.{if_ok}
+use Rattle.ak_sync_rows.proofs.Parted.{if_ok}
 use Rattle.ak_device.proofs.settlings.settle_row.Goals as goal
 
 pub returns-then-not-is_pending-clause-ok : goal.returns-then-not-is_pending-clause-ok

@@ -5,7 +5,7 @@ use Rattle.ak_exchange.proofs.Passing.{advances_held, advances_more, advances_pa
 use Rattle.ak_exchange.specs.Phases.{at_meta}
 use Rattle.ak_faults.proofs.Healths.{cause_after, goes_further}
 use Rattle.ak_keep.specs.Keepers.{IsMarkedAt, Keeping, back}
-use Rattle.ak_parts.proofs.Taking.{stays_marked}
+use Rattle.ak_sync_rows.proofs.Taking.{stays_marked}
 use Rattle.ak_exchange.proofs.exchanges.exchange.Goals as goal
 
 all_ok : {T E P : Type 0} (r : Result T E) → P → OnOk r P

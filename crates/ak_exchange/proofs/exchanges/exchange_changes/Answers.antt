@@ -15,11 +15,11 @@ use Rattle.ak_keep.specs.Keepers.{Keeping, back, changed}
 use Rattle.ak_messages.specs.declared.requests.Ask.{Ask}
 use Rattle.ak_messages.specs.declared.requests.Ask.TheVariants as asks
 use Rattle.ak_messages.specs.declared.requests.Request.{Request}
-use Rattle.ak_parts.proofs.Taking.{stays_marked}
+use Rattle.ak_sync_rows.proofs.Taking.{stays_marked}
 use Rattle.ak_messages.specs.declared.replies.Give.TheVariants as gives
 use Rattle.ak_session.specs.Plans.{planned_graves}
 use Rattle.ak_session.specs.Replies.{replied}
-use Rattle.ak_wires.specs.Forms.{changes_in}
+use Rattle.ak_client_wire.specs.Forms.{changes_in}
 use Rattle.ak_exchange.proofs.exchanges.exchange_changes.Goals as goal
 
 pub returns-in_err-changes-clause-leads : goal.returns-in_err-changes-clause-leads

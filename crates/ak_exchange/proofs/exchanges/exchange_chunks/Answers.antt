@@ -3,7 +3,7 @@ use Rattle.ak_exchange.proofs.Faults.{cause_passed}
 use Rattle.ak_exchange.proofs.Passing.{advances_more, advances_passed, advances_then}
 use Rattle.ak_faults.proofs.Healths.{cause_after}
 use Rattle.ak_keep.specs.Keepers.{back}
-use Rattle.ak_parts.proofs.Taking.{stays_marked}
+use Rattle.ak_sync_rows.proofs.Taking.{stays_marked}
 use Rattle.ak_exchange.proofs.exchanges.exchange_chunks.Goals as goal
 
 pub returns-in_err-pull-clause-leads : goal.returns-in_err-pull-clause-leads

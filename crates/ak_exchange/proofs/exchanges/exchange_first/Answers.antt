@@ -5,7 +5,7 @@ use Rattle.ak_exchange.proofs.Parts.{no_grave_requests, requests_before}
 use Rattle.ak_exchange.proofs.Passing.{advances_held, advances_more, advances_passed, advances_then}
 use Rattle.ak_faults.proofs.Healths.{cause_after, goes_further}
 use Rattle.ak_keep.specs.Keepers.{back}
-use Rattle.ak_parts.proofs.Taking.{stays_marked}
+use Rattle.ak_sync_rows.proofs.Taking.{stays_marked}
 use Rattle.ak_exchange.proofs.exchanges.exchange_first.Goals as goal
 
 pub returns-in_err-start-clause-leads : goal.returns-in_err-start-clause-leads

@@ -2,7 +2,7 @@ use Rattle.std.proofs.Common.{refl, rules, w64, SFits}
 use Rattle.std.proofs.lemmas.Int.{to_z-of_z}
 use Rattle.ak_exchange.proofs.Finishing.{finishes_granted, finishes_refused, finishes_unasked, moment_fits}
 use Rattle.ak_exchange.proofs.Granted.{granted_give}
-use Rattle.ak_wires.specs.Forms.{moment_in}
+use Rattle.ak_client_wire.specs.Forms.{moment_in}
 use Rattle.ak_exchange.proofs.exchanges.finish.Goals as goal
 
 pub returns-in_err-request-clause-leads : goal.returns-in_err-request-clause-leads

@@ -8,7 +8,7 @@ use Rattle.ak_exchange.specs.Loops.{HasPulledOne}
 use Rattle.ak_exchange.specs.Phases.{at_end_of}
 use Rattle.ak_faults.proofs.Healths.{cause_after, goes_further, goes_nowhere}
 use Rattle.ak_keep.specs.Keepers.{back}
-use Rattle.ak_parts.proofs.Taking.{stays_marked}
+use Rattle.ak_sync_rows.proofs.Taking.{stays_marked}
 use Rattle.ak_session.specs.Plans.{planned_changes}
 use Rattle.ak_exchange.proofs.exchanges.pull.Goals as goal
 

@@ -7,7 +7,7 @@ use Rattle.ak_exchange.proofs.Stopping.{by_memory, by_wire, keeper_after, kept_g
 use Rattle.ak_faults.proofs.Healths.{goes_nowhere}
 use Rattle.ak_messages.specs.declared.replies.Give.TheVariants as gives
 use Rattle.ak_session.specs.Replies.{replied}
-use Rattle.ak_wires.specs.Forms.{chunk_in}
+use Rattle.ak_client_wire.specs.Forms.{chunk_in}
 use Rattle.ak_exchange.proofs.exchanges.pull_chunk.Goals as goal
 
 pub returns-in_err-request-clause-leads : goal.returns-in_err-request-clause-leads

@@ -9,7 +9,7 @@ use Rattle.ak_exchange.proofs.Held.{stays_same}
 use Rattle.ak_exchange.specs.Phases.{at_end_of}
 use Rattle.ak_faults.proofs.Healths.{cause_after, goes_further, goes_nowhere}
 use Rattle.ak_keep.specs.Keepers.{IsMarkedAt, Keeping, WhereTold, back, is_marked}
-use Rattle.ak_parts.proofs.Taking.{stays_marked}
+use Rattle.ak_sync_rows.proofs.Taking.{stays_marked}
 use Rattle.ak_session.specs.Plans.{planned_chunks}
 use Rattle.ak_exchange.proofs.exchanges.push.Goals as goal
 

@@ -6,7 +6,7 @@ use Rattle.ak_exchange.proofs.Parts.{pushes_left, pushes_none, pushes_took}
 use Rattle.ak_exchange.proofs.Stopping.{by_keeper}
 use Rattle.ak_faults.proofs.Healths.{cause_after, goes_further}
 use Rattle.ak_keep.specs.Keepers.{Keeping, WhereTold, back, is_marked}
-use Rattle.ak_parts.proofs.Taking.{stays_marked}
+use Rattle.ak_sync_rows.proofs.Taking.{stays_marked}
 use Rattle.ak_exchange.proofs.exchanges.push_chunk.Goals as goal
 
 pub send_chunk-requires-clause-marked : goal.send_chunk-requires-clause-marked

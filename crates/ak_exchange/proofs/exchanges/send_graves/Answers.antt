@@ -10,7 +10,7 @@ use Rattle.ak_exchange.proofs.Places.{after_start, all_graves, leads_on}
 use Rattle.ak_faults.proofs.Healths.{cause_after}
 use Rattle.ak_keep.specs.Keepers.{WhereTold, back, is_marked}
 use Rattle.ak_keep.specs.declared.keepers.Wanted.TheVariants.{Unsent}
-use Rattle.ak_parts.proofs.Taking.{stays_marked}
+use Rattle.ak_sync_rows.proofs.Taking.{stays_marked}
 use Rattle.ak_session.specs.Plans.{planned_start}
 use Rattle.ak_session.specs.Slices.{wanted_graves}
 use Rattle.ak_exchange.proofs.exchanges.send_graves.Goals as goal

@@ -6,7 +6,7 @@ use Rattle.ak_exchange.proofs.Passing.{advances_more, advances_passed, advances_
 use Rattle.ak_exchange.proofs.Places.{graves_lead}
 use Rattle.ak_faults.proofs.Healths.{cause_after, goes_further, goes_nowhere}
 use Rattle.ak_keep.specs.Keepers.{back}
-use Rattle.ak_parts.proofs.Taking.{stays_marked}
+use Rattle.ak_sync_rows.proofs.Taking.{stays_marked}
 use Rattle.ak_exchange.proofs.exchanges.send_parts.Goals as goal
 
 pub loop-part-init : goal.loop-part-init

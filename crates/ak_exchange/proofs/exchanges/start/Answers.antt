@@ -9,7 +9,7 @@ use Rattle.ak_faults.proofs.Healths.{goes_nowhere}
 use Rattle.ak_exchange.proofs.Places.{meta_leads}
 use Rattle.ak_messages.specs.declared.replies.Give.TheVariants as gives
 use Rattle.ak_session.specs.Replies.{replied}
-use Rattle.ak_wires.specs.Forms.{graves_in}
+use Rattle.ak_client_wire.specs.Forms.{graves_in}
 use Rattle.ak_exchange.proofs.exchanges.start.Goals as goal
 
 pub returns-in_err-request-clause-leads : goal.returns-in_err-request-clause-leads

@@ -1,7 +1,7 @@
 use Rattle.std.proofs.Common.{List, length, ap, ◌∙◌, arith}
 use Rattle.ak_lab.proofs.Planned.{has_requests, lacks_request, most_taken, saturated}
 use Rattle.ak_lab_wires.specs.Servings.{named_from, requests_in}
-use Rattle.ak_loops.specs.declared.logs.Entry.{Entry}
+use Rattle.ak_sync_in_memory.specs.declared.logs.Entry.{Entry}
 use Rattle.ak_messages.specs.declared.requests.Request.{Request}
 use Rattle.ak_lab.proofs.lab_plans.requests_of.Goals as goal
 

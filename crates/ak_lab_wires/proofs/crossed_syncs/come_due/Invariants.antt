@@ -1,8 +1,8 @@
 use Rattle.std.proofs.Common.{drop}
 use Rattle.ak_lab_wires.specs.CrossedSyncs.{ActsOnce, CrossState, cross_state}
 use Rattle.ak_lab_wires.specs.Turns.{InTurn, due}
-use Rattle.ak_loops.specs.Betweens.{ActEnd}
-use Rattle.ak_loops.specs.Entries.{LoggedState}
+use Rattle.ak_sync_in_memory.specs.Betweens.{ActEnd}
+use Rattle.ak_sync_in_memory.specs.Entries.{LoggedState}
 use Rattle.ak_lab_wires.proofs.crossed_syncs.come_due.Given as goal
 
 -- what the acts that are left make, after those so far, is what all make

@@ -1,7 +1,7 @@
 use Rattle.std.proofs.Common.{Some, refl}
 use Rattle.ak_exchange.specs.declared.envelopes.Ids.{Ids}
 use Rattle.ak_lab_wires.proofs.Running.{session_ran}
-use Rattle.ak_loops.specs.LoopWires.{inside_with}
+use Rattle.ak_sync_in_memory.specs.LoopWires.{inside_with}
 use Rattle.ak_lab_wires.proofs.lab_sessions.run_over.Goals as goal
 
 pub returns : goal.returns

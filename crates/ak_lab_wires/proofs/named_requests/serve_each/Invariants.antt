@@ -1,7 +1,7 @@
 use Rattle.std.proofs.Common.{drop}
 use Rattle.ak_lab_wires.specs.Servings.{ServesFront}
-use Rattle.ak_loops.specs.Betweens.{ActEnd}
-use Rattle.ak_loops.specs.Entries.{LoggedState}
+use Rattle.ak_sync_in_memory.specs.Betweens.{ActEnd}
+use Rattle.ak_sync_in_memory.specs.Entries.{LoggedState}
 use Rattle.ak_lab_wires.proofs.named_requests.serve_each.Given as goal
 
 -- what is served of the requests that are left, after those so far, is served of all

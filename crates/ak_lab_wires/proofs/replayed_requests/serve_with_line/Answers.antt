@@ -2,7 +2,7 @@ use Rattle.std.proofs.Common.{ℕ, ap, subst, ◌∙◌, w64}
 use Rattle.std.proofs.lemmas.Int.{to_z-of_z}
 use Rattle.ak_lab_devices.proofs.InTime.{moment_fits}
 use Rattle.ak_lab_wires.specs.Servings.{ServesFront, with_line}
-use Rattle.ak_loops.specs.Entries.{LoggedState}
+use Rattle.ak_sync_in_memory.specs.Entries.{LoggedState}
 use Rattle.ak_lab_wires.proofs.replayed_requests.serve_with_line.Goals as goal
 
 pub returns : goal.returns

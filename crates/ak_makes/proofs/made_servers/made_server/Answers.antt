@@ -1,6 +1,6 @@
 use Rattle.std.proofs.Common.{ℕ, List, ap, ◌∙◌}
-use Rattle.ak_loops.specs.LoggedServers.{begins_with}
 use Rattle.ak_makes.proofs.made_servers.made_server.Goals as goal
+use Rattle.ak_sync_in_memory.specs.LoggedServers.{begins_with}
 
 pub returns : goal.returns
 returns c = (

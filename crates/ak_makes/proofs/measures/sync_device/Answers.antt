@@ -1,9 +1,9 @@
 use Rattle.std.proofs.Common.{refl, ◌∙◌}
 use Rattle.ak_exchange.specs.declared.envelopes.Ids.{Ids}
 use Rattle.ak_keep.specs.Keepers.{all_known}
-use Rattle.ak_loops.specs.LoopWires.{inside_with}
 use Rattle.ak_makes.proofs.DeviceSyncs.{synced}
 use Rattle.ak_makes.proofs.measures.sync_device.Goals as goal
+use Rattle.ak_sync_in_memory.specs.LoopWires.{inside_with}
 
 pub returns : goal.returns
 returns c =

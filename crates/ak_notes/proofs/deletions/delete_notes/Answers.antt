@@ -1,7 +1,7 @@
 use Rattle.std.proofs.Common.{w64, SFits}
 use Rattle.std.proofs.lemmas.Int.{to_z-of_z}
-use Rattle.ak_calls.proofs.Answering.{on_ok-map}
-use Rattle.ak_calls.specs.Calls.{DoesEdit}
+use Rattle.ak_edit_calls.proofs.Answering.{on_ok-map}
+use Rattle.ak_edit_calls.specs.Calls.{DoesEdit}
 use Rattle.ak_edit.specs.Ends.{FinishedBy}
 use Rattle.ak_notes.proofs.DeletionRules.{deletion_answered, deletion_done}
 use Rattle.ak_notes.specs.Deletions.{deletion}

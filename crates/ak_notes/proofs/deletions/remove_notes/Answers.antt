@@ -1,7 +1,7 @@
 use Rattle.std.proofs.Common.{ℤ, pos, get_or, ◌∙◌, rules, w64, SFits}
 use Rattle.std.proofs.lemmas.Int.{to_z-of_z}
 use Rattle.ak_base.specs.declared.names.Table.TheVariants as tables
-use Rattle.ak_calls.proofs.Missing.{passed_one}
+use Rattle.ak_edit_calls.proofs.Missing.{passed_one}
 use Rattle.ak_faults.proofs.Healths.{goes_further}
 use Rattle.ak_notes.proofs.DeletionRules.{removed_one}
 use Rattle.ak_notes.proofs.deletions.remove_notes.Goals as goal

@@ -1,7 +1,7 @@
 use Rattle.std.proofs.Common.{◌≡◌, drop}
 use Rattle.std.specs.FinMap.{get}
 use Rattle.ak_base.specs.declared.names.Table.TheVariants as tables
-use Rattle.ak_calls.specs.Calls.{first_missing}
+use Rattle.ak_edit_calls.specs.Calls.{first_missing}
 use Rattle.ak_faults.specs.Causes.{GoesOn}
 use Rattle.ak_keep.specs.Keepers.{WhereTold}
 use Rattle.ak_notes.specs.Deletions.{without_each}

@@ -1,4 +1,4 @@
-use Rattle.ak_calls.proofs.Answering.{passed_first, refused_first}
+use Rattle.ak_edit_calls.proofs.Answering.{passed_first, refused_first}
 use Rattle.ak_notes.specs.GivenTexts.{RefusesCount, RefusesTexts}
 use Rattle.ak_notes.proofs.given_texts.check_given.Goals as goal
 

@@ -1,5 +1,5 @@
 use Rattle.std.proofs.Common.{◌≡◌, drop}
-use Rattle.ak_calls.specs.Calls.{has_id}
+use Rattle.ak_edit_calls.specs.Calls.{has_id}
 use Rattle.ak_notes.proofs.lacking_notes.has_id.Given as goal
 
 -- none of the numbers so far is it

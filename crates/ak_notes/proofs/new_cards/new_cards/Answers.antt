@@ -1,7 +1,7 @@
 use Rattle.std.proofs.Common.{◌≡◌, ◌≤ℤ◌, ℤ, List, length, pos, get_or, refl, ap, ◌∙◌, rules, arith, w64, SFits}
 use Rattle.std.proofs.lemmas.Int.{ints, to_z-of_z}
 use Rattle.ak_base.specs.declared.cards.Card.{Card}
-use Rattle.ak_calls.proofs.MakingRows.{made_all, made_answers, makes_all, makes_one, one_lacks}
+use Rattle.ak_edit_calls.proofs.MakingRows.{made_all, made_answers, makes_all, makes_one, one_lacks}
 use Rattle.ak_faults.proofs.Healths.{goes_further, goes_nowhere}
 use Rattle.ak_notes.proofs.NewCards.{next_one}
 use Rattle.ak_notes.specs.NewCards.{IsNewCard, new_card}

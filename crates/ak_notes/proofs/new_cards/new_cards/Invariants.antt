@@ -1,5 +1,5 @@
 use Rattle.std.proofs.Common.{◌≡◌, ◌≤ℤ◌, pos, drop}
-use Rattle.ak_calls.proofs.MakingRows.{MakesMoreIn}
+use Rattle.ak_edit_calls.proofs.MakingRows.{MakesMoreIn}
 use Rattle.ak_faults.specs.Causes.{GoesOn}
 use Rattle.ak_keep.specs.Keepers.{WhereTold}
 use Rattle.ak_notes.specs.NewCards.{IsNewCard, first_after}

@@ -1,7 +1,7 @@
 use Rattle.std.proofs.lemmas.Int.{to_z-of_z}
 use Rattle.std.proofs.lemmas.Result.{err_from_is_err_and}
 use Rattle.std.proofs.Common.{w64, SFits, inr}
-use Rattle.ak_calls.proofs.Answering.{on_ok-map}
+use Rattle.ak_edit_calls.proofs.Answering.{on_ok-map}
 use Rattle.ak_edit.specs.Ends.{FinishedBy}
 use Rattle.ak_notes.proofs.AddedNotes.{outside_told}
 use Rattle.ak_notes.proofs.EditedNotes.{edit_answered, edit_done, edit_tested, ends_listed}

@@ -1,7 +1,7 @@
 use Rattle.std.proofs.Common.{ℤ, rules, w64, SFits}
 use Rattle.std.proofs.lemmas.Int.{to_z-of_z}
 use Rattle.ak_options.proofs.Changing.{change_ended, change_given, change_kept, change_stopped}
-use Rattle.ak_calls.proofs.Taking.{later_cause}
+use Rattle.ak_edit_calls.proofs.Taking.{later_cause}
 use Rattle.ak_options.proofs.option_groups.set_options.Goals as goal
 
 pub returns-in_err-held-clause-edits : goal.returns-in_err-held-clause-edits

@@ -1,7 +1,7 @@
 use Rattle.std.specs.Prelude.{◌≡◌}
 use Rattle.std.proofs.Common.{ap, ◌∙◌, w64}
 use Rattle.std.proofs.lemmas.Int.{to_z-of_z}
-use Rattle.ak_answers.specs.Closings.{finished_moment, finished_usn}
+use Rattle.ak_server_steps.specs.Closings.{finished_moment, finished_usn}
 use Rattle.ak_faults.proofs.Healths.{cause_after}
 use Rattle.ak_keep.specs.Keepers.{Keeping, moments_set}
 use Rattle.ak_messages.specs.MessageForms.{is_given_to}

@@ -1,7 +1,7 @@
 use Rattle.std.specs.Prelude.{◌≡◌}
 use Rattle.std.proofs.Common.{ap, ◌∙◌, w64}
 use Rattle.std.proofs.lemmas.Int.{to_z-of_z}
-use Rattle.ak_answers.specs.Closings.{uploaded_head}
+use Rattle.ak_server_steps.specs.Closings.{uploaded_head}
 use Rattle.ak_faults.proofs.Healths.{cause_after}
 use Rattle.ak_keep.proofs.HeadNumbers.{some_collection}
 use Rattle.ak_keep.specs.Keepers.{Keeping, marked_here, replaced}

@@ -2,13 +2,13 @@ use Rattle.std.specs.Option.{option_map}
 use Rattle.std.specs.Prelude.{◌≡◌, Some}
 use Rattle.std.proofs.Common.{refl, sym, ap, ◌∙◌, inl, inr, w64}
 use Rattle.std.proofs.lemmas.Int.{to_z-of_z}
-use Rattle.ak_answers.specs.declared.answers.Basis.{Basis}
+use Rattle.ak_server_steps.specs.declared.answers.Basis.{Basis}
 use Rattle.ak_faults.proofs.Healths.{cause_after}
 use Rattle.ak_keep.proofs.HeadNumbers.{some_collection}
 use Rattle.ak_keep.specs.Collections.{Collection}
 use Rattle.ak_keep.specs.HeadNumbers.{numbered}
-use Rattle.ak_machine.specs.Decisions.{declined_so, refusal_of}
-use Rattle.ak_machine.specs.Sessions.{session_seen}
+use Rattle.ak_server_rules.specs.Decisions.{declined_so, refusal_of}
+use Rattle.ak_server_rules.specs.Sessions.{session_seen}
 use Rattle.ak_messages.specs.declared.replies.Reply.{Reply}
 use Rattle.ak_server.proofs.Faulting.{err_so, ok_so}
 use Rattle.ak_server.proofs.Settling.{accepted_does, decided_granted, decided_refused, leaves_read, refused_does, taken_read}

@@ -1,11 +1,11 @@
 use Rattle.std.specs.List.{All}
 use Rattle.std.proofs.Common.{◌≡◌, ◌++◌, Some, drop}
-use Rattle.ak_answers.proofs.InTables.{rows_in_all}
+use Rattle.ak_server_steps.proofs.InTables.{rows_in_all}
 use Rattle.ak_base.specs.Rows.{IsChecked}
 use Rattle.ak_base.specs.Tables.{all_tables}
 use Rattle.ak_faults.specs.Causes.{GoesOn}
 use Rattle.ak_keep.specs.Collections.{Collection}
-use Rattle.ak_loops.specs.Entries.{health_in}
+use Rattle.ak_sync_in_memory.specs.Entries.{health_in}
 use Rattle.ak_server_copies.specs.Copies.{IsViewed, committed_in}
 use Rattle.ak_server_copies.proofs.copies.view_rows.Given as goal
 

@@ -1,10 +1,10 @@
 use Rattle.std.specs.List.{All}
 use Rattle.std.proofs.Common.{◌≡◌, ◌++◌, Some}
-use Rattle.ak_answers.specs.Wholes.{rows_in}
+use Rattle.ak_server_steps.specs.Wholes.{rows_in}
 use Rattle.ak_base.specs.Rows.{IsChecked}
 use Rattle.ak_faults.specs.Causes.{GoesOn}
 use Rattle.ak_keep.specs.Collections.{Collection}
-use Rattle.ak_loops.specs.Entries.{health_in}
+use Rattle.ak_sync_in_memory.specs.Entries.{health_in}
 use Rattle.ak_server_copies.specs.Copies.{IsViewed, committed_in, most_pages, rows_to_come}
 use Rattle.ak_server_copies.proofs.copies.view_table.Given as goal
 

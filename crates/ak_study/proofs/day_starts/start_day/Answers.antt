@@ -1,6 +1,6 @@
 use Rattle.std.proofs.Common.{w64, SFits}
 use Rattle.std.proofs.lemmas.Int.{to_z-of_z}
-use Rattle.ak_calls.proofs.Answering.{on_ok-map}
+use Rattle.ak_edit_calls.proofs.Answering.{on_ok-map}
 use Rattle.ak_faults.proofs.Healths.{cause_after}
 use Rattle.ak_edit.specs.Ends.{FinishedBy}
 use Rattle.ak_study.proofs.DayStartRules.{start_answered, start_done}

@@ -1,5 +1,5 @@
 use Rattle.std.proofs.Common.{◌≤◌, ◌∙◌, arith, refl, sym, subst}
-use Rattle.ak_answers.proofs.InTables.{table_read, tables_read}
+use Rattle.ak_server_steps.proofs.InTables.{table_read, tables_read}
 use Rattle.ak_faults.proofs.Healths.{goes_further, goes_nowhere}
 use Rattle.ak_keep.proofs.Causing.{cause-ok}
 use Rattle.ak_transfers.proofs.Heads.{none_read, table_may}

@@ -1,5 +1,5 @@
 use Rattle.std.proofs.Common.{◌≡◌, ◌++◌, drop}
-use Rattle.ak_answers.proofs.InTables.{rows_in_all}
+use Rattle.ak_server_steps.proofs.InTables.{rows_in_all}
 use Rattle.ak_base.specs.Tables.{all_tables}
 use Rattle.ak_faults.specs.Causes.{GoesOn}
 use Rattle.ak_keep.specs.Keepers.{WhereTold}

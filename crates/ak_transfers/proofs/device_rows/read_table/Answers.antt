@@ -1,11 +1,11 @@
 use Rattle.std.proofs.Common.{◌≡◌, ◌++◌, ◌∙◌, refl, sym, ap, subst}
-use Rattle.ak_answers.specs.Wholes.{rows_in}
 use Rattle.ak_faults.proofs.Healths.{goes_nowhere, goes_further}
 use Rattle.ak_keep.specs.Keepers.{WhereTold}
 use Rattle.ak_keep.specs.Walks.{ahead}
 use Rattle.ak_keep.specs.declared.walks.Walk.{Walk}
-use Rattle.ak_parts.proofs.Gathering.{where_all}
-use Rattle.ak_parts.proofs.Pages.{next_page}
+use Rattle.ak_server_steps.specs.Wholes.{rows_in}
+use Rattle.ak_sync_rows.proofs.Gathering.{where_all}
+use Rattle.ak_sync_rows.proofs.Pages.{next_page}
 use Rattle.ak_transfers.proofs.Rows.{read_first, walk_next}
 use Rattle.ak_transfers.proofs.device_rows.read_table.Goals as goal
 

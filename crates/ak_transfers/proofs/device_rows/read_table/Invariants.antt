@@ -1,5 +1,5 @@
 use Rattle.std.proofs.Common.{◌≡◌, ◌++◌}
-use Rattle.ak_answers.specs.Wholes.{rows_in}
+use Rattle.ak_server_steps.specs.Wholes.{rows_in}
 use Rattle.ak_base.specs.Names.{table_place}
 use Rattle.ak_faults.specs.Causes.{GoesOn}
 use Rattle.ak_keep.specs.Keepers.{WhereTold}

@@ -14,7 +14,7 @@ use Rattle.ak_transfers.proofs.Greeted.{stop_unkept, unmet}
 use Rattle.ak_transfers.specs.Forms.{whole_in}
 use Rattle.ak_transfers.specs.Transfers.{IsTransfer, download_errand}
 use Rattle.ak_transfers.specs.UploadParts.{MayBePut}
-use Rattle.ak_wires.specs.Tries.{Answered}
+use Rattle.ak_client_wire.specs.Tries.{Answered}
 use Rattle.ak_transfers.proofs.downloads.download_device.Goals as goal
 
 pub put_in_place-requires-clause-rows : goal.put_in_place-requires-clause-rows

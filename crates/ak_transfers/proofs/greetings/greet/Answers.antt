@@ -8,9 +8,9 @@ use Rattle.ak_merge.specs.Edits.{second_of}
 use Rattle.ak_messages.specs.declared.requests.Request.{Request}
 use Rattle.ak_transfers.proofs.Greeted.{greets_on, greets_stopped, greets_unheard}
 use Rattle.ak_transfers.specs.Greetings.{GreetsFirst}
-use Rattle.ak_wires.specs.Forms.{meta_in}
-use Rattle.ak_wires.specs.Tries.{Answered}
-use Rattle.ak_wires.specs.declared.wires.MetaSaid.{MetaSaid}
+use Rattle.ak_client_wire.specs.Forms.{meta_in}
+use Rattle.ak_client_wire.specs.Tries.{Answered}
+use Rattle.ak_client_wire.specs.declared.wires.MetaSaid.{MetaSaid}
 use Rattle.ak_transfers.proofs.greetings.greet.Goals as goal
 
 pub returns-in_err-meta : goal.returns-in_err-meta

@@ -11,7 +11,7 @@ use Rattle.ak_transfers.proofs.Sending.{moments_fit}
 use Rattle.ak_transfers.specs.Forms.{uploaded_in}
 use Rattle.ak_transfers.specs.UploadParts.{Sends, wired}
 use Rattle.ak_transfers.specs.declared.asks.UploadMoments.{UploadMoments}
-use Rattle.ak_wires.specs.Tries.{Answered}
+use Rattle.ak_client_wire.specs.Tries.{Answered}
 use Rattle.ak_transfers.proofs.uploads.send.Goals as goal
 
 pub returns-in_err-whole-clause-sends : goal.returns-in_err-whole-clause-sends

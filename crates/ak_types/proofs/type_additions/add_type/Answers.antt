@@ -1,8 +1,8 @@
 use Rattle.std.proofs.Common.{ℤ, w64, SFits}
 use Rattle.std.proofs.lemmas.Int.{to_z-of_z}
-use Rattle.ak_calls.proofs.Adding.{id_in_range, id_in_w64}
+use Rattle.ak_edit_calls.proofs.Adding.{id_in_range, id_in_w64}
 use Rattle.ak_types.proofs.Adding.{checked_with_id, end_listed, id_listed, side_listed, type_ended, type_full, type_unread, unread}
-use Rattle.ak_calls.proofs.Taking.{later_cause, no_cause}
+use Rattle.ak_edit_calls.proofs.Taking.{later_cause, no_cause}
 use Rattle.ak_types.proofs.type_additions.add_type.Goals as goal
 
 pub returns-in-Err-clause-adds : goal.returns-in-Err-clause-adds

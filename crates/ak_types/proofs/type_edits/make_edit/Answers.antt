@@ -5,7 +5,7 @@ use Rattle.ak_notes.specs.declared.lacking_notes.MissingCards.{MissingCards}
 use Rattle.ak_edit.specs.declared.desk_faults.DeskFault.{DeskFault}
 use Rattle.std.specs.Prelude.{Result, Ok, Err}
 use Rattle.ak_types.proofs.Listing.{id_in}
-use Rattle.ak_calls.proofs.Taking.{cause_too, later_cause}
+use Rattle.ak_edit_calls.proofs.Taking.{cause_too, later_cause}
 use Rattle.ak_types.proofs.TypeEditing.{all_made, cards_pass, cards_refuse, seen_of}
 use Rattle.ak_types.proofs.type_edits.make_edit.Goals as goal
 

@@ -4,7 +4,7 @@ use Rattle.ak_edit.specs.Overlays.{Overlay}
 use Rattle.ak_keep.specs.Keepers.{WhereHeld}
 use Rattle.ak_keep.specs.Lookups.{note_type_at}
 use Rattle.ak_types.proofs.Listing.{missing_in}
-use Rattle.ak_calls.proofs.Taking.{if_ok-map}
+use Rattle.ak_edit_calls.proofs.Taking.{if_ok-map}
 use Rattle.ak_types.proofs.TypeEditing.{over_there, type_missing, type_there}
 use Rattle.ak_types.specs.TypeEdits.{IsEditOver, IsMadeIn}
 use Rattle.ak_types.proofs.type_edits.read_edit.Goals as goal

@@ -1,4 +1,4 @@
-use Rattle.ak_calls.proofs.Answering.{passed_first, refused_first}
+use Rattle.ak_edit_calls.proofs.Answering.{passed_first, refused_first}
 use Rattle.ak_types.specs.GivenTypes.{RefusesSides}
 use Rattle.ak_types.specs.TypeEdits.{RefusesToChange}
 use Rattle.ak_types.proofs.type_tests.test_asked.Goals as goal

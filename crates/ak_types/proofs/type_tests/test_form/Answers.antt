@@ -1,4 +1,4 @@
-use Rattle.ak_calls.proofs.Answering.{passed_first, refused_first}
+use Rattle.ak_edit_calls.proofs.Answering.{passed_first, refused_first}
 use Rattle.ak_types.specs.GivenTypes.{RefusesGiven, as_given}
 use Rattle.ak_types.specs.TypeEdits.{RefusesMaps}
 use Rattle.ak_types.proofs.type_tests.test_form.Goals as goal

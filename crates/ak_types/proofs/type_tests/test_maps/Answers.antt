@@ -1,5 +1,5 @@
 use Rattle.std.proofs.Common.{length}
-use Rattle.ak_calls.proofs.Answering.{passed_first, refused_first}
+use Rattle.ak_edit_calls.proofs.Answering.{passed_first, refused_first}
 use Rattle.ak_types.specs.PlaceMaps.{RefusesMap}
 use Rattle.ak_types.proofs.type_tests.test_maps.Goals as goal
 

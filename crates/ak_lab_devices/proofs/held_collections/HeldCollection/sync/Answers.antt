@@ -3,7 +3,7 @@ use Rattle.ak_client.specs.Syncs.{IsSyncEnded, KeepsDevice}
 use Rattle.ak_keep.specs.Keepers.{all_known, is_marked}
 use Rattle.ak_keep.specs.MemoryKeepers.{MemoryState}
 use Rattle.ak_lab_devices.proofs.Failing.{both_kept, kept_so, rests, unfailed_so}
-use Rattle.ak_loops.specs.LoopWires.{health_over, inside_with, state_of_loop}
+use Rattle.ak_sync_in_memory.specs.LoopWires.{health_over, inside_with, state_of_loop}
 use Rattle.ak_lab_devices.proofs.held_collections.HeldCollection.sync.Goals as goal
 
 pub sync_over-outcome-requires-clause-unmarked : goal.sync_over-outcome-requires-clause-unmarked

@@ -1,0 +1,10 @@
+use Rattle.std.proofs.Common.{◌≡◌, ◌++◌, drop, option_map}
+use Rattle.serde_json.specs.Find.{as_str}
+use Rattle.serde_json.specs.View.{items_view}
+use Rattle.ak_desk_language.specs.Contents.{each_of}
+use Rattle.ak_desk_language.proofs.contents.each_text.Given as goal
+
+-- the texts so far, and then those of the values that are left
+abbrev pub invariant-loop-value : goal.invariant-loop-value
+invariant-loop-value l =
+    option_map (λ texts. l.texts ++ texts) (each_of as_str (items_view (drop l.value-index l.values))) ≡ each_of as_str (items_view l.values)

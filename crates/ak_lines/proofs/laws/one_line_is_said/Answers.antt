@@ -1,5 +1,0 @@
-use Rattle.ak_lines.proofs.AnySaying.{one_any_line}
-use Rattle.ak_lines.proofs.laws.one_line_is_said.Goals as goal
-
-pub returns : goal.returns
-returns c = one_any_line

@@ -1,5 +1,0 @@
-use Rattle.ak_loops.proofs.Growing.{collection_told, host_told}
-use Rattle.ak_loops.proofs.between_laws.openings_are_told.Goals as goal
-
-pub returns : goal.returns
-returns c = record { host = host_told; collection = collection_told }

@@ -1,5 +1,0 @@
-use Rattle.ak_machine.proofs.Summing.{summary_goes_on, same_served}
-use Rattle.ak_machine.proofs.summary_laws.summaries_serve_alike.Goals as goal
-
-pub returns : goal.returns
-returns c = record { goes_on = summary_goes_on; alike = same_served }

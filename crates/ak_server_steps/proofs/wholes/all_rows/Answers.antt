@@ -1,0 +1,27 @@
+use Rattle.std.proofs.Common.{◌≤◌, ◌∙◌, arith}
+use Rattle.ak_faults.proofs.Healths.{goes_further}
+use Rattle.ak_keep.proofs.Causing.{cause-ok}
+use Rattle.ak_server_steps.proofs.InTables.{table_read, tables_read}
+use Rattle.ak_server_steps.proofs.wholes.all_rows.Goals as goal
+
+pub loop-table-preserved : goal.loop-table-preserved
+loop-table-preserved g c = record {
+  all = table_read (g.K.Lookup.keeping c.args.from.now) c.loop-table.table-index c.loop-table.rows.items c.read_table.new.rows.items c.loop-table-test.true c.loop-table.invariant.all
+      (rw (c.all.ensures, c.loop-table.invariant.same) at c.in_ok-read_table.ensures.reads.told);
+  kept = c.in_ok-read_table.ensures.reads.kept ∙ c.loop-table.invariant.kept;
+  same = c.in_ok-read_table.ensures.reads.same ∙ c.loop-table.invariant.same;
+  goes = goes_further c.loop-table.invariant.goes c.in_ok-read_table.ensures.reads.cause.goes;
+}
+
+pub returns : goal.returns
+returns g c =
+    let end : 9 ≤ c.loop-table.table-index = omega (arith, c.loop-table-test.false) in
+    record {
+      reads = record {
+        kept = c.loop-table.invariant.kept;
+        same = c.loop-table.invariant.same;
+        cause = cause-ok c.of.result c.loop-table.invariant.goes;
+        told = tables_read (g.K.Lookup.keeping c.args.from.now) c.loop-table.table-index c.loop-table.rows.items c.of.result end c.of.ensures
+            (c.held-formed.ensures.formed c.marked-checks.ensures.checks).current c.loop-table.invariant.all;
+      };
+    }
