@@ -2,6 +2,7 @@ pub mod Adding
 pub mod Asking
 pub mod Assembled
 pub mod Burying
+pub mod Examples
 pub mod FirstKeys
 pub mod Gatherings
 pub mod Greedy

@@ -1,6 +1,5 @@
 pub mod Burials
 pub mod Choices
-pub mod Examples
 pub mod Gathering
 pub mod Homes
 pub mod LawfulSets

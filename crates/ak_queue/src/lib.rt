@@ -4,7 +4,6 @@
 mod burials;
 mod choices;
 mod day_queues;
-mod examples;
 mod faults;
 mod gathered;
 mod homes;
@@ -17,11 +16,6 @@ mod scopes;
 
 pub use burials::{bury_list, restored_queue};
 pub use day_queues::{Counts, DayQueue};
-pub use examples::{
-    buried_cards_go_back, cards_come_on_their_day, counts_are_of_the_day,
-    learning_cards_come_in_time, limits_bind_together, new_cards_come_among_reviews,
-    paths_go_part_by_part, reviews_come_at_least_each_second_time,
-};
 pub use faults::QueueFault;
 pub use laws::{
     each_card_in_its_turn, lists_ascend, new_cards_ascend, next_ends_with_all_lists,
