@@ -46,7 +46,7 @@ pub fn run<I: Source, O: Sink, K: Keeper, W: Wire, C: Clock, R: Chance>(
         (C.to_come clock.old) (R.to_come chance.old) log.old.entries (map (λ b. meaning b) filters.old.items))
         (program_outside (I.left input.new) (O.written out.new) (K.keeping keeper.new) (W.health wire.new) (W.state wire.new)
         (C.to_come clock.new) (R.to_come chance.new) log.new.entries (map (λ b. meaning b) filters.new.items))
-        × Tells status (O.health out.old) (O.health out.new) result }
+        × Tells status result }
     ensures faulted { (O.health out.old).faults < (O.health out.new).faults → result ≡ 5 }
     ensures failed_keeper { (K.health keeper.old).faults < (K.health keeper.new).faults → (result ≡ 6) ⊎ (result ≡ 5) }
     ensures failed_input { (I.health input.old).faults < (I.health input.new).faults → (result ≡ 4) ⊎ (result ≡ 5) ⊎ (result ≡ 6) }

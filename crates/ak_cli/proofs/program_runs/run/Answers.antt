@@ -1,4 +1,3 @@
-use Rattle.std.proofs.Common.{sym}
 use Rattle.ak_cli.proofs.Telling.{input_told, keeper_told, tells_first}
 use Rattle.ak_cli.proofs.program_runs.run.Goals as goal
 
@@ -6,10 +5,8 @@ pub returns-clause-ends : goal.returns-clause-ends
 returns-clause-ends g c = (
   c.run_words-status.result,
   c.run_words-status.ensures.ends,
-  tells_first c.run_words-status.result c.told-after_input.result c.told-after_keeper.result c.told.result
-      (g.O.End.health c.args.out.now) (g.O.End.health c.run_words-status.new.out)
-      c.told-after_input.ensures.either c.told-after_keeper.ensures.either
-      (rw (sym c.faults-printed.ensures) (rw (sym c.faults-3.ensures) c.told.ensures.either)),
+  tells_first c.run_words-status.result c.told-after_input.result c.told-after_keeper.result c.told.result c.told-after_input.ensures.either
+      c.told-after_keeper.ensures.either c.told.ensures.either,
 )
 
 pub returns-clause-failed_keeper : goal.returns-clause-failed_keeper
