@@ -1,6 +1,6 @@
 -- A logged server once one thing more came and was written down.
 use Rattle.std.specs.Option.{option_map}
-use Rattle.std.specs.Prelude.{◌≡◌, ℕ, ℤ, false, is_some, List, [], ◌∷◌, ◌++◌, Option, Some, None, Result}
+use Rattle.std.specs.Prelude.{◌≡◌, ◌≢◌, ℕ, ℤ, false, is_some, List, [], ◌∷◌, ◌++◌, Option, Some, None, Result}
 use Rattle.std.proofs.Common.{refl, sym, ap, subst, ◌∙◌, arith}
 use Rattle.ak_base.specs.declared.heads.Head.{Head}
 use Rattle.ak_base.specs.declared.names.Table.{Table}
@@ -10,6 +10,7 @@ use Rattle.ak_keep.specs.Keepers.{KeepCause}
 use Rattle.ak_keep.specs.MemoryKeepers.{MemoryState, health_of}
 use Rattle.ak_keep.specs.declared.keepers.KeepFault.{KeepFault}
 use Rattle.ak_messages.specs.declared.replies.Reply.{Reply}
+use Rattle.ak_messages.specs.declared.requests.Ask.TheVariants as asks
 use Rattle.ak_messages.specs.declared.requests.Request.{Request}
 use Rattle.ak_openings.specs.declared.whole_collections.Opening.{Opening}
 use Rattle.ak_protocol.specs.Accounts.{AccountState}
@@ -44,8 +45,8 @@ module _ (old new : List (Account MemoryState)) (host : List ℕ) (opening : Ope
 
     pub is_served : (account_at request.host.digits old ≡ None → new ≡ old)
         → IsServedFor (λ (k : MemoryState). health_of k) (account_at request.host.digits old) (account_at request.host.digits new) reply
-        → IsServed was (state_of new host opening line entries') request now reply
-    is_served unknown for =
+        → (request.ask ≡ asks.Finish → reply.status ≢ 500) → IsServed was (state_of new host opening line entries') request now reply
+    is_served unknown for spared =
         let cause = served_cause old new was request.host.digits reply is.stands unknown for in
         record {
           trouble = trouble_of reply.status;
@@ -55,6 +56,7 @@ module _ (old new : List (Account MemoryState)) (host : List ℕ) (opening : Ope
           goes = cause.goes;
           failed = cause.failed;
           unfailed = cause.unfailed;
+          spared = spared;
         }
 
   -- ---- a view

@@ -10,6 +10,7 @@ use Rattle.ak_keep.specs.declared.keepers.KeepFault.{KeepFault}
 use Rattle.ak_keep.specs.declared.keepers.KeepFault.TheVariants as faults
 use Rattle.ak_merge.specs.Commits.{IsCommitted}
 use Rattle.ak_messages.specs.declared.replies.Reply.{Reply}
+use Rattle.ak_messages.specs.declared.requests.Ask.TheVariants as asks
 use Rattle.ak_messages.specs.declared.requests.Request.{Request}
 use Rattle.ak_openings.specs.declared.whole_collections.Opening.{Opening}
 use Rattle.ak_protocol.specs.Logs.{IsTimely}
@@ -75,6 +76,8 @@ pub record IsServed (old new : LoggedState) (request : Request) (now : ℤ) (rep
   pub goes : GoesOn (health_in old) (health_in new)
   pub failed : trouble ≡ troubles.Keeper → Rose (health_in old) (health_in new)
   pub unfailed : (health_in old).calm ≡ true → trouble ≢ troubles.Keeper
+  -- a finish is not refused for want of memory, if it is repeated too
+  pub spared : request.ask ≡ asks.Finish → reply.status ≢ 500
 
 -- a view is written down, also if it failed; but not if there was no memory to write it down, and then nothing was done
 abbrev pub AddsView : {T : Type 0} → LoggedState → LoggedState → Result T KeepFault → Type 0

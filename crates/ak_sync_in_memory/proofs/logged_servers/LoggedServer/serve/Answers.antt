@@ -1,5 +1,5 @@
 use Rattle.std.specs.Prelude.{List, [], ◌∷◌, ◌++◌}
-use Rattle.std.proofs.Common.{ap, subst, ◌∙◌, w64, SFits}
+use Rattle.std.proofs.Common.{refl, ap, subst, ◌∙◌, w64, SFits}
 use Rattle.std.proofs.lemmas.Int.{to_z-of_z}
 use Rattle.ak_sync_in_memory.proofs.Served.{is_served, logged_served}
 use Rattle.ak_sync_in_memory.specs.Entries.{LoggedState, entry_of}
@@ -34,4 +34,4 @@ returns-clause-ok c =
     c.args.request.now c.args.now c.serve-reply.result) c.self.view_is
     (is_served c.self.inside.server c.serve-reply.new.self c.self.inside.host.digits c.self.inside.opening line c.self.inside.entries.items
     c.push_reserved.new.self.items c.args.request.now c.args.now c.serve-reply.result written c.requires.clock c.self.invariant
-    (rw (to_z-of_z w64 c.args.now fits) at c.serve-reply.ensures.serves) c.serve-reply.ensures.unknown c.serve-reply.ensures.cause)
+    (rw (to_z-of_z w64 c.args.now fits) at c.serve-reply.ensures.serves) c.serve-reply.ensures.unknown c.serve-reply.ensures.cause (c.serve-reply.ensures.spares refl))
