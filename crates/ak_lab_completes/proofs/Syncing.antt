@@ -226,11 +226,11 @@ module _ (account : AccountState) (name : List ℕ) (s t : LabState) (c : Collec
 
   abbrev sync : IsSync ids (keeping_of (without_plan_for kinds.Sync runs.d)) (keeping_of runs.made) (health_over no_calls runs.d.mishaps) runs.session.health
       wire_before wire_after outcome
-  sync = runs.session.ended.sync
+  sync = runs.session.ended.ended.sync
 
   over : IsSyncOver ids before after outcome
   over = record {
-    ended = runs.session.ended;
+    ended = runs.session.ended.ended;
     kept = record { goes = goes_nowhere faultless; failed = λ is. absurd (unkept is); unfailed = λ calm. unkept };
     lost = lost_cause ids (keeping_of (without_plan_for kinds.Sync runs.d)) (keeping_of runs.made) (health_over no_calls runs.d.mishaps) runs.session.health
         wire_before wire_after outcome sync;

@@ -35,7 +35,7 @@ HasNearClock name s =
     (d : Device) → device_of name s.devices ≡ Some d → are_far_apart (second_of (s.clock +ℤ d.shift)) (second_of s.clock) ≡ false
 
 -- no line planned anything that hinders the next sync of the device of this name, unless messages of it are to be lost: nothing is to come between
--- its calls, and no call of the device's keeper or of the server's is to fail. The clocks agree, and there is a session key for it
+-- its calls, and no call of the device's keeper or of the server's is to fail. The clocks are within 300 seconds, and there is a session key for it
 pub record GoesLeftAlone (name : List ℕ) (s : LabState) : Type 0 where
   pub room : HasSession s
   pub plans : PlansNothing name s
@@ -97,8 +97,8 @@ pub record EndedUnfinished (account : AccountState) (name : List ℕ) (c : Colle
   pub enough : outcome ≢ outcomes.Memory
   pub checked : ends_at_check outcome ≡ false
 
--- what a server has committed now has c's schema moment, and may be joined with c once more: neither moment is the last one, nor is its usn, and
--- fewer than 10,000,000 of its rows go to the device in chunks
+-- what a server has committed now has c's schema moment, and room for one join more with c, if the two can be joined: neither moment is the last
+-- one, nor is its usn, and fewer than 10,000,000 of its rows go to the device in chunks
 pub record HasRoomOnceMore (c now : Collection) : Type 0 where
   pub schema : c.head.schema ≡ now.head.schema
   pub room : HaveRoom c now

@@ -165,7 +165,7 @@ pub fn joins_stay_joinable()
     ensures { (c s now : Collection) → AreJoinable c s → HoldsJoin c s now → HasRoomOnceMore c now → AreJoinable c now }
 {}
 
-/// A retry heals, by what is known before the first sync. The two collections could be joined by their rows then, and the clocks were within
+/// A retry heals, mostly by what is known before the first sync. The two collections could be joined by their rows then, and the clocks were within
 /// 300 seconds. The first neither finished nor ran out of memory, its check was not bad, and nothing was planned between its calls. Then the
 /// retry in the next line is finished, or memory runs out. Finished, both sides hold the join of what they held before the first. After the
 /// first a session key must be left. What is committed then must have room for one commit more, and the device's schema moment.

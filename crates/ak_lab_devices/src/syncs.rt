@@ -1,6 +1,6 @@
 // Syncs, uploads and downloads of a collection in memory, over a wire in memory.
 ghost use Rattle.ak_client.specs.Outcomes.{HasOutcomeCause};
-ghost use Rattle.ak_client.specs.Syncs.{IsSyncEnded, KeepsDevice};
+ghost use Rattle.ak_client.specs.Syncs.{IsSyncSparing, KeepsDevice};
 ghost use Rattle.ak_client.specs.declared.outcomes.Outcome.TheVariants as outcomes;
 ghost use Rattle.ak_faults.specs.Calls.{names_none};
 ghost use Rattle.ak_keep.specs.Keepers.{all_known};
@@ -20,7 +20,8 @@ impl HeldCollection {
     ghost use Rattle.ak_transfers.specs.Transfers.{IsDownload, IsUpload, StaysUnlessFinished, may_end_download, may_end_upload};
 
     /// Syncs over a wire, between whose calls others may act, by a clock. The calls of the keeper that are listed fail meanwhile, counted
-    /// from 0, and no later ones. Without any it never ends because the keeper failed.
+    /// from 0, and no later ones. Without any it never ends because the keeper failed. It runs out of memory only before it asks its finish, or
+    /// in a call of the wire.
     pub fn sync<B: Between>(
         &mut self,
         undo: &mut UndoList,
@@ -29,7 +30,7 @@ impl HeldCollection {
         ids: Ids,
         fails: List<u64>,
     ) -> Outcome
-        ensures ended { IsSyncEnded ids (all_known self.old) (all_known self.new)
+        ensures ended { IsSyncSparing true ids (all_known self.old) (all_known self.new)
             (health_over wire.old.counts wire.old.mishaps) (health_over wire.new.counts wire.new.mishaps)
             (state_of_loop B.acts B.idle
             (inside_with wire.old.server wire.old.between wire.old.moment wire.old.mishaps wire.old.counts))

@@ -107,14 +107,14 @@ module _ (account : AccountState) (name : List ℕ) (s t : LabState) (outcome : 
   committed_so =
       by_number ends.session.ids.session.0 (one_more s.sessions) own.c (world_in lab_host account s.server) (world_in lab_host account t.server) ends.session.of.session
       (subst Committed same_host
-      (synced.committed account s.sessions s.clock (s.clock +ℤ ends.d.shift) ends.d ends.made (server_met kinds.Sync s) (with_fails ends.fails_left t.server) outcome room ends.session enough
+      (synced.committed account s.sessions s.clock (s.clock +ℤ ends.d.shift) ends.d ends.made (server_met kinds.Sync s) (with_fails ends.fails_left t.server) outcome room ends.session
       server_here device_here))
 
   -- ---- not finished
   pub kept_early : ends_before_finish outcome ≡ true → KeepsCommitted (world_in lab_host account s.server) (world_in lab_host account t.server)
   kept_early early =
       let stays = subst (λ (h : List ℕ). StaysQuiet (world_in h account s.server) (world_in h account t.server)) same_host
-      (synced.early_quiet account s.sessions s.clock (s.clock +ℤ ends.d.shift) ends.d ends.made (server_met kinds.Sync s) (with_fails ends.fails_left t.server) outcome room ends.session enough
+      (synced.early_quiet account s.sessions s.clock (s.clock +ℤ ends.d.shift) ends.d ends.made (server_met kinds.Sync s) (with_fails ends.fails_left t.server) outcome room ends.session
       server_here device_here early) in
       (stays.committed, stays.commits)
 
@@ -143,7 +143,7 @@ module _ (account : AccountState) (name : List ℕ) (s t : LabState) (outcome : 
     held = was_held;
     device = λ d found. subst (λ (x : Device). StillHolds (s.clock +ℤ x.shift) own.c outcome x) (same_Some ends.made d (sym now_found ∙ found))
         (subst (λ (m : ℤ). StillHolds (s.clock +ℤ m) own.c outcome ends.made) (sym own_shift)
-        (synced.still_holds account s.sessions s.clock (s.clock +ℤ ends.d.shift) ends.d ends.made (server_met kinds.Sync s) (with_fails ends.fails_left t.server) outcome room ends.session enough
+        (synced.still_holds account s.sessions s.clock (s.clock +ℤ ends.d.shift) ends.d ends.made (server_met kinds.Sync s) (with_fails ends.fails_left t.server) outcome room ends.session
         server_here device_here (law_lines.check_here account name s t outcome linked room ends enough fresh) other));
     server = still_commits other outcome refl;
     linked = lab_now fresh;
@@ -156,7 +156,7 @@ module _ (account : AccountState) (name : List ℕ) (s t : LabState) (outcome : 
     c = own.c;
     held = was_held;
     same = subst (λ (h : List ℕ). SameContent (content_of own.c) (content_of (world_in h account s.server).state.committed)) same_host
-        (synced.agreed_now account s.sessions s.clock (s.clock +ℤ ends.d.shift) ends.d ends.made (server_met kinds.Sync s) (with_fails ends.fails_left t.server) outcome room ends.session enough
+        (synced.agreed_now account s.sessions s.clock (s.clock +ℤ ends.d.shift) ends.d ends.made (server_met kinds.Sync s) (with_fails ends.fails_left t.server) outcome room ends.session
         server_here device_here is);
   }
 
@@ -171,7 +171,7 @@ module _ (account : AccountState) (name : List ℕ) (s t : LabState) (outcome : 
   pub finishes : outcome ≡ outcomes.Finished → Finishes account name s t
   finishes is =
       let now = lab_now (good is) in
-      let it = synced.finished_now account s.sessions s.clock (s.clock +ℤ ends.d.shift) ends.d ends.made (server_met kinds.Sync s) (with_fails ends.fails_left t.server) outcome room ends.session enough
+      let it = synced.finished_now account s.sessions s.clock (s.clock +ℤ ends.d.shift) ends.d ends.made (server_met kinds.Sync s) (with_fails ends.fails_left t.server) outcome room ends.session
       server_here device_here is in
       let exchanged : AreExchanged own.c (base_of account s) it.device (base_of account t) =
       subst (λ (h : List ℕ). AreExchanged own.c (world_in h account s.server).state.committed it.device (world_in h account t.server).state.committed) same_host it.exchanged in

@@ -223,27 +223,27 @@ module _ (account : AccountState) (name : List ℕ) (s t : LabState) (outcome : 
   server_left =
       subst (λ (h : List ℕ). IsLinkedServer h account (one_more s.sessions) t.server) (sym same_host)
       (fails_unset ends.session.ids.host.digits account (one_more s.sessions) t.server ends.fails_left
-      (synced.server_now account s.sessions s.clock (s.clock +ℤ ends.d.shift) ends.d ends.made (server_met kinds.Sync s) (with_fails ends.fails_left t.server) outcome room ends.session enough server_here device_here))
+      (synced.server_now account s.sessions s.clock (s.clock +ℤ ends.d.shift) ends.d ends.made (server_met kinds.Sync s) (with_fails ends.fails_left t.server) outcome room ends.session server_here device_here))
 
   -- the schema moment of a device whose sanity check was bad is not the server's
-  other_here : HasOtherSchema account name s t → synced.HasOther account s.sessions s.clock (s.clock +ℤ ends.d.shift) ends.d ends.made (server_met kinds.Sync s) (with_fails ends.fails_left t.server) outcome room ends.session enough server_here device_here
+  other_here : HasOtherSchema account name s t → synced.HasOther account s.sessions s.clock (s.clock +ℤ ends.d.shift) ends.d ends.made (server_met kinds.Sync s) (with_fails ends.fails_left t.server) outcome room ends.session server_here device_here
   other_here other left kept is =
       other left (here.left_holds kinds.Sync account name s t outcome linked ends left (known_is ends.made left kept))
       (is ∙ ap (λ (base : Collection). base.head.schema) (here.base_here kinds.Sync account name s t outcome linked ends))
 
   pub check_here : HasFreshCheck account name s t outcome
-      → synced.HasOtherAt account s.sessions s.clock (s.clock +ℤ ends.d.shift) ends.d ends.made (server_met kinds.Sync s) (with_fails ends.fails_left t.server) outcome room ends.session enough server_here device_here outcome
+      → synced.HasOtherAt account s.sessions s.clock (s.clock +ℤ ends.d.shift) ends.d ends.made (server_met kinds.Sync s) (with_fails ends.fails_left t.server) outcome room ends.session server_here device_here outcome
   check_here fresh bad = other_here (fresh bad)
 
   made_left : HasFreshCheck account name s t outcome → IsLinkedDevice (world_in lab_host account t.server).state.committed ends.made
   made_left fresh =
       subst (λ (h : List ℕ). IsLinkedDevice (world_in h account t.server).state.committed ends.made) (sym same_host)
-      (synced.device_now account s.sessions s.clock (s.clock +ℤ ends.d.shift) ends.d ends.made (server_met kinds.Sync s) (with_fails ends.fails_left t.server) outcome room ends.session enough server_here device_here (check_here fresh))
+      (synced.device_now account s.sessions s.clock (s.clock +ℤ ends.d.shift) ends.d ends.made (server_met kinds.Sync s) (with_fails ends.fails_left t.server) outcome room ends.session server_here device_here (check_here fresh))
 
   other_left : (e : Device) → IsLinkedDevice (base_of account s) e → IsLinkedDevice (world_in lab_host account t.server).state.committed e
   other_left e it =
       subst (λ (h : List ℕ). IsLinkedDevice (world_in h account t.server).state.committed e) (sym same_host)
-      (synced.others_now account s.sessions s.clock (s.clock +ℤ ends.d.shift) ends.d ends.made (server_met kinds.Sync s) (with_fails ends.fails_left t.server) outcome room ends.session enough server_here device_here
+      (synced.others_now account s.sessions s.clock (s.clock +ℤ ends.d.shift) ends.d ends.made (server_met kinds.Sync s) (with_fails ends.fails_left t.server) outcome room ends.session server_here device_here
       e (here.linked_here kinds.Sync account name s t outcome linked ends e it))
 
   pub sync_linked : HasFreshCheck account name s t outcome → IsLinkedLab account t

@@ -131,7 +131,7 @@ last_answer tries before it is = ap answers_in is ∙ of_both before
 session_met_three : {X : Type 0} (acts : Acting X) (idle : X → Bool) (key : ℕ) (at : ℤ) (moments : List ℤ) (mishaps : List Mishap) (d made : Device) (was became : X)
     (old new : LoggedState) (ran : IsSessionOver acts idle kinds.Sync key at moments mishaps d made was became old new outcomes.Lost) → EndsInLosses ran.calls mishaps
 session_met_three acts idle key at moments mishaps d made was became old new ran =
-    let sync = ran.ended.sync in
+    let sync = ran.ended.ended.sync in
     -- the last that was tried, what was tried before it, and that it got no answer
     let why : EndsUnanswered (meta_tried sync.meta ∷ sync.tries) unanswered.Lost = sync.ends in
     let answers : List (Result Reply WireEnd) = sync.meta ∷ answers_in sync.tries in

@@ -276,7 +276,7 @@ module _ (account : AccountState) (name : List ℕ) (s t : LabState) (outcome : 
   over_by : (o : Outcome) → outcome ≡ o → KeepsDevice 1 (keeping_of ends.d) (keeping_of ends.made) (Some ((s.clock +ℤ ends.d.shift) ∷ [])) ends.session.to_come o
       → (now : Collection) → Holds ends.made.collection now → IsOver o now
   over_by outcomes.Finished is keeps now holds =
-      let it = synced.finished_now account s.sessions s.clock (s.clock +ℤ ends.d.shift) ends.d ends.made (server_met kinds.Sync s) (with_fails ends.fails_left t.server) outcome room ends.session enough
+      let it = synced.finished_now account s.sessions s.clock (s.clock +ℤ ends.d.shift) ends.d ends.made (server_met kinds.Sync s) (with_fails ends.fails_left t.server) outcome room ends.session
       (law_lines.server_here account name s t outcome linked room ends enough) (law_lines.device_here account name s t outcome linked room ends enough) is in
       stays_over outcomes.Finished refl it.device it.kept it.schema now holds
   over_by (outcomes.BadRow fault) is keeps now holds = raised_over (outcomes.BadRow fault) keeps now holds
@@ -308,7 +308,7 @@ module _ (account : AccountState) (name : List ℕ) (s t : LabState) (outcome : 
   same_schema : (committed_of account t).head.schema ≡ base_synced.head.schema
   same_schema =
       subst (λ (h : List ℕ). (world_in h account t.server).state.committed.head.schema ≡ (world_in h account s.server).state.committed.head.schema) ends.session.of.host
-      (synced.schema_stays account s.sessions s.clock (s.clock +ℤ ends.d.shift) ends.d ends.made (server_met kinds.Sync s) (with_fails ends.fails_left t.server) outcome room ends.session enough
+      (synced.schema_stays account s.sessions s.clock (s.clock +ℤ ends.d.shift) ends.d ends.made (server_met kinds.Sync s) (with_fails ends.fails_left t.server) outcome room ends.session
       (law_lines.server_here account name s t outcome linked room ends enough) (law_lines.device_here account name s t outcome linked room ends enough))
 
   pub sync_ordered : HasOrderedSchemas account t

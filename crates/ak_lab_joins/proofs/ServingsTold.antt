@@ -1,6 +1,6 @@
 -- What the reply to a request tells of what its servings committed.
 use Rattle.std.specs.Option.{unwrap_or}
-use Rattle.std.specs.Prelude.{◌≡◌, ◌≢◌, ◌⊎◌, ℕ, zero, suc, ℤ, ◌==◌, if◌then◌else◌, Bool, true, false, List, [], ◌∷◌, Option, Some, None}
+use Rattle.std.specs.Prelude.{◌≡◌, ◌⊎◌, ℕ, zero, suc, ℤ, ◌==◌, if◌then◌else◌, Bool, true, false, List, [], ◌∷◌, Option, Some, None}
 use Rattle.std.proofs.Common.{refl, sym, ap, subst, ◌∙◌, inl, inr, arith}
 use Rattle.std.proofs.lemmas.Bool.{eqb-true}
 use Rattle.ak_keep.specs.Collections.{Collection}
@@ -224,20 +224,20 @@ module _ (host : List ℕ) (account : AccountState) (request : Request) (own : r
             ∙ ap (λ (t : Trouble). (world_next was (Asked request now (setback_of t))).state.committed) nothing
             ∙ (again_quiet was request now commits kept).committed
 
-    -- nothing was committed before it; or the server's keeper is not to fail, and the reply does not tell that memory ran out
-    served_grants : StaysQuiet base was ⊎ (((health_in old).calm ≡ true) × (reply.status ≢ 500)) → QuietOrGranted request reply base is_now
+    -- nothing was committed before it; or the server's keeper is not to fail, and the request is a finish, which is not refused for want of memory
+    served_grants : StaysQuiet base was ⊎ (((health_in old).calm ≡ true) × (request.ask ≡ asks.Finish)) → QuietOrGranted request reply base is_now
     served_grants clear = by stands.since clear
       where
-        by_trouble : asks_commit request.ask ≡ true → KeepsReply request was → (health_in old).calm ≡ true → reply.status ≢ 500
+        by_trouble : asks_commit request.ask ≡ true → KeepsReply request was → (health_in old).calm ≡ true → request.ask ≡ asks.Finish
             → (trouble : Trouble) → is.trouble ≡ trouble → QuietOrGranted request reply base is_now
-        by_trouble commits kept calm enough troubles.Nothing same = later_grants commits kept same
-        by_trouble commits kept calm enough troubles.Keeper same = absurd (is.unfailed calm same)
-        by_trouble commits kept calm enough troubles.Memory same = absurd (enough (memory_is reply.status (sym is.told ∙ same)))
+        by_trouble commits kept calm finish troubles.Nothing same = later_grants commits kept same
+        by_trouble commits kept calm finish troubles.Keeper same = absurd (is.unfailed calm same)
+        by_trouble commits kept calm finish troubles.Memory same = absurd (is.spared finish (memory_is reply.status (sym is.told ∙ same)))
 
-        by : QuietOrKept request base was → StaysQuiet base was ⊎ (((health_in old).calm ≡ true) × (reply.status ≢ 500)) → QuietOrGranted request reply base is_now
+        by : QuietOrKept request base was → StaysQuiet base was ⊎ (((health_in old).calm ≡ true) × (request.ask ≡ asks.Finish)) → QuietOrGranted request reply base is_now
         by (inl quiet) other = first_grants quiet
         by (inr kept) (inl quiet) = first_grants quiet
-        by (inr (commits, kept)) (inr (calm, enough)) = by_trouble commits kept calm enough is.trouble refl
+        by (inr (commits, kept)) (inr (calm, finish)) = by_trouble commits kept calm finish is.trouble refl
 
   -- ---- in a row
   pub row_stands : (n : ℕ) (old new : LoggedState) (reply : Reply) → Stands host account request base old → ServesInARow n old new request now reply → Stands host account request base new
@@ -258,13 +258,13 @@ module _ (host : List ℕ) (account : AccountState) (request : Request) (own : r
   up_to_calm zero old new calm same = ap (λ (s : LoggedState). (health_in s).calm) same ∙ calm
   up_to_calm (suc n) old new calm row = row_calm (suc n) old new row.0 calm row.1
 
-  -- the last of one or more grants what was committed, if nothing came in between
-  pub row_grants : (n : ℕ) (old new : LoggedState) (reply : Reply) → Stands host account request base old → (health_in old).calm ≡ true → reply.status ≢ 500
+  -- the last of one or more servings of a finish grants what was committed, if the server's keeper is not to fail
+  pub row_grants : (n : ℕ) (old new : LoggedState) (reply : Reply) → Stands host account request base old → (health_in old).calm ≡ true → request.ask ≡ asks.Finish
       → ServesInARow n old new request now reply → QuietOrGranted request reply base (world_in host account new)
-  row_grants zero old new reply stands calm enough row = absurd row
-  row_grants (suc zero) old new reply stands calm enough row = served_grants old new reply row stands (inr (calm, enough))
-  row_grants (suc (suc n)) old new reply stands calm enough row =
-      row_grants (suc n) row.0 new reply (served_stands old row.0 row.1 row.2 stands) (row.2.goes.calm calm) enough row.3
+  row_grants zero old new reply stands calm finish row = absurd row
+  row_grants (suc zero) old new reply stands calm finish row = served_grants old new reply row stands (inr (calm, finish))
+  row_grants (suc (suc n)) old new reply stands calm finish row =
+      row_grants (suc n) row.0 new reply (served_stands old row.0 row.1 row.2 stands) (row.2.goes.calm calm) finish row.3
 
   -- so does the only one
   pub one_grants : (old new : LoggedState) (reply : Reply) → Stands host account request base old → StaysQuiet base (world_in host account old) → IsServed old new request now reply

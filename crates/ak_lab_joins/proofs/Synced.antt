@@ -140,7 +140,7 @@ stands_still device_at at to_come (mid, earlier, first, next) =
 
 -- ---- the sync
 module _ {mishaps : List Mishap} (account : AccountState) (sessions : ℕ) (at device_at : ℤ) (d made : Device) (met new : LoggedState) (outcome : Outcome) (room : sessions < 18_446_744_073_709_551_615)
-    (sync : IsAlone kinds.Sync (one_more sessions) at device_at mishaps d made met new outcome) (enough : outcome ≢ outcomes.Memory)
+    (sync : IsAlone kinds.Sync (one_more sessions) at device_at mishaps d made met new outcome)
     (server : IsLinkedServer sync.ids.host.digits account sessions met)
     (linked : IsLinkedDevice (world_in sync.ids.host.digits account met).state.committed d) where
   abbrev pub host : List ℕ
@@ -178,34 +178,34 @@ module _ {mishaps : List Mishap} (account : AccountState) (sessions : ℕ) (at d
     linked = linked.links.linked;
   }
 
-  abbrev ended : EndsBecause sync.ended.sync.meta sync.ended.sync.moment sync.ended.sync.tries (keeping_of d) (Some (device_at ∷ [])) outcome
-  ended = sync.ended.because
+  abbrev ended : EndsBecause sync.ended.ended.sync.meta sync.ended.ended.sync.moment sync.ended.ended.sync.tries (keeping_of d) (Some (device_at ∷ [])) outcome
+  ended = sync.ended.ended.because
 
   -- what was committed
   pub committed : CommitsNoneOrJoin sync.ids.session.0 c was is_now
   committed =
       syncs.committed sync.ids account (log_in met) (log_in new) (keeping_of d) (keeping_of made) (health_over no_calls mishaps) sync.health first last
-      (Some (device_at ∷ [])) outcome c sync.alone refl log_now known sync.ended.sync ended may
+      (Some (device_at ∷ [])) outcome c sync.alone refl log_now known sync.ended.ended.sync ended may
 
   pub schema_stays : is_now.state.committed.head.schema ≡ was.state.committed.head.schema
   schema_stays =
       syncs.schema_stays sync.ids account (log_in met) (log_in new) (keeping_of d) (keeping_of made) (health_over no_calls mishaps) sync.health first last
-      (Some (device_at ∷ [])) outcome c sync.alone refl log_now known sync.ended.sync ended may server.number
+      (Some (device_at ∷ [])) outcome c sync.alone refl log_now known sync.ended.ended.sync ended may server.number
 
   linked_now : (e : Collection) → AreLinked e was.state.committed → AreLinked e is_now.state.committed
   linked_now e is =
       syncs.linked_now sync.ids account (log_in met) (log_in new) (keeping_of d) (keeping_of made) (health_over no_calls mishaps) sync.health first last
-      (Some (device_at ∷ [])) outcome c sync.alone refl log_now known sync.ended.sync ended may server.number e is
+      (Some (device_at ∷ [])) outcome c sync.alone refl log_now known sync.ended.ended.sync ended may server.number e is
 
   fits_now : (e : Collection) (step : Reversal) → StepFits e step was.state.committed → StepFits e step is_now.state.committed
   fits_now e step is =
       syncs.fits_now sync.ids account (log_in met) (log_in new) (keeping_of d) (keeping_of made) (health_over no_calls mishaps) sync.health first last
-      (Some (device_at ∷ [])) outcome c sync.alone refl log_now known sync.ended.sync ended may server.number e step is
+      (Some (device_at ∷ [])) outcome c sync.alone refl log_now known sync.ended.ended.sync ended may server.number e step is
 
   abbrev own_growth : GrowsSo (IsOfSession sync.ids.session.0) (log_in met) (log_in new)
   own_growth =
       syncs.own_growth sync.ids account (log_in met) (log_in new) (keeping_of d) (keeping_of made) (health_over no_calls mishaps) sync.health first last
-      (Some (device_at ∷ [])) outcome c sync.alone refl log_now known sync.ended.sync ended may
+      (Some (device_at ∷ [])) outcome c sync.alone refl log_now known sync.ended.ended.sync ended may
 
   -- ---- the server
   pub server_now : IsLinkedServer host account (one_more sessions) new
@@ -214,10 +214,10 @@ module _ {mishaps : List Mishap} (account : AccountState) (sessions : ℕ) (at d
     unused = unused_next host account sessions sync.ids.session.0 (log_in met) (log_in new) room sync.of.session server.unused own_growth;
     lawful =
         syncs.lawful_now sync.ids account (log_in met) (log_in new) (keeping_of d) (keeping_of made) (health_over no_calls mishaps) sync.health first last
-        (Some (device_at ∷ [])) outcome c sync.alone refl log_now known sync.ended.sync ended may server.number;
+        (Some (device_at ∷ [])) outcome c sync.alone refl log_now known sync.ended.ended.sync ended may server.number;
     number =
         syncs.number_stays sync.ids account (log_in met) (log_in new) (keeping_of d) (keeping_of made) (health_over no_calls mishaps) sync.health first last
-        (Some (device_at ∷ [])) outcome c sync.alone refl log_now known sync.ended.sync ended may server.number;
+        (Some (device_at ∷ [])) outcome c sync.alone refl log_now known sync.ended.ended.sync ended may server.number;
   }
 
   -- ---- the other devices
@@ -291,7 +291,7 @@ module _ {mishaps : List Mishap} (account : AccountState) (sessions : ℕ) (at d
   pub finished_now : outcome ≡ outcomes.Finished → FinishedSo
   finished_now is =
       let it = syncs.finished sync.ids account (log_in met) (log_in new) (keeping_of d) (keeping_of made) (health_over no_calls mishaps) sync.health first last
-      (Some (device_at ∷ [])) outcome c sync.alone refl log_now known sync.ended.sync ended may is in
+      (Some (device_at ∷ [])) outcome c sync.alone refl log_now known sync.ended.ended.sync ended may is in
       let device : Collection = it.0.device in
       let kept : made.collection ≡ kept_of device = kept_is made device it.0.holds in
       record {
@@ -335,17 +335,17 @@ module _ {mishaps : List Mishap} (account : AccountState) (sessions : ℕ) (at d
   pub agreed_now : outcome ≡ outcomes.NoChanges → SameContent (content_of c) (content_of was.state.committed)
   agreed_now is =
       syncs.agreed sync.ids account (log_in met) (log_in new) (keeping_of d) (keeping_of made) (health_over no_calls mishaps) sync.health first last
-      (Some (device_at ∷ [])) outcome c sync.alone refl log_now known sync.ended.sync ended may is
+      (Some (device_at ∷ [])) outcome c sync.alone refl log_now known sync.ended.ended.sync ended may is
 
   -- an end before the finish leaves what is committed
   pub early_quiet : ends_before_finish outcome ≡ true → StaysQuiet was is_now
   early_quiet early =
       syncs.quiet_if_early sync.ids account (log_in met) (log_in new) (keeping_of d) (keeping_of made) (health_over no_calls mishaps) sync.health first last
-      (Some (device_at ∷ [])) outcome c sync.alone refl log_now known sync.ended.sync ended may early
+      (Some (device_at ∷ [])) outcome c sync.alone refl log_now known sync.ended.ended.sync ended may early
 
   -- what it asked is a front of its plan with a collection
-  pub asked_front : (base : Collection) × (rest : List Ask) × (asks_in sync.ended.sync.tries ++ rest ≡ planned c base)
+  pub asked_front : (base : Collection) × (rest : List Ask) × (asks_in sync.ended.ended.sync.tries ++ rest ≡ planned c base)
   asked_front =
       let it = syncs.synced sync.ids account (log_in met) (log_in new) (keeping_of d) (keeping_of made) (health_over no_calls mishaps) sync.health first last
-      (Some (device_at ∷ [])) outcome c sync.alone refl log_now known sync.ended.sync ended may in
+      (Some (device_at ∷ [])) outcome c sync.alone refl log_now known sync.ended.ended.sync ended may in
       (it.base, it.front.0, it.front.1)

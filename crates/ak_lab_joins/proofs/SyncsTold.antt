@@ -1,9 +1,9 @@
 -- The outcome of a sync tells whether the server committed in it, if nobody comes between its calls.
 use Rattle.std.specs.List.{AllByRecursion}
-use Rattle.std.specs.Prelude.{◌≡◌, ◌≢◌, ◌⊎◌, ◌+◌, ◌+ℤ◌, ◌==◌, ℕ, suc, ℤ, Bool, true, false, List, [], ◌∷◌, ◌++◌, length, Result}
+use Rattle.std.specs.Prelude.{◌≡◌, ◌≢◌, ◌⊎◌, ◌+◌, ◌+ℤ◌, ℕ, suc, ℤ, true, false, List, [], ◌∷◌, ◌++◌, length, Result}
 use Rattle.std.proofs.Common.{refl, sym, ap, subst, ◌∙◌, inl, inr, append_assoc, arith}
 use Rattle.ak_call_counts.specs.CallCounts.{no_calls}
-use Rattle.ak_client.specs.Syncs.{EndsAt, ends_before_finish, meta_tried}
+use Rattle.ak_client.specs.Syncs.{ArePlain, EndsAt, LacksMemoryEarly, ends_before_finish, meta_tried}
 use Rattle.ak_client.specs.declared.outcomes.Outcome.{Outcome}
 use Rattle.ak_client.specs.declared.outcomes.Outcome.TheVariants as outcomes
 use Rattle.ak_client_wire.specs.Wires.{WireState}
@@ -25,7 +25,6 @@ use Rattle.ak_lab_joins.proofs.Synced as synced
 use Rattle.ak_lab_joins.proofs.TriesTold.{IsMild, QuietOrBoth, ShowsNone, StandsIdle, session_goes, shows_commit}
 use Rattle.ak_lab_joins.proofs.Worlds.{StaysQuiet}
 use Rattle.ak_lab_joins.specs.LabJoins.{HasSession, IsLinkedDevice, IsLinkedLab, IsLinkedServer, KeepsCommitted, lab_world, world_in}
-use Rattle.ak_lab_joins.specs.LabWords.{hides_commit}
 use Rattle.ak_lab_wires.specs.CrossedSyncs.{CrossesAt, crosses_nothing}
 use Rattle.ak_lab_wires.specs.declared.lab_sessions.SessionKind.TheVariants as kinds
 use Rattle.ak_messages.specs.declared.replies.Reply.{Reply}
@@ -95,36 +94,44 @@ last_sends : (before : List TriedAsk) (it : TriedAsk) → AllByRecursion SendsRo
 last_sends [] it all = all.0
 last_sends (one ∷ before) it all = last_sends before it all.1
 
--- it was refused, though not because memory ran out once it was tried again or repeated
-refused_mild : (mishaps : List Mishap) (it : TriedAsk) (status : ℕ) (word : Word) (seen : ℤ) → (mishaps ≡ []) ⊎ ((status == 500) ≡ false)
+-- what a sync asks commits nothing, or is its finish
+plain_or_finish : (ask : Ask) → SendsRows ask → (asks_commit ask ≡ false) ⊎ (ask ≡ asks.Finish)
+plain_or_finish ask sends =
+    elim (asks_commit ask) as (λ b. asks_commit ask ≡ b → (asks_commit ask ≡ false) ⊎ (ask ≡ asks.Finish)) [
+      | true ↦ λ commits. inr (finish_alone ask commits (no_upload ask sends))
+      | false ↦ λ plain. inl plain
+    ] refl
+
+-- it was refused
+refused_mild : (mishaps : List Mishap) (it : TriedAsk) (status : ℕ) (word : Word) (seen : ℤ) → SendsRows it.ask
     → IsNotGranted it (unanswered.Refused status word seen) → IsMild mishaps it
-refused_mild mishaps it status word seen clear (reply, is, other, same, same_word, same_seen) =
-    inr (subst (ShowsNone mishaps it.ask) (sym is) (inl other, by clear))
+refused_mild mishaps it status word seen sends (reply, is, other, _, _, _) = by (plain_or_finish it.ask sends)
   where
-    by : (mishaps ≡ []) ⊎ ((status == 500) ≡ false) → (mishaps ≡ []) ⊎ (reply.status ≢ 500)
-    by (inl none) = inl none
-    by (inr differs) = inr (λ e. absurd (not_both (ap (λ (n : ℕ). n == 500) (same ∙ e)) differs))
+    by : (asks_commit it.ask ≡ false) ⊎ (it.ask ≡ asks.Finish) → IsMild mishaps it
+    by (inl plain) = inl plain
+    by (inr finish) = inr (subst (ShowsNone mishaps it.ask) (sym is) (inl other, inr finish))
 
 -- or it was answered by what is no reply to it
 unread_mild : (mishaps : List Mishap) (it : TriedAsk) → SendsRows it.ask → IsNotGranted it unanswered.BadReply → IsMild mishaps it
 unread_mild mishaps it sends (inl unread) = inr (subst (ShowsNone mishaps it.ask) (sym unread) tt)
-unread_mild mishaps it sends (inr (reply, is, ok, wrong)) = by (asks_commit it.ask) refl
+unread_mild mishaps it sends (inr (reply, is, ok, wrong)) = by (plain_or_finish it.ask sends)
   where
-    not_out : reply.status ≢ 500
-    not_out e = let same : 200 ≡ 500 = sym ok ∙ e in omega (arith, same)
-
-    by : (commits : Bool) → asks_commit it.ask ≡ commits → IsMild mishaps it
-    by false plain = inl plain
-    by true commits =
-        let finish : it.ask ≡ asks.Finish = finish_alone it.ask commits (no_upload it.ask sends) in
+    by : (asks_commit it.ask ≡ false) ⊎ (it.ask ≡ asks.Finish) → IsMild mishaps it
+    by (inl plain) = inl plain
+    by (inr finish) =
         inr (subst (ShowsNone mishaps it.ask) (sym is) (
           inr (ap (λ (a : Ask). shows_commit a reply.give) finish ∙ ap (λ (a : Ask). is_in_form a reply.give) (sym finish) ∙ wrong),
-          inr not_out,
+          inr finish,
         ))
+
+-- none of these commits
+plain_mild : (mishaps : List Mishap) (tries : List TriedAsk) → ArePlain (asks_in tries) → AllByRecursion (IsMild mishaps) tries
+plain_mild mishaps [] all = tt
+plain_mild mishaps (it ∷ tries) all = (inl all.0, plain_mild mishaps tries all.1)
 
 -- ---- a sync
 module _ (account : AccountState) (name : List ℕ) (s t : LabState) (outcome : Outcome) (linked : IsLinkedLab account s) (room : HasSession s)
-    (ends : EndsAlone kinds.Sync name s t outcome) (enough : outcome ≢ outcomes.Memory) where
+    (ends : EndsAlone kinds.Sync name s t outcome) where
   server_here : IsLinkedServer ends.session.ids.host.digits account s.sessions (server_met kinds.Sync s)
   server_here = here.server_here kinds.Sync account name s t outcome linked ends
 
@@ -133,13 +140,13 @@ module _ (account : AccountState) (name : List ℕ) (s t : LabState) (outcome : 
 
   server_now : IsLinkedServer ends.session.ids.host.digits account (one_more s.sessions) (with_fails ends.fails_left t.server)
   server_now =
-      synced.server_now account s.sessions s.clock (s.clock +ℤ ends.d.shift) ends.d ends.made (server_met kinds.Sync s) (with_fails ends.fails_left t.server) outcome room ends.session enough
+      synced.server_now account s.sessions s.clock (s.clock +ℤ ends.d.shift) ends.d ends.made (server_met kinds.Sync s) (with_fails ends.fails_left t.server) outcome room ends.session
       server_here device_here
 
   -- what was asked is a front of a plan
-  asked : (base : Collection) × (rest : List Ask) × (asks_in ends.session.ended.sync.tries ++ rest ≡ planned device_here.c base)
+  asked : (base : Collection) × (rest : List Ask) × (asks_in ends.session.ended.ended.sync.tries ++ rest ≡ planned device_here.c base)
   asked =
-      synced.asked_front account s.sessions s.clock (s.clock +ℤ ends.d.shift) ends.d ends.made (server_met kinds.Sync s) (with_fails ends.fails_left t.server) outcome room ends.session enough
+      synced.asked_front account s.sessions s.clock (s.clock +ℤ ends.d.shift) ends.d ends.made (server_met kinds.Sync s) (with_fails ends.fails_left t.server) outcome room ends.session
       server_here device_here
 
   -- what is known of the wire before the first call and after the last one
@@ -159,14 +166,14 @@ module _ (account : AccountState) (name : List ℕ) (s t : LabState) (outcome : 
     }
 
     -- if all that was tried is mild, nothing was committed
-    mild_commits_nothing : AllByRecursion (IsMild ends.d.mishaps) ends.session.ended.sync.tries → KeepsCommitted (lab_world account s) (lab_world account t)
+    mild_commits_nothing : AllByRecursion (IsMild ends.d.mishaps) ends.session.ended.ended.sync.tries → KeepsCommitted (lab_world account s) (lab_world account t)
     mild_commits_nothing mild = (quiet.committed, quiet.commits)
       where
         both : QuietOrBoth (world_in ends.session.ids.host.digits account s.server) (world_in ends.session.ids.host.digits account ends.session.end.server)
         both =
-            session_goes CrossesAt crosses_nothing account (asker ends.session.ids) ends.d.mishaps ends.session.ids ends.session.ended.sync.moment
-            ends.session.ended.sync.meta ends.session.ended.sync.tries (health_over no_calls ends.d.mishaps) ends.session.health first last refl stands mild
-            ends.session.ended.sync.tried
+            session_goes CrossesAt crosses_nothing account (asker ends.session.ids) ends.d.mishaps ends.session.ids ends.session.ended.ended.sync.moment
+            ends.session.ended.ended.sync.meta ends.session.ended.ended.sync.tries (health_over no_calls ends.d.mishaps) ends.session.health first last refl stands mild
+            ends.session.ended.ended.sync.tried
 
         here_quiet : StaysQuiet (world_in ends.session.ids.host.digits account s.server) (world_in ends.session.ids.host.digits account t.server)
         here_quiet =
@@ -178,46 +185,56 @@ module _ (account : AccountState) (name : List ℕ) (s t : LabState) (outcome : 
         quiet = subst (λ (h : List ℕ). StaysQuiet (world_in h account s.server) (world_in h account t.server)) ends.session.of.host here_quiet
 
     -- so it is if what was tried last is
-    last_commits_nothing : (it : TriedAsk) (before : List TriedAsk) → meta_tried ends.session.ended.sync.meta ∷ ends.session.ended.sync.tries ≡ before ++ it ∷ []
+    last_commits_nothing : (it : TriedAsk) (before : List TriedAsk) → meta_tried ends.session.ended.ended.sync.meta ∷ ends.session.ended.ended.sync.tries ≡ before ++ it ∷ []
         → IsMild ends.d.mishaps it → KeepsCommitted (lab_world account s) (lab_world account t)
     last_commits_nothing it before parts mild =
         mild_commits_nothing
-        (tries_mild (asker ends.session.ids) device_here.c asked.0 ends.d.mishaps ends.session.ended.sync.meta ends.session.ended.sync.tries before it asked.1 parts asked.2 mild)
+        (tries_mild (asker ends.session.ids) device_here.c asked.0 ends.d.mishaps ends.session.ended.ended.sync.meta ends.session.ended.ended.sync.tries before it asked.1 parts asked.2 mild)
+
+    -- memory ran out before it asked its finish, or in its last call. If nothing is lost or repeated, that was not served
+    lacking_commits_nothing : ends.d.mishaps ≡ [] → LacksMemoryEarly (meta_tried ends.session.ended.ended.sync.meta ∷ ends.session.ended.ended.sync.tries)
+        → KeepsCommitted (lab_world account s) (lab_world account t)
+    lacking_commits_nothing nothing (inl plain) = mild_commits_nothing (plain_mild ends.d.mishaps ends.session.ended.ended.sync.tries plain.1)
+    lacking_commits_nothing nothing (inr (it, (before, parts), is)) =
+        last_commits_nothing it before parts (inr (subst (ShowsNone ends.d.mishaps it.ask) (sym is) nothing))
 
     pub others_commit_nothing : outcome ≢ outcomes.Finished → outcome ≢ outcomes.Keep → outcome ≢ outcomes.Lost
-        → (ends.d.mishaps ≡ []) ⊎ (hides_commit outcome ≡ false)
+        → (outcome ≢ outcomes.Memory) ⊎ (ends.d.mishaps ≡ [])
         → KeepsCommitted (lab_world account s) (lab_world account t)
-    others_commit_nothing other unkept unlost told = by outcome refl
+    others_commit_nothing other unkept unlost shown = by outcome refl
       where
-        ends_at : (o : Outcome) → outcome ≡ o → EndsAt (meta_tried ends.session.ended.sync.meta ∷ ends.session.ended.sync.tries) last o
-        ends_at o is = subst (EndsAt (meta_tried ends.session.ended.sync.meta ∷ ends.session.ended.sync.tries) last) is ends.session.ended.sync.ends
+        lacking : outcome ≡ outcomes.Memory → (outcome ≢ outcomes.Memory) ⊎ (ends.d.mishaps ≡ []) → KeepsCommitted (lab_world account s) (lab_world account t)
+        lacking is (inl enough) = absurd (enough is)
+        lacking is (inr nothing) = lacking_commits_nothing nothing (ends.session.ended.memory refl is)
+
+        ends_at : (o : Outcome) → outcome ≡ o → EndsAt (meta_tried ends.session.ended.ended.sync.meta ∷ ends.session.ended.ended.sync.tries) last o
+        ends_at o is = subst (EndsAt (meta_tried ends.session.ended.ended.sync.meta ∷ ends.session.ended.ended.sync.tries) last) is ends.session.ended.ended.sync.ends
 
         early : (o : Outcome) → outcome ≡ o → ends_before_finish o ≡ true → KeepsCommitted (lab_world account s) (lab_world account t)
-        early o is before = kept_early account name s t outcome linked room ends enough (ap ends_before_finish is ∙ before)
+        early o is before =
+            let early_so : ends_before_finish outcome ≡ true = ap ends_before_finish is ∙ before in
+            kept_early account name s t outcome linked room ends (λ memory. not_both early_so (ap ends_before_finish memory)) early_so
 
-        refused : (status : ℕ) (word : Word) (seen : ℤ) → outcome ≡ outcomes.Refused status word seen
-            → EndsUnanswered (meta_tried ends.session.ended.sync.meta ∷ ends.session.ended.sync.tries) (unanswered.Refused status word seen)
-            → KeepsCommitted (lab_world account s) (lab_world account t)
-        refused status word seen is (it, (before, parts), refusal) =
-            last_commits_nothing it before parts (refused_mild ends.d.mishaps it status word seen (tells told) refusal)
-          where
-            tells : (ends.d.mishaps ≡ []) ⊎ (hides_commit outcome ≡ false) → (ends.d.mishaps ≡ []) ⊎ ((status == 500) ≡ false)
-            tells (inl none) = inl none
-            tells (inr shown) = inr (sym (ap hides_commit is) ∙ shown)
+        sends : (it : TriedAsk) (before : List TriedAsk) → meta_tried ends.session.ended.ended.sync.meta ∷ ends.session.ended.ended.sync.tries ≡ before ++ it ∷ [] → SendsRows it.ask
+        sends it before parts = last_sends before it (subst (λ (l : List TriedAsk). AllByRecursion SendsRows (asks_in l)) parts (tt, ends.session.ended.ended.sync.rows))
 
-        unread : EndsUnanswered (meta_tried ends.session.ended.sync.meta ∷ ends.session.ended.sync.tries) unanswered.BadReply
+        refused : (status : ℕ) (word : Word) (seen : ℤ)
+            → EndsUnanswered (meta_tried ends.session.ended.ended.sync.meta ∷ ends.session.ended.ended.sync.tries) (unanswered.Refused status word seen)
             → KeepsCommitted (lab_world account s) (lab_world account t)
-        unread (it, (before, parts), refusal) =
-            last_commits_nothing it before parts
-            (unread_mild ends.d.mishaps it (last_sends before it (subst (λ (l : List TriedAsk). AllByRecursion SendsRows (asks_in l)) parts (tt, ends.session.ended.sync.rows))) refusal)
+        refused status word seen (it, (before, parts), refusal) =
+            last_commits_nothing it before parts (refused_mild ends.d.mishaps it status word seen (sends it before parts) refusal)
+
+        unread : EndsUnanswered (meta_tried ends.session.ended.ended.sync.meta ∷ ends.session.ended.ended.sync.tries) unanswered.BadReply
+            → KeepsCommitted (lab_world account s) (lab_world account t)
+        unread (it, (before, parts), refusal) = last_commits_nothing it before parts (unread_mild ends.d.mishaps it (sends it before parts) refusal)
 
         by : (o : Outcome) → outcome ≡ o → KeepsCommitted (lab_world account s) (lab_world account t)
         by outcomes.Finished is = absurd (other is)
-        by (outcomes.Refused status word seen) is = refused status word seen is (ends_at (outcomes.Refused status word seen) is)
+        by (outcomes.Refused status word seen) is = refused status word seen (ends_at (outcomes.Refused status word seen) is)
         by outcomes.Lost is = absurd (unlost is)
         by outcomes.BadReply is = unread (ends_at outcomes.BadReply is)
         by outcomes.Keep is = absurd (unkept is)
-        by outcomes.Memory is = absurd (enough is)
+        by outcomes.Memory is = lacking is shown
         by outcomes.NoChanges is = early outcomes.NoChanges is refl
         by (outcomes.FullSchema device server) is = early (outcomes.FullSchema device server) is refl
         by (outcomes.FullSequence usn) is = early (outcomes.FullSequence usn) is refl

@@ -1,6 +1,6 @@
 -- What the answers to the requests of a session tell of what it committed, if nobody comes between its calls.
 use Rattle.std.specs.List.{AllByRecursion}
-use Rattle.std.specs.Prelude.{◌≡◌, ◌≢◌, ◌⊎◌, ℕ, zero, suc, ◌+◌, ℤ, Bool, true, false, is_some, List, [], ◌∷◌, Some, Result, Ok, Err, ⊤}
+use Rattle.std.specs.Prelude.{◌≡◌, ◌≢◌, ◌<◌, ◌⊎◌, ℕ, zero, suc, ◌+◌, ℤ, Bool, true, false, is_some, List, [], ◌∷◌, Some, Result, Ok, Err, ⊤}
 use Rattle.std.proofs.Common.{refl, sym, ap, subst, ◌∙◌, inl, inr, arith}
 use Rattle.ak_client.specs.Greetings.{meta_of}
 use Rattle.ak_client_wire.specs.Forms.{moment_in}
@@ -29,7 +29,7 @@ use Rattle.ak_session.specs.Plans.{Asker, requests_from}
 use Rattle.ak_session.specs.Requests.{asks_commit}
 use Rattle.ak_sync_in_memory.specs.Betweens.{ActEnd, Acting}
 use Rattle.ak_sync_in_memory.specs.Entries.{LoggedState, health_in, log_in}
-use Rattle.ak_sync_in_memory.specs.LoopWires.{CallsLoop, FaresAfter, LoopInside, ServesInARow, loop_kind}
+use Rattle.ak_sync_in_memory.specs.LoopWires.{CallsLoop, FaresAfter, LoopInside, ServesInARow, ServesUpTo, loop_kind}
 use Rattle.ak_sync_in_memory.specs.Mishaps.{is_lost, servings}
 use Rattle.ak_sync_in_memory.specs.declared.mishaps.Mishap.{Mishap}
 use Rattle.ak_transfers.specs.Forms.{uploaded_in}
@@ -44,12 +44,13 @@ shows_commit ask give = is_some (moment_in give)
 abbrev pub GrantsNone : Ask → Reply → Type 0
 GrantsNone ask reply = (reply.status ≢ 200) ⊎ (shows_commit ask reply.give ≡ false)
 
--- an answer shows that its request committed nothing. If messages are lost or repeated, it does not tell that memory ran out
+-- an answer shows that its request committed nothing. If messages are lost or repeated, it is a reply to a finish, which is not refused for want of memory.
+-- If none are, it may be that memory ran out in the call
 abbrev pub ShowsNone : List Mishap → Ask → Result Reply WireEnd → Type 0
-ShowsNone mishaps ask (Ok reply) = GrantsNone ask reply × ((mishaps ≡ []) ⊎ (reply.status ≢ 500))
+ShowsNone mishaps ask (Ok reply) = GrantsNone ask reply × ((mishaps ≡ []) ⊎ (ask ≡ asks.Finish))
 ShowsNone mishaps ask (Err ends.Failed) = ⊥
 ShowsNone mishaps ask (Err ends.BadReply) = ⊤
-ShowsNone mishaps ask (Err ends.Memory) = ⊥
+ShowsNone mishaps ask (Err ends.Memory) = mishaps ≡ []
 
 -- what was asked is no commit, or its answer shows that it committed nothing
 abbrev pub IsMild : List Mishap → TriedAsk → Type 0
@@ -120,6 +121,14 @@ module _ {B : Type 0} (acts : Acting B) (idle : B → Bool) (account : AccountSt
     was_lost (Ok done) number at a b fares = fares.0
     was_lost (Err end) number at a b fares = absurd (failed_not_memory fares.0)
 
+    -- less often than once is never
+    not_served : (times : ℕ) (at : ℤ) (a b : LoggedState) → times < 1 → ServesUpTo times a b request at → b ≡ a
+    not_served zero at a b less same = same
+    not_served (suc n) at a b less row = absurd (omega (arith, less))
+
+    unmoved : (a b : LoggedState) → b ≡ a → StaysQuiet base (world_in who.host.digits account a) → QuietOrBoth base (world_in who.host.digits account b)
+    unmoved a b same quiet = inl (subst (λ (s : LoggedState). StaysQuiet base (world_in who.host.digits account s)) (sym same) quiet)
+
     -- the last call: if its answer shows that the request committed nothing, what is committed is as it was, or it was granted all the same
     after_both : (came : ActEnd) (number : ℕ) (at : ℤ) (a b : LoggedState) (answer : Result Reply WireEnd) → StandsSo a
         → (mishaps ≡ []) ⊎ ((health_in a).calm ≡ true) → (mishaps ≡ [] → StaysQuiet base (world_in who.host.digits account a)) → ShowsNone mishaps request.ask answer
@@ -127,10 +136,11 @@ module _ {B : Type 0} (acts : Acting B) (idle : B → Bool) (account : AccountSt
     after_both (Err end) number at a b (Ok reply) stands clear first none fares = absurd (given_not_memory reply fares.0)
     after_both (Err end) number at a b (Err ends.Failed) stands clear first none fares = absurd none
     after_both (Err end) number at a b (Err ends.BadReply) stands clear first none fares = absurd (unread_not_memory fares.0)
-    after_both (Err end) number at a b (Err ends.Memory) stands clear first none fares = absurd none
+    after_both (Err end) number at a b (Err ends.Memory) stands clear first none fares = unmoved a b fares.1 (first none)
     after_both (Ok done) number at a b (Err ends.Failed) stands clear first none fares = absurd none
     after_both (Ok done) number at a b (Err ends.BadReply) stands clear first none fares = absurd fares
-    after_both (Ok done) number at a b (Err ends.Memory) stands clear first none fares = absurd none
+    after_both (Ok done) number at a b (Err ends.Memory) stands clear first none fares =
+        unmoved a b (not_served fares.0 at a b (subst (λ (l : List Mishap). fares.0 < servings number l) none fares.1) fares.2) (first none)
     after_both (Ok done) number at a b (Ok reply) stands clear first none fares = by clear none.1
       where
         told : QuietOrGranted request reply base (world_in who.host.digits account b) → QuietOrBoth base (world_in who.host.digits account b)
@@ -143,11 +153,11 @@ module _ {B : Type 0} (acts : Acting B) (idle : B → Bool) (account : AccountSt
             told (one_grants who.host.digits account request own at base a b reply stands (first nothing)
             (subst (λ (n : ℕ). ServesInARow n a b request at reply) (ap (servings number) nothing) fares.1))
 
-        by : (mishaps ≡ []) ⊎ ((health_in a).calm ≡ true) → (mishaps ≡ []) ⊎ (reply.status ≢ 500) → QuietOrBoth base (world_in who.host.digits account b)
-        by (inl nothing) enough = by_one nothing
+        by : (mishaps ≡ []) ⊎ ((health_in a).calm ≡ true) → (mishaps ≡ []) ⊎ (request.ask ≡ asks.Finish) → QuietOrBoth base (world_in who.host.digits account b)
+        by (inl nothing) finish = by_one nothing
         by (inr calm) (inl nothing) = by_one nothing
-        by (inr calm) (inr enough) =
-            told (row_grants who.host.digits account request own at base (servings number mishaps) a b reply stands calm enough fares.1)
+        by (inr calm) (inr finish) =
+            told (row_grants who.host.digits account request own at base (servings number mishaps) a b reply stands calm finish fares.1)
 
     -- ---- one call
     -- how the request fared, as nobody came before it

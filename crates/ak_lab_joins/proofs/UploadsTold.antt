@@ -56,7 +56,7 @@ record TriesMild {kind : WireKind} (ids : Ids) (was now : Line kind) : Type 0 wh
 
 module _ {kind : WireKind} (k k' : Keeping) (ids : Ids) (asked : List Ask) (was now : TransferOutside kind) (outcome : Outcome)
     (transfer : IsTransfer (upload_errand true k k') ids asked was now outcome) (other : outcome ≢ outcomes.Finished) (unkept : outcome ≢ outcomes.Keep)
-    (unlost : outcome ≢ outcomes.Lost) (enough : outcome ≢ outcomes.Memory) where
+    (unlost : outcome ≢ outcomes.Lost) where
   abbrev met : Line kind
   met = transfer.met
 
@@ -74,7 +74,7 @@ module _ {kind : WireKind} (k k' : Keeping) (ids : Ids) (asked : List Ask) (was 
   never_ends : (ask : Ask) (given : UploadMoments) → TransferEnds (upload_errand true k k') ask (Ok given) outcome → ⊥
   never_ends ask given (inl (whole, is, finished, put)) = other finished
   never_ends ask given (inr (inl kept)) = unkept kept
-  never_ends ask given (inr (inr (memory, spared))) = enough memory
+  never_ends ask given (inr (inr (memory, spared))) = grind (arith, spared)
 
   module _ (moment : ℤ) (once : AsksOnce (upload_errand true k k') ids moment asked met now.line outcome) where
     ends_as : (a : Result Reply WireEnd) → once.heard.answer ≡ a → TransferEnds (upload_errand true k k') once.ask (in_form uploaded_in (granted_in a)) outcome
@@ -106,7 +106,7 @@ module _ {kind : WireKind} (k k' : Keeping) (ids : Ids) (asked : List Ask) (was 
     mild_by (Ok reply) is = (reply_none reply (ends_as (Ok reply) is), inl refl)
     mild_by (Err ends.Failed) is = absurd (unlost (ends_as (Err ends.Failed) is))
     mild_by (Err ends.BadReply) is = tt
-    mild_by (Err ends.Memory) is = absurd (enough (ends_as (Err ends.Memory) is))
+    mild_by (Err ends.Memory) is = refl
 
     once_more : TriesMild ids was.line now.line
     once_more = record {
@@ -164,15 +164,15 @@ module _ (account : AccountState) (name : List ℕ) (s t : LabState) (outcome : 
     clear = inl refl;
   }
 
-  pub upload_commits_nothing : outcome ≢ outcomes.Finished → outcome ≢ outcomes.Memory → KeepsCommitted (lab_world account s) (lab_world account t)
-  upload_commits_nothing other enough = (quiet.committed, quiet.commits)
+  pub upload_commits_nothing : outcome ≢ outcomes.Finished → KeepsCommitted (lab_world account s) (lab_world account t)
+  upload_commits_nothing other = (quiet.committed, quiet.commits)
     where
       tries : TriesMild ends_so.session.ids (record { health = health_over no_calls []; wire = first }) (record { health = ends_so.session.health; wire = last })
       tries =
           tries_mild (keeping_of ends_so.d) (keeping_of ends_so.made) ends_so.session.ids ends_so.session.ended.asked
           (before_calls CrossesAt crosses_nothing (server_met kind s) ends_so.session.was s.clock [] ((s.clock +ℤ ends_so.d.shift) ∷ []))
           (given_outside ends_so.session.health last ends_so.session.to_come) outcome ends_so.session.ended.transfer other (ends_so.session.unfailed refl)
-          (ends_so.session.unlost refl) enough
+          (ends_so.session.unlost refl)
 
       both : QuietOrBoth (world_in ends_so.session.ids.host.digits account s.server) (world_in ends_so.session.ids.host.digits account ends_so.session.end.server)
       both =

@@ -1,7 +1,7 @@
 -- What the outcome of a sync and of an upload, and the printed line of a sync, tell of the commit.
 use Rattle.std.specs.Prelude.{◌≡◌, ◌≢◌, ◌⊎◌, ℕ, false, List, [], ◌∷◌, Some, codes}
 use Rattle.std.proofs.Common.{refl, sym, ap, subst, ◌∙◌, inl, inr}
-use Rattle.std.proofs.lemmas.Option.{none-some, same_Some}
+use Rattle.std.proofs.lemmas.Option.{same_Some}
 use Rattle.ak_client.specs.declared.outcomes.Outcome.{Outcome}
 use Rattle.ak_client.specs.declared.outcomes.Outcome.TheVariants as outcomes
 use Rattle.ak_io.specs.declared.lines.Line.{Line}
@@ -44,15 +44,13 @@ module _ (account : AccountState) (name : List ℕ) (s t : LabState) (crossed : 
   shown_commits_nothing : StandsSo false s → outcome ≢ outcomes.Finished → hides_commit outcome ≡ false
       → KeepsCommitted (lab_world account s) (lab_world account t)
   shown_commits_nothing stands other shown =
-      others_commit_nothing account name s t outcome goes.linked goes.room alone (λ is. not_both (ap hides_commit is) shown) (inr stands) other unkept
-      (λ is. not_both (ap hides_commit is) shown) (inr shown)
+      others_commit_nothing account name s t outcome goes.linked goes.room alone (inr stands) other unkept (λ is. not_both (ap hides_commit is) shown)
+      (inl (λ is. not_both (ap hides_commit is) shown))
 
-  pub undisturbed_commits_nothing : DisturbsNothing name s → outcome ≢ outcomes.Finished → outcome ≢ outcomes.Memory
-      → KeepsCommitted (lab_world account s) (lab_world account t)
-  undisturbed_commits_nothing nothing other enough =
+  pub undisturbed_commits_nothing : DisturbsNothing name s → outcome ≢ outcomes.Finished → KeepsCommitted (lab_world account s) (lab_world account t)
+  undisturbed_commits_nothing nothing other =
       let none : alone.d.mishaps ≡ [] = nothing alone.d alone.found in
-      others_commit_nothing account name s t outcome goes.linked goes.room alone enough (inl none) other unkept
-      (alone.session.unlost (ap loses_nothing none)) (inl none)
+      others_commit_nothing account name s t outcome goes.linked goes.room alone (inl none) other unkept (alone.session.unlost (ap loses_nothing none)) (inr none)
 
   pub finished_joins_sides : outcome ≡ outcomes.Finished → Finishes account name s t
   finished_joins_sides is =
@@ -71,8 +69,8 @@ module _ (account : AccountState) (name : List ℕ) (s t : LabState) (crossed : 
   pub syncs_tell : StandsSo false s → hides_commit outcome ≡ false → SyncCommitsAsTold account name s t outcome
   syncs_tell stands shown = told_by (λ other. shown_commits_nothing stands other shown) (finished_or_not outcome)
 
-  pub undisturbed_syncs_tell : DisturbsNothing name s → outcome ≢ outcomes.Memory → SyncCommitsAsTold account name s t outcome
-  undisturbed_syncs_tell nothing enough = told_by (λ other. undisturbed_commits_nothing nothing other enough) (finished_or_not outcome)
+  pub undisturbed_syncs_tell : DisturbsNothing name s → SyncCommitsAsTold account name s t outcome
+  undisturbed_syncs_tell nothing = told_by (λ other. undisturbed_commits_nothing nothing other) (finished_or_not outcome)
 
 -- a sync of which nothing is lost does not end as lost
 pub never_lost : (name : List ℕ) (s t : LabState) (crossed : List (List ℕ)) (outcome : Outcome) → LosesNothing name s → EndsSync name s t crossed outcome
@@ -86,8 +84,8 @@ module _ (account : AccountState) (name : List ℕ) (s t : LabState) (outcome : 
   upload_otherwise outcomes.Finished other kept = absurd (other refl)
   upload_otherwise o other kept = kept
 
-  pub uploads_tell : outcome ≢ outcomes.Memory → UploadCommitsAsTold account name s t outcome
-  uploads_tell enough = by (finished_or_not outcome)
+  pub uploads_tell : UploadCommitsAsTold account name s t outcome
+  uploads_tell = by (finished_or_not outcome)
     where
       by : (outcome ≡ outcomes.Finished) ⊎ (outcome ≢ outcomes.Finished) → UploadCommitsAsTold account name s t outcome
       by (inl is) =
@@ -95,7 +93,7 @@ module _ (account : AccountState) (name : List ℕ) (s t : LabState) (outcome : 
           (uploads account name s t linked room (transfer_alone directions.Upload name s t outcomes.Finished (subst (EndsTransfer directions.Upload name s t) is ended)))
       by (inr other) =
           upload_otherwise outcome other
-          (upload_commits_nothing account name s t outcome linked room (transfer_alone directions.Upload name s t outcome ended) other enough)
+          (upload_commits_nothing account name s t outcome linked room (transfer_alone directions.Upload name s t outcome ended) other)
 
 -- ---- a printed line
 at_line_unbroken : (account : AccountState) (number : ℕ) (name : List ℕ) (s : LabState) → GoesUnbroken account name s → GoesUnbroken account name (at_line number s)
@@ -112,7 +110,7 @@ printed_syncs_tell account number line name text s t goes nothing says ends = re
   finished = λ is. lines_aside_finishes account number name s t
       (finished_joins_sides account name (at_line number s) t told.1 told.0 unbroken told.2 (finished_told told.0 (told.3 ∙ ap Some is)));
   others = λ other. undisturbed_commits_nothing account name (at_line number s) t told.1 told.0 unbroken told.2 nothing
-      (λ is. other (same_Some text (codes "finished") (sym told.3 ∙ ap outcome_text is))) (λ is. none-some text (sym (ap outcome_text is) ∙ told.3));
+      (λ is. other (same_Some text (codes "finished") (sym told.3 ∙ ap outcome_text is)));
 }
   where
     told : EndedAs name text (at_line number s) t

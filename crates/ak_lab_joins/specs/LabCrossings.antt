@@ -77,7 +77,7 @@ abbrev pub SyncJoinsLate : AccountState → (name : List ℕ) (s t : LabState) (
     → Type 0
 SyncJoinsLate account name s t crossed outcome ended =
     let session = ended.runs.session in
-    let sync = session.ended.sync in
+    let sync = session.ended.ended.sync in
     JoinsLate account (one_more s.sessions) ended.runs.d sync.moment (asked_by session.ids sync.moment sync.tries) (log_in t.server)
 
 -- what a sync leaves that began when its device's clock stood at this moment, and asked these over that one
@@ -91,7 +91,7 @@ pub record LeavesJoin (account : AccountState) (key : ℕ) (at : ℤ) (d made : 
 abbrev pub CrossedLeavesJoin : AccountState → SaidOfCrossed
 CrossedLeavesJoin account name line session was now old new came it =
     let ran = it.sync.sync.session in
-    let sync = ran.ended.sync in
+    let sync = ran.ended.ended.sync in
     LeavesJoin account (was.sessions + 1) (was.clock +ℤ it.d.shift) it.d it.sync.made sync.moment (asked_by ran.ids sync.moment sync.tries)
     (log_in old) (log_in new) it.outcome
 

@@ -1,6 +1,6 @@
 -- What the outcome of a session of a lab, which its line prints, tells of what the server committed in it.
 use Rattle.std.specs.List.{AllByRecursion}
-use Rattle.std.specs.Prelude.{◌≡◌, ◌≢◌, ◌==◌, ℕ, Bool, true, false, List, ◌++◌, codes, ⊤}
+use Rattle.std.specs.Prelude.{◌≡◌, ◌≢◌, ℕ, Bool, true, false, List, ◌++◌, codes, ⊤}
 use Rattle.ak_client.specs.declared.outcomes.Outcome.{Outcome}
 use Rattle.ak_client.specs.declared.outcomes.Outcome.TheVariants as outcomes
 use Rattle.ak_lab.specs.LabStates.{LabState}
@@ -22,11 +22,10 @@ pub record GoesUnbroken (account : AccountState) (name : List ℕ) (s : LabState
   pub plans : PlansNothing name s
   pub device : HasNoBreak name s
 
--- whether an outcome hides if the server committed: the last request was lost; or memory ran out, the device's, or the server's, which refuses a request
--- with the status 500 then
+-- whether an outcome hides if the server committed: the last request was lost; or memory ran out, the device's or its wire's. A refusal hides nothing:
+-- the server refuses no finish because it has no memory
 abbrev pub hides_commit : Outcome → Bool
 hides_commit outcomes.Lost = true
-hides_commit (outcomes.Refused status word seen) = status == 500
 hides_commit outcomes.Memory = true
 hides_commit outcome = false
 

@@ -234,10 +234,9 @@ pub fn outcomes_tell_commits()
     ensures unlost { (name : List ℕ) (s t : LabState) (crossed : List (List ℕ)) (outcome : Outcome) → LosesNothing name s
         → EndsSync name s t crossed outcome → outcome ≢ outcomes.Lost }
 
-    // If nothing is lost or repeated, a refusal by a server that ran out of memory tells it too, and a break of the server makes no difference.
-    // So the printed line tells it: there is none if memory ran out on the device.
+    // If nothing is lost or repeated, every outcome tells it, and a break of the server makes no difference. So the printed line tells it too.
     ensures undisturbed { (account : AccountState) (name : List ℕ) (s t : LabState) (crossed : List (List ℕ)) (outcome : Outcome)
-        → GoesUnbroken account name s → DisturbsNothing name s → EndsSync name s t crossed outcome → outcome ≢ outcomes.Memory
+        → GoesUnbroken account name s → DisturbsNothing name s → EndsSync name s t crossed outcome
         → SyncCommitsAsTold account name s t outcome }
     ensures printed { (account : AccountState) (number : ℕ) (line : Line) (name text : List ℕ) (s t : LabState)
         → GoesUnbroken account name s → DisturbsNothing name s → Says line (lines.Sync name)
@@ -245,7 +244,7 @@ pub fn outcomes_tell_commits()
 
     // The messages of an upload are never lost and never repeated.
     ensures uploads { (account : AccountState) (name : List ℕ) (s t : LabState) (outcome : Outcome) → IsLinkedLab account s → HasSession s
-        → EndsTransfer directions.Upload name s t outcome → outcome ≢ outcomes.Memory → UploadCommitsAsTold account name s t outcome }
+        → EndsTransfer directions.Upload name s t outcome → UploadCommitsAsTold account name s t outcome }
 {}
 
 /// Whatever is lost, repeated, crossed and broken: if no finish and no upload was served, what the server has committed is as it was.

@@ -93,7 +93,7 @@ module _ {X : Type 0} (acts : Acting X) (idle : X → Bool) where
         → (ended : EndsByKind kind ids k k' (given_outside h (state_of_loop acts idle was) moments) (given_outside h' (state_of_loop acts idle now) to_come) outcome)
         → AskedInCalls kind ended
     asked_in_calls kinds.Sync ended =
-        let sync = ended.sync in
+        let sync = ended.ended.sync in
         let it = calls_made (sent_by ids sync.moment sync.tries) (sync.meta ∷ answers_in sync.tries) h h' (state_of_loop acts idle was) (state_of_loop acts idle now) sync.tried in
         record { calls = it.calls; asked = it.tries; made = it.made }
     asked_in_calls (kinds.Transfer directions.Upload) ended =

@@ -2,7 +2,7 @@
 use Rattle.std.specs.Prelude.{◌≡◌, ◌≢◌, ℕ, ℤ, pos, Bool, true, List, [], ◌∷◌, length, Option, Some, Result, Ok, Err, ⊤, codes}
 use Rattle.ak_call_counts.specs.CallCounts.{no_calls}
 use Rattle.ak_client.specs.Greetings.{meta_of}
-use Rattle.ak_client.specs.Syncs.{IsSyncEnded, KeepsDevice}
+use Rattle.ak_client.specs.Syncs.{IsSyncSparing, KeepsDevice}
 use Rattle.ak_client.specs.declared.outcomes.Outcome.{Outcome}
 use Rattle.ak_client.specs.declared.outcomes.Outcome.TheVariants as outcomes
 use Rattle.ak_client_wire.specs.Tries.{AreCallsOf, MadeCall}
@@ -52,10 +52,10 @@ moment_told (Ok said) = said.moment
 moment_told (Err why) = pos 0
 
 -- ---- a session, by its kind
--- how a session goes, whatever keeper and wire it is over, and for which reason it ends
+-- how a session goes, over a keeper that spares memory and whatever wire, and for which reason it ends
 abbrev pub EndsByKind : {kind : WireKind} → SessionKind → Ids → Keeping → Keeping → TransferOutside kind → TransferOutside kind → Outcome → Type 0
 EndsByKind kinds.Sync ids before left was now outcome =
-    IsSyncEnded ids before left was.line.health now.line.health was.line.wire now.line.wire was.moments outcome
+    IsSyncSparing true ids before left was.line.health now.line.health was.line.wire now.line.wire was.moments outcome
 EndsByKind (kinds.Transfer directions.Upload) ids before left was now outcome =
     IsUpload true ids before left was now outcome
 EndsByKind (kinds.Transfer directions.Download) ids before left was now outcome =
@@ -100,7 +100,7 @@ AsksInCalls ids told meta asked calls =
 abbrev pub CallsByKind : {kind : WireKind} (it : SessionKind) (ids : Ids) (before left : Keeping) (was now : TransferOutside kind)
     (outcome : Outcome) → EndsByKind it ids before left was now outcome → List MadeCall → Type 0
 CallsByKind kinds.Sync ids before left was now outcome ended calls =
-    AreCallsOf (sent_by ids ended.sync.moment ended.sync.tries) (ended.sync.meta ∷ answers_in ended.sync.tries) calls
+    AreCallsOf (sent_by ids ended.ended.sync.moment ended.ended.sync.tries) (ended.ended.sync.meta ∷ answers_in ended.ended.sync.tries) calls
 CallsByKind (kinds.Transfer directions.Upload) ids before left was now outcome ended calls =
     AsksInCalls ids ended.transfer.answer ended.transfer.meta.answer ended.asked calls
 CallsByKind (kinds.Transfer directions.Download) ids before left was now outcome ended calls =

@@ -5,8 +5,7 @@ pub returns : goal.returns
 returns c = record {
   syncs = λ account name s t crossed outcome goes stands ended shown. syncs_tell account name s t crossed outcome goes ended stands shown;
   unlost = never_lost;
-  undisturbed = λ account name s t crossed outcome goes nothing ended enough.
-      undisturbed_syncs_tell account name s t crossed outcome goes ended nothing enough;
+  undisturbed = λ account name s t crossed outcome goes nothing ended. undisturbed_syncs_tell account name s t crossed outcome goes ended nothing;
   printed = printed_syncs_tell;
   uploads = uploads_tell;
 }

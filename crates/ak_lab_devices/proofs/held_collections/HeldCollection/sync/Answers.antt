@@ -1,5 +1,5 @@
-use Rattle.std.proofs.Common.{Some, ap, ◌∙◌}
-use Rattle.ak_client.specs.Syncs.{IsSyncEnded, KeepsDevice}
+use Rattle.std.proofs.Common.{true, Some, ap, ◌∙◌}
+use Rattle.ak_client.specs.Syncs.{IsSyncSparing, KeepsDevice}
 use Rattle.ak_keep.specs.Keepers.{all_known, is_marked}
 use Rattle.ak_keep.specs.MemoryKeepers.{MemoryState}
 use Rattle.ak_lab_devices.proofs.Failing.{both_kept, kept_so, rests, unfailed_so}
@@ -23,12 +23,12 @@ pub returns-clause-ended : goal.returns-clause-ended
 returns-clause-ended g c =
     let wire = c.args.wire.now in
     let after = c.sync_over-outcome.new.wire in
-    both_kept (λ k m. IsSyncEnded c.args.ids (all_known k) (all_known m) (health_over wire.counts wire.mishaps) (health_over after.counts after.mishaps)
+    both_kept (λ k m. IsSyncSparing true c.args.ids (all_known k) (all_known m) (health_over wire.counts wire.mishaps) (health_over after.counts after.mishaps)
     (state_of_loop g.B.Between.acts g.B.Between.idle (inside_with wire.server wire.between wire.moment wire.mishaps wire.counts))
     (state_of_loop g.B.Between.acts g.B.Between.idle (inside_with after.server after.between after.moment after.mishaps after.counts))
     (Some c.args.clock.now) c.sync_over-outcome.result) c.args.self.now c.fail_at.new.self.kept c.sync_over-outcome.new.keeper.kept c.fail_at-2.new.self.kept
     (kept_so c.self.inside.keeper c.fail_at.new.self c.args.fails c.fail_at.ensures ∙ c.self.view_is)
-    (kept_so c.sync_over-outcome.new.keeper c.fail_at-2.new.self c.new.result c.fail_at-2.ensures) c.sync_over-outcome.ensures.ended
+    (kept_so c.sync_over-outcome.new.keeper c.fail_at-2.new.self c.new.result c.fail_at-2.ensures) c.sync_over-outcome.ensures.spares
 
 pub returns-clause-device : goal.returns-clause-device
 returns-clause-device g c =
