@@ -6,10 +6,26 @@ import os
 import shutil
 import sqlite3
 import subprocess
+import sys
 import tempfile
+import time
 import unittest
 
 from front import program as programs
+
+
+# Seconds of a day. Days of a collection begin at midnight in universal time, as those of the clock do.
+DAY = 86400
+# A card's first steps last up to ten minutes and a quarter of that: one that ends in the next day waits for that day.
+STEPS = 20 * 60
+
+
+def wait_for_steps_of_one_day():
+    """In the last minutes of a day waits for the next, so that a step that a test begins ends in the day that it began in."""
+    left = DAY - time.time() % DAY
+    if left < STEPS:
+        print("waiting %d seconds for the next day of collections" % left, file=sys.stderr)
+        time.sleep(left + 1)
 
 
 @functools.lru_cache(maxsize=None)
@@ -45,6 +61,7 @@ class FileCase(unittest.TestCase):
         cls.program = built_program()
 
     def setUp(self):
+        wait_for_steps_of_one_day()
         self.folder = tempfile.mkdtemp(prefix="anki-front-")
         self.addCleanup(shutil.rmtree, self.folder, ignore_errors=True)
         self.path = os.path.join(self.folder, "my.anki")
