@@ -7,7 +7,7 @@ Each trial counts the calls of malloc and realloc of a run, and makes the run ag
 each Nth. Each try begins with the same files. Trials:
 
     desk      a day at the desk: no run ends by a signal or goes on for 60 s; what was printed is the front of what a whole run prints; the file
-              is sound and holds what the printed lines did, and at most the line that was not printed
+              is sound and holds what the printed lines did, and at most the line that was not printed; with status 8 not that either
     device    a sync with memory failing at the device: the outcome is a documented one; the device holds what it held, or what the server holds; the next
               sync is finished or `no changes`, both sides hold the same, and nothing of the device's is lost
     server    the same with memory failing at the server, from its start on
@@ -103,7 +103,8 @@ def try_desk(tools, room, words):
         expect(what, it.returncode, *range(0, 17))
         expect(what + ": what is printed", printed, wanted[:len(printed)])
         held = shape(device.path)
-        expect(what + ": what is held", held, *after[len(printed):len(printed) + 2])
+        # The answer of a line that is done is printed piece by piece where memory is out for its text: no run ends for that.
+        expect(what + ": what is held", held, *after[len(printed):len(printed) + (1 if it.returncode == 8 else 2)])
         device.memory = None
         device.is_sound()
     told("desk", count, words, ends)
