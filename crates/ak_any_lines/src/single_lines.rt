@@ -102,9 +102,6 @@ fn obey_after_first<K: Keeper>(
     ensures lent { (desk.new.keeper.ghost_name ≡ desk.old.keeper.ghost_name)
         × (desk.new.undo.ghost_name ≡ desk.old.undo.ghost_name) }
 {
-    match go_first(desk, &line, turn) {
-        Ok(()) => {}
-        Err(fault) => return Err(fault),
-    }
+    go_first(desk, &line, turn)?;
     obey(desk, line, turn, filters)
 }

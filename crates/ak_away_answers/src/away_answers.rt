@@ -117,10 +117,7 @@ fn answer_from_home<K: Keeper>(
     ensures listed { IfErr result (IsAnswerFault given.now.card) }
     ensures cause { DeskCause (K.health keeper.old) (K.health keeper.new) result }
 {
-    match send_home(keeper, steps, &[given.card], at) {
-        Ok(_) => {}
-        Err(fault) => return Err(fault),
-    }
+    send_home(keeper, steps, &[given.card], at)?;
     answer(keeper, steps, given, at)
 }
 

@@ -66,16 +66,11 @@ pub(crate) fn answer_early<K: Keeper>(
     ensures cause { DeskCause (K.health keeper.old) (K.health keeper.new) result }
 {
     let alloc = steps.allocator();
-    let name = match new_name(keeper, Table::Review, at) {
-        Ok(name) => name,
-        Err(fault) => return Err(fault),
-    };
+    let name = new_name(keeper, Table::Review, at)?;
     let early = read_early(alloc, keeper, asked, given, name.id)?;
     let change = change_of(alloc, &early)?;
-    match finish_cleared(change, keeper, steps, at) {
-        Ok(()) => Ok(early.made),
-        Err(fault) => Err(fault),
-    }
+    finish_cleared(change, keeper, steps, at)?;
+    Ok(early.made)
 }
 
 /// What an early answer puts.

@@ -41,17 +41,12 @@ pub fn add_deck<K: Keeper>(
     ensures cause { DeskCause (K.health keeper.old) (K.health keeper.new) result }
 {
     let alloc = steps.allocator();
-    let made = match read_addition(alloc, keeper, path, at) {
-        Ok(made) => made,
-        Err(fault) => return Err(fault),
-    };
+    let made = read_addition(alloc, keeper, path, at)?;
     let id = id_of_last(made.as_slice());
     let moved = List::new(alloc);
     let change = change_of(alloc, ChangedDecks { moved, made })?;
-    match change.finish(keeper, steps, at) {
-        Ok(()) => Ok(id),
-        Err(fault) => Err(fault),
-    }
+    change.finish(keeper, steps, at)?;
+    Ok(id)
 }
 
 /// The id of the last deck, 0 if there are none. Of the decks that are made for a path the last is that of the path itself.
@@ -80,10 +75,8 @@ fn read_addition<K: Keeper>(
     ensures listed { IfErr result IsPathFault }
     ensures cause { DeskCause (K.health keeper.old) (K.health keeper.new) result }
 {
-    match check_path(path) {
-        Ok(()) => make_decks(alloc, keeper, path, at),
-        Err(fault) => Err(fault),
-    }
+    check_path(path)?;
+    make_decks(alloc, keeper, path, at)
 }
 
 /// The decks that are made for a deck of this path, refused if a deck has it, and then if there are too few ids.
@@ -101,15 +94,9 @@ fn make_decks<K: Keeper>(
     ensures cause { DeskCause (K.health keeper.old) (K.health keeper.new) result }
 {
     let decks = read_decks(alloc, keeper)?;
-    match check_free(decks.as_slice(), path) {
-        Ok(()) => {}
-        Err(fault) => return Err(fault),
-    }
+    check_free(decks.as_slice(), path)?;
     let paths = added_paths(alloc, decks.as_slice(), path)?;
-    match new_decks(keeper, &paths, at) {
-        Ok(made) => Ok(made),
-        Err(fault) => Err(fault),
-    }
+    new_decks(keeper, &paths, at)
 }
 
 /// Refuses a path that one of the decks has: the fault names the first of them, which has the least id if the decks ascend.

@@ -100,15 +100,9 @@ fn move_tree<K: Keeper>(
     ensures cause { DeskCause (K.health keeper.old) (K.health keeper.new) result }
 {
     let alloc = steps.allocator();
-    let decks = match read_changed(alloc, keeper, change, at) {
-        Ok(decks) => decks,
-        Err(fault) => return Err(fault),
-    };
+    let decks = read_changed(alloc, keeper, change, at)?;
     let edit = change_of(alloc, decks)?;
-    match edit.finish(keeper, steps, at) {
-        Ok(()) => Ok(()),
-        Err(fault) => Err(fault),
-    }
+    edit.finish(keeper, steps, at)
 }
 
 /// The decks that the call puts, refused for the first of its tests that holds.
@@ -127,10 +121,8 @@ fn read_changed<K: Keeper>(
     ensures listed { IfErr result IsPathFault }
     ensures cause { DeskCause (K.health keeper.old) (K.health keeper.new) result }
 {
-    match check_path(change.new) {
-        Ok(()) => move_decks(alloc, keeper, change, at),
-        Err(fault) => Err(fault),
-    }
+    check_path(change.new)?;
+    move_decks(alloc, keeper, change, at)
 }
 
 /// The decks that the call puts, refused if a new path is in use, and then if there are too few ids.
@@ -150,15 +142,10 @@ fn move_decks<K: Keeper>(
 {
     let decks = read_decks(alloc, keeper)?;
     let moved = moved_decks(alloc, decks.as_slice(), change.old, change.new)?;
-    match check_place(decks.as_slice(), moved.as_slice(), change) {
-        Ok(()) => {}
-        Err(fault) => return Err(fault),
-    }
+    check_place(decks.as_slice(), moved.as_slice(), change)?;
     let paths = missing_above(alloc, decks.as_slice(), change.new)?;
-    match new_decks(keeper, &paths, at) {
-        Ok(made) => Ok(ChangedDecks { moved, made }),
-        Err(fault) => Err(fault),
-    }
+    let made = new_decks(keeper, &paths, at)?;
+    Ok(ChangedDecks { moved, made })
 }
 
 /// Refuses new paths one of which a deck outside the subtree has, and then a new path below the old one.

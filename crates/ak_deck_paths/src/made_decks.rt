@@ -30,10 +30,7 @@ pub fn new_decks<K: Keeper>(
     let mut decks = List::new(alloc);
     let mut first = first_name(Table::Deck, at);
     for path in paths.as_slice() {
-        let name = match next_free(keeper, first) {
-            Ok(name) => name,
-            Err(fault) => return Err(fault),
-        };
+        let name = next_free(keeper, first)?;
         let deck = new_deck(alloc, path, name)?;
         decks.push(deck)?;
         first = name.next();

@@ -41,10 +41,8 @@ pub fn use_options<K: Keeper>(
         id: used.options,
     };
     let row = held_row(keeper, deck)?;
-    match held_row(keeper, options) {
-        Ok(group) => drop(group),
-        Err(fault) => return Err(fault),
-    }
+    let group = held_row(keeper, options)?;
+    drop(group);
     edit_row(keeper, steps, with_options(row, options), at)
 }
 

@@ -187,10 +187,7 @@ fn type_with_maps_of(alloc: Global, value: &Value) -> Result<TypeAndMaps, LineFa
 {
     check_parts(alloc, value)?;
     let note_type = note_type_of(alloc, part_of(0, value))?;
-    match with_maps(alloc, note_type, value) {
-        Ok(made) => Ok(made),
-        Err(fault) => Err(fault),
-    }
+    with_maps(alloc, note_type, value)
 }
 
 /// Refuses a value that is no array of three.

@@ -38,10 +38,7 @@ fn filter_plan_of(alloc: Global, value: &Value) -> Result<FilterPlan, LineFault>
     ensures err { IfErr result (OrMemory (RefusesFilterPlan (view value.now))) }
 {
     check_four(alloc, value)?;
-    match entries_of(alloc, value) {
-        Ok(made) => Ok(made),
-        Err(fault) => Err(fault),
-    }
+    entries_of(alloc, value)
 }
 
 /// Refuses a value that is no array of four.

@@ -71,10 +71,7 @@ pub(crate) fn ask_next<K: Keeper>(
         × (desk.new.undo.ghost_name ≡ desk.old.undo.ghost_name) }
 {
     let alloc = desk.undo.allocator();
-    let day = match start_on(desk, turn.at) {
-        Ok(day) => day,
-        Err(fault) => return Err(fault),
-    };
+    let day = start_on(desk, turn.at)?;
     let progress = Progress {
         day,
         done: turn.done,
@@ -106,10 +103,7 @@ pub(crate) fn ask_counts<K: Keeper>(
         × (desk.new.undo.ghost_name ≡ desk.old.undo.ghost_name) }
 {
     let alloc = desk.undo.allocator();
-    let day = match start_on(desk, turn.at) {
-        Ok(day) => day,
-        Err(fault) => return Err(fault),
-    };
+    let day = start_on(desk, turn.at)?;
     asked_counts(counts(alloc, desk.keeper, deck, day))
 }
 
@@ -147,10 +141,8 @@ fn start_on<K: Keeper>(desk: &mut Desk<K>, at: i64) -> Result<Day, DeskFault>
         Ok(day) => day,
         Err(fault) => return Err(DeskFault::from(fault)),
     };
-    match desk.start_day(at) {
-        Ok(()) => Ok(day),
-        Err(fault) => Err(fault),
-    }
+    desk.start_day(at)?;
+    Ok(day)
 }
 
 /// The day of a moment in milliseconds, for the collection that is held.

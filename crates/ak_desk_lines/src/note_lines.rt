@@ -71,10 +71,8 @@ pub(crate) fn set_fields<K: Keeper>(
         × (desk.new.undo.ghost_name ≡ desk.old.undo.ghost_name) }
 {
     let alloc = desk.undo.allocator();
-    match fields_edit(alloc, desk.keeper, note, fields) {
-        Ok(given) => finished(desk.edit_note(&given, turn.at)),
-        Err(fault) => Err(fault),
-    }
+    let given = fields_edit(alloc, desk.keeper, note, fields)?;
+    finished(desk.edit_note(&given, turn.at))
 }
 
 /// The edit that gives a note other fields.
@@ -114,10 +112,8 @@ pub(crate) fn set_tags<K: Keeper>(
         × (desk.new.undo.ghost_name ≡ desk.old.undo.ghost_name) }
 {
     let alloc = desk.undo.allocator();
-    match tags_edit(alloc, desk.keeper, note, tags) {
-        Ok(given) => finished(desk.edit_note(&given, turn.at)),
-        Err(fault) => Err(fault),
-    }
+    let given = tags_edit(alloc, desk.keeper, note, tags)?;
+    finished(desk.edit_note(&given, turn.at))
 }
 
 /// The edit that gives a note other tags.

@@ -148,10 +148,10 @@ fn run_line<K: Keeper, C: Clock, R: Chance, I: Source, O: Sink>(
     };
     match obey_line(progress, &line, keeper, clock, chance, filters) {
         Ok(None) => Ok(true),
-        Ok(Some(answer)) => match print_answer(progress.alloc, &answer, out) {
-            Ok(()) => Ok(true),
-            Err(end) => Err(end),
-        },
+        Ok(Some(answer)) => {
+            print_answer(progress.alloc, &answer, out)?;
+            Ok(true)
+        }
         Err(LineStop::Refused(why)) => Err(print_refused(
             progress.alloc,
             reader.number(),

@@ -47,10 +47,8 @@ pub(crate) fn obey_line<K: Keeper, C: Clock, R: Chance>(
         Ok(text) => text,
         Err(why) => return Err(stop_by(progress.alloc, why)),
     };
-    match obey_text(progress, text, turn, keeper, filters) {
-        Ok(answer) => Ok(Some(answer)),
-        Err(stop) => Err(stop),
-    }
+    let answer = obey_text(progress, text, turn, keeper, filters)?;
+    Ok(Some(answer))
 }
 
 /// Does what a text says, in its turn.

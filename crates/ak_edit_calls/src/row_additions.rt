@@ -32,9 +32,6 @@ pub fn add_row<K: Keeper>(
     ensures cause { DeskCause (K.health keeper.old) (K.health keeper.new) result }
 {
     let id = row.name().id;
-    match edit_row(keeper, steps, row, at) {
-        Ok(()) => {}
-        Err(fault) => return Err(fault),
-    }
+    edit_row(keeper, steps, row, at)?;
     Ok(id)
 }

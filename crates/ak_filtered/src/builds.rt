@@ -48,10 +48,7 @@ pub fn build<K: Keeper>(
     ensures cause { FilteredCause (K.health keeper.old) (K.health keeper.new) result }
 {
     let alloc = steps.allocator();
-    let planned = match read_plan(alloc, keeper, deck) {
-        Ok(planned) => planned,
-        Err(fault) => return Err(fault),
-    };
+    let planned = read_plan(alloc, keeper, deck)?;
     let filled = match fill(alloc, keeper, deck, &planned, at) {
         Ok(filled) => filled,
         Err(fault) => return Err(FilteredFault::from(fault)),
@@ -83,10 +80,7 @@ fn read_plan<K: Keeper>(alloc: Global, keeper: &mut K, id: i64) -> Result<ReadPl
     ensures listed { IfErr result (IsPlanFault id) }
     ensures cause { FilteredCause (K.health keeper.old) (K.health keeper.new) result }
 {
-    let deck = match filtered_deck(keeper, id) {
-        Ok(deck) => deck,
-        Err(fault) => return Err(fault),
-    };
+    let deck = filtered_deck(keeper, id)?;
     let Some(plan) = Plan::of_deck(alloc, &deck)? else {
         return Err(FilteredFault::BadPlan(id));
     };

@@ -28,11 +28,7 @@ pub fn finish_cleared<K: Keeper>(
     ensures known { WhereHeld (K.keeping keeper.old) IsHeldRightly }
     ensures cause { DeskCause (K.health keeper.old) (K.health keeper.new) result }
 {
-    match change.finish(keeper, steps, at) {
-        Ok(()) => {
-            steps.clear();
-            Ok(())
-        }
-        Err(fault) => Err(fault),
-    }
+    change.finish(keeper, steps, at)?;
+    steps.clear();
+    Ok(())
 }

@@ -56,10 +56,7 @@ pub fn make_filtered<K: Keeper>(
     ensures cause { FilteredCause (K.health keeper.old) (K.health keeper.new) result }
 {
     let alloc = steps.allocator();
-    let decks = match read_making(alloc, keeper, given, at) {
-        Ok(decks) => decks,
-        Err(fault) => return Err(fault),
-    };
+    let decks = read_making(alloc, keeper, given, at)?;
     let id = id_of_last(decks.as_slice());
     let mut change = Change::new(alloc);
     put_decks(&mut change, decks.into_vec())?;
@@ -88,10 +85,7 @@ fn read_making<K: Keeper>(
         Err(fault) => return Err(FilteredFault::from(fault)),
     }
     let decks = read_decks(alloc, keeper)?;
-    let plan = match check_given(alloc, decks.as_slice(), given) {
-        Ok(plan) => plan,
-        Err(fault) => return Err(fault),
-    };
+    let plan = check_given(alloc, decks.as_slice(), given)?;
     let paths = added_paths(alloc, decks.as_slice(), given.path)?;
     match new_decks(keeper, &paths, at) {
         Ok(made) => {

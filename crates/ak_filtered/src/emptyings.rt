@@ -44,10 +44,7 @@ pub fn empty<K: Keeper>(
     ensures listed { IfErr result (IsEmptyFault deck) }
     ensures cause { FilteredCause (K.health keeper.old) (K.health keeper.new) result }
 {
-    match filtered_deck(keeper, deck) {
-        Ok(held) => drop(held),
-        Err(fault) => return Err(fault),
-    }
+    filtered_deck(keeper, deck)?;
     match empty_deck(keeper, steps, deck, at) {
         Ok(count) => Ok(count),
         Err(fault) => Err(FilteredFault::from(fault)),
@@ -90,10 +87,7 @@ fn empty_each<K: Keeper>(
     ensures cause { DeskCause (K.health keeper.old) (K.health keeper.new) result }
 {
     for deck in decks.into_vec() {
-        match empty_deck(keeper, steps, deck.id, at) {
-            Ok(_) => {}
-            Err(fault) => return Err(fault),
-        }
+        empty_deck(keeper, steps, deck.id, at)?;
     }
     Ok(())
 }
@@ -158,10 +152,8 @@ fn empty_deck<K: Keeper>(
     let mut change = Change::new(alloc);
     put_emptied(alloc, keeper, &mut change, deck)?;
     let away = read_away(alloc, keeper, deck)?;
-    match finish_cleared(change, keeper, steps, at) {
-        Ok(()) => Ok(away.as_slice().len() as u64),
-        Err(fault) => Err(fault),
-    }
+    finish_cleared(change, keeper, steps, at)?;
+    Ok(away.as_slice().len() as u64)
 }
 
 /// Puts the cards that go home from this deck.

@@ -41,10 +41,8 @@ pub fn send_home<K: Keeper>(
     if !went {
         return Ok(false);
     }
-    match finish_cleared(change, keeper, steps, at) {
-        Ok(()) => Ok(true),
-        Err(fault) => Err(fault),
-    }
+    finish_cleared(change, keeper, steps, at)?;
+    Ok(true)
 }
 
 /// An edit that sends cards home, and whether any was away.

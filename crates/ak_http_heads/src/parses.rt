@@ -31,8 +31,6 @@ pub fn parse(routes: &Router<Method>, bytes: &[u8]) -> Result<Option<Head>, Refu
     if request.headers.len() > MOST_FIELDS {
         return Err(Refusal::Head);
     }
-    match read_fields(routes, method, target, request.headers) {
-        Ok(head) => Ok(Some(head)),
-        Err(why) => Err(why),
-    }
+    let head = read_fields(routes, method, target, request.headers)?;
+    Ok(Some(head))
 }

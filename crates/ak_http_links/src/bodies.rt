@@ -26,10 +26,8 @@ pub(crate) fn receive_body<L: Link>(
     let mut body = Vec::with_capacity(alloc, size)?;
     while body.as_slice().len() < size {
         let missing = size - body.as_slice().len();
-        match receive_piece(link, &mut body, missing) {
-            Ok(0) => return Err(RequestFault::Refused(Refusal::Cut)),
-            Ok(_count) => {}
-            Err(fault) => return Err(fault),
+        if receive_piece(link, &mut body, missing)? == 0 {
+            return Err(RequestFault::Refused(Refusal::Cut));
         }
     }
     Ok(List::of(body))

@@ -33,10 +33,7 @@ pub fn receive_request<L: Link>(alloc: Global, link: &mut L) -> Result<Request, 
         Ok(head) => head,
         Err(fault) => return Err(RequestFault::from(fault)),
     };
-    let body = match receive_body(alloc, link, head.length) {
-        Ok(body) => body,
-        Err(fault) => return Err(fault),
-    };
+    let body = receive_body(alloc, link, head.length)?;
     request_of(alloc, &head, body.as_slice())
 }
 

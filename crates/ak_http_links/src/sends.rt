@@ -15,11 +15,11 @@ pub(crate) fn send_all<L: Link>(link: &mut L, bytes: &[u8]) -> Result<(), Failed
 {
     let mut rest = bytes;
     while !rest.is_empty() {
-        match link.send(rest) {
-            Ok(0) => return Err(Failed),
-            Ok(count) => rest = &rest[count..],
-            Err(Failed) => return Err(Failed),
+        let count = link.send(rest)?;
+        if count == 0 {
+            return Err(Failed);
         }
+        rest = &rest[count..];
     }
     Ok(())
 }

@@ -100,15 +100,13 @@ pub fn put_notes<K: Keeper>(
     keeper.back();
     let Work { change, guids } = work;
     drop(guids);
-    match taken {
-        Ok(counts) => match change.finish(keeper, steps, at) {
-            Ok(()) => Ok(counts),
-            Err(fault) => Err(NotesFault {
-                at_record: 0,
-                fault,
-            }),
-        },
-        Err(fault) => Err(fault),
+    let counts = taken?;
+    match change.finish(keeper, steps, at) {
+        Ok(()) => Ok(counts),
+        Err(fault) => Err(NotesFault {
+            at_record: 0,
+            fault,
+        }),
     }
 }
 

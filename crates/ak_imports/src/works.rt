@@ -87,10 +87,7 @@ fn add_note<K: Keeper>(
     ensures cause { DeskCause (K.health keeper.old) (K.health keeper.new) result }
 {
     let new = new_note(arrival, note_record);
-    let made = match read_addition(keeper, &new, arrival.at) {
-        Ok(made) => made,
-        Err(fault) => return Err(fault),
-    };
+    let made = read_addition(keeper, &new, arrival.at)?;
     let guid = made.note.guid.copy()?;
     let id = made.note.id;
     let taken = Taken {
@@ -160,10 +157,7 @@ fn update_note<K: Keeper>(
     // For the proof alone: they say that what the keeper tells is well formed.
     let _checks = keeper.marked();
     let _formed = keeper.held();
-    let made = match read_edit(keeper, edit, arrival.at) {
-        Ok(made) => made,
-        Err(fault) => return Err(fault),
-    };
+    let made = read_edit(keeper, edit, arrival.at)?;
     let taken = Taken {
         at: arrival.at,
         is_new: false,

@@ -45,10 +45,7 @@ pub fn open<D: Disk + Drop>(alloc: Global, disk: D) -> Result<JournalKeeper<D>, 
     ensures cause { IfErr result (λ refused. refused.0 ≡ JournalFault.Failed → Rose (D.health disk) (D.health refused.1)) }
     ensures calm { IfOk result (λ keeper. D.health keeper.tables.disk ≡ D.health disk) }
 {
-    let opened = match ak_journals::open(alloc, disk) {
-        Ok(opened) => opened,
-        Err(refused) => return Err(refused),
-    };
+    let opened = ak_journals::open(alloc, disk)?;
     let Opened { journal, payloads } = opened;
     match collection_of(alloc, payloads.as_slice()) {
         Ok(memory) => ready_keeper(alloc, journal, memory),

@@ -78,13 +78,9 @@ fn read_field(alloc: Global, value: &Value) -> Result<FieldDef, JsonFault>
     ensures ok { IfOk result (λ field. field_of field ≡ field_in (view value.now)) }
     ensures err { IfErr result (λ fault. fault ≡ faults.Memory) }
 {
-    match read_rest(alloc, &FIELD, value) {
-        Ok(rest) => {
-            let name = text_at(alloc, &FIELD, 0, value)?;
-            Ok(FieldDef { name, rest })
-        },
-        Err(fault) => Err(fault),
-    }
+    let rest = read_rest(alloc, &FIELD, value)?;
+    let name = text_at(alloc, &FIELD, 0, value)?;
+    Ok(FieldDef { name, rest })
 }
 
 /// The templates of the list in a column of a note type.
@@ -122,20 +118,16 @@ fn read_template(alloc: Global, value: &Value) -> Result<CardTemplate, JsonFault
     ensures ok { IfOk result (λ template. template_of template ≡ template_in (view value.now)) }
     ensures err { IfErr result (λ fault. fault ≡ faults.Memory) }
 {
-    match read_rest(alloc, &TEMPLATE, value) {
-        Ok(rest) => {
-            let name = text_at(alloc, &TEMPLATE, 0, value)?;
-            let front = text_at(alloc, &TEMPLATE, 1, value)?;
-            let back = text_at(alloc, &TEMPLATE, 2, value)?;
-            Ok(CardTemplate {
-                name,
-                front,
-                back,
-                rest,
-            })
-        },
-        Err(fault) => Err(fault),
-    }
+    let rest = read_rest(alloc, &TEMPLATE, value)?;
+    let name = text_at(alloc, &TEMPLATE, 0, value)?;
+    let front = text_at(alloc, &TEMPLATE, 1, value)?;
+    let back = text_at(alloc, &TEMPLATE, 2, value)?;
+    Ok(CardTemplate {
+        name,
+        front,
+        back,
+        rest,
+    })
 }
 
 /// The object of a note type.

@@ -26,12 +26,10 @@ pub fn read_row(alloc: Global, table: Table, value: &Value) -> Result<Row, JsonF
     ensures ok { IfOk result (ReadsRow table (view value.now)) }
     ensures refused { IfErr result (RefusesRow table (view value.now)) }
 {
-    match form_row(alloc, table, value) {
-        Ok(row) => match check_stored(table, value, &row) {
-            Ok(()) => Ok(kept_row(alloc, value, row)?),
-            Err(fault) => Err(JsonFault::Row(fault)),
-        },
-        Err(fault) => Err(fault),
+    let row = form_row(alloc, table, value)?;
+    match check_stored(table, value, &row) {
+        Ok(()) => Ok(kept_row(alloc, value, row)?),
+        Err(fault) => Err(JsonFault::Row(fault)),
     }
 }
 

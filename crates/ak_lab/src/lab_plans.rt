@@ -92,10 +92,7 @@ impl Lab {
         let Some(place) = place_of(self.devices.as_slice(), name) else {
             return Err(no_device(self.alloc, name));
         };
-        match requests_of(self.alloc, &self.server, again) {
-            Ok(_) => {}
-            Err(stop) => return Err(stop),
-        }
+        requests_of(self.alloc, &self.server, again)?;
         let planned = Planned {
             call,
             line: self.server.line(),
@@ -160,10 +157,7 @@ impl Lab {
         ensures ends { CameOut (lines.Resend again.from again.count) (state_of self.old) (state_of self.new) result }
         ensures ready { IsReady (state_of self.new) }
     {
-        let requests = match requests_of(self.alloc, &self.server, again) {
-            Ok(requests) => requests,
-            Err(stop) => return Err(stop),
-        };
+        let requests = requests_of(self.alloc, &self.server, again)?;
         match answer_each(
             self.alloc,
             &mut self.server,
@@ -197,13 +191,8 @@ fn set_break(alloc: Global, device: &mut Device) -> Result<(), Memory>
     ensures ok { OnOk result (device.new ≡ with_break device.old) }
     ensures err { OnErr result (device.new ≡ device.old) }
 {
-    match first_call(alloc) {
-        Ok(fails) => {
-            device.fails = fails;
-            Ok(())
-        }
-        Err(end) => Err(end),
-    }
+    device.fails = first_call(alloc)?;
+    Ok(())
 }
 
 /// The first call of a keeper, alone.
@@ -243,10 +232,7 @@ fn answer_each(
 {
     let mut printed = List::new(alloc);
     for request in requests {
-        match answer_one(alloc, server, request, at, &mut printed) {
-            Ok(()) => {}
-            Err(end) => return Err(end),
-        }
+        answer_one(alloc, server, request, at, &mut printed)?;
     }
     Ok(printed)
 }
@@ -263,10 +249,8 @@ fn answer_one(
     ensures ok { OnOk result (AnswersOne request.now at server.old server.new printed.old printed.new) }
     ensures err { OnErr result ((came : ActEnd) × ServesFront (request.now ∷ []) at server.old server.new came) }
 {
-    match server.serve(request, at) {
-        Ok(reply) => tell(alloc, &reply, printed),
-        Err(end) => Err(end),
-    }
+    let reply = server.serve(request, at)?;
+    tell(alloc, &reply, printed)
 }
 
 /// Adds the status and the word of a reply to what is printed.

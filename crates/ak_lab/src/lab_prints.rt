@@ -18,8 +18,6 @@ pub(crate) enum LabPrint {
 pub(crate) fn as_lines(came: Result<List<Text>, LabStop>) -> Result<LabPrint, LabStop>
     ensures { printed_by result ≡ came }
 {
-    match came {
-        Ok(lines) => Ok(LabPrint::Lines(lines)),
-        Err(stop) => Err(stop),
-    }
+    let lines = came?;
+    Ok(LabPrint::Lines(lines))
 }

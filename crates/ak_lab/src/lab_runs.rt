@@ -217,10 +217,7 @@ fn print_each<O: Sink>(lines: &[Text], out: &mut O) -> Result<(), Failed>
     ensures cause { HasCause (O.health out.old) (O.health out.new) result }
 {
     for line in lines {
-        match print_line(out, line.as_str().as_bytes()) {
-            Ok(()) => {}
-            Err(Failed) => return Err(Failed),
-        }
+        print_line(out, line.as_str().as_bytes())?;
     }
     Ok(())
 }

@@ -40,10 +40,7 @@ pub(crate) fn new_reviews<K: Keeper>(
     let mut first = start;
     let mut left = plan.count;
     'reviews: while left > 0 {
-        let name = match next_free(keeper, first) {
-            Ok(name) => name,
-            Err(fault) => return Err(fault),
-        };
+        let name = next_free(keeper, first)?;
         reviews.push(new_review(plan, name.id))?;
         first = name.next();
         left -= 1;

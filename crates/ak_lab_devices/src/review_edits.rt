@@ -29,10 +29,7 @@ pub fn add_reviews<K: Keeper>(
     ensures cause { DeskCause (K.health keeper.old) (K.health keeper.new) result }
 {
     let alloc = steps.allocator();
-    let reviews = match new_reviews(keeper, alloc, plan, first_name(Table::Review, at)) {
-        Ok(reviews) => reviews,
-        Err(fault) => return Err(fault),
-    };
+    let reviews = new_reviews(keeper, alloc, plan, first_name(Table::Review, at))?;
     let mut change = Change::new(alloc);
     put_reviews(&mut change, reviews)?;
     change.finish(keeper, steps, at)

@@ -72,10 +72,7 @@ fn come_due(
         server.old server.new result }
 {
     for it in planned {
-        match lab.come_if_due(it, call, session, server) {
-            Ok(()) => {}
-            Err(end) => return Err(end),
-        }
+        lab.come_if_due(it, call, session, server)?;
     }
     Ok(())
 }
@@ -135,11 +132,7 @@ impl CrossedLab {
         let Some((place, at)) = self.place_to_cross(name, session) else {
             return Err(Memory);
         };
-        let prepared = prepare(self.alloc, at, self.devices[place].planned.as_slice());
-        let prepared = match prepared {
-            Ok(prepared) => prepared,
-            Err(end) => return Err(end),
-        };
+        let prepared = prepare(self.alloc, at, self.devices[place].planned.as_slice())?;
         let outcome = self.run_prepared(place, prepared, line, server);
         self.tell(name, &outcome)
     }
@@ -199,10 +192,8 @@ impl CrossedLab {
     fn tell(&mut self, name: &Text, outcome: &Outcome) -> Result<(), Memory>
         ensures { TellsCrossed name.now outcome.now (cross_state self.old) (cross_state self.new) result }
     {
-        match written(self.alloc, name, outcome) {
-            Ok(line) => self.printed.push(line),
-            Err(end) => Err(end),
-        }
+        let line = written(self.alloc, name, outcome)?;
+        self.printed.push(line)
     }
 }
 

@@ -81,10 +81,7 @@ pub fn serve_each(server: &mut LoggedServer, requests: &[Request], at: i64) -> R
     ensures { ServesFront requests.now at server.old server.new result }
 {
     for request in requests {
-        match server.serve(request, at) {
-            Ok(_) => {}
-            Err(end) => return Err(end),
-        }
+        server.serve(request, at)?;
     }
     Ok(())
 }

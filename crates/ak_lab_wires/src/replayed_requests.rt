@@ -55,10 +55,7 @@ fn replay_due(
     ensures { InTurn ReplaysOne (due call planned.now) at at server.old server.new result }
 {
     for it in planned {
-        match replay_if_due(alloc, it, call, at, server) {
-            Ok(()) => {}
-            Err(end) => return Err(end),
-        }
+        replay_if_due(alloc, it, call, at, server)?;
     }
     Ok(())
 }
@@ -118,11 +115,8 @@ pub(crate) fn replay(
         return Err(Memory);
     }
     // The copies come first: what is served grows the log.
-    let named = requests_named(alloc, server.entries(), again.from, again.count);
-    match named {
-        Ok(requests) => serve_with_line(requests.as_slice(), again.line, at, server),
-        Err(end) => Err(end),
-    }
+    let requests = requests_named(alloc, server.entries(), again.from, again.count)?;
+    serve_with_line(requests.as_slice(), again.line, at, server)
 }
 
 /// Serves these requests at this moment, and writes them down with this line.

@@ -63,10 +63,7 @@ fn answer_cards<K: Keeper>(
 {
     let count = answer_count(plan.size.notes);
     for number in 0..count {
-        match answer_one(keeper, undo, plan, number) {
-            Ok(()) => {}
-            Err(fault) => return Err(fault),
-        }
+        answer_one(keeper, undo, plan, number)?;
     }
     Ok(())
 }
@@ -147,10 +144,7 @@ fn add_notes<K: Keeper>(
     ensures cause { DeskCause (K.health keeper.old) (K.health keeper.new) result }
 {
     for number in 0..NEW_NOTES {
-        match add_one(keeper, undo, plan, number) {
-            Ok(()) => {}
-            Err(fault) => return Err(fault),
-        }
+        add_one(keeper, undo, plan, number)?;
     }
     Ok(())
 }

@@ -67,17 +67,12 @@ pub fn add_note<K: Keeper>(
     ensures listed { IfErr result (IsAddFault new.now) }
     ensures cause { DeskCause (K.health keeper.old) (K.health keeper.new) result }
 {
-    let made = match read_addition(keeper, new, at) {
-        Ok(made) => made,
-        Err(fault) => return Err(fault),
-    };
+    let made = read_addition(keeper, new, at)?;
     let added = added_of(steps.allocator(), &made)?;
     let mut change = Change::new(steps.allocator());
     put_made(&mut change, made, &new.tags)?;
-    match change.finish(keeper, steps, at) {
-        Ok(()) => Ok(added),
-        Err(fault) => Err(fault),
-    }
+    change.finish(keeper, steps, at)?;
+    Ok(added)
 }
 
 /// The ids of the note and of its cards.
@@ -111,10 +106,8 @@ pub fn read_addition<K: Keeper>(
     ensures listed { IfErr result (IsAddFault new.now) }
     ensures cause { DeskCause (K.health keeper.old) (K.health keeper.new) result }
 {
-    match held_type(keeper, new.note_type) {
-        Ok(note_type) => read_for_type(keeper, &note_type, new, at),
-        Err(fault) => Err(fault),
-    }
+    let note_type = held_type(keeper, new.note_type)?;
+    read_for_type(keeper, &note_type, new, at)
 }
 
 /// The note type of this id, refused if it is not held.
@@ -150,13 +143,9 @@ fn read_for_type<K: Keeper>(
     ensures listed { IfErr result (IsAddFault new.now) }
     ensures cause { DeskCause (K.health keeper.old) (K.health keeper.new) result }
 {
-    match held_deck(keeper, new.deck) {
-        Ok(deck) => {
-            drop(deck);
-            read_for_deck(keeper, note_type, new, at)
-        }
-        Err(fault) => Err(fault),
-    }
+    let deck = held_deck(keeper, new.deck)?;
+    drop(deck);
+    read_for_deck(keeper, note_type, new, at)
 }
 
 /// The deck of this id, refused if it is not held.
@@ -192,10 +181,8 @@ fn read_for_deck<K: Keeper>(
     ensures listed { IfErr result IsMakingFault }
     ensures cause { DeskCause (K.health keeper.old) (K.health keeper.new) result }
 {
-    match check_given(note_type, &new.fields, &new.tags) {
-        Ok(()) => make_addition(keeper, note_type, new, at),
-        Err(fault) => Err(fault),
-    }
+    check_given(note_type, &new.fields, &new.tags)?;
+    make_addition(keeper, note_type, new, at)
 }
 
 /// What is made of the note, refused if there is no id for it.
@@ -213,10 +200,8 @@ fn make_addition<K: Keeper>(
     ensures listed { IfErr result IsMakingFault }
     ensures cause { DeskCause (K.health keeper.old) (K.health keeper.new) result }
 {
-    match new_name(keeper, Table::Note, at) {
-        Ok(name) => make_named(keeper, &Making { note_type, new, at }, name),
-        Err(fault) => Err(fault),
-    }
+    let name = new_name(keeper, Table::Note, at)?;
+    make_named(keeper, &Making { note_type, new, at }, name)
 }
 
 /// A note that is to be added, its type, and the moment.
@@ -237,14 +222,12 @@ fn make_named<K: Keeper>(keeper: &mut K, making: &Making, name: Name) -> Result<
     ensures listed { IfErr result IsMakingFault }
     ensures cause { DeskCause (K.health keeper.old) (K.health keeper.new) result }
 {
-    match told_ords(
+    let told = told_ords(
         making.new.fields.allocator(),
         making.note_type,
         &making.new.fields,
-    ) {
-        Ok(told) => make_told(keeper, making, name, told),
-        Err(fault) => Err(fault),
-    }
+    )?;
+    make_told(keeper, making, name, told)
 }
 
 /// What is made of the note under this name whose cards have these ords, refused if there are too few ids for them.
@@ -268,14 +251,10 @@ fn make_told<K: Keeper>(
     let place = place_for(making.new, name, &before);
     let note = note_of(alloc, making.note_type, making.new, name)?;
     let start = first_name(Table::Card, making.at);
-    match new_cards(keeper, &ords, place, start) {
-        Ok(made) => {
-            let cards = made.cards;
-            let conf = conf_after(cards.as_slice(), before);
-            Ok(MadeNote { note, cards, conf })
-        }
-        Err(fault) => Err(fault),
-    }
+    let made = new_cards(keeper, &ords, place, start)?;
+    let cards = made.cards;
+    let conf = conf_after(cards.as_slice(), before);
+    Ok(MadeNote { note, cards, conf })
 }
 
 /// The place of the cards of the note of this name.

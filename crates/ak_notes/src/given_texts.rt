@@ -19,10 +19,8 @@ pub(crate) fn check_given(
     ensures names { OnOk result (AllByRecursion IsTagName tags.now) }
     ensures listed { IfErr result IsGivenFault }
 {
-    match check_count(note_type, fields) {
-        Ok(()) => check_texts(fields, tags),
-        Err(fault) => Err(fault),
-    }
+    check_count(note_type, fields)?;
+    check_texts(fields, tags)
 }
 
 /// Tests that there are as many fields as the type has.

@@ -70,19 +70,15 @@ pub fn missing_cards<K: Keeper>(
     let ords = lacked_ords(lacking)?;
     let place = missing_place(lacking, &next);
     let NextCards { first, conf } = next;
-    match new_cards(keeper, &ords, place, first) {
-        Ok(made) => {
-            let conf = conf_after(made.cards.as_slice(), conf);
-            Ok(MissingCards {
-                cards: made.cards,
-                next: NextCards {
-                    first: made.next,
-                    conf,
-                },
-            })
-        }
-        Err(fault) => Err(fault),
-    }
+    let made = new_cards(keeper, &ords, place, first)?;
+    let conf = conf_after(made.cards.as_slice(), conf);
+    Ok(MissingCards {
+        cards: made.cards,
+        next: NextCards {
+            first: made.next,
+            conf,
+        },
+    })
 }
 
 /// The ords of the cards that the note lacks.

@@ -81,10 +81,7 @@ pub(crate) fn new_cards<K: Keeper>(
     let mut cards = List::new(alloc);
     let mut first = start;
     for ord in ords.as_slice() {
-        let name = match next_free(keeper, first) {
-            Ok(name) => name,
-            Err(fault) => return Err(fault),
-        };
+        let name = next_free(keeper, first)?;
         let card = new_card(alloc, place, *ord, name)?;
         cards.push(card)?;
         first = name.next();

@@ -55,10 +55,7 @@ pub fn edit_note<K: Keeper>(
     ensures listed { IfErr result (IsNoteEditFault given.now) }
     ensures cause { DeskCause (K.health keeper.old) (K.health keeper.new) result }
 {
-    let made = match read_edit(keeper, given, at) {
-        Ok(made) => made,
-        Err(fault) => return Err(fault),
-    };
+    let made = read_edit(keeper, given, at)?;
     let mut change = Change::new(steps.allocator());
     put_made(&mut change, made, &given.tags)?;
     change.finish(keeper, steps, at)
@@ -80,10 +77,8 @@ pub fn read_edit<K: Keeper>(
     ensures listed { IfErr result (IsNoteEditFault given.now) }
     ensures cause { DeskCause (K.health keeper.old) (K.health keeper.new) result }
 {
-    match held_note(keeper, given.note) {
-        Ok(note) => read_for_note(keeper, note, given, at),
-        Err(fault) => Err(fault),
-    }
+    let note = held_note(keeper, given.note)?;
+    read_for_note(keeper, note, given, at)
 }
 
 /// The note of this id, refused if it is not held.
@@ -119,17 +114,13 @@ fn read_for_note<K: Keeper>(
     ensures listed { IfErr result (IsNoteEditFault given.now) }
     ensures cause { DeskCause (K.health keeper.old) (K.health keeper.new) result }
 {
-    match held_type_of(keeper, &note) {
-        Ok(note_type) => {
-            let editing = Editing {
-                note_type: &note_type,
-                given,
-                at,
-            };
-            read_for_type(keeper, &editing, note)
-        }
-        Err(fault) => Err(fault),
-    }
+    let note_type = held_type_of(keeper, &note)?;
+    let editing = Editing {
+        note_type: &note_type,
+        given,
+        at,
+    };
+    read_for_type(keeper, &editing, note)
 }
 
 /// The type of the note, refused if it is not held.
@@ -172,14 +163,12 @@ fn read_for_type<K: Keeper>(
     ensures listed { IfErr result IsMakingFault }
     ensures cause { DeskCause (K.health keeper.old) (K.health keeper.new) result }
 {
-    match check_given(
+    check_given(
         editing.note_type,
         &editing.given.fields,
         &editing.given.tags,
-    ) {
-        Ok(()) => make_edit(keeper, editing, note),
-        Err(fault) => Err(fault),
-    }
+    )?;
+    make_edit(keeper, editing, note)
 }
 
 /// What is made of this note for its type, refused if a front is no template.
@@ -196,14 +185,12 @@ fn make_edit<K: Keeper>(
     ensures listed { IfErr result IsMakingFault }
     ensures cause { DeskCause (K.health keeper.old) (K.health keeper.new) result }
 {
-    match told_ords(
+    let shown = told_ords(
         editing.given.fields.allocator(),
         editing.note_type,
         &editing.given.fields,
-    ) {
-        Ok(shown) => make_shown(keeper, editing, note, shown),
-        Err(fault) => Err(fault),
-    }
+    )?;
+    make_shown(keeper, editing, note, shown)
 }
 
 /// What is made of this note, which shows cards of these ords, refused if too few ids are free for those that it lacks.
@@ -230,14 +217,12 @@ fn make_shown<K: Keeper>(
         &editing.given.fields,
         &editing.given.tags,
     )?;
-    match missing_cards(keeper, &lacking, next) {
-        Ok(made) => Ok(MadeNote {
-            note: changed,
-            cards: made.cards,
-            conf: made.next.conf,
-        }),
-        Err(fault) => Err(fault),
-    }
+    let made = missing_cards(keeper, &lacking, next)?;
+    Ok(MadeNote {
+        note: changed,
+        cards: made.cards,
+        conf: made.next.conf,
+    })
 }
 
 /// The note of this id with its cards that are held, and with the ords that it shows.

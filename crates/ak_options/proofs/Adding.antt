@@ -1,16 +1,13 @@
 -- A group of options that is added: what the call answers.
 use Rattle.std.specs.Prelude.{◌≡◌, ◌++◌, ℤ, pos, List, Result, Ok, Err, IfErr, IfOk}
-use Rattle.std.proofs.Common.{refl, sym, ap, ◌∙◌, subst, inl, inr}
+use Rattle.std.proofs.Common.{refl, sym, ◌∙◌, inr}
 use Rattle.std.specs.FinMap.{get}
 use Rattle.ak_base.specs.OptionGroups.{IsCheckedOptions, general_faults, new_faults, rev_faults, lapse_faults}
 use Rattle.ak_base.specs.declared.errors.RowFault.{RowFault}
 use Rattle.ak_base.specs.declared.names.Name.{Name}
-use Rattle.ak_base.specs.declared.names.Table.{Table}
 use Rattle.ak_base.specs.declared.names.Table.TheVariants as tables
 use Rattle.ak_base.specs.declared.option_groups.Options.{Options}
-use Rattle.ak_base.specs.declared.rows.Row.{Row}
 use Rattle.ak_base.specs.declared.rows.Row.TheVariants as rows
-use Rattle.ak_edit.specs.Ends.{RefusesStamp}
 use Rattle.ak_edit.specs.Refusals.{AnswersBy, DeskCause, IsEndFault}
 use Rattle.ak_edit.specs.declared.desk_faults.DeskFault.{DeskFault}
 use Rattle.ak_edit.specs.declared.desk_faults.DeskFault.TheVariants as faults
@@ -25,11 +22,10 @@ use Rattle.ak_edit_calls.specs.Calls.{EndsEdit}
 use Rattle.ak_edit_calls.specs.NewNames.{IsNewName, RefusesId}
 use Rattle.ak_edit_calls.specs.RowEdits.{RefusesRowEdit, row_edit}
 use Rattle.ak_faults.specs.Causes.{Health}
-use Rattle.ak_keep.specs.Collections.{Collection, IsId, Rows}
-use Rattle.ak_keep.specs.Keepers.{Keeping, WhereHeld, WhereTold}
+use Rattle.ak_keep.specs.Collections.{IsId}
+use Rattle.ak_keep.specs.Keepers.{Keeping, WhereTold}
 use Rattle.ak_merge.proofs.CheckedRows.{faultless_of}
-use Rattle.ak_merge.specs.Edits.{Edit}
-use Rattle.ak_merge.specs.Holdings.{name_in, row_under}
+use Rattle.ak_merge.specs.Holdings.{row_under}
 use Rattle.ak_options.proofs.Changing.{given_answers}
 use Rattle.ak_options.specs.OptionGroups.{IsAdditionFault, RefusesAddition, RefusesGiven, RefusesNewGroup, as_given, group_addition, options_addition, with_id}
 use Rattle.ak_undo.specs.declared.steps.Step.{Step}

@@ -39,10 +39,7 @@ pub fn delete_options<K: Keeper>(
     };
     let group = held_row(keeper, name)?;
     drop(group);
-    match test_asked(deleted) {
-        Ok(()) => {}
-        Err(fault) => return Err(fault),
-    }
+    test_asked(deleted)?;
     let mut change = Change::new(steps.allocator());
     put_decks(keeper, &mut change, deleted)?;
     change.change_schema();

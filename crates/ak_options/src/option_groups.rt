@@ -37,10 +37,7 @@ pub fn set_options<K: Keeper>(
     let held = held_row(keeper, name)?;
     drop(held);
     let group = as_given(options);
-    match check_given(&group) {
-        Ok(()) => {}
-        Err(fault) => return Err(fault),
-    }
+    check_given(&group)?;
     edit_row(keeper, steps, Row::Options(group), at)
 }
 
@@ -63,10 +60,7 @@ pub fn add_options<K: Keeper>(
 {
     // The given id is not looked at: any one in range stands in for it.
     let given = with_id(as_given(options), 1);
-    match check_given(&given) {
-        Ok(()) => {}
-        Err(fault) => return Err(fault),
-    }
+    check_given(&given)?;
     add_group(keeper, steps, given, at)
 }
 
@@ -86,10 +80,7 @@ fn add_group<K: Keeper>(
     ensures listed { IfErr result IsAdditionFault }
     ensures cause { DeskCause (K.health keeper.old) (K.health keeper.new) result }
 {
-    let name = match new_name(keeper, Table::Options, at) {
-        Ok(name) => name,
-        Err(fault) => return Err(fault),
-    };
+    let name = new_name(keeper, Table::Options, at)?;
     add_row(keeper, steps, Row::Options(with_id(group, name.id)), at)
 }
 

@@ -69,19 +69,14 @@ pub fn answer<K: Keeper>(
     ensures listed { IfErr result (IsAnswerFault given.now.card) }
     ensures cause { DeskCause (K.health keeper.old) (K.health keeper.new) result }
 {
-    let filled = match fill_answer(steps.allocator(), keeper, given, at) {
-        Ok(filled) => filled,
-        Err(fault) => return Err(fault),
-    };
+    let filled = fill_answer(steps.allocator(), keeper, given, at)?;
     let Filled {
         begun: _,
         change,
         answering,
     } = filled;
-    match change.finish(keeper, steps, at) {
-        Ok(()) => Ok(answering.made),
-        Err(fault) => Err(fault),
-    }
+    change.finish(keeper, steps, at)?;
+    Ok(answering.made)
 }
 
 /// An edit that starts the day and answers a card.
@@ -109,10 +104,7 @@ fn fill_answer<K: Keeper>(
     ensures listed { IfErr result (λ fault. IsFromOutside fault ⊎ IsAskedFault given.now.card fault) }
     ensures cause { DeskCause (K.health keeper.old) (K.health keeper.new) result }
 {
-    let asked = match ask(alloc, keeper, given.card, at) {
-        Ok(asked) => asked,
-        Err(fault) => return Err(fault),
-    };
+    let asked = ask(alloc, keeper, given.card, at)?;
     let filled = fill(alloc, keeper, asked, given)?;
     Ok(filled)
 }
@@ -145,19 +137,14 @@ fn ask<K: Keeper>(alloc: Global, keeper: &mut K, id: i64, at: i64) -> Result<Ask
         begun,
         free,
     } = prepared;
-    let card = match answerable_card(keeper, begun, id) {
-        Ok(card) => card,
-        Err(fault) => return Err(fault),
-    };
-    match review_id(free) {
-        Ok(review) => Ok(Asked {
-            change,
-            begun,
-            card,
-            review,
-        }),
-        Err(fault) => Err(fault),
-    }
+    let card = answerable_card(keeper, begun, id)?;
+    let review = review_id(free)?;
+    Ok(Asked {
+        change,
+        begun,
+        card,
+        review,
+    })
 }
 
 /// An edit that has begun the day, and the free name for a review.

@@ -33,10 +33,7 @@ pub(crate) fn all_missing<K: Keeper>(
         next,
     };
     for note in lacking.as_slice() {
-        made = match add_missing(keeper, note, made) {
-            Ok(made) => made,
-            Err(fault) => return Err(fault),
-        };
+        made = add_missing(keeper, note, made)?;
     }
     Ok(made)
 }

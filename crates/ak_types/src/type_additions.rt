@@ -34,10 +34,7 @@ pub fn add_note_type<K: Keeper>(
 {
     // The given id is not looked at: any one in range stands in for it.
     let given = with_id(as_given(note_type), 1);
-    match check_given(&given) {
-        Ok(()) => {}
-        Err(fault) => return Err(fault),
-    }
+    check_given(&given)?;
     add_type(keeper, steps, given, at)
 }
 
@@ -57,14 +54,8 @@ fn add_type<K: Keeper>(
     ensures listed { IfErr result IsAdditionFault }
     ensures cause { DeskCause (K.health keeper.old) (K.health keeper.new) result }
 {
-    let name = match new_name(keeper, Table::NoteType, at) {
-        Ok(name) => name,
-        Err(fault) => return Err(fault),
-    };
-    match check_sides(steps.allocator(), &note_type) {
-        Ok(()) => {}
-        Err(fault) => return Err(fault),
-    }
+    let name = new_name(keeper, Table::NoteType, at)?;
+    check_sides(steps.allocator(), &note_type)?;
     add_row(
         keeper,
         steps,

@@ -41,10 +41,7 @@ pub fn delete_note_type<K: Keeper>(
     };
     let held = held_row(keeper, name)?;
     drop(held);
-    match test_kept(keeper, deleted) {
-        Ok(()) => {}
-        Err(fault) => return Err(fault),
-    }
+    test_kept(keeper, deleted)?;
     let mut change = Change::new(steps.allocator());
     change.change_schema();
     change.remove(name)?;

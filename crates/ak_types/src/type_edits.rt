@@ -57,10 +57,7 @@ pub fn edit_note_type<K: Keeper>(
     ensures listed { IfErr result (IsTypeEditFault given.now.note_type.id) }
     ensures cause { DeskCause (K.health keeper.old) (K.health keeper.new) result }
 {
-    let change = match read_edit(keeper, given, at) {
-        Ok(change) => change,
-        Err(fault) => return Err(fault),
-    };
+    let change = read_edit(keeper, given, at)?;
     change.finish(keeper, steps, at)
 }
 
@@ -73,10 +70,8 @@ fn read_edit<K: Keeper>(keeper: &mut K, given: &TypeEdit, at: i64) -> Result<Cha
     ensures listed { IfErr result (IsTypeEditFault given.now.note_type.id) }
     ensures cause { DeskCause (K.health keeper.old) (K.health keeper.new) result }
 {
-    match held_type(keeper, given.note_type.id) {
-        Ok(old) => read_for_type(keeper, given, &old, at),
-        Err(fault) => Err(fault),
-    }
+    let old = held_type(keeper, given.note_type.id)?;
+    read_for_type(keeper, given, &old, at)
 }
 
 /// The changes of the edit with the type that is held, refused for the first of its tests that holds.
@@ -93,10 +88,8 @@ fn read_for_type<K: Keeper>(
     ensures listed { IfErr result (IsTypeEditFault given.now.note_type.id) }
     ensures cause { DeskCause (K.health keeper.old) (K.health keeper.new) result }
 {
-    match test_type(keeper, given, old) {
-        Ok(()) => make_edit(keeper, given, old, at),
-        Err(fault) => Err(fault),
-    }
+    test_type(keeper, given, old)?;
+    make_edit(keeper, given, old, at)
 }
 
 /// The changes of the edit, refused if there are too few ids for the cards that its notes lack.
@@ -117,10 +110,8 @@ fn make_edit<K: Keeper>(
     let next = next_cards(keeper, given.from_fields.allocator(), at)?;
     let notes = retype_notes(keeper, given, old)?;
     let Retyped { change, lacking } = notes;
-    match all_missing(keeper, &lacking, next) {
-        Ok(made) => Ok(put_edit(change, given, old, made)?),
-        Err(fault) => Err(fault),
-    }
+    let made = all_missing(keeper, &lacking, next)?;
+    Ok(put_edit(change, given, old, made)?)
 }
 
 /// The changes of the notes with the type, the new cards and the settings, and a change of the schema if it changes.

@@ -25,10 +25,8 @@ pub(crate) fn test_type<K: Keeper>(
     ensures listed { IfErr result (IsTestFault given.now.note_type.id) }
     ensures cause { DeskCause (K.health keeper.old) (K.health keeper.new) result }
 {
-    match test_form(given, old) {
-        Ok(()) => test_use(keeper, given, old),
-        Err(fault) => Err(fault),
-    }
+    test_form(given, old)?;
+    test_use(keeper, given, old)
 }
 
 /// The tests of what is given: the type, and then its maps.
@@ -37,10 +35,8 @@ fn test_form(given: &TypeEdit, old: &NoteType) -> Result<(), DeskFault>
     ensures listed { IfErr result IsFormFault }
 {
     let note_type = as_given(given.note_type.copy()?);
-    match check_given(&note_type) {
-        Ok(()) => test_maps(given, old),
-        Err(fault) => Err(fault),
-    }
+    check_given(&note_type)?;
+    test_maps(given, old)
 }
 
 /// The tests of the maps: that of the fields comes first, and places count the new fields and then the new templates.
@@ -48,13 +44,11 @@ fn test_maps(given: &TypeEdit, old: &NoteType) -> Result<(), DeskFault>
     ensures refused { AnswersBy (RefusesMaps given.now old.now) result }
     ensures listed { IfErr result IsFormFault }
 {
-    match check_map(&fields_map(given, old), 0) {
-        Ok(()) => check_map(
-            &templates_map(given, old),
-            given.note_type.fields.as_slice().len(),
-        ),
-        Err(fault) => Err(fault),
-    }
+    check_map(&fields_map(given, old), 0)?;
+    check_map(
+        &templates_map(given, old),
+        given.note_type.fields.as_slice().len(),
+    )
 }
 
 /// The map of the fields.
@@ -91,10 +85,8 @@ fn test_use<K: Keeper>(keeper: &mut K, given: &TypeEdit, old: &NoteType) -> Resu
     ensures listed { IfErr result (IsTestFault given.now.note_type.id) }
     ensures cause { DeskCause (K.health keeper.old) (K.health keeper.new) result }
 {
-    match test_kind(keeper, given, old) {
-        Ok(()) => test_asked(given, old),
-        Err(fault) => Err(fault),
-    }
+    test_kind(keeper, given, old)?;
+    test_asked(given, old)
 }
 
 /// Refuses to make cards in another way for notes that have the type.
@@ -122,10 +114,8 @@ fn test_asked(given: &TypeEdit, old: &NoteType) -> Result<(), DeskFault>
     ensures refused { AnswersBy (RefusesAsked given.now old.now) result }
     ensures listed { IfErr result IsAskedFault }
 {
-    match test_schema(given, old) {
-        Ok(()) => check_sides(given.from_fields.allocator(), &given.note_type),
-        Err(fault) => Err(fault),
-    }
+    test_schema(given, old)?;
+    check_sides(given.from_fields.allocator(), &given.note_type)
 }
 
 /// Refuses a change of the schema that is not allowed.

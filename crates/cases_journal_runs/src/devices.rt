@@ -25,13 +25,11 @@ pub struct Device<D: CrashDisk> {
 impl<D: CrashDisk> Device<D> {
     /// A device with a journal on this disk, by arguments `[OPENING-MOMENT, ..]`. The journal is not open.
     pub fn with(alloc: Global, disk: D, arguments: &Value) -> Result<Device<D>, Unread> {
-        match wire_at(alloc, arguments) {
-            Ok(wire) => Ok(Device {
-                journal: CaseJournal::on(disk),
-                wire,
-            }),
-            Err(unread) => Err(unread),
-        }
+        let wire = wire_at(alloc, arguments)?;
+        Ok(Device {
+            journal: CaseJournal::on(disk),
+            wire,
+        })
     }
 
     /// What a run over the journal is told as.

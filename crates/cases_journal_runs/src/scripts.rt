@@ -29,10 +29,8 @@ impl<'v> Script<'v> {
             texts: Vec::new(alloc),
             states: Vec::new(alloc),
         };
-        match script.record::<D>(alloc) {
-            Ok(()) => Ok(script),
-            Err(unread) => Err(unread),
-        }
+        script.record::<D>(alloc)?;
+        Ok(script)
     }
 
     fn record<D: CrashDisk>(&mut self, alloc: Global) -> Result<(), Unread> {

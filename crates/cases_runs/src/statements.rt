@@ -26,10 +26,8 @@ pub fn asked(alloc: Global, rt: &HostRuntime, path: &str, text: &str) -> Result<
 fn shown(rt: &HostRuntime, path: &str, text: &str, asks: bool) -> Result<Vec<Row>, Error> {
     let mut conn = Connection::open(rt, path)?;
     let rows = rows_by(rt.alloc(), &mut conn, text, asks);
-    match conn.close() {
-        Ok(()) => rows,
-        Err(error) => Err(error),
-    }
+    conn.close()?;
+    rows
 }
 
 /// The rows that one statement shows, or none of statements that only run.

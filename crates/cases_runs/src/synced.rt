@@ -16,10 +16,8 @@ use std::alloc::Global;
 /// told as, the faults of the keeper, and how many rows of each table the server holds then.
 pub fn run_synced(alloc: Global, arguments: &Value) -> Result<String, Unread> {
     let moment = moment_at(arguments, 0)?;
-    match empty_account(alloc, moment) {
-        Ok(server) => run_with(alloc, server, arguments),
-        Err(unread) => Err(unread),
-    }
+    let server = empty_account(alloc, moment)?;
+    run_with(alloc, server, arguments)
 }
 
 fn run_with(alloc: Global, server: LoggedServer, arguments: &Value) -> Result<String, Unread> {

@@ -13,61 +13,68 @@ use Rattle.ak_keep.specs.Keepers.{WhereHeld}
 use Rattle.ak_study.proofs.AnswerFaults.{cause_ok, from_keeper, later_cause}
 use Rattle.ak_away_answers.proofs.early_answers.answer_early.Goals as goal
 
-pub returns-in-Err-clause-ends : goal.returns-in-Err-clause-ends
-returns-in-Err-clause-ends g c =
+pub returns-in_err-name-clause-ends : goal.returns-in_err-name-clause-ends
+returns-in_err-name-clause-ends g c =
     let at : SFits w64 c.args.at = c.ranges.at in
-    rw c.in-Err.ensures.same
-    (early_no_id (g.K.Lookup.keeping c.args.keeper.now) c.args.at c.args.given.now c.args.asked.now c.args.steps.now c.in-Err.fault (rw (to_z-of_z w64 c.args.at at) at c.in-Err.ensures.refused))
+    let p = err_from_is_err_and c.from_residual.result c.from_residual.ensures.1 in
+    rw (p.1, p.2, c.in_err-name.ensures.same)
+    (early_no_id (g.K.Lookup.keeping c.args.keeper.now) c.args.at c.args.given.now c.args.asked.now c.args.steps.now c.in_err-name.field-0.0 (rw (to_z-of_z w64 c.args.at at) at c.in_err-name.ensures.refused))
 
-pub returns-in-Err-clause-listed : goal.returns-in-Err-clause-listed
-returns-in-Err-clause-listed g c = inl c.in-Err.ensures.listed
+pub returns-in_err-name-clause-listed : goal.returns-in_err-name-clause-listed
+returns-in_err-name-clause-listed g c =
+    let p = err_from_is_err_and c.from_residual.result c.from_residual.ensures.1 in
+    rw (p.1, p.2) (inl c.in_err-name.ensures.listed)
 
 pub returns-in_err-early-clause-ends : goal.returns-in_err-early-clause-ends
 returns-in_err-early-clause-ends g c =
-    let p = err_from_is_err_and c.from_residual.result c.from_residual.ensures.1 in
-    rw (p.1, p.2, c.in_err-early.ensures.reads.same, c.in-Ok.ensures.same)
+    let p = err_from_is_err_and c.from_residual-in_err-early.result c.from_residual-in_err-early.ensures.1 in
+    rw (p.1, p.2, c.in_err-early.ensures.reads.same, c.in_ok-name.ensures.same)
     (early_outside (g.K.Lookup.keeping c.args.keeper.now) c.args.at c.args.given.now c.args.asked.now c.args.steps.now (of_keep_fault c.in_err-early.field-0.0) (from_keeper c.in_err-early.field-0.0))
 
 pub returns-in_err-change-clause-ends : goal.returns-in_err-change-clause-ends
 returns-in_err-change-clause-ends g c =
     let p = err_from_is_err_and c.from_residual-in_err-change.result c.from_residual-in_err-change.ensures.1 in
-    rw (p.1, p.2, c.in_ok-early.ensures.reads.same, c.in-Ok.ensures.same)
+    rw (p.1, p.2, c.in_ok-early.ensures.reads.same, c.in_ok-name.ensures.same)
     (early_outside (g.K.Lookup.keeping c.args.keeper.now) c.args.at c.args.given.now c.args.asked.now c.args.steps.now faults.Memory (inr refl))
 
-pub returns-in-Ok-finish_cleared-clause-ends : goal.returns-in-Ok-finish_cleared-clause-ends
-returns-in-Ok-finish_cleared-clause-ends g c =
+pub returns-clause-ends : goal.returns-clause-ends
+returns-clause-ends g c =
     let at : SFits w64 c.args.at = c.ranges.at in
-    let id : SFits w64 c.in-Ok.name.id = search rules in
-    let known : WhereHeld (g.K.Lookup.keeping c.args.keeper.now) IsHeldRightly = rw (c.in_ok-early.ensures.reads.same, c.in-Ok.ensures.same) at c.in-Ok-finish_cleared.ensures.known in
-    let is : WhereHeld (g.K.Lookup.keeping c.args.keeper.now) (IsReady c.args.at c.args.given.now c.args.asked.now c.in-Ok.name c.in_ok-early.early) =
-    ready (g.K.Lookup.keeping c.args.keeper.now) c.args.at c.args.given.now c.args.asked.now c.in-Ok.name c.in_ok-early.early known c.requires.asked (rw (to_z-of_z w64 c.args.at at) at c.in-Ok.ensures.new)
-    (rw (to_z-of_z w64 c.args.at at) at c.in-Ok.ensures.refused) (rw (c.in-Ok.ensures.same, to_z-of_z w64 c.in-Ok.name.id id) at c.in_ok-early.ensures.reads.told) in
-    let review : IsCheckedReview c.in_ok-early.early.review = (rw (to_z-of_z w64 c.in-Ok.name.id id) at c.in_ok-early.ensures.review) (id_fits c.in-Ok.name.id c.in-Ok.ensures.range) in
-    early_done (g.K.Lookup.keeping c.args.keeper.now) (g.K.Lookup.keeping c.finish_cleared.new.keeper) c.args.at c.args.given.now c.args.asked.now c.in-Ok.name c.in_ok-early.early c.in_ok-change.change c.args.steps.now
-    c.finish_cleared.new.steps tt c.in-Ok.ensures.table c.in_ok-change.ensures c.in_ok-early.ensures.card review is
-    (rw (c.in_ok-early.ensures.reads.same, c.in-Ok.ensures.same, to_z-of_z w64 c.args.at at) at c.in-Ok-finish_cleared.ensures.ok)
-    (rw (c.in_ok-early.ensures.reads.same, c.in-Ok.ensures.same, to_z-of_z w64 c.args.at at) at c.in-Ok-finish_cleared.ensures.refused)
+    let id : SFits w64 c.in_ok-name.name.id = search rules in
+    let known : WhereHeld (g.K.Lookup.keeping c.args.keeper.now) IsHeldRightly = rw (c.in_ok-early.ensures.reads.same, c.in_ok-name.ensures.same) at c.in_ok-finish_cleared.ensures.known in
+    let is : WhereHeld (g.K.Lookup.keeping c.args.keeper.now) (IsReady c.args.at c.args.given.now c.args.asked.now c.in_ok-name.name c.in_ok-early.early) =
+    ready (g.K.Lookup.keeping c.args.keeper.now) c.args.at c.args.given.now c.args.asked.now c.in_ok-name.name c.in_ok-early.early known c.requires.asked (rw (to_z-of_z w64 c.args.at at) at c.in_ok-name.ensures.new)
+    (rw (to_z-of_z w64 c.args.at at) at c.in_ok-name.ensures.refused) (rw (c.in_ok-name.ensures.same, to_z-of_z w64 c.in_ok-name.name.id id) at c.in_ok-early.ensures.reads.told) in
+    let review : IsCheckedReview c.in_ok-early.early.review = (rw (to_z-of_z w64 c.in_ok-name.name.id id) at c.in_ok-early.ensures.review) (id_fits c.in_ok-name.name.id c.in_ok-name.ensures.range) in
+    early_done (g.K.Lookup.keeping c.args.keeper.now) (g.K.Lookup.keeping c.finish_cleared.new.keeper) c.args.at c.args.given.now c.args.asked.now c.in_ok-name.name c.in_ok-early.early c.in_ok-change.change c.args.steps.now
+    c.finish_cleared.new.steps tt c.in_ok-name.ensures.table c.in_ok-change.ensures c.in_ok-early.ensures.card review is
+    (rw (c.in_ok-early.ensures.reads.same, c.in_ok-name.ensures.same, to_z-of_z w64 c.args.at at) at c.in_ok-finish_cleared.ensures.ok)
+    (rw (c.in_ok-early.ensures.reads.same, c.in_ok-name.ensures.same, to_z-of_z w64 c.args.at at) at c.in_ok-finish_cleared.ensures.refused)
 
-pub returns-in-Err-finish_cleared-clause-ends : goal.returns-in-Err-finish_cleared-clause-ends
-returns-in-Err-finish_cleared-clause-ends g c =
+pub returns-in_err-finish_cleared-clause-ends : goal.returns-in_err-finish_cleared-clause-ends
+returns-in_err-finish_cleared-clause-ends g c =
     let at : SFits w64 c.args.at = c.ranges.at in
-    let id : SFits w64 c.in-Ok.name.id = search rules in
-    let known : WhereHeld (g.K.Lookup.keeping c.args.keeper.now) IsHeldRightly = rw (c.in_ok-early.ensures.reads.same, c.in-Ok.ensures.same) at c.in-Err-finish_cleared.ensures.known in
-    let is : WhereHeld (g.K.Lookup.keeping c.args.keeper.now) (IsReady c.args.at c.args.given.now c.args.asked.now c.in-Ok.name c.in_ok-early.early) =
-    ready (g.K.Lookup.keeping c.args.keeper.now) c.args.at c.args.given.now c.args.asked.now c.in-Ok.name c.in_ok-early.early known c.requires.asked (rw (to_z-of_z w64 c.args.at at) at c.in-Ok.ensures.new)
-    (rw (to_z-of_z w64 c.args.at at) at c.in-Ok.ensures.refused) (rw (c.in-Ok.ensures.same, to_z-of_z w64 c.in-Ok.name.id id) at c.in_ok-early.ensures.reads.told) in
-    let review : IsCheckedReview c.in_ok-early.early.review = (rw (to_z-of_z w64 c.in-Ok.name.id id) at c.in_ok-early.ensures.review) (id_fits c.in-Ok.name.id c.in-Ok.ensures.range) in
-    rw (c.in-Err-finish_cleared.ensures.err, c.in_ok-early.ensures.reads.same, c.in-Ok.ensures.same, c.in-Err-finish_cleared.ensures.kept)
-    (early_refused (g.K.Lookup.keeping c.args.keeper.now) c.args.at c.args.given.now c.args.asked.now c.in-Ok.name c.in_ok-early.early c.in_ok-change.change c.args.steps.now c.in-Err-finish_cleared.fault c.in-Ok.ensures.table
-    c.in_ok-change.ensures c.in_ok-early.ensures.card review is (rw (c.in_ok-early.ensures.reads.same, c.in-Ok.ensures.same, to_z-of_z w64 c.args.at at) at c.in-Err-finish_cleared.ensures.refused))
+    let id : SFits w64 c.in_ok-name.name.id = search rules in
+    let known : WhereHeld (g.K.Lookup.keeping c.args.keeper.now) IsHeldRightly = rw (c.in_ok-early.ensures.reads.same, c.in_ok-name.ensures.same) at c.in_err-finish_cleared.ensures.known in
+    let is : WhereHeld (g.K.Lookup.keeping c.args.keeper.now) (IsReady c.args.at c.args.given.now c.args.asked.now c.in_ok-name.name c.in_ok-early.early) =
+    ready (g.K.Lookup.keeping c.args.keeper.now) c.args.at c.args.given.now c.args.asked.now c.in_ok-name.name c.in_ok-early.early known c.requires.asked (rw (to_z-of_z w64 c.args.at at) at c.in_ok-name.ensures.new)
+    (rw (to_z-of_z w64 c.args.at at) at c.in_ok-name.ensures.refused) (rw (c.in_ok-name.ensures.same, to_z-of_z w64 c.in_ok-name.name.id id) at c.in_ok-early.ensures.reads.told) in
+    let review : IsCheckedReview c.in_ok-early.early.review = (rw (to_z-of_z w64 c.in_ok-name.name.id id) at c.in_ok-early.ensures.review) (id_fits c.in_ok-name.name.id c.in_ok-name.ensures.range) in
+    let p = err_from_is_err_and c.from_residual-in_err-finish_cleared.result c.from_residual-in_err-finish_cleared.ensures.1 in
+    rw (p.1, p.2, c.in_err-finish_cleared.ensures.err, c.in_ok-early.ensures.reads.same, c.in_ok-name.ensures.same, c.in_err-finish_cleared.ensures.kept)
+    (early_refused (g.K.Lookup.keeping c.args.keeper.now) c.args.at c.args.given.now c.args.asked.now c.in_ok-name.name c.in_ok-early.early c.in_ok-change.change c.args.steps.now c.in_err-finish_cleared.field-0.0 c.in_ok-name.ensures.table
+    c.in_ok-change.ensures c.in_ok-early.ensures.card review is (rw (c.in_ok-early.ensures.reads.same, c.in_ok-name.ensures.same, to_z-of_z w64 c.args.at at) at c.in_err-finish_cleared.ensures.refused))
 
-pub returns-in-Err-finish_cleared-clause-listed : goal.returns-in-Err-finish_cleared-clause-listed
-returns-in-Err-finish_cleared-clause-listed g c = inr c.in-Err-finish_cleared.ensures.listed
+pub returns-in_err-finish_cleared-clause-listed : goal.returns-in_err-finish_cleared-clause-listed
+returns-in_err-finish_cleared-clause-listed g c =
+    let p = err_from_is_err_and c.from_residual-in_err-finish_cleared.result c.from_residual-in_err-finish_cleared.ensures.1 in
+    rw (p.1, p.2) (inr c.in_err-finish_cleared.ensures.listed)
 
-pub returns-in-Ok-finish_cleared-clause-cause : goal.returns-in-Ok-finish_cleared-clause-cause
-returns-in-Ok-finish_cleared-clause-cause g c =
-    cause_ok _ (goes_further c.in-Ok.ensures.cause.goes (goes_further c.in_ok-early.ensures.reads.cause.goes c.in-Ok-finish_cleared.ensures.cause.goes))
+pub returns-clause-cause : goal.returns-clause-cause
+returns-clause-cause g c =
+    cause_ok _ (goes_further c.in_ok-name.ensures.cause.goes (goes_further c.in_ok-early.ensures.reads.cause.goes c.in_ok-finish_cleared.ensures.cause.goes))
 
-pub returns-in-Err-finish_cleared-clause-cause : goal.returns-in-Err-finish_cleared-clause-cause
-returns-in-Err-finish_cleared-clause-cause g c =
-    later_cause _ _ _ _ _ c.in-Err-finish_cleared.fault (goes_further c.in-Ok.ensures.cause.goes c.in_ok-early.ensures.reads.cause.goes) c.in-Err-finish_cleared.ensures.cause
+pub returns-in_err-finish_cleared-clause-cause : goal.returns-in_err-finish_cleared-clause-cause
+returns-in_err-finish_cleared-clause-cause g c =
+    let p = err_from_is_err_and c.from_residual-in_err-finish_cleared.result c.from_residual-in_err-finish_cleared.ensures.1 in
+    rw (p.1, p.2) (later_cause _ _ _ _ _ c.in_err-finish_cleared.field-0.0 (goes_further c.in_ok-name.ensures.cause.goes c.in_ok-early.ensures.reads.cause.goes) c.in_err-finish_cleared.ensures.cause)

@@ -5,8 +5,8 @@ use Rattle.ak_deck_paths.proofs.AddedDecks.{given_passes}
 use Rattle.ak_deck_paths.specs.Additions.{RefusesToMake}
 use Rattle.ak_deck_paths.proofs.deck_additions.read_addition.Goals as goal
 
-pub returns-in-Ok-clause-refused : goal.returns-in-Ok-clause-refused
-returns-in-Ok-clause-refused g c =
+pub returns-clause-refused : goal.returns-clause-refused
+returns-clause-refused g c =
     let at : SFits w64 c.args.at = c.ranges.at in
-    given_passes (g.K.Lookup.keeping c.args.keeper.now) c.args.path.now (λ (h : Holding). RefusesToMake c.args.at c.args.path.now h.rows) tt c.make_decks.result c.in-Ok.ensures.refused
+    given_passes (g.K.Lookup.keeping c.args.keeper.now) c.args.path.now (λ (h : Holding). RefusesToMake c.args.at c.args.path.now h.rows) tt c.make_decks.result c.in_ok-check_path.ensures.refused
     (rw (to_z-of_z w64 c.args.at at) at c.make_decks.ensures.refused)

@@ -1,5 +1,6 @@
 use Rattle.std.proofs.Common.{◌≤ℤ◌, ℕ, List, [], length, pos, refl, ap, ◌∙◌, arith, w64, SFits, to_z, of_z}
 use Rattle.std.proofs.lemmas.Int.{ints, to_z-of_z}
+use Rattle.std.proofs.lemmas.Result.{err_from_is_err_and}
 use Rattle.ak_base.specs.declared.names.Name.{Name}
 use Rattle.ak_base.specs.declared.names.Table.TheVariants as tables
 use Rattle.ak_edit_calls.proofs.MakingRows.{made_all, made_answers, makes_all, makes_one, one_lacks}
@@ -28,22 +29,24 @@ loop-path-preserved g c =
     let i = c.loop-path.path-index in
     let items = c.as_slice-path-items.ensures in
     let path = c.path-item.result in
-    let ahead : pos 1 ≤ℤ c.next-first.result.id = rw c.next-first.ensures (grind (arith, ints, c.loop-path.invariant.id, c.in-Ok.ensures.range.1.low)) in
+    let ahead : pos 1 ≤ℤ c.next-first.result.id = rw c.next-first.ensures (grind (arith, ints, c.loop-path.invariant.id, c.in_ok-name.ensures.range.1.low)) in
     record {
       id = ahead;
       made = rw (c.next-first.ensures, c.in_ok-push.ensures.ok)
-          (makes_one k IsNewDeck start c.args.paths.now i path path c.loop-path.first c.in-Ok.name c.loop-path.decks c.in_ok-deck.deck (rw items at c.loop-path-test.true)
-          (rw items at c.path-item.is) c.in_ok-deck.ensures (rw c.loop-path.invariant.same at c.in-Ok.ensures.free) c.loop-path.invariant.made);
-      last = λ _. rw c.in_ok-push.ensures.ok (last_in_range c.loop-path.first c.in-Ok.name path c.loop-path.decks c.in_ok-deck.deck c.loop-path.invariant.id c.in-Ok.ensures.range c.in_ok-deck.ensures);
-      same = c.in-Ok.ensures.same ∙ c.loop-path.invariant.same;
-      goes = goes_further c.loop-path.invariant.goes c.in-Ok.ensures.cause.goes;
+          (makes_one k IsNewDeck start c.args.paths.now i path path c.loop-path.first c.in_ok-name.name c.loop-path.decks c.in_ok-deck.deck (rw items at c.loop-path-test.true)
+          (rw items at c.path-item.is) c.in_ok-deck.ensures (rw c.loop-path.invariant.same at c.in_ok-name.ensures.free) c.loop-path.invariant.made);
+      last = λ _. rw c.in_ok-push.ensures.ok (last_in_range c.loop-path.first c.in_ok-name.name path c.loop-path.decks c.in_ok-deck.deck c.loop-path.invariant.id c.in_ok-name.ensures.range c.in_ok-deck.ensures);
+      same = c.in_ok-name.ensures.same ∙ c.loop-path.invariant.same;
+      goes = goes_further c.loop-path.invariant.goes c.in_ok-name.ensures.cause.goes;
     }
 
-pub returns-in-Err-clause-refused : goal.returns-in-Err-clause-refused
-returns-in-Err-clause-refused g c =
+pub returns-in_err-name-clause-refused : goal.returns-in_err-name-clause-refused
+returns-in_err-name-clause-refused g c =
     let at : SFits w64 c.args.at = c.ranges.at in
-    one_lacks _ (g.K.Lookup.keeping c.args.keeper.now) IsNewDeck (first_name tables.Deck c.args.at) c.args.paths.now c.loop-path.path-index [] c.loop-path.first c.loop-path.decks c.in-Err.fault
-    (rw c.as_slice-path-items.ensures at c.loop-path-test.true) (rw c.loop-path.invariant.same at c.in-Err.ensures.none) (rw (to_z-of_z w64 c.args.at at) at c.loop-path.invariant.made)
+    let p = err_from_is_err_and c.from_residual.result c.from_residual.ensures.1 in
+    rw (p.1, p.2)
+    (one_lacks _ (g.K.Lookup.keeping c.args.keeper.now) IsNewDeck (first_name tables.Deck c.args.at) c.args.paths.now c.loop-path.path-index [] c.loop-path.first c.loop-path.decks c.in_err-name.field-0.0
+    (rw c.as_slice-path-items.ensures at c.loop-path-test.true) (rw c.loop-path.invariant.same at c.in_err-name.ensures.none) (rw (to_z-of_z w64 c.args.at at) at c.loop-path.invariant.made))
 
 pub returns-clause-made : goal.returns-clause-made
 returns-clause-made g c =

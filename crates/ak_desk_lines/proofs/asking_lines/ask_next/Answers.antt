@@ -1,6 +1,7 @@
 use Rattle.std.specs.Prelude.{◌≡◌, Some}
 use Rattle.std.proofs.Common.{rules, refl, w64, SFits}
 use Rattle.std.proofs.lemmas.Int.{to_z-of_z}
+use Rattle.std.proofs.lemmas.Result.{err_from_is_err_and}
 use Rattle.ak_desk_lines.proofs.AskedQueues.{next_held, queue_line, unstarted_line}
 use Rattle.ak_desk_lines.specs.Accepted.{TellsNext}
 use Rattle.ak_desk_lines.specs.DeskStates.{state_of}
@@ -9,12 +10,13 @@ use Rattle.ak_queue.specs.Nexts.{next_in}
 use Rattle.ak_desk_texts.specs.declared.answers.DeskAnswer.TheVariants as answers
 use Rattle.ak_desk_lines.proofs.asking_lines.ask_next.Goals as goal
 
-pub returns-in-Err-clause-ends : goal.returns-in-Err-clause-ends
-returns-in-Err-clause-ends g c =
+pub returns-in_err-day-clause-ends : goal.returns-in_err-day-clause-ends
+returns-in_err-day-clause-ends g c =
     let at : SFits w64 c.args.turn.at = search rules in
-    unstarted_line (lines.Next c.args.deck) c.args.turn c.args.deck (state_of g.K.Lookup c.args.desk.now) _ c.in-Err.fault
-    (λ d by. by) (λ left. left) (λ is. is) (rw (to_z-of_z w64 c.args.turn.at at) at c.in-Err.ensures.refused) c.in-Err.ensures.listed
-    c.in-Err.ensures.err c.in-Err.ensures.kept
+    let p = err_from_is_err_and c.from_residual.result c.from_residual.ensures.1 in
+    rw (p.1, p.2) (unstarted_line (lines.Next c.args.deck) c.args.turn c.args.deck (state_of g.K.Lookup c.args.desk.now) _ c.in_err-day.field-0.0
+    (λ d by. by) (λ left. left) (λ is. is) (rw (to_z-of_z w64 c.args.turn.at at) at c.in_err-day.ensures.refused) c.in_err-day.ensures.listed
+    c.in_err-day.ensures.err c.in_err-day.ensures.kept)
 
 pub returns-clause-ends : goal.returns-clause-ends
 returns-clause-ends g c =
@@ -23,11 +25,11 @@ returns-clause-ends g c =
     let was = state_of g.K.Lookup c.args.desk.now in
     let mid = state_of g.K.Lookup c.start_on.new.desk in
     rw (c.next_card.ensures)
-    (queue_line (lines.Next c.args.deck) c.args.turn c.args.deck was mid _ c.in-Ok.day c.next.result answers.Next
-    (λ card h. next_in h (record { day = c.in-Ok.day; done = c.args.turn.done }) c.args.deck ≡ Some card) (TellsNext c.args.deck c.args.turn.done)
+    (queue_line (lines.Next c.args.deck) c.args.turn c.args.deck was mid _ c.in_ok-day.day c.next.result answers.Next
+    (λ card h. next_in h (record { day = c.in_ok-day.day; done = c.args.turn.done }) c.args.deck ≡ Some card) (TellsNext c.args.deck c.args.turn.done)
     (λ d told is. is) (λ d result by. by) (λ fault left. left) (λ fault is. is) tt (λ card. (card, refl))
-    (λ value h is. (value, is, refl)) (λ card h is. next_held h (record { day = c.in-Ok.day; done = c.args.turn.done }) c.args.deck card is)
-    (rw (to_z-of_z w64 c.args.turn.at at) at c.in-Ok.ensures.day) (rw (to_z-of_z w64 c.args.turn.at at) at c.in-Ok.ensures.ok)
-    (rw (to_z-of_z w64 c.args.turn.at at) at c.in-Ok.ensures.refused) c.start_on.ensures.stays
+    (λ value h is. (value, is, refl)) (λ card h is. next_held h (record { day = c.in_ok-day.day; done = c.args.turn.done }) c.args.deck card is)
+    (rw (to_z-of_z w64 c.args.turn.at at) at c.in_ok-day.ensures.day) (rw (to_z-of_z w64 c.args.turn.at at) at c.in_ok-day.ensures.ok)
+    (rw (to_z-of_z w64 c.args.turn.at at) at c.in_ok-day.ensures.refused) c.start_on.ensures.stays
     c.next.ensures.same refl
     (rw (to_z-of_z w64 c.args.deck deck) at c.next.ensures.told) (rw (to_z-of_z w64 c.args.deck deck) at c.next.ensures.missed) (rw (to_z-of_z w64 c.args.deck deck) at c.next.ensures.others))

@@ -1,5 +1,6 @@
 use Rattle.std.proofs.Common.{◌≡◌, ◌+◌, [], ◌∷◌, ◌∙◌}
 use Rattle.std.proofs.KnownBytes.{Appends-nil}
+use Rattle.std.proofs.lemmas.Result.{err_from_is_err_and}
 use Rattle.ak_desk_runs.proofs.Stopping.{answer_not_done, refusal_not_done, stops_in_answer, stops_out, stops_refused}
 use Rattle.ak_io.proofs.Readings.{counted}
 use Rattle.ak_desk_texts.specs.AnswerTexts.{answer_text}
@@ -14,21 +15,22 @@ returns-in-Ok-None-obey_line-clause-steps g c = (
   Appends-nil _,
 )
 
-pub returns-in-Ok-clause-steps : goal.returns-in-Ok-clause-steps
-returns-in-Ok-clause-steps g c = (
+pub returns-in-Ok-Some-obey_line-clause-steps : goal.returns-in-Ok-Some-obey_line-clause-steps
+returns-in-Ok-Some-obey_line-clause-steps g c = (
   c.in-Ok-Some.line,
   answer_text c.in-Ok-Some-obey_line.answer ∷ [],
   rw c.in-Ok-Some.field-0-is at c.in-Ok-Some.ensures.told,
   rw c.in-Ok-Some-obey_line.field-0-is at c.in-Ok-Some-obey_line.ensures.ends,
-  c.in-Ok.ensures.printed,
+  c.in_ok-print_answer-in-Ok-Some-obey_line.ensures.printed,
 )
 
-pub returns-in-Ok-Some-obey_line-clause-steps : goal.returns-in-Ok-Some-obey_line-clause-steps
-returns-in-Ok-Some-obey_line-clause-steps g c =
-    stops_in_answer c.in-Err.end _ _ _ c.in-Ok-Some.line _ _ (answer_text c.in-Ok-Some-obey_line.answer) _ _
+pub returns-in_err-print_answer-in-Ok-Some-obey_line-clause-steps : goal.returns-in_err-print_answer-in-Ok-Some-obey_line-clause-steps
+returns-in_err-print_answer-in-Ok-Some-obey_line-clause-steps g c =
+    let p = err_from_is_err_and c.from_residual.result c.from_residual.ensures.1 in
+    rw (p.1, p.2) (stops_in_answer c.in_err-print_answer-in-Ok-Some-obey_line.field-0.0 _ _ _ c.in-Ok-Some.line _ _ (answer_text c.in-Ok-Some-obey_line.answer) _ _
     (rw c.in-Ok-Some.field-0-is at c.in-Ok-Some.ensures.told)
     (rw c.in-Ok-Some-obey_line.field-0-is at c.in-Ok-Some-obey_line.ensures.ends)
-    c.in-Err.ensures.printed
+    c.in_err-print_answer-in-Ok-Some-obey_line.ensures.printed)
 
 pub returns-in-Err-Refused-clause-steps : goal.returns-in-Err-Refused-clause-steps
 returns-in-Err-Refused-clause-steps g c =
@@ -45,8 +47,10 @@ returns-clause-steps g c =
     (rw c.in-Ok-Some.field-0-is at c.in-Ok-Some.ensures.told)
     (rw c.in-Err-Memory-obey_line.field-0-is at c.in-Err-Memory-obey_line.ensures.ends)
 
-pub returns-in-Ok-Some-obey_line-clause-not_done : goal.returns-in-Ok-Some-obey_line-clause-not_done
-returns-in-Ok-Some-obey_line-clause-not_done g c = answer_not_done c.in-Err.end _ _ _ c.in-Err.ensures.printed
+pub returns-in_err-print_answer-in-Ok-Some-obey_line-clause-not_done : goal.returns-in_err-print_answer-in-Ok-Some-obey_line-clause-not_done
+returns-in_err-print_answer-in-Ok-Some-obey_line-clause-not_done g c =
+    let p = err_from_is_err_and c.from_residual.result c.from_residual.ensures.1 in
+    rw (p.1, p.2) (answer_not_done c.in_err-print_answer-in-Ok-Some-obey_line.field-0.0 _ _ _ c.in_err-print_answer-in-Ok-Some-obey_line.ensures.printed)
 
 pub returns-in-Err-Refused-clause-not_done : goal.returns-in-Err-Refused-clause-not_done
 returns-in-Err-Refused-clause-not_done g c = refusal_not_done _ _ _ _ _ c.print_refused.ensures.printed

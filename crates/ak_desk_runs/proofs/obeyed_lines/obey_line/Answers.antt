@@ -1,9 +1,10 @@
 use Rattle.std.proofs.Common.{sym, ◌∙◌}
+use Rattle.std.proofs.lemmas.Result.{err_from_is_err_and}
 use Rattle.ak_desk_runs.proofs.LineStopping.{text_accepted, text_stops}
 use Rattle.ak_desk_runs.proofs.obeyed_lines.obey_line.Goals as goal
 
-pub returns-in-Ok-obey_text-clause-ends : goal.returns-in-Ok-obey_text-clause-ends
-returns-in-Ok-obey_text-clause-ends g c =
+pub returns-clause-ends : goal.returns-clause-ends
+returns-clause-ends g c =
     text_accepted _ _ _ _ _ _ (sym c.is_skipped_line.ensures ∙ c.if-is_skipped_line.false)
     (record {
       moment = c.take_turn-turn.ensures.moment;
@@ -11,15 +12,16 @@ returns-in-Ok-obey_text-clause-ends g c =
       word = c.take_turn-turn.ensures.word;
       done = c.take_turn-turn.ensures.done;
     })
-    c.in-Ok.ensures.ok c.in-Ok-obey_text.ensures.ends
+    c.in-Ok.ensures.ok c.in_ok-answer.ensures.ends
 
-pub returns-in-Err-obey_text-clause-ends : goal.returns-in-Err-obey_text-clause-ends
-returns-in-Err-obey_text-clause-ends g c =
-    text_stops _ _ _ _ _ _ (sym c.is_skipped_line.ensures ∙ c.if-is_skipped_line.false)
+pub returns-in_err-answer-clause-ends : goal.returns-in_err-answer-clause-ends
+returns-in_err-answer-clause-ends g c =
+    let p = err_from_is_err_and c.from_residual.result c.from_residual.ensures.1 in
+    rw (p.1, p.2) (text_stops _ _ _ _ _ _ (sym c.is_skipped_line.ensures ∙ c.if-is_skipped_line.false)
     (record {
       moment = c.take_turn-turn.ensures.moment;
       range = c.take_turn-turn.ensures.range;
       word = c.take_turn-turn.ensures.word;
       done = c.take_turn-turn.ensures.done;
     })
-    c.in-Ok.ensures.ok c.in-Err-obey_text.ensures.ends
+    c.in-Ok.ensures.ok c.in_err-answer.ensures.ends)

@@ -6,21 +6,22 @@ use Rattle.ak_filtered.proofs.Sendings.{none_sent, outside_sent, refused_sent, s
 use Rattle.ak_study.proofs.AnswerFaults.{from_keeper}
 use Rattle.ak_filtered.proofs.home_decks.send_home.Goals as goal
 
-pub returns-in-Ok-clause-ends : goal.returns-in-Ok-clause-ends
-returns-in-Ok-clause-ends g c =
+pub returns-clause-ends : goal.returns-clause-ends
+returns-clause-ends g c =
     let fits : SFits w64 c.args.at = c.ranges.at in
     let went : c.in_ok-sending.sending.went ≡ true = search rules in
     some_sent (g.K.Lookup.keeping c.args.keeper.now) (g.K.Lookup.keeping c.finish_cleared.new.keeper) c.args.at c.args.cards.now c.in_ok-sending.sending c.args.steps.now c.finish_cleared.new.steps tt went
     c.in_ok-sending.ensures.reads.told
-    (rw (c.in_ok-sending.ensures.reads.same, to_z-of_z w64 c.args.at fits) at c.in-Ok.ensures.ok) (rw (c.in_ok-sending.ensures.reads.same, to_z-of_z w64 c.args.at fits) at c.in-Ok.ensures.refused)
+    (rw (c.in_ok-sending.ensures.reads.same, to_z-of_z w64 c.args.at fits) at c.in_ok-finish_cleared.ensures.ok) (rw (c.in_ok-sending.ensures.reads.same, to_z-of_z w64 c.args.at fits) at c.in_ok-finish_cleared.ensures.refused)
 
-pub returns-in-Err-clause-ends : goal.returns-in-Err-clause-ends
-returns-in-Err-clause-ends g c =
+pub returns-in_err-finish_cleared-clause-ends : goal.returns-in_err-finish_cleared-clause-ends
+returns-in_err-finish_cleared-clause-ends g c =
     let fits : SFits w64 c.args.at = c.ranges.at in
     let went : c.in_ok-sending.sending.went ≡ true = search rules in
-    rw (c.in-Err.ensures.err, c.in_ok-sending.ensures.reads.same, c.in-Err.ensures.kept)
-    (refused_sent (g.K.Lookup.keeping c.args.keeper.now) c.args.at c.args.cards.now c.in_ok-sending.sending c.args.steps.now c.in-Err.fault went c.in_ok-sending.ensures.reads.told
-    (rw c.in_ok-sending.ensures.reads.same at c.in-Err.ensures.known) (rw (c.in_ok-sending.ensures.reads.same, to_z-of_z w64 c.args.at fits) at c.in-Err.ensures.refused))
+    let p = err_from_is_err_and c.from_residual-in_err-finish_cleared.result c.from_residual-in_err-finish_cleared.ensures.1 in
+    rw (p.1, p.2, c.in_err-finish_cleared.ensures.err, c.in_ok-sending.ensures.reads.same, c.in_err-finish_cleared.ensures.kept)
+    (refused_sent (g.K.Lookup.keeping c.args.keeper.now) c.args.at c.args.cards.now c.in_ok-sending.sending c.args.steps.now c.in_err-finish_cleared.field-0.0 went c.in_ok-sending.ensures.reads.told
+    (rw c.in_ok-sending.ensures.reads.same at c.in_err-finish_cleared.ensures.known) (rw (c.in_ok-sending.ensures.reads.same, to_z-of_z w64 c.args.at fits) at c.in_err-finish_cleared.ensures.refused))
 
 pub returns-in_err-sending-clause-ends : goal.returns-in_err-sending-clause-ends
 returns-in_err-sending-clause-ends g c =

@@ -5,7 +5,7 @@ use Rattle.ak_http_links.proofs.sends.send_all.Goals as goal
 
 pub loop-rest-preserved : goal.loop-rest-preserved
 loop-rest-preserved g c = record {
-  so_far = moves_on _ _ _ _ c.loop-rest.rest.now c.in-Ok.count c.loop-rest.invariant.so_far c.in-Ok.ensures.bytes;
-  apart = c.in-Ok.ensures.apart ∙ c.loop-rest.invariant.apart;
-  goes = goes_further c.loop-rest.invariant.goes c.in-Ok.ensures.cause.goes;
+  so_far = moves_on _ _ _ _ c.loop-rest.rest.now c.in_ok-count.count c.loop-rest.invariant.so_far c.in_ok-count.ensures.bytes;
+  apart = c.in_ok-count.ensures.apart ∙ c.loop-rest.invariant.apart;
+  goes = goes_further c.loop-rest.invariant.goes c.in_ok-count.ensures.cause.goes;
 }

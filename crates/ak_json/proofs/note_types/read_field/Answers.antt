@@ -1,4 +1,5 @@
 use Rattle.std.proofs.Common.{refl}
+use Rattle.std.proofs.lemmas.Result.{err_from_is_err_and}
 use Rattle.ak_base.specs.Rests.{field_keys}
 use Rattle.serde_json.specs.View.{view}
 use Rattle.ak_json.proofs.Kept.{lacks_known}
@@ -9,5 +10,7 @@ use Rattle.ak_json.proofs.note_types.read_field.Goals as goal
 pub read_rest-requires : goal.read_rest-requires
 read_rest-requires c = λ members. lacks_known field_keys field_form members refl
 
-pub returns-in-Err-clause-err : goal.returns-in-Err-clause-err
-returns-in-Err-clause-err c = only_memory field_form (view c.args.value.now) c.in-Err.fault c.requires c.in-Err.ensures.err
+pub returns-in_err-rest-clause-err : goal.returns-in_err-rest-clause-err
+returns-in_err-rest-clause-err c =
+    let p = err_from_is_err_and c.from_residual.result c.from_residual.ensures.1 in
+    rw (p.1, p.2) (only_memory field_form (view c.args.value.now) c.in_err-rest.field-0.0 c.requires c.in_err-rest.ensures.err)

@@ -9,7 +9,7 @@ loop-number-preserved g c =
     let K = g.K.Lookup in
     record {
       made = one_more (AddsNote c.args.plan.seed c.args.plan.size.notes) c.loop-number.number (K.keeping c.args.keeper.now) (K.keeping c.loop-number.keeper) (K.keeping c.add_one.new.keeper)
-          c.args.undo.now c.loop-number.undo c.add_one.new.undo c.loop-number.invariant.made c.in-Ok.ensures.ok;
+          c.args.undo.now c.loop-number.undo c.add_one.new.undo c.loop-number.invariant.made c.in_ok-add_one.ensures.ok;
       stays = c.add_one.ensures.stays ∙ c.loop-number.invariant.stays;
       goes = goes_further c.loop-number.invariant.goes c.add_one.ensures.cause.goes;
     }

@@ -9,7 +9,7 @@ loop-number-preserved g c =
     let K = g.K.Lookup in
     record {
       made = one_more (AnswersCard c.args.plan.seed c.args.plan.size.notes) c.loop-number.number (K.keeping c.args.keeper.now) (K.keeping c.loop-number.keeper) (K.keeping c.answer_one.new.keeper)
-          c.args.undo.now c.loop-number.undo c.answer_one.new.undo c.loop-number.invariant.made c.in-Ok.ensures.ok;
+          c.args.undo.now c.loop-number.undo c.answer_one.new.undo c.loop-number.invariant.made c.in_ok-answer_one.ensures.ok;
       stays = c.answer_one.ensures.stays ∙ c.loop-number.invariant.stays;
       goes = goes_further c.loop-number.invariant.goes c.answer_one.ensures.cause.goes;
     }

@@ -1,5 +1,6 @@
 use Rattle.std.proofs.Common.{◌≡◌, ◌≤ℤ◌, ℤ, List, length, pos, get_or, refl, ap, ◌∙◌, rules, arith, w64, SFits}
 use Rattle.std.proofs.lemmas.Int.{ints, to_z-of_z}
+use Rattle.std.proofs.lemmas.Result.{err_from_is_err_and}
 use Rattle.ak_base.specs.declared.cards.Card.{Card}
 use Rattle.ak_edit_calls.proofs.MakingRows.{made_all, made_answers, makes_all, makes_one, one_lacks}
 use Rattle.ak_faults.proofs.Healths.{goes_further, goes_nowhere}
@@ -26,24 +27,26 @@ loop-ord-preserved g c =
     let ord : ℤ = get_or c.as_slice-ord-items.result.now i (pos 0) in
     let fits : SFits w64 ord = search rules in
     let card : Card = c.in_ok-card.card in
-    let made : card ≡ new_card c.args.place (get_or c.args.ords.now i (pos 0)) c.in-Ok.name.id = rw (to_z-of_z w64 ord fits, items) at c.in_ok-card.ensures in
-    let ahead : pos 1 ≤ℤ c.next-first.result.id = rw c.next-first.ensures (grind (arith, ints, c.loop-ord.invariant.id, c.in-Ok.ensures.range.1.low)) in
+    let made : card ≡ new_card c.args.place (get_or c.args.ords.now i (pos 0)) c.in_ok-name.name.id = rw (to_z-of_z w64 ord fits, items) at c.in_ok-card.ensures in
+    let ahead : pos 1 ≤ℤ c.next-first.result.id = rw c.next-first.ensures (grind (arith, ints, c.loop-ord.invariant.id, c.in_ok-name.ensures.range.1.low)) in
     record {
       id = ahead;
-      table = rw c.next-first.ensures (c.in-Ok.ensures.range.0 ∙ c.loop-ord.invariant.table);
+      table = rw c.next-first.ensures (c.in_ok-name.ensures.range.0 ∙ c.loop-ord.invariant.table);
       next = rw (c.next-first.ensures, c.in_ok-push.ensures.ok)
-          (next_one c.loop-ord.cards card c.in-Ok.name c.loop-ord.first c.args.start c.in-Ok.ensures.range.0 c.loop-ord.invariant.table (ap (λ (x : Card). x.id) made));
+          (next_one c.loop-ord.cards card c.in_ok-name.name c.loop-ord.first c.args.start c.in_ok-name.ensures.range.0 c.loop-ord.invariant.table (ap (λ (x : Card). x.id) made));
       made = rw (c.next-first.ensures, c.in_ok-push.ensures.ok)
-          (makes_one k (IsNewCard c.args.place) c.args.start c.args.ords.now i (get_or c.args.ords.now i (pos 0)) (pos 0) c.loop-ord.first c.in-Ok.name c.loop-ord.cards card
-          (rw items at c.loop-ord-test.true) refl made (rw c.loop-ord.invariant.same at c.in-Ok.ensures.free) c.loop-ord.invariant.made);
-      same = c.in-Ok.ensures.same ∙ c.loop-ord.invariant.same;
-      goes = goes_further c.loop-ord.invariant.goes c.in-Ok.ensures.cause.goes;
+          (makes_one k (IsNewCard c.args.place) c.args.start c.args.ords.now i (get_or c.args.ords.now i (pos 0)) (pos 0) c.loop-ord.first c.in_ok-name.name c.loop-ord.cards card
+          (rw items at c.loop-ord-test.true) refl made (rw c.loop-ord.invariant.same at c.in_ok-name.ensures.free) c.loop-ord.invariant.made);
+      same = c.in_ok-name.ensures.same ∙ c.loop-ord.invariant.same;
+      goes = goes_further c.loop-ord.invariant.goes c.in_ok-name.ensures.cause.goes;
     }
 
-pub returns-in-Err-clause-refused : goal.returns-in-Err-clause-refused
-returns-in-Err-clause-refused g c =
-    one_lacks _ (g.K.Lookup.keeping c.args.keeper.now) (IsNewCard c.args.place) c.args.start c.args.ords.now c.loop-ord.ord-index (pos 0) c.loop-ord.first c.loop-ord.cards c.in-Err.fault
-    (rw c.as_slice-ord-items.ensures at c.loop-ord-test.true) (rw c.loop-ord.invariant.same at c.in-Err.ensures.none) c.loop-ord.invariant.made
+pub returns-in_err-name-clause-refused : goal.returns-in_err-name-clause-refused
+returns-in_err-name-clause-refused g c =
+    let p = err_from_is_err_and c.from_residual.result c.from_residual.ensures.1 in
+    rw (p.1, p.2)
+    (one_lacks _ (g.K.Lookup.keeping c.args.keeper.now) (IsNewCard c.args.place) c.args.start c.args.ords.now c.loop-ord.ord-index (pos 0) c.loop-ord.first c.loop-ord.cards
+    c.in_err-name.field-0.0 (rw c.as_slice-ord-items.ensures at c.loop-ord-test.true) (rw c.loop-ord.invariant.same at c.in_err-name.ensures.none) c.loop-ord.invariant.made)
 
 pub returns-clause-made : goal.returns-clause-made
 returns-clause-made g c =

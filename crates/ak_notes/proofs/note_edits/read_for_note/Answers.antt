@@ -1,3 +1,4 @@
+use Rattle.std.proofs.lemmas.Result.{err_from_is_err_and}
 use Rattle.std.proofs.lemmas.Int.{to_z-of_z}
 use Rattle.std.proofs.Common.{w64, SFits}
 use Rattle.ak_base.specs.declared.names.Table.TheVariants as tables
@@ -13,31 +14,34 @@ use Rattle.ak_notes.specs.NoteEdits.{IsChangedFor, IsChangedTo, RefusesForType}
 use Rattle.ak_notes.specs.declared.made_notes.MadeNote.{MadeNote}
 use Rattle.ak_notes.proofs.note_edits.read_for_note.Goals as goal
 
-pub returns-in-Err-clause-refused : goal.returns-in-Err-clause-refused
-returns-in-Err-clause-refused g c =
+pub returns-in_err-note_type-clause-refused : goal.returns-in_err-note_type-clause-refused
+returns-in_err-note_type-clause-refused g c =
     let note : Note = c.args.note in
-    needs_none MadeNote (g.K.Lookup.keeping c.args.keeper.now) (λ rows. type_of_note rows note) (name_in tables.NoteType note.mid)
-    (λ rows note_type. RefusesForType c.args.at c.args.given.now note_type rows) c.in-Err.fault c.in-Err.ensures.missing
+    let p = err_from_is_err_and c.from_residual.result c.from_residual.ensures.1 in
+    rw (p.1, p.2) (needs_none MadeNote (g.K.Lookup.keeping c.args.keeper.now) (λ rows. type_of_note rows note) (name_in tables.NoteType note.mid)
+    (λ rows note_type. RefusesForType c.args.at c.args.given.now note_type rows) c.in_err-note_type.field-0.0 c.in_err-note_type.ensures.missing)
 
-pub returns-in-Err-clause-listed : goal.returns-in-Err-clause-listed
-returns-in-Err-clause-listed g c = type_listed (g.K.Lookup.keeping c.args.keeper.now) c.args.given.now c.args.note c.in-Err.fault c.in-Err.ensures.missing
+pub returns-in_err-note_type-clause-listed : goal.returns-in_err-note_type-clause-listed
+returns-in_err-note_type-clause-listed g c =
+    let p = err_from_is_err_and c.from_residual.result c.from_residual.ensures.1 in
+    rw (p.1, p.2) (type_listed (g.K.Lookup.keeping c.args.keeper.now) c.args.given.now c.args.note c.in_err-note_type.field-0.0 c.in_err-note_type.ensures.missing)
 
-pub returns-in-Ok-clause-refused : goal.returns-in-Ok-clause-refused
-returns-in-Ok-clause-refused g c =
+pub returns-clause-refused : goal.returns-clause-refused
+returns-clause-refused g c =
     let note : Note = c.args.note in
     let at : SFits w64 c.args.at = c.ranges.at in
-    needs_answer (g.K.Lookup.keeping c.args.keeper.now) (λ rows. type_of_note rows note) c.in-Ok.note_type (name_in tables.NoteType note.mid)
-    (λ rows note_type. RefusesForType c.args.at c.args.given.now note_type rows) c.read_for_type.result c.in-Ok.ensures.found
+    needs_answer (g.K.Lookup.keeping c.args.keeper.now) (λ rows. type_of_note rows note) c.in_ok-note_type.note_type (name_in tables.NoteType note.mid)
+    (λ rows note_type. RefusesForType c.args.at c.args.given.now note_type rows) c.read_for_type.result c.in_ok-note_type.ensures.found
     (rw (c.held_type_of.ensures.same, to_z-of_z w64 c.args.at at) at c.read_for_type.ensures.refused)
 
-pub returns-in-Ok-clause-made : goal.returns-in-Ok-clause-made
-returns-in-Ok-clause-made g c =
+pub returns-clause-made : goal.returns-clause-made
+returns-clause-made g c =
     let k = g.K.Lookup.keeping c.args.keeper.now in
     let at : SFits w64 c.args.at = c.ranges.at in
-    if_ok-map c.read_for_type.result (λ made. WhereTold k (IsChangedTo c.args.at c.args.note c.in-Ok.note_type c.args.given.now made))
+    if_ok-map c.read_for_type.result (λ made. WhereTold k (IsChangedTo c.args.at c.args.note c.in_ok-note_type.note_type c.args.given.now made))
     (λ made. WhereTold k (IsChangedFor c.args.at c.args.note c.args.given.now made))
-    (λ made. of_type k c.args.at c.args.note c.in-Ok.note_type c.args.given.now made c.in-Ok.ensures.found)
+    (λ made. of_type k c.args.at c.args.note c.in_ok-note_type.note_type c.args.given.now made c.in_ok-note_type.ensures.found)
     (rw (c.held_type_of.ensures.same, to_z-of_z w64 c.args.at at) at c.read_for_type.ensures.made)
 
-pub returns-in-Ok-clause-cause : goal.returns-in-Ok-clause-cause
-returns-in-Ok-clause-cause g c = cause_after c.in-Ok.ensures.cause.goes c.read_for_type.ensures.cause
+pub returns-clause-cause : goal.returns-clause-cause
+returns-clause-cause g c = cause_after c.in_ok-note_type.ensures.cause.goes c.read_for_type.ensures.cause

@@ -1,3 +1,4 @@
+use Rattle.std.proofs.lemmas.Result.{err_from_is_err_and}
 use Rattle.std.specs.List.{AllByRecursion}
 use Rattle.ak_merge.specs.Tags.{IsTagName}
 use Rattle.ak_notes.proofs.AddedNotes.{given_cause, given_listed, on_ok}
@@ -7,23 +8,28 @@ use Rattle.ak_notes.specs.NoteEdits.{RefusesCards}
 use Rattle.ak_notes.specs.declared.made_notes.MadeNote.{MadeNote}
 use Rattle.ak_notes.proofs.note_edits.read_for_type.Goals as goal
 
-pub returns-in-Err-clause-refused : goal.returns-in-Err-clause-refused
-returns-in-Err-clause-refused g c =
+pub returns-in_err-check_given-clause-refused : goal.returns-in_err-check_given-clause-refused
+returns-in_err-check_given-clause-refused g c =
     let e = c.args.editing.now in
-    test_refuses MadeNote (g.K.Lookup.keeping c.args.keeper.now) (RefusesGiven e.note_type.now e.given.now.fields e.given.now.tags) (RefusesCards e.at e.given.now e.note_type.now)
-    c.in-Err.fault c.in-Err.ensures.refused
+    let p = err_from_is_err_and c.from_residual.result c.from_residual.ensures.1 in
+    rw (p.1, p.2) (test_refuses MadeNote (g.K.Lookup.keeping c.args.keeper.now) (RefusesGiven e.note_type.now e.given.now.fields e.given.now.tags) (RefusesCards e.at e.given.now e.note_type.now)
+    c.in_err-check_given.field-0.0 c.in_err-check_given.ensures.refused)
 
-pub returns-in-Err-clause-listed : goal.returns-in-Err-clause-listed
-returns-in-Err-clause-listed g c = given_listed c.in-Err.fault c.in-Err.ensures.listed
+pub returns-in_err-check_given-clause-listed : goal.returns-in_err-check_given-clause-listed
+returns-in_err-check_given-clause-listed g c =
+    let p = err_from_is_err_and c.from_residual.result c.from_residual.ensures.1 in
+    rw (p.1, p.2) (given_listed c.in_err-check_given.field-0.0 c.in_err-check_given.ensures.listed)
 
-pub returns-in-Err-clause-cause : goal.returns-in-Err-clause-cause
-returns-in-Err-clause-cause g c = given_cause (g.K.Lookup.health c.args.keeper.now) c.in-Err.fault c.in-Err.ensures.listed
+pub returns-in_err-check_given-clause-cause : goal.returns-in_err-check_given-clause-cause
+returns-in_err-check_given-clause-cause g c =
+    let p = err_from_is_err_and c.from_residual.result c.from_residual.ensures.1 in
+    rw (p.1, p.2) (given_cause (g.K.Lookup.health c.args.keeper.now) c.in_err-check_given.field-0.0 c.in_err-check_given.ensures.listed)
 
-pub returns-in-Ok-clause-refused : goal.returns-in-Ok-clause-refused
-returns-in-Ok-clause-refused g c =
+pub returns-clause-refused : goal.returns-clause-refused
+returns-clause-refused g c =
     let e = c.args.editing.now in
     test_passes (g.K.Lookup.keeping c.args.keeper.now) (RefusesGiven e.note_type.now e.given.now.fields e.given.now.tags) (RefusesCards e.at e.given.now e.note_type.now)
-    tt c.make_edit.result c.in-Ok.ensures.refused c.make_edit.ensures.refused
+    tt c.make_edit.result c.in_ok-check_given.ensures.refused c.make_edit.ensures.refused
 
-pub returns-in-Ok-clause-names : goal.returns-in-Ok-clause-names
-returns-in-Ok-clause-names g c = on_ok c.make_edit.result (AllByRecursion IsTagName c.args.editing.now.given.now.tags) c.in-Ok.ensures.names
+pub returns-clause-names : goal.returns-clause-names
+returns-clause-names g c = on_ok c.make_edit.result (AllByRecursion IsTagName c.args.editing.now.given.now.tags) c.in_ok-check_given.ensures.names

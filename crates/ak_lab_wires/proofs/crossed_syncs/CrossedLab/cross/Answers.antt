@@ -1,5 +1,6 @@
 use Rattle.std.proofs.Common.{ℕ, ◌<◌, sym, ap, subst, ◌∙◌, inl, inr, w64}
 use Rattle.std.proofs.lemmas.Int.{to_z-of_z}
+use Rattle.std.proofs.lemmas.Result.{err_from_is_err_and}
 use Rattle.ak_io.specs.Arrivals.{IsClockMoment}
 use Rattle.ak_lab_devices.proofs.InTime.{moment_fits}
 use Rattle.ak_lab_devices.specs.declared.devices.Device.{Device}
@@ -11,8 +12,8 @@ pub index-requires : goal.index-requires
 index-requires c = subst (λ (n : ℕ). c.in-Some.place < n) (sym c.args.self.now.devices.ok.0)
     (stands_within c.args.self.now.devices.items c.in-Some.place c.in-Some.ensures.0 c.in-Some.ensures.1.at)
 
-pub prepare-prepared-requires : goal.prepare-prepared-requires
-prepare-prepared-requires c =
+pub prepare-requires : goal.prepare-requires
+prepare-requires c =
     let own = subst IsClockMoment (sym c.in-Some.ensures.2) c.in-Some.ensures.1.device_clock in
     record { clock = subst IsClockMoment (sym (to_z-of_z w64 c.in-Some.at (moment_fits c.in-Some.at own))) own }
 
@@ -29,8 +30,8 @@ run_prepared-outcome-requires c =
         c.args.session.0,
         d,
         may,
-        prepared_so c.args.self.now.clock c.in-Some.at c.as_slice.result.now d c.in-Ok.prepared (c.as_slice.ensures ∙ ap (λ (x : Device). x.planned) same) c.in-Some.ensures.2
-            (rw (c.in-Ok.is, fits) at c.prepare-prepared.ensures.clock) (rw c.in-Ok.is at c.prepare-prepared.ensures.left),
+        prepared_so c.args.self.now.clock c.in-Some.at c.as_slice.result.now d c.in_ok-prepared.prepared (c.as_slice.ensures ∙ ap (λ (x : Device). x.planned) same) c.in-Some.ensures.2
+            (rw fits at c.in_ok-prepared.ensures.clock) c.in_ok-prepared.ensures.left,
       );
     }
 
@@ -42,5 +43,7 @@ returns c =
     (cross_state c.tell.new.self) c.args.server.now c.run_prepared-outcome.new.server c.run_prepared-outcome.result c.tell.result may (c.run_prepared-outcome.ensures d may.at)
     c.tell.ensures)
 
-pub returns-in-Err : goal.returns-in-Err
-returns-in-Err c = inl (crosses_not (cross_state c.args.self.now) c.args.server.now c.in-Err.end)
+pub returns-in_err-prepared : goal.returns-in_err-prepared
+returns-in_err-prepared c =
+    let p = err_from_is_err_and c.from_residual.result c.from_residual.ensures.1 in
+    rw (p.1, p.2) (inl (crosses_not (cross_state c.args.self.now) c.args.server.now c.in_err-prepared.field-0.0))
