@@ -10,7 +10,8 @@ use Rattle.ak_client.proofs.Finishing.{ended_head, exchanged}
 use Rattle.ak_client.specs.Endings.{IsEnded, IsGranted}
 use Rattle.ak_client.specs.Syncs.{CommitsHead}
 use Rattle.ak_device.proofs.TakingAndSettling.{head_after, tags_if}
-use Rattle.ak_device.specs.Devices.{head_with, received}
+use Rattle.ak_device.specs.Devices.{received}
+use Rattle.ak_sync_rows.specs.Takes.{head_with}
 use Rattle.ak_device.specs.Settlings.{is_changes, tags_settled, taken_and_settled}
 use Rattle.ak_exchange.proofs.SentRows.{changes_sent, held_settled}
 use Rattle.ak_exchange.specs.Phases.{IsMet, held_by, holding}

@@ -17,7 +17,7 @@ ghost use Rattle.ak_merge.specs.declared.checks.CheckFault.{CheckFault};
 
 use crate::unsent::has_unsent;
 use ak_base::{Head, LAST_HEAD_USN};
-use ak_client_wire::{MetaSaid, Wire, ask_meta};
+use ak_client_wire::{MetaSaid, Wire, ask};
 use ak_exchange::{Ids, Met, Stop, meta_request};
 use ak_io::Clock;
 use ak_keep::{KeepFault, Keeper};
@@ -64,7 +64,7 @@ pub(crate) fn greet<K: Keeper, W: Wire, C: Clock>(
     ensures keeper { HasCauseOf stops.Keep (K.health keeper.old) (K.health keeper.new) result }
 {
     let request = meta_request(ids);
-    let meta = ask_meta(wire, &request)?;
+    let meta: MetaSaid = ask(wire, &request)?;
     let at = clock.now();
     let second = second_of(at);
     test_clocks(meta, second)?;

@@ -1,13 +1,12 @@
 // A request is asked: it is tried, and the reply is read by the form that its method has.
 ghost use Rattle.std.specs.Prelude.{◌≡◌, Option, ok_or};
-ghost use Rattle.ak_client_wire.specs.Forms.{changes_in, chunk_in, graves_in, meta_in, moment_in, nothing_in, verdict_in};
 ghost use Rattle.ak_client_wire.specs.Tries.{Answered, granted_by, granted_in, in_form};
 ghost use Rattle.ak_client_wire.specs.declared.asks.Unanswered.TheVariants as unanswered;
 
-use crate::forms::{changes_in, chunk_in, graves_in, meta_in, moment_in, nothing_in, verdict_in};
+use crate::forms::Form;
 use crate::tries::try_thrice;
-use crate::wires::{MetaSaid, Wire, WireEnd};
-use ak_messages::{Changes, Chunk, Give, GraveIds, Reply, Request, SanityReply, Word};
+use crate::wires::{Wire, WireEnd};
+use ak_messages::{Give, Reply, Request, Word};
 
 /// Why a request was not granted.
 #[derive(Clone, Copy, Debug, PartialEq, Eq)]
@@ -22,67 +21,13 @@ pub enum Unanswered {
     Memory,
 }
 
-/// Asks a meta.
-pub fn ask_meta<W: Wire>(wire: &mut W, request: &Request) -> Result<MetaSaid, Unanswered>
+/// Asks, and reads what is given by the form of what is asked. A finish gives the new moment, in milliseconds.
+pub fn ask<W: Wire, F: Form>(wire: &mut W, request: &Request) -> Result<F, Unanswered>
     ensures { Answered (W.health wire.old) (W.health wire.new) (W.state wire.old) (W.state wire.new)
-        request.now meta_in result }
+        request.now F.found_in result }
 {
     let give = granted_in(try_thrice(wire, request))?;
-    in_form(meta_in(&give))
-}
-
-/// Asks for what is given as the ids of graves.
-pub fn ask_graves<W: Wire>(wire: &mut W, request: &Request) -> Result<GraveIds, Unanswered>
-    ensures { Answered (W.health wire.old) (W.health wire.new) (W.state wire.old) (W.state wire.new)
-        request.now graves_in result }
-{
-    let give = granted_in(try_thrice(wire, request))?;
-    in_form(graves_in(give))
-}
-
-/// Asks what is given nothing.
-pub fn ask_nothing<W: Wire>(wire: &mut W, request: &Request) -> Result<(), Unanswered>
-    ensures { Answered (W.health wire.old) (W.health wire.new) (W.state wire.old) (W.state wire.new)
-        request.now nothing_in result }
-{
-    let give = granted_in(try_thrice(wire, request))?;
-    in_form(nothing_in(&give))
-}
-
-/// Asks for changes.
-pub fn ask_changes<W: Wire>(wire: &mut W, request: &Request) -> Result<Changes, Unanswered>
-    ensures { Answered (W.health wire.old) (W.health wire.new) (W.state wire.old) (W.state wire.new)
-        request.now changes_in result }
-{
-    let give = granted_in(try_thrice(wire, request))?;
-    in_form(changes_in(give))
-}
-
-/// Asks for a chunk. One that has no row is done.
-pub fn ask_chunk<W: Wire>(wire: &mut W, request: &Request) -> Result<Chunk, Unanswered>
-    ensures { Answered (W.health wire.old) (W.health wire.new) (W.state wire.old) (W.state wire.new)
-        request.now chunk_in result }
-{
-    let give = granted_in(try_thrice(wire, request))?;
-    in_form(chunk_in(give))
-}
-
-/// Asks for a sanity check. A reply that is not good shows a fault or two counts that differ.
-pub fn ask_sanity<W: Wire>(wire: &mut W, request: &Request) -> Result<SanityReply, Unanswered>
-    ensures { Answered (W.health wire.old) (W.health wire.new) (W.state wire.old) (W.state wire.new)
-        request.now verdict_in result }
-{
-    let give = granted_in(try_thrice(wire, request))?;
-    in_form(verdict_in(&give))
-}
-
-/// Asks a finish, and answers the new moment, in milliseconds.
-pub fn ask_moment<W: Wire>(wire: &mut W, request: &Request) -> Result<i64, Unanswered>
-    ensures { Answered (W.health wire.old) (W.health wire.new) (W.state wire.old) (W.state wire.new)
-        request.now moment_in result }
-{
-    let give = granted_in(try_thrice(wire, request))?;
-    in_form(moment_in(&give))
+    in_form(F::read(give))
 }
 
 /// What an answer grants, or why it grants nothing.

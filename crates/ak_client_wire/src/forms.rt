@@ -1,9 +1,10 @@
 // The forms of what is given. The tests take no memory.
-ghost use Rattle.std.specs.Prelude.{◌≡◌, ◌++◌, true, if◌then◌else◌, Some, None};
+ghost use Rattle.std.specs.Prelude.{◌≡◌, ◌++◌, true, if◌then◌else◌, Option, Some, None};
 ghost use Rattle.std.specs.List.{list_all};
 ghost use Rattle.std.specs.Option.{option_map_or};
 ghost use Rattle.ak_client_wire.specs.Forms.{changes_in, chunk_in, graves_in, is_chunk_in_form, is_meta_in_range, is_moment, meta_in, meta_told, moment_in, nothing_in, sanity_in, shows_cause, verdict_in};
 ghost use Rattle.ak_merge.specs.Soundness.{fault_id};
+ghost use Rattle.ak_messages.specs.declared.replies.Give.{Give as Given};
 ghost use Rattle.ak_session.specs.Refusals.{are_changes_in_range, is_id};
 
 use crate::wires::MetaSaid;
@@ -13,6 +14,98 @@ use ak_messages::{Changes, Chunk, Give, GraveIds, MOST_ENTRIES, MetaReply, Sanit
 use ak_sync_rows::{
     are_changes_in_range, are_graves_in_range, are_rows_checked, is_between, is_id, same_counts,
 };
+
+/// What is given, read by the form that the method of a request has.
+pub trait Form {
+    /// The part of what is given that has this form.
+    ghost found_in: { Given → Option Self };
+
+    /// Reads it: none, if what is given has another form or is out of its ranges. It takes no memory.
+    fn read(give: Give) -> Option<Self>
+        ensures { result ≡ found_in give };
+}
+
+/// What a meta says.
+impl Form for MetaSaid {
+    ghost found_in = { meta_in };
+
+    fn read(give: Give) -> Option<MetaSaid> {
+        meta_in(&give)
+    }
+}
+
+/// The ids of the graves that a start is given, each of a row.
+impl Form for GraveIds {
+    ghost found_in = { graves_in };
+
+    fn read(give: Give) -> Option<GraveIds> {
+        match give {
+            Give::Graves(ids) => ranged_graves(ids),
+            _other => None,
+        }
+    }
+}
+
+/// Nothing: what graves and a chunk that are sent are given.
+impl Form for () {
+    ghost found_in = { nothing_in };
+
+    fn read(give: Give) -> Option<()> {
+        match give {
+            Give::Nothing => Some(()),
+            _other => None,
+        }
+    }
+}
+
+/// Changes, all of which are in their ranges.
+impl Form for Changes {
+    ghost found_in = { changes_in };
+
+    fn read(give: Give) -> Option<Changes> {
+        match give {
+            Give::Changes(changes) => ranged_changes(changes),
+            _other => None,
+        }
+    }
+}
+
+/// A chunk of at most 250 rows, each of which passes its check, that is done if it has none.
+impl Form for Chunk {
+    ghost found_in = { chunk_in };
+
+    fn read(give: Give) -> Option<Chunk> {
+        match give {
+            Give::Chunk(chunk) => formed_chunk(chunk),
+            _other => None,
+        }
+    }
+}
+
+/// The reply to a sanity check: one that is not good shows a fault or two counts that differ.
+impl Form for SanityReply {
+    ghost found_in = { verdict_in };
+
+    fn read(give: Give) -> Option<SanityReply> {
+        let reply = sanity_in(&give)?;
+        if shows_cause(&reply) {
+            return Some(reply);
+        }
+        None
+    }
+}
+
+/// The moment of a commit, in milliseconds: what a finish is given.
+impl Form for i64 {
+    ghost found_in = { moment_in };
+
+    fn read(give: Give) -> Option<i64> {
+        match give {
+            Give::Moment(moment) if is_moment(moment) => Some(moment),
+            _other => None,
+        }
+    }
+}
 
 /// What the reply to a meta says, if both moments and the usn are in their ranges.
 pub(crate) fn meta_in(give: &Give) -> Option<MetaSaid>
@@ -44,16 +137,6 @@ fn meta_told(meta: &MetaReply) -> MetaSaid
     }
 }
 
-/// The ids of graves, if each is one of a row.
-pub(crate) fn graves_in(give: Give) -> Option<GraveIds>
-    ensures { result ≡ graves_in give }
-{
-    match give {
-        Give::Graves(ids) => ranged_graves(ids),
-        _other => None,
-    }
-}
-
 /// These ids, if each is one of a row.
 fn ranged_graves(ids: GraveIds) -> Option<GraveIds>
     ensures { result ≡ (if list_all is_id (ids.cards ++ (ids.notes ++ ids.decks)) then Some ids else None) }
@@ -64,26 +147,6 @@ fn ranged_graves(ids: GraveIds) -> Option<GraveIds>
     None
 }
 
-/// Nothing, if nothing is given.
-pub(crate) fn nothing_in(give: &Give) -> Option<()>
-    ensures { result ≡ nothing_in give.now }
-{
-    match give {
-        Give::Nothing => Some(()),
-        _ => None,
-    }
-}
-
-/// Changes, if all of them are in their ranges.
-pub(crate) fn changes_in(give: Give) -> Option<Changes>
-    ensures { result ≡ changes_in give }
-{
-    match give {
-        Give::Changes(changes) => ranged_changes(changes),
-        _other => None,
-    }
-}
-
 /// These changes, if all of them are in their ranges.
 fn ranged_changes(changes: Changes) -> Option<Changes>
     ensures { result ≡ (if are_changes_in_range changes then Some changes else None) }
@@ -92,16 +155,6 @@ fn ranged_changes(changes: Changes) -> Option<Changes>
         return Some(changes);
     }
     None
-}
-
-/// A chunk, if it has at most 250 rows, each of which passes its check, and is done if it has none.
-pub(crate) fn chunk_in(give: Give) -> Option<Chunk>
-    ensures { result ≡ chunk_in give }
-{
-    match give {
-        Give::Chunk(chunk) => formed_chunk(chunk),
-        _other => None,
-    }
 }
 
 /// This chunk, if it has its form.
@@ -120,27 +173,6 @@ pub(crate) fn sanity_in(give: &Give) -> Option<SanityReply>
 {
     match give {
         Give::Sanity(reply) if is_fault_in_range(&reply.fault) => Some(reply.copy()),
-        _ => None,
-    }
-}
-
-/// The reply to a sanity check, if a bad one shows why.
-pub(crate) fn verdict_in(give: &Give) -> Option<SanityReply>
-    ensures { result ≡ verdict_in give.now }
-{
-    let reply = sanity_in(give)?;
-    if shows_cause(&reply) {
-        return Some(reply);
-    }
-    None
-}
-
-/// The new moment, if it is in its range.
-pub(crate) fn moment_in(give: &Give) -> Option<i64>
-    ensures { result ≡ moment_in give.now }
-{
-    match give {
-        Give::Moment(moment) if is_moment(*moment) => Some(*moment),
         _ => None,
     }
 }

@@ -8,11 +8,8 @@ mod said;
 mod tries;
 mod wires;
 
-pub use asks::{
-    Unanswered, ask_changes, ask_chunk, ask_graves, ask_meta, ask_moment, ask_nothing, ask_sanity,
-    granted_in, in_form,
-};
-pub use forms::is_moment;
+pub use asks::{Unanswered, ask, granted_in, in_form};
+pub use forms::{Form, is_moment};
 pub use said::said_of;
 pub use tries::try_thrice;
 pub use wires::{MetaSaid, Said, Wire, WireEnd};

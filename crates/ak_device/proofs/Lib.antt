@@ -1,5 +1,4 @@
 pub mod Closing
-pub mod Heads
 pub mod Receiving
 pub mod Sending
 pub mod SettledRows

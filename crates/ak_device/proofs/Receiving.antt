@@ -8,7 +8,7 @@ use Rattle.ak_base.specs.Limits.{last_head_usn, last_stamp, last_usn}
 use Rattle.ak_base.specs.declared.heads.Head.{Head}
 use Rattle.ak_base.specs.declared.heads.Tag.{Tag}
 use Rattle.ak_base.specs.declared.rows.Row.{Row}
-use Rattle.ak_device.specs.Devices.{head_with, received}
+use Rattle.ak_device.specs.Devices.{received}
 use Rattle.ak_keep.specs.Collections.{Holding, Rows, with_head}
 use Rattle.ak_keep.specs.Keepers.{Keeping, WhereTold, changed, head_set}
 use Rattle.ak_keep.specs.Marks as marks
@@ -19,7 +19,7 @@ use Rattle.ak_merge.proofs.TagLists.{tag_parts_add_up}
 use Rattle.ak_merge.specs.Tags.{tags_taken}
 use Rattle.ak_merge.specs.Takings.{all_taken}
 use Rattle.ak_merge.proofs.TagLaws.{tags_stay_in_range, tags_stay_ordered}
-use Rattle.ak_sync_rows.specs.Takes.{MayBeTaken, with_all_taken}
+use Rattle.ak_sync_rows.specs.Takes.{MayBeTaken, head_with, with_all_taken}
 use Rattle.ak_session.specs.Asks.{and_then, nothing}
 use Rattle.ak_merge.specs.declared.sides.Side.TheVariants.{Device}
 
@@ -77,33 +77,6 @@ changes_came usn came head made k0 k1 k2 held is so one two =
       told = option_map (marks.changed (with_head made)) (option_map (marks.changed (with_all_taken Device usn came.rows)) k0.told);
     }) (sym held)
     ∙ ap (λ (t : Option (WithMark Holding)). record { headed = k0.headed; told = t }) (head_told usn came head made k0.told is so)
-
--- ---- ranges
--- the number of a head is one that a row may have
-pub usn_fits : (usn : ℤ) → IsWithin (pos 0) last_head_usn usn → IsWithin (pos 0) (pos 2_147_483_647) usn
-usn_fits usn is = let low = is.low in let high = is.high in record { low = low; high = omega (arith, ints, high) }
-
-tag_usn_fits : (usn : ℤ) → IsWithin (pos 0) last_head_usn usn → IsWithin (negsuc 0) last_usn usn
-tag_usn_fits usn is =
-    let low = is.low in let high = is.high in
-    record { low = omega (arith, ints, low); high = omega (arith, ints, high) }
-
-either : (P : Settings → Type 0) (came : Option Settings) (own : Settings) → IfSome came P → P own → P (unwrap_or came own)
-either P None own came is = is
-either P (Some s) own came is = came
-
-pub head_fits : (usn : ℤ) (came : Received) (head : Head) → IsHeadInRange head → MayBeTaken came → IsWithin (pos 0) last_head_usn usn
-    → IsHeadInRange (head_with usn came head)
-head_fits usn came head is taken number = record {
-  crt = either (λ s. IsWithin (pos 0) last_stamp s.crt) came.settings (settings_of head) taken.crt is.crt;
-  moment = is.moment;
-  schema = is.schema;
-  usn = is.usn;
-  last_sync = is.last_sync;
-  conf = either (λ s. IsConfInRange s.conf) came.settings (settings_of head) taken.conf is.conf;
-  tags = tags_stay_in_range usn came.tags head.tags taken.tags (tag_usn_fits usn number) is.tags;
-  ascending = tags_stay_ordered usn came.tags head.tags is.ascending;
-}
 
 -- ---- one after the other
 settings_twice : (later first : Option Settings) (own : Settings) → unwrap_or (option_or later first) own ≡ unwrap_or later (unwrap_or first own)

@@ -21,7 +21,8 @@ use Rattle.ak_base.specs.declared.option_groups.Options.{Options}
 use Rattle.ak_base.specs.declared.reviews.Review.{Review}
 use Rattle.ak_base.specs.declared.rows.Row.{Row}
 use Rattle.ak_base.specs.declared.rows.Row.TheVariants as rows
-use Rattle.ak_device.proofs.Receiving.{changed_same, changed_twice, usn_fits}
+use Rattle.ak_device.proofs.Receiving.{changed_same, changed_twice}
+use Rattle.ak_sync_rows.proofs.TakenHeads.{usn_fits}
 use Rattle.ak_device.specs.Settlings.{names_in, names_sent, settled_by, settled_under, tags_settled, with_all_settled, with_settled, with_tags_settled}
 use Rattle.ak_keep.proofs.RowsByName.{same_of_tied}
 use Rattle.ak_keep.specs.Collections.{Holding, Rows, is_pending, with_head, with_row}

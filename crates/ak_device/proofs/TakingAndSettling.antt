@@ -13,7 +13,8 @@ use Rattle.ak_base.specs.declared.names.Name.{Name}
 use Rattle.ak_base.specs.declared.rows.Row.{Row}
 use Rattle.ak_device.proofs.Receiving.{changed_same, changed_twice, received_twice}
 use Rattle.ak_device.proofs.SettledRows.{not_unsent, settled_append, takings_settle}
-use Rattle.ak_device.specs.Devices.{changes_to_send, head_with, received}
+use Rattle.ak_device.specs.Devices.{changes_to_send, received}
+use Rattle.ak_sync_rows.specs.Takes.{head_with}
 use Rattle.ak_device.specs.Settlings.{NamesUnsentTags, all_settled_by, head_settled, is_changes, names_of, names_sent, settled_by, settled_under, taken_and_settled, tags_settled}
 use Rattle.ak_keep.specs.Collections.{Holding, Rows}
 use Rattle.ak_keep.specs.Keepers.{Keeping, WhereTold, changed}

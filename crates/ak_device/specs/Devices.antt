@@ -1,7 +1,7 @@
 -- What a device holds while it syncs, and what it sends.
 use Rattle.std.specs.FinMap.{get}
 use Rattle.std.specs.Int.{int_min}
-use Rattle.std.specs.Option.{option_map, unwrap_or}
+use Rattle.std.specs.Option.{option_map}
 use Rattle.std.specs.Prelude.{◌≡◌, ℤ, false, int_lt, if◌then◌else◌, List, Option, Some, None}
 use Rattle.ak_base.specs.Limits.{last_moment}
 use Rattle.ak_base.specs.declared.heads.Head.{Head}
@@ -13,24 +13,18 @@ use Rattle.ak_keep.specs.declared.keepers.Wanted.TheVariants.{Unsent}
 use Rattle.ak_merge.specs.Commits.{Received, Settings, settings_of}
 use Rattle.ak_merge.specs.Edits.{advanced}
 use Rattle.ak_merge.specs.Exchanges.{settled, settled_tags, wanted_tags}
-use Rattle.ak_merge.specs.Tags.{tags_taken}
 use Rattle.ak_merge.specs.Takings.{all_taken}
 use Rattle.ak_messages.specs.MessageForms.{chunk_entries}
 use Rattle.ak_messages.specs.declared.requests.Changes.{Changes}
 use Rattle.ak_messages.specs.declared.requests.Chunk.{Chunk}
 use Rattle.ak_sync_rows.specs.Chunks.{IsSlice, ahead_of}
+use Rattle.ak_sync_rows.specs.Takes.{head_with}
 use Rattle.ak_session.specs.Messages.{changes_of, chunk_of}
 use Rattle.ak_session.specs.Slices.{wanted_changes}
 use Rattle.ak_merge.specs.declared.sides.Side.TheVariants.{Device}
 
 -- ---- what comes to a device
--- a head once this came: each tag that was not held has the server's usn, and settings that came stand
-abbrev pub head_with : ℤ → Received → Head → Head
-head_with usn came head =
-    let settings = unwrap_or came.settings (settings_of head) in
-    record head { tags = tags_taken usn came.tags head.tags; conf = settings.conf; crt = settings.crt }
-
--- what a device holds once this came: each row, one after the other, is taken with the server's usn
+-- what a device holds once this came: each row, one after the other, is taken with the server's usn, and so are tags and settings
 abbrev pub received : ℤ → Received → Holding → Holding
 received usn came h = record { rows = all_taken Device usn came.rows h.rows; head = option_map (head_with usn came) h.head }
 

@@ -10,7 +10,7 @@ use ak_base::{Head, Memory, Name, Row, Table};
 use ak_keep::{KeepFault, Keeper, Wanted};
 use ak_messages::{Changes, Chunk, GraveIds, MOST_ENTRIES, Newer};
 use ak_sync_rows::{
-    Changed, changed_of, chunk_of, grave_ids, head_of, next_rows, wanted_changes, wanted_tags,
+    changes_of, chunk_of, grave_ids, head_of, next_rows, wanted_changes, wanted_tags,
 };
 use std::alloc::Global;
 
@@ -66,20 +66,9 @@ pub fn unsent_changes<K: Keeper>(
 fn changes_from(alloc: Global, rows: Vec<Row>, head: &Head, moment: i64) -> Result<Changes, Memory>
     ensures { IfOk result (λ changes. changes ≡ changes_from moment rows.items head.now) }
 {
-    let Changed {
-        models,
-        decks,
-        options,
-    } = changed_of(alloc, rows)?;
     let tags = wanted_tags(alloc, head.tags.as_slice(), &Wanted::Unsent)?;
     let newer = newer_since(moment, head)?;
-    Ok(Changes {
-        models,
-        decks,
-        options,
-        tags,
-        newer,
-    })
+    changes_of(alloc, rows, tags, newer)
 }
 
 /// The settings of a head that was changed after this moment.

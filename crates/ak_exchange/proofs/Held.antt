@@ -7,7 +7,8 @@ use Rattle.ak_base.specs.declared.rows.Row.{Row}
 use Rattle.ak_client_wire.specs.Wires.{WireKind}
 use Rattle.ak_device.proofs.Receiving.{received_nothing, received_then}
 use Rattle.ak_device.proofs.TakingAndSettling.{head_after, rows_after, tags_if}
-use Rattle.ak_device.specs.Devices.{changes_from, changes_to_send, head_with, received}
+use Rattle.ak_device.specs.Devices.{changes_from, changes_to_send, received}
+use Rattle.ak_sync_rows.specs.Takes.{head_with}
 use Rattle.ak_device.specs.Settlings.{is_changes, names_of, settled_by, settled_under, taken_and_settled}
 use Rattle.ak_exchange.proofs.Replying.{replied_append}
 use Rattle.ak_exchange.proofs.SentRows.{changes_left, no_changes_yet}

@@ -15,15 +15,13 @@ ghost use Rattle.ak_session.specs.Plans.{planned_start, planned_graves, planned_
 use crate::envelopes::{Envelopes, Met};
 use crate::stops::Stop;
 use ak_base::{Name, Row};
-use ak_client_wire::{
-    Wire, ask_changes, ask_chunk, ask_graves, ask_moment, ask_nothing, ask_sanity,
-};
+use ak_client_wire::{Wire, ask};
 use ak_device::{
     FIRST_PLACE, Gathered, graves_part, next_chunk, settle_sent, take_changes, take_chunk,
     take_graves, unsent_changes,
 };
 use ak_keep::{Keeper, Wanted};
-use ak_messages::{Ask, Chunk, MOST_ENTRIES, SanityReply};
+use ak_messages::{Ask, Changes, Chunk, GraveIds, MOST_ENTRIES, SanityReply};
 use ak_sync_rows::{counts_of, wanted_graves};
 use std::alloc::Global;
 
@@ -122,7 +120,7 @@ pub fn start<K: Keeper, W: Wire>(
         min_usn: met.head.usn,
         lmod: met.head.moment,
     })?;
-    let graves = ask_graves(wire, &request)?;
+    let graves: GraveIds = ask(wire, &request)?;
     take_graves(keeper, &graves, met.meta.usn)?;
     Ok(())
 }
@@ -198,7 +196,7 @@ fn send_part<K: Keeper, W: Wire>(
 {
     let ids = graves_part(alloc, graves, part)?;
     let request = envelopes.request(Ask::ApplyGraves(ids))?;
-    ask_nothing(wire, &request)?;
+    ask::<W, ()>(wire, &request)?;
     settle_sent(keeper, &request.ask, met.meta.usn)?;
     Ok(())
 }
@@ -223,7 +221,7 @@ pub fn exchange_changes<K: Keeper, W: Wire>(
 {
     let changes = unsent_changes(alloc, keeper, met.meta.moment)?;
     let request = envelopes.request(Ask::ApplyChanges(changes))?;
-    let came = ask_changes(wire, &request)?;
+    let came: Changes = ask(wire, &request)?;
     take_changes(keeper, &came, met.meta.usn)?;
     settle_sent(keeper, &request.ask, met.meta.usn)?;
     Ok(())
@@ -271,7 +269,7 @@ fn pull_chunk<K: Keeper, W: Wire>(
     ensures keeper { HasCauseOf stops.Keep (K.health keeper.old) (K.health keeper.new) result }
 {
     let request = envelopes.request(Ask::Chunk)?;
-    let chunk = ask_chunk(wire, &request)?;
+    let chunk: Chunk = ask(wire, &request)?;
     take_chunk(keeper, &chunk, met.meta.usn)?;
     Ok(chunk.done)
 }
@@ -352,7 +350,7 @@ fn send_chunk<K: Keeper, W: Wire>(
     ensures keeper { HasCauseOf stops.Keep (K.health keeper.old) (K.health keeper.new) result }
 {
     let request = envelopes.request(Ask::ApplyChunk(chunk))?;
-    ask_nothing(wire, &request)?;
+    ask::<W, ()>(wire, &request)?;
     settle_sent(keeper, &request.ask, met.meta.usn)?;
     Ok(())
 }
@@ -374,7 +372,7 @@ pub fn compare<K: Keeper, W: Wire>(
 {
     let counts = counts_of(keeper)?;
     let request = envelopes.request(Ask::SanityCheck2(counts))?;
-    let reply = ask_sanity(wire, &request)?;
+    let reply: SanityReply = ask(wire, &request)?;
     verdict(&reply)
 }
 
@@ -402,6 +400,6 @@ pub fn finish<W: Wire>(wire: &mut W, envelopes: &mut Envelopes) -> Result<i64, S
     ensures range { IfOk result IsMoment }
 {
     let request = envelopes.request(Ask::Finish)?;
-    let moment = ask_moment(wire, &request)?;
+    let moment: i64 = ask(wire, &request)?;
     Ok(moment)
 }

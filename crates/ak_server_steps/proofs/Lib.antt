@@ -1,6 +1,5 @@
 pub mod Answering
 pub mod Finishing
-pub mod HeadRanges
 pub mod InTables
 pub mod Marking
 pub mod NextChunk

@@ -1,7 +1,6 @@
 -- What an accepted request does to a session's tables, and what it is given.
 use Rattle.std.specs.Option.{option_map, option_map_or}
 use Rattle.std.specs.Prelude.{◌≡◌, ℤ, true, false, Bool, int_lt, if◌then◌else◌, List, Option, Some, None}
-use Rattle.ak_base.specs.Heads.{IsHeadInRange}
 use Rattle.ak_base.specs.declared.heads.Head.{Head}
 use Rattle.ak_base.specs.declared.rows.Row.{Row}
 use Rattle.ak_keep.specs.Collections.{Rows, Collection, Holding}
@@ -27,12 +26,6 @@ use Rattle.ak_session.specs.Asks.{brought}
 use Rattle.ak_session.specs.Messages.{changes_of, chunk_of}
 use Rattle.ak_session.specs.Requests.{asked_method, same_method}
 use Rattle.ak_session.specs.Slices.{wanted_changes}
-
--- a keeper that holds this head, which is in its ranges
-pub record HasHead (k : Keeping) (head : Head) : Type 0 where
-  pub held : k.headed.current ≡ true
-  pub told : WhereTold k (λ h. h.head ≡ Some head)
-  pub range : IsHeadInRange head
 
 -- a keeper that holds a head with these numbers, which are in their ranges
 pub record HasNumbers (k : Keeping) (numbers : Numbers) : Type 0 where

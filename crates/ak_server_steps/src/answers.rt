@@ -1,14 +1,11 @@
 // What an accepted request does to the session's tables, and what it is given.
 ghost use Rattle.std.specs.Prelude.{◌≡◌, true, false, IfOk, OnOk};
 ghost use Rattle.std.specs.Option.{option_map};
-ghost use Rattle.ak_base.specs.Heads.{IsHeadInRange};
-ghost use Rattle.ak_keep.specs.Collections.{Rows};
-ghost use Rattle.ak_keep.specs.Keepers.{IsMarkedAt, KeepCause, WhereHeld, WhereTold, back, changed, is_marked, marked_here};
+ghost use Rattle.ak_keep.specs.Keepers.{KeepCause, WhereHeld, WhereTold, back, changed, is_marked, marked_here};
 ghost use Rattle.ak_keep.specs.Readings.{ReadsBy};
 ghost use Rattle.ak_keep.specs.declared.keepers.Wanted.TheVariants.{From as From_usn};
-ghost use Rattle.ak_merge.specs.Commits.{with_received};
 ghost use Rattle.ak_messages.specs.declared.requests.Ask.TheVariants as asks;
-ghost use Rattle.ak_server_steps.specs.Answers.{Answers, HasHead, HasNumbers, IsNextChunk, answered, changes_given, expects_mark, held_with, is_chunk, settings_unless_newer, tables_of};
+ghost use Rattle.ak_server_steps.specs.Answers.{Answers, HasNumbers, IsNextChunk, answered, changes_given, expects_mark, held_with, is_chunk, settings_unless_newer, tables_of};
 ghost use Rattle.ak_sync_rows.specs.Takes.{MayBeTaken};
 ghost use Rattle.ak_session.specs.Asks.{brought};
 ghost use Rattle.ak_session.specs.Messages.{grave_ids, newer_of};
@@ -18,13 +15,12 @@ use crate::sanity::sanity_of;
 use crate::wholes::read_whole;
 use ak_base::{Head, Memory, Name};
 use ak_keep::{KeepFault, Keeper, Numbers, Wanted};
-use ak_merge::{Side, take_tags};
+use ak_merge::Side;
 use ak_messages::{Ask, Changes, Chunk, Give, GraveIds, Newer};
 use ak_server_rules::Session;
 use ak_sync_rows::{
-    Changed, changed_of, chunk_of, grave_ids, head_of, next_rows, settings_after,
-    take_changed_rows, take_chunk_rows, take_given_graves, wanted_changes, wanted_graves,
-    wanted_tags,
+    changes_of, chunk_of, grave_ids, head_of, next_rows, take_changes, take_chunk_rows,
+    take_given_graves, wanted_changes, wanted_graves, wanted_tags,
 };
 use std::alloc::Global;
 
@@ -149,7 +145,8 @@ fn exchange_changes<K: Keeper>(
 {
     let head = head_of(keeper)?;
     let given = changes_from(alloc, keeper, &head, &live)?;
-    take_changes(keeper, came, head)?;
+    let usn = head.usn;
+    take_changes(keeper, came, head, usn, Side::Server)?;
     Ok(given)
 }
 
@@ -165,20 +162,9 @@ fn changes_from<K: Keeper>(
 {
     let want = Wanted::From(live.least_usn);
     let rows = wanted_changes(keeper, want)?;
-    let Changed {
-        models,
-        decks,
-        options,
-    } = changed_of(alloc, rows)?;
     let tags = wanted_tags(alloc, head.tags.as_slice(), &want)?;
     let newer = settings_given(head, live)?;
-    Ok(Changes {
-        models,
-        decks,
-        options,
-        tags,
-        newer,
-    })
+    Ok(changes_of(alloc, rows, tags, newer)?)
 }
 
 /// The server's settings, unless the device was changed after the committed collection.
@@ -192,51 +178,6 @@ fn settings_given(head: &Head, live: &Session) -> Result<Option<Newer>, Memory>
         conf: head.conf.copy()?,
         crt: head.crt,
     }))
-}
-
-/// Takes the changes that came: rows, then tags and settings.
-fn take_changes<K: Keeper>(keeper: &mut K, came: &Changes, head: Head) -> Result<(), KeepFault>
-    requires marked { is_marked (K.keeping keeper.old) ≡ true }
-    requires held { HasHead (K.keeping keeper.old) head }
-    requires taken { MayBeTaken (brought (asks.ApplyChanges came.now)) }
-    ensures ok { OnOk result (K.keeping keeper.new ≡ changed (held_with (brought (asks.ApplyChanges came.now))) (K.keeping keeper.old)) }
-    ensures stays { IsMarkedAt (back (K.keeping keeper.old)) (K.keeping keeper.new) }
-    ensures cause { KeepCause (K.health keeper.old) (K.health keeper.new) result }
-{
-    take_changed_rows(keeper, came, head.usn, Side::Server)?;
-    let head = head_with(head, came)?;
-    keeper.set_head(head)
-}
-
-/// The head once the tags and settings that came are taken.
-#[tactic(auto, using(crate::proofs::HeadRanges::taken_head_fits))]
-fn head_with(head: Head, came: &Changes) -> Result<Head, Memory>
-    requires range { IsHeadInRange head }
-    requires taken { MayBeTaken (brought (asks.ApplyChanges came.now)) }
-    ensures ok { (held : Rows) → IfOk result (λ made.
-        made ≡ (with_received (brought (asks.ApplyChanges came.now)) (record { rows = held; head = head })).head) }
-    ensures range { IfOk result IsHeadInRange }
-{
-    let Head {
-        crt,
-        moment,
-        schema,
-        usn,
-        last_sync,
-        conf,
-        tags,
-    } = head;
-    let tags = take_tags(tags, came.tags.as_slice(), usn)?;
-    let (conf, crt) = settings_after(&came.newer, conf, crt)?;
-    Ok(Head {
-        crt,
-        moment,
-        schema,
-        usn,
-        last_sync,
-        conf,
-        tags,
-    })
 }
 
 /// Gives the next rows.

@@ -1,9 +1,11 @@
 pub mod Checks
 pub mod Gathering
 pub mod InRange
+pub mod MadeHeads
 pub mod Pages
 pub mod Parted
 pub mod Placing
 pub mod Taken
+pub mod TakenHeads
 pub mod Taking
 pub mod Walking

@@ -1,15 +1,18 @@
 ghost use Rattle.std.specs.Option.{option_map, unwrap_or};
-ghost use Rattle.std.specs.Prelude.{◌≡◌, ◌≢◌, true, Some, Err, IfOk};
-ghost use Rattle.ak_base.specs.Heads.{IsHeadInRange};
+ghost use Rattle.std.specs.Prelude.{◌≡◌, ◌≢◌, pos, true, Some, Err, IfOk};
+ghost use Rattle.ak_base.specs.Heads.{IsHeadInRange, IsWithin};
+ghost use Rattle.ak_base.specs.Limits.{last_head_usn};
 ghost use Rattle.ak_keep.specs.HeadNumbers.{AreNumbersInRange, numbers_of};
 ghost use Rattle.ak_keep.specs.Keepers.{IsNamedRightly};
 ghost use Rattle.ak_keep.specs.Readings.{ReadsBy};
 ghost use Rattle.ak_keep.specs.declared.keepers.KeepFault.TheVariants.{Memory as WantOfMemory};
 ghost use Rattle.ak_session.specs.Messages.{settings_in};
+ghost use Rattle.ak_sync_rows.specs.Takes.{MayBeTaken, head_with, received_in};
 
 use ak_base::{Conf, Head, Memory};
 use ak_keep::{KeepFault, Keeper, Numbers};
-use ak_messages::Newer;
+use ak_merge::take_tags;
+use ak_messages::{Changes, Newer};
 
 /// The head of the collection that is held.
 pub fn head_of<K: Keeper>(keeper: &mut K) -> Result<Head, KeepFault>
@@ -43,8 +46,38 @@ pub fn held_numbers<K: Keeper>(keeper: &mut K) -> Result<Numbers, KeepFault>
     Ok(numbers)
 }
 
+/// The head once the tags and settings of these changes are taken, with one usn.
+pub(crate) fn head_with(head: Head, came: &Changes, usn: i64) -> Result<Head, Memory>
+    requires range { IsHeadInRange head }
+    requires taken { MayBeTaken (received_in came.now) }
+    requires usn { IsWithin (pos 0) last_head_usn usn }
+    ensures ok { IfOk result (λ made. made ≡ head_with usn (received_in came.now) head) }
+    ensures range { IfOk result IsHeadInRange }
+{
+    let Head {
+        crt,
+        moment,
+        schema,
+        usn: own,
+        last_sync,
+        conf,
+        tags,
+    } = head;
+    let tags = take_tags(tags, came.tags.as_slice(), usn)?;
+    let (conf, crt) = settings_after(&came.newer, conf, crt)?;
+    Ok(Head {
+        crt,
+        moment,
+        schema,
+        usn: own,
+        last_sync,
+        conf,
+        tags,
+    })
+}
+
 /// The settings that came, or else the held ones.
-pub fn settings_after(newer: &Option<Newer>, conf: Conf, crt: i64) -> Result<(Conf, i64), Memory>
+fn settings_after(newer: &Option<Newer>, conf: Conf, crt: i64) -> Result<(Conf, i64), Memory>
     ensures conf { IfOk result (λ made. made.0 ≡ (unwrap_or (option_map settings_in newer.now) (record { conf = conf; crt = crt })).conf) }
     ensures crt { IfOk result (λ made. made.1 ≡ (unwrap_or (option_map settings_in newer.now) (record { conf = conf; crt = crt })).crt) }
 {

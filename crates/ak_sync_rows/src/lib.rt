@@ -17,15 +17,15 @@ mod walks;
 
 pub use chunks::next_rows;
 pub use counts::{counts_of, same_counts};
-pub use heads::{head_of, held_numbers, settings_after};
+pub use heads::{head_of, held_numbers};
 pub use lists::append_page;
 pub use methods::asked_method;
-pub use parts::{Changed, changed_of, chunk_of, grave_ids};
+pub use parts::{changes_of, chunk_of, grave_ids};
 pub use ranges::{
     are_changes_in_range, are_graves_in_range, are_rows_checked, is_between, is_conf_in_range,
     is_id, is_tag_name,
 };
 pub use reads::{wanted_changes, wanted_graves, wanted_in_chunks, wanted_tags};
-pub use takings::{take_changed_rows, take_chunk_rows, take_given_graves};
+pub use takings::{take_changes, take_chunk_rows, take_given_graves};
 pub use uploads::{tag_names, uploaded_rows};
 pub use walks::{WantedWalk, rows_from};

@@ -4,8 +4,8 @@ ghost use Rattle.std.specs.List.{filter_map};
 ghost use Rattle.ak_keep.specs.Lookups.{as_note, as_card, as_note_type, as_deck, as_options};
 ghost use Rattle.ak_session.specs.Messages.{grave_ids, ids_in, chunk_of, as_review};
 
-use ak_base::{Card, Deck, List, Memory, Note, NoteType, Options, Review, Row, Table};
-use ak_messages::{Chunk, GraveIds, MOST_ENTRIES};
+use ak_base::{Card, Deck, List, Memory, Note, NoteType, Options, Review, Row, Table, Text};
+use ak_messages::{Changes, Chunk, GraveIds, MOST_ENTRIES, Newer};
 use std::alloc::Global;
 
 /// The ids of the deleted rows whose graves these are.
@@ -78,16 +78,45 @@ fn add_to_chunk(
     }
 }
 
+/// The changes of the note types, decks and groups of options among these rows, each in their order, with these tags and settings.
+pub fn changes_of(
+    alloc: Global,
+    rows: Vec<Row>,
+    tags: List<Text>,
+    newer: Option<Newer>,
+) -> Result<Changes, Memory>
+    ensures { IfOk result (λ changes. changes ≡ record {
+      models = filter_map as_note_type rows.items;
+      decks = filter_map as_deck rows.items;
+      options = filter_map as_options rows.items;
+      tags = tags;
+      newer = newer;
+    }) }
+{
+    let Changed {
+        models,
+        decks,
+        options,
+    } = changed_of(alloc, rows)?;
+    Ok(Changes {
+        models,
+        decks,
+        options,
+        tags,
+        newer,
+    })
+}
+
 /// Note types, decks and groups of options, each in their order.
 #[derive(Drop)]
-pub struct Changed {
-    pub models: List<NoteType>,
-    pub decks: List<Deck>,
-    pub options: List<Options>,
+struct Changed {
+    models: List<NoteType>,
+    decks: List<Deck>,
+    options: List<Options>,
 }
 
 /// The note types, decks and groups of options among these rows.
-pub fn changed_of(alloc: Global, rows: Vec<Row>) -> Result<Changed, Memory>
+fn changed_of(alloc: Global, rows: Vec<Row>) -> Result<Changed, Memory>
     ensures models { IfOk result (λ made. made.models ≡ filter_map as_note_type rows.items) }
     ensures decks { IfOk result (λ made. made.decks ≡ filter_map as_deck rows.items) }
     ensures options { IfOk result (λ made. made.options ≡ filter_map as_options rows.items) }

@@ -2,7 +2,7 @@
 ghost use Rattle.ak_transfers.specs.Greetings.{GreetsFirst};
 
 use ak_client::{second_of, test_clocks};
-use ak_client_wire::{MetaSaid, Wire, ask_meta};
+use ak_client_wire::{MetaSaid, Wire, ask};
 use ak_exchange::{Ids, Stop, meta_request};
 use ak_io::Clock;
 
@@ -17,7 +17,7 @@ pub(crate) fn greet<W: Wire, C: Clock>(
         (record { line = record { health = W.health wire.new; wire = W.state wire.new }; moments = C.to_come clock.new }) result }
 {
     let request = meta_request(ids);
-    let meta = ask_meta(wire, &request)?;
+    let meta: MetaSaid = ask(wire, &request)?;
     let at = clock.now();
     let second = second_of(at);
     test_clocks(meta, second)?;

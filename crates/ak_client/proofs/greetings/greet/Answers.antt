@@ -22,13 +22,13 @@ use Rattle.ak_client.proofs.greetings.greet.Goals as goal
 
 pub test_device-requires-clause-usn : goal.test_device-requires-clause-usn
 test_device-requires-clause-usn g c =
-    usn_within c.meta_request-request.result (g.W.End.health c.args.wire.now) (g.W.End.health c.ask_meta.new.wire) (g.W.Wire.state c.args.wire.now) (g.W.Wire.state c.ask_meta.new.wire) c.in_ok-meta.meta c.in_ok-meta.ensures
+    usn_within c.meta_request-request.result (g.W.End.health c.args.wire.now) (g.W.End.health c.ask.new.wire) (g.W.Wire.state c.args.wire.now) (g.W.Wire.state c.ask.new.wire) c.in_ok-meta.meta c.in_ok-meta.ensures
 
 pub returns-in_err-meta-clause-greets : goal.returns-in_err-meta-clause-greets
 returns-in_err-meta-clause-greets g c =
-    exits c.from_residual.result (wire_stop c.in_err-meta.field-0.0) (λ (r : Result Met Stop). GreetsTold c.args.ids (g.W.Wire.state c.args.wire.now).log (g.W.Wire.state c.ask_meta.new.wire).log r) c.from_residual.ensures.1
-    (greets_stop c.args.ids (g.W.End.health c.args.wire.now) (g.W.End.health c.ask_meta.new.wire) (g.W.Wire.state c.args.wire.now) (g.W.Wire.state c.ask_meta.new.wire) (Err c.in_err-meta.field-0.0) (wire_stop c.in_err-meta.field-0.0)
-    (subst (λ (request : Request). Answered (g.W.End.health c.args.wire.now) (g.W.End.health c.ask_meta.new.wire) (g.W.Wire.state c.args.wire.now) (g.W.Wire.state c.ask_meta.new.wire) request meta_in (Err c.in_err-meta.field-0.0)) c.meta_request-request.ensures c.in_err-meta.ensures))
+    exits c.from_residual.result (wire_stop c.in_err-meta.field-0.0) (λ (r : Result Met Stop). GreetsTold c.args.ids (g.W.Wire.state c.args.wire.now).log (g.W.Wire.state c.ask.new.wire).log r) c.from_residual.ensures.1
+    (greets_stop c.args.ids (g.W.End.health c.args.wire.now) (g.W.End.health c.ask.new.wire) (g.W.Wire.state c.args.wire.now) (g.W.Wire.state c.ask.new.wire) (Err c.in_err-meta.field-0.0) (wire_stop c.in_err-meta.field-0.0)
+    (subst (λ (request : Request). Answered (g.W.End.health c.args.wire.now) (g.W.End.health c.ask.new.wire) (g.W.Wire.state c.args.wire.now) (g.W.Wire.state c.ask.new.wire) request meta_in (Err c.in_err-meta.field-0.0)) c.meta_request-request.ensures c.in_err-meta.ensures))
 
 pub returns-in_err-meta-clause-clock : goal.returns-in_err-meta-clause-clock
 returns-in_err-meta-clause-clock g c =
@@ -37,9 +37,9 @@ returns-in_err-meta-clause-clock g c =
 
 pub returns-in_err-test_clocks-clause-greets : goal.returns-in_err-test_clocks-clause-greets
 returns-in_err-test_clocks-clause-greets g c =
-    exits c.from_residual-in_err-test_clocks.result c.in_err-test_clocks.field-0.0 (λ (r : Result Met Stop). GreetsTold c.args.ids (g.W.Wire.state c.args.wire.now).log (g.W.Wire.state c.ask_meta.new.wire).log r) c.from_residual-in_err-test_clocks.ensures.1
-    (greets_stop c.args.ids (g.W.End.health c.args.wire.now) (g.W.End.health c.ask_meta.new.wire) (g.W.Wire.state c.args.wire.now) (g.W.Wire.state c.ask_meta.new.wire) (Ok c.in_ok-meta.meta) c.in_err-test_clocks.field-0.0
-    (subst (λ (request : Request). Answered (g.W.End.health c.args.wire.now) (g.W.End.health c.ask_meta.new.wire) (g.W.Wire.state c.args.wire.now) (g.W.Wire.state c.ask_meta.new.wire) request meta_in (Ok c.in_ok-meta.meta)) c.meta_request-request.ensures c.in_ok-meta.ensures))
+    exits c.from_residual-in_err-test_clocks.result c.in_err-test_clocks.field-0.0 (λ (r : Result Met Stop). GreetsTold c.args.ids (g.W.Wire.state c.args.wire.now).log (g.W.Wire.state c.ask.new.wire).log r) c.from_residual-in_err-test_clocks.ensures.1
+    (greets_stop c.args.ids (g.W.End.health c.args.wire.now) (g.W.End.health c.ask.new.wire) (g.W.Wire.state c.args.wire.now) (g.W.Wire.state c.ask.new.wire) (Ok c.in_ok-meta.meta) c.in_err-test_clocks.field-0.0
+    (subst (λ (request : Request). Answered (g.W.End.health c.args.wire.now) (g.W.End.health c.ask.new.wire) (g.W.Wire.state c.args.wire.now) (g.W.Wire.state c.ask.new.wire) request meta_in (Ok c.in_ok-meta.meta)) c.meta_request-request.ensures c.in_ok-meta.ensures))
 
 pub returns-in_err-test_clocks-clause-clock : goal.returns-in_err-test_clocks-clause-clock
 returns-in_err-test_clocks-clause-clock g c =
@@ -48,9 +48,9 @@ returns-in_err-test_clocks-clause-clock g c =
 
 pub returns-in_err-head-clause-greets : goal.returns-in_err-head-clause-greets
 returns-in_err-head-clause-greets g c =
-    exits c.from_residual-in_err-head.result c.in_err-head.field-0.0 (λ (r : Result Met Stop). GreetsTold c.args.ids (g.W.Wire.state c.args.wire.now).log (g.W.Wire.state c.ask_meta.new.wire).log r) c.from_residual-in_err-head.ensures.1
-    (greets_stop c.args.ids (g.W.End.health c.args.wire.now) (g.W.End.health c.ask_meta.new.wire) (g.W.Wire.state c.args.wire.now) (g.W.Wire.state c.ask_meta.new.wire) (Ok c.in_ok-meta.meta) c.in_err-head.field-0.0
-    (subst (λ (request : Request). Answered (g.W.End.health c.args.wire.now) (g.W.End.health c.ask_meta.new.wire) (g.W.Wire.state c.args.wire.now) (g.W.Wire.state c.ask_meta.new.wire) request meta_in (Ok c.in_ok-meta.meta)) c.meta_request-request.ensures c.in_ok-meta.ensures))
+    exits c.from_residual-in_err-head.result c.in_err-head.field-0.0 (λ (r : Result Met Stop). GreetsTold c.args.ids (g.W.Wire.state c.args.wire.now).log (g.W.Wire.state c.ask.new.wire).log r) c.from_residual-in_err-head.ensures.1
+    (greets_stop c.args.ids (g.W.End.health c.args.wire.now) (g.W.End.health c.ask.new.wire) (g.W.Wire.state c.args.wire.now) (g.W.Wire.state c.ask.new.wire) (Ok c.in_ok-meta.meta) c.in_err-head.field-0.0
+    (subst (λ (request : Request). Answered (g.W.End.health c.args.wire.now) (g.W.End.health c.ask.new.wire) (g.W.Wire.state c.args.wire.now) (g.W.Wire.state c.ask.new.wire) request meta_in (Ok c.in_ok-meta.meta)) c.meta_request-request.ensures c.in_ok-meta.ensures))
 
 pub returns-in_err-head-clause-early : goal.returns-in_err-head-clause-early
 returns-in_err-head-clause-early g c =
@@ -64,12 +64,12 @@ returns-in_err-head-clause-clock g c =
 
 pub returns-clause-greets : goal.returns-clause-greets
 returns-clause-greets g c =
-    greets_on c.args.ids (g.W.End.health c.args.wire.now) (g.W.End.health c.ask_meta.new.wire) (g.W.Wire.state c.args.wire.now) (g.W.Wire.state c.ask_meta.new.wire) c.in_ok-meta.meta c.in_ok-head.head
-    (subst (λ (request : Request). Answered (g.W.End.health c.args.wire.now) (g.W.End.health c.ask_meta.new.wire) (g.W.Wire.state c.args.wire.now) (g.W.Wire.state c.ask_meta.new.wire) request meta_in (Ok c.in_ok-meta.meta)) c.meta_request-request.ensures c.in_ok-meta.ensures)
+    greets_on c.args.ids (g.W.End.health c.args.wire.now) (g.W.End.health c.ask.new.wire) (g.W.Wire.state c.args.wire.now) (g.W.Wire.state c.ask.new.wire) c.in_ok-meta.meta c.in_ok-head.head
+    (subst (λ (request : Request). Answered (g.W.End.health c.args.wire.now) (g.W.End.health c.ask.new.wire) (g.W.Wire.state c.args.wire.now) (g.W.Wire.state c.ask.new.wire) request meta_in (Ok c.in_ok-meta.meta)) c.meta_request-request.ensures c.in_ok-meta.ensures)
 
 pub returns-clause-low : goal.returns-clause-low
 returns-clause-low g c =
-    (usn_within c.meta_request-request.result (g.W.End.health c.args.wire.now) (g.W.End.health c.ask_meta.new.wire) (g.W.Wire.state c.args.wire.now) (g.W.Wire.state c.ask_meta.new.wire) c.in_ok-meta.meta c.in_ok-meta.ensures).low
+    (usn_within c.meta_request-request.result (g.W.End.health c.args.wire.now) (g.W.End.health c.ask.new.wire) (g.W.Wire.state c.args.wire.now) (g.W.Wire.state c.ask.new.wire) c.in_ok-meta.meta c.in_ok-meta.ensures).low
 
 pub returns-clause-clocks : goal.returns-clause-clocks
 returns-clause-clocks g c =
@@ -84,18 +84,18 @@ returns-clause-clocks g c =
 
 pub returns-in_err-meta-clause-heard : goal.returns-in_err-meta-clause-heard
 returns-in_err-meta-clause-heard g c =
-    exits c.from_residual.result (wire_stop c.in_err-meta.field-0.0) (λ (r : Result Met Stop). IsGreeting c.args.ids (g.W.End.health c.args.wire.now) (g.W.End.health c.ask_meta.new.wire) (g.W.Wire.state c.args.wire.now) (g.W.Wire.state c.ask_meta.new.wire) (g.C.Clock.to_come c.args.clock.now) (g.C.Clock.to_come c.args.clock.now) (g.K.Lookup.keeping c.args.keeper.now) r) c.from_residual.ensures.1
-    (greeting_unheard c.args.ids (g.W.End.health c.args.wire.now) (g.W.End.health c.ask_meta.new.wire) (g.W.Wire.state c.args.wire.now) (g.W.Wire.state c.ask_meta.new.wire) (g.C.Clock.to_come c.args.clock.now) (g.K.Lookup.keeping c.args.keeper.now) c.in_err-meta.field-0.0
-    (subst (λ (request : Request). Answered (g.W.End.health c.args.wire.now) (g.W.End.health c.ask_meta.new.wire) (g.W.Wire.state c.args.wire.now) (g.W.Wire.state c.ask_meta.new.wire) request meta_in (Err c.in_err-meta.field-0.0)) c.meta_request-request.ensures c.in_err-meta.ensures))
+    exits c.from_residual.result (wire_stop c.in_err-meta.field-0.0) (λ (r : Result Met Stop). IsGreeting c.args.ids (g.W.End.health c.args.wire.now) (g.W.End.health c.ask.new.wire) (g.W.Wire.state c.args.wire.now) (g.W.Wire.state c.ask.new.wire) (g.C.Clock.to_come c.args.clock.now) (g.C.Clock.to_come c.args.clock.now) (g.K.Lookup.keeping c.args.keeper.now) r) c.from_residual.ensures.1
+    (greeting_unheard c.args.ids (g.W.End.health c.args.wire.now) (g.W.End.health c.ask.new.wire) (g.W.Wire.state c.args.wire.now) (g.W.Wire.state c.ask.new.wire) (g.C.Clock.to_come c.args.clock.now) (g.K.Lookup.keeping c.args.keeper.now) c.in_err-meta.field-0.0
+    (subst (λ (request : Request). Answered (g.W.End.health c.args.wire.now) (g.W.End.health c.ask.new.wire) (g.W.Wire.state c.args.wire.now) (g.W.Wire.state c.ask.new.wire) request meta_in (Err c.in_err-meta.field-0.0)) c.meta_request-request.ensures c.in_err-meta.ensures))
 
 pub returns-in_err-test_clocks-clause-heard : goal.returns-in_err-test_clocks-clause-heard
 returns-in_err-test_clocks-clause-heard g c =
     let moment : SFits w64 c.now-at.result = search rules in
     let fits : SFits w64 c.second_of-second.result = search rules in
     let second : c.second_of-second.result ≡ second_of c.now-at.result = rw (to_z-of_z w64 c.now-at.result moment) at c.second_of-second.ensures.second in
-    exits c.from_residual-in_err-test_clocks.result c.in_err-test_clocks.field-0.0 (λ (r : Result Met Stop). IsGreeting c.args.ids (g.W.End.health c.args.wire.now) (g.W.End.health c.ask_meta.new.wire) (g.W.Wire.state c.args.wire.now) (g.W.Wire.state c.ask_meta.new.wire) (g.C.Clock.to_come c.args.clock.now) (g.C.Clock.to_come c.now-at.new.self) (g.K.Lookup.keeping c.args.keeper.now) r) c.from_residual-in_err-test_clocks.ensures.1
-    (greeting_by_clocks c.args.ids (g.W.End.health c.args.wire.now) (g.W.End.health c.ask_meta.new.wire) (g.W.Wire.state c.args.wire.now) (g.W.Wire.state c.ask_meta.new.wire) (g.C.Clock.to_come c.args.clock.now) (g.C.Clock.to_come c.now-at.new.self) (g.K.Lookup.keeping c.args.keeper.now) c.in_ok-meta.meta c.in_err-test_clocks.field-0.0
-    (subst (λ (request : Request). Answered (g.W.End.health c.args.wire.now) (g.W.End.health c.ask_meta.new.wire) (g.W.Wire.state c.args.wire.now) (g.W.Wire.state c.ask_meta.new.wire) request meta_in (Ok c.in_ok-meta.meta)) c.meta_request-request.ensures c.in_ok-meta.ensures)
+    exits c.from_residual-in_err-test_clocks.result c.in_err-test_clocks.field-0.0 (λ (r : Result Met Stop). IsGreeting c.args.ids (g.W.End.health c.args.wire.now) (g.W.End.health c.ask.new.wire) (g.W.Wire.state c.args.wire.now) (g.W.Wire.state c.ask.new.wire) (g.C.Clock.to_come c.args.clock.now) (g.C.Clock.to_come c.now-at.new.self) (g.K.Lookup.keeping c.args.keeper.now) r) c.from_residual-in_err-test_clocks.ensures.1
+    (greeting_by_clocks c.args.ids (g.W.End.health c.args.wire.now) (g.W.End.health c.ask.new.wire) (g.W.Wire.state c.args.wire.now) (g.W.Wire.state c.ask.new.wire) (g.C.Clock.to_come c.args.clock.now) (g.C.Clock.to_come c.now-at.new.self) (g.K.Lookup.keeping c.args.keeper.now) c.in_ok-meta.meta c.in_err-test_clocks.field-0.0
+    (subst (λ (request : Request). Answered (g.W.End.health c.args.wire.now) (g.W.End.health c.ask.new.wire) (g.W.Wire.state c.args.wire.now) (g.W.Wire.state c.ask.new.wire) request meta_in (Ok c.in_ok-meta.meta)) c.meta_request-request.ensures c.in_ok-meta.ensures)
     c.now-at.result _ c.now-at.ensures.given (to_z-of_z w64 c.second_of-second.result fits ∙ second)
     c.in_err-test_clocks.ensures.stop)
 
@@ -104,16 +104,16 @@ returns-in_err-head-clause-heard g c =
     let moment : SFits w64 c.now-at.result = search rules in
     let fits : SFits w64 c.second_of-second.result = search rules in
     let second : c.second_of-second.result ≡ second_of c.now-at.result = rw (to_z-of_z w64 c.now-at.result moment) at c.second_of-second.ensures.second in
-    exits c.from_residual-in_err-head.result c.in_err-head.field-0.0 (λ (r : Result Met Stop). IsGreeting c.args.ids (g.W.End.health c.args.wire.now) (g.W.End.health c.ask_meta.new.wire) (g.W.Wire.state c.args.wire.now) (g.W.Wire.state c.ask_meta.new.wire) (g.C.Clock.to_come c.args.clock.now) (g.C.Clock.to_come c.now-at.new.self) (g.K.Lookup.keeping c.args.keeper.now) r) c.from_residual-in_err-head.ensures.1
-    (greeting_by_device c.args.ids (g.W.End.health c.args.wire.now) (g.W.End.health c.ask_meta.new.wire) (g.W.Wire.state c.args.wire.now) (g.W.Wire.state c.ask_meta.new.wire) (g.C.Clock.to_come c.args.clock.now) (g.C.Clock.to_come c.now-at.new.self) (g.K.Lookup.keeping c.args.keeper.now) c.in_ok-meta.meta c.in_err-head.field-0.0
-    (subst (λ (request : Request). Answered (g.W.End.health c.args.wire.now) (g.W.End.health c.ask_meta.new.wire) (g.W.Wire.state c.args.wire.now) (g.W.Wire.state c.ask_meta.new.wire) request meta_in (Ok c.in_ok-meta.meta)) c.meta_request-request.ensures c.in_ok-meta.ensures)
+    exits c.from_residual-in_err-head.result c.in_err-head.field-0.0 (λ (r : Result Met Stop). IsGreeting c.args.ids (g.W.End.health c.args.wire.now) (g.W.End.health c.ask.new.wire) (g.W.Wire.state c.args.wire.now) (g.W.Wire.state c.ask.new.wire) (g.C.Clock.to_come c.args.clock.now) (g.C.Clock.to_come c.now-at.new.self) (g.K.Lookup.keeping c.args.keeper.now) r) c.from_residual-in_err-head.ensures.1
+    (greeting_by_device c.args.ids (g.W.End.health c.args.wire.now) (g.W.End.health c.ask.new.wire) (g.W.Wire.state c.args.wire.now) (g.W.Wire.state c.ask.new.wire) (g.C.Clock.to_come c.args.clock.now) (g.C.Clock.to_come c.now-at.new.self) (g.K.Lookup.keeping c.args.keeper.now) c.in_ok-meta.meta c.in_err-head.field-0.0
+    (subst (λ (request : Request). Answered (g.W.End.health c.args.wire.now) (g.W.End.health c.ask.new.wire) (g.W.Wire.state c.args.wire.now) (g.W.Wire.state c.ask.new.wire) request meta_in (Ok c.in_ok-meta.meta)) c.meta_request-request.ensures c.in_ok-meta.ensures)
     c.now-at.result _ c.now-at.ensures.given (to_z-of_z w64 c.second_of-second.result fits ∙ second)
     c.in_ok-test_clocks.ensures.stop c.in_err-head.ensures.ends)
 
 pub returns-clause-heard : goal.returns-clause-heard
 returns-clause-heard g c =
-    greeting_goes_on c.args.ids (g.W.End.health c.args.wire.now) (g.W.End.health c.ask_meta.new.wire) (g.W.Wire.state c.args.wire.now) (g.W.Wire.state c.ask_meta.new.wire) (g.C.Clock.to_come c.args.clock.now) (g.C.Clock.to_come c.now-at.new.self) (g.K.Lookup.keeping c.args.keeper.now) (record { meta = c.in_ok-meta.meta; head = c.in_ok-head.head })
-    (subst (λ (request : Request). Answered (g.W.End.health c.args.wire.now) (g.W.End.health c.ask_meta.new.wire) (g.W.Wire.state c.args.wire.now) (g.W.Wire.state c.ask_meta.new.wire) request meta_in (Ok c.in_ok-meta.meta)) c.meta_request-request.ensures c.in_ok-meta.ensures)
+    greeting_goes_on c.args.ids (g.W.End.health c.args.wire.now) (g.W.End.health c.ask.new.wire) (g.W.Wire.state c.args.wire.now) (g.W.Wire.state c.ask.new.wire) (g.C.Clock.to_come c.args.clock.now) (g.C.Clock.to_come c.now-at.new.self) (g.K.Lookup.keeping c.args.keeper.now) (record { meta = c.in_ok-meta.meta; head = c.in_ok-head.head })
+    (subst (λ (request : Request). Answered (g.W.End.health c.args.wire.now) (g.W.End.health c.ask.new.wire) (g.W.Wire.state c.args.wire.now) (g.W.Wire.state c.ask.new.wire) request meta_in (Ok c.in_ok-meta.meta)) c.meta_request-request.ensures c.in_ok-meta.ensures)
 
 pub returns-in_err-meta-clause-keeper : goal.returns-in_err-meta-clause-keeper
 returns-in_err-meta-clause-keeper g c = cause_wire _ _ (goes_nowhere _) c.from_residual.ensures.1

@@ -1,7 +1,7 @@
 use Rattle.std.proofs.Common.{◌+ℤ◌, pos, w64, SFits}
 use Rattle.std.proofs.lemmas.Int.{to_z-of_z}
 use Rattle.ak_device.proofs.Closing.{next_within}
-use Rattle.ak_device.proofs.Heads.{stamp_holds}
+use Rattle.ak_sync_rows.proofs.MadeHeads.{stamp_holds}
 use Rattle.ak_device.proofs.closings.commit_at.Goals as goal
 
 pub returns-clause-ok : goal.returns-clause-ok

@@ -1,7 +1,7 @@
 use Rattle.std.proofs.Common.{refl, sym, subst, rules, w64, SFits}
 use Rattle.std.proofs.lemmas.Int.{to_z-of_z}
 use Rattle.ak_base.specs.Heads.{IsHeadInRange}
-use Rattle.ak_device.proofs.Heads.{head_is}
+use Rattle.ak_sync_rows.proofs.MadeHeads.{head_is}
 use Rattle.ak_device.proofs.Settling.{settled_head_fits}
 use Rattle.ak_device.specs.Settlings.{tags_settled}
 use Rattle.ak_device.proofs.settlings.settled_head.Goals as goal

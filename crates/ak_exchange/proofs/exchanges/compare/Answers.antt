@@ -19,15 +19,15 @@ returns-in_err-request-clause-leads g c =
 pub returns-in_err-reply-clause-leads : goal.returns-in_err-reply-clause-leads
 returns-in_err-reply-clause-leads g c =
     advances_kept _ _ _ _ _ _ _ _ _ _ _ c.in_ok-counts.ensures.reads.same
-    (check_refused c.args.met.now (g.K.Lookup.keeping c.args.keeper.now) _ _ c.ask_sanity.result c.in_ok-counts.counts c.in_ok-counts.ensures.reads.told
-    (record { it = c.in_ok-request.request; made = c.in_ok-request.ensures.made; envelopes = c.in_ok-request.ensures.next; call = c.ask_sanity.ensures })
+    (check_refused c.args.met.now (g.K.Lookup.keeping c.args.keeper.now) _ _ c.ask.result c.in_ok-counts.counts c.in_ok-counts.ensures.reads.told
+    (record { it = c.in_ok-request.request; made = c.in_ok-request.ensures.made; envelopes = c.in_ok-request.ensures.next; call = c.ask.ensures })
     _ _ (by_wire _ _ _ c.in_err-reply.was c.from_residual-in_err-reply.ensures.1))
 
 pub returns-clause-leads : goal.returns-clause-leads
 returns-clause-leads g c =
     advances_kept _ _ _ _ _ _ _ _ _ _ _ c.in_ok-counts.ensures.reads.same
-    (check_ends c.args.met.now (g.K.Lookup.keeping c.args.keeper.now) _ _ c.ask_sanity.result c.in_ok-counts.counts c.in_ok-counts.ensures.reads.told
-    (record { it = c.in_ok-request.request; made = c.in_ok-request.ensures.made; envelopes = c.in_ok-request.ensures.next; call = c.ask_sanity.ensures })
+    (check_ends c.args.met.now (g.K.Lookup.keeping c.args.keeper.now) _ _ c.ask.result c.in_ok-counts.counts c.in_ok-counts.ensures.reads.told
+    (record { it = c.in_ok-request.request; made = c.in_ok-request.ensures.made; envelopes = c.in_ok-request.ensures.next; call = c.ask.ensures })
     c.verdict.result c.in_ok-reply.reply c.in_ok-reply.was c.verdict.ensures)
 
 pub returns-in_err-counts-clause-keeper : goal.returns-in_err-counts-clause-keeper

@@ -34,31 +34,31 @@ returns-in_err-request-clause-leads g c =
 pub returns-in_err-came-clause-leads : goal.returns-in_err-came-clause-leads
 returns-in_err-came-clause-leads g c =
     let moment : SFits w64 c.args.met.now.meta.moment = search rules in
-    changes_refused c.args.met.now (g.K.Lookup.keeping c.args.keeper.now) _ _ c.ask_changes.result c.in_ok-changes.changes
+    changes_refused c.args.met.now (g.K.Lookup.keeping c.args.keeper.now) _ _ c.ask.result c.in_ok-changes.changes
     (rw (to_z-of_z w64 c.args.met.now.meta.moment moment) at c.in_ok-changes.ensures.reads.told)
-    (record { it = c.in_ok-request.request; made = c.in_ok-request.ensures.made; envelopes = c.in_ok-request.ensures.next; call = c.ask_changes.ensures })
+    (record { it = c.in_ok-request.request; made = c.in_ok-request.ensures.made; envelopes = c.in_ok-request.ensures.next; call = c.ask.ensures })
     _ _ (λ why came. c.in_ok-changes.ensures.reads.same) (by_wire _ _ _ c.in_err-came.was c.from_residual-in_err-came.ensures.1)
 
 pub take_changes-requires-clause-taken : goal.take_changes-requires-clause-taken
 take_changes-requires-clause-taken g c =
-    let give = granted_give _ _ _ _ _ changes_in _ _ c.ask_changes.ensures c.in_ok-came.was in
+    let give = granted_give _ _ _ _ _ changes_in _ _ c.ask.ensures c.in_ok-came.was in
     (changes_are give.0 c.in_ok-came.came give.1).1
 
 pub returns-in_err-take_changes-clause-leads : goal.returns-in_err-take_changes-clause-leads
 returns-in_err-take_changes-clause-leads g c =
     let moment : SFits w64 c.args.met.now.meta.moment = search rules in
-    changes_refused c.args.met.now (g.K.Lookup.keeping c.args.keeper.now) _ _ c.ask_changes.result c.in_ok-changes.changes
+    changes_refused c.args.met.now (g.K.Lookup.keeping c.args.keeper.now) _ _ c.ask.result c.in_ok-changes.changes
     (rw (to_z-of_z w64 c.args.met.now.meta.moment moment) at c.in_ok-changes.ensures.reads.told)
-    (record { it = c.in_ok-request.request; made = c.in_ok-request.ensures.made; envelopes = c.in_ok-request.ensures.next; call = c.ask_changes.ensures })
+    (record { it = c.in_ok-request.request; made = c.in_ok-request.ensures.made; envelopes = c.in_ok-request.ensures.next; call = c.ask.ensures })
     _ _ (kept_granted _ _ _ _ c.in_ok-came.was) (keeper_after _ _ _ _ c.in_ok-came.was c.from_residual-in_err-take_changes.ensures.1)
 
 pub returns-clause-leads : goal.returns-clause-leads
 returns-clause-leads g c =
     let moment : SFits w64 c.args.met.now.meta.moment = search rules in
     let usn : SFits w64 c.args.met.now.meta.usn = search rules in
-    changes_took c.args.met.now (g.K.Lookup.keeping c.args.keeper.now) _ _ c.ask_changes.result c.in_ok-changes.changes
+    changes_took c.args.met.now (g.K.Lookup.keeping c.args.keeper.now) _ _ c.ask.result c.in_ok-changes.changes
     (rw (to_z-of_z w64 c.args.met.now.meta.moment moment) at c.in_ok-changes.ensures.reads.told)
-    (record { it = c.in_ok-request.request; made = c.in_ok-request.ensures.made; envelopes = c.in_ok-request.ensures.next; call = c.ask_changes.ensures })
+    (record { it = c.in_ok-request.request; made = c.in_ok-request.ensures.made; envelopes = c.in_ok-request.ensures.next; call = c.ask.ensures })
     _ _ _ c.in_ok-came.came c.in_ok-came.was
     ((rw (to_z-of_z w64 c.args.met.now.meta.usn usn) at c.in_ok-take_changes.ensures.ok)
     ∙ ap (changed (received c.args.met.now.meta.usn (replied (gives.Changes c.in_ok-came.came)))) c.in_ok-changes.ensures.reads.same)
@@ -86,9 +86,9 @@ settle_sent-requires-clause-tags g c =
 pub returns-in_err-settle_sent-clause-leads : goal.returns-in_err-settle_sent-clause-leads
 returns-in_err-settle_sent-clause-leads g c =
     let moment : SFits w64 c.args.met.now.meta.moment = search rules in
-    changes_refused c.args.met.now (g.K.Lookup.keeping c.args.keeper.now) _ _ c.ask_changes.result c.in_ok-changes.changes
+    changes_refused c.args.met.now (g.K.Lookup.keeping c.args.keeper.now) _ _ c.ask.result c.in_ok-changes.changes
     (rw (to_z-of_z w64 c.args.met.now.meta.moment moment) at c.in_ok-changes.ensures.reads.told)
-    (record { it = c.in_ok-request.request; made = c.in_ok-request.ensures.made; envelopes = c.in_ok-request.ensures.next; call = c.ask_changes.ensures })
+    (record { it = c.in_ok-request.request; made = c.in_ok-request.ensures.made; envelopes = c.in_ok-request.ensures.next; call = c.ask.ensures })
     _ _ (kept_granted _ _ _ _ c.in_ok-came.was) (keeper_after _ _ _ _ c.in_ok-came.was c.from_residual-in_err-settle_sent.ensures.1)
 
 pub returns-in_err-settle_sent-clause-stays : goal.returns-in_err-settle_sent-clause-stays

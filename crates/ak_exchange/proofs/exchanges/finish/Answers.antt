@@ -10,19 +10,19 @@ returns-in_err-request-clause-leads g c = finishes_unasked _ _ _ c.in_err-reques
 
 pub returns-in_err-moment-clause-leads : goal.returns-in_err-moment-clause-leads
 returns-in_err-moment-clause-leads g c =
-    finishes_refused _ _ c.ask_moment.result
-    (record { it = c.in_ok-request.request; made = c.in_ok-request.ensures.made; envelopes = c.in_ok-request.ensures.next; call = c.ask_moment.ensures })
+    finishes_refused _ _ c.ask.result
+    (record { it = c.in_ok-request.request; made = c.in_ok-request.ensures.made; envelopes = c.in_ok-request.ensures.next; call = c.ask.ensures })
     _ _ c.in_err-moment.was c.from_residual-in_err-moment.ensures.1
 
 pub returns-clause-leads : goal.returns-clause-leads
 returns-clause-leads g c =
     let moment : SFits w64 c.in_ok-moment.moment = search rules in
-    rw (to_z-of_z w64 c.in_ok-moment.moment moment) (finishes_granted _ _ c.ask_moment.result
-    (record { it = c.in_ok-request.request; made = c.in_ok-request.ensures.made; envelopes = c.in_ok-request.ensures.next; call = c.ask_moment.ensures })
+    rw (to_z-of_z w64 c.in_ok-moment.moment moment) (finishes_granted _ _ c.ask.result
+    (record { it = c.in_ok-request.request; made = c.in_ok-request.ensures.made; envelopes = c.in_ok-request.ensures.next; call = c.ask.ensures })
     _ c.in_ok-moment.was)
 
 pub returns-clause-range : goal.returns-clause-range
 returns-clause-range g c =
-    let give = granted_give _ _ _ _ _ moment_in _ _ c.ask_moment.ensures c.in_ok-moment.was in
+    let give = granted_give _ _ _ _ _ moment_in _ _ c.ask.ensures c.in_ok-moment.was in
     let moment : SFits w64 c.in_ok-moment.moment = search rules in
     rw (to_z-of_z w64 c.in_ok-moment.moment moment) (moment_fits give.0 c.in_ok-moment.moment give.1)

@@ -16,26 +16,26 @@ returns-in_err-request-clause-leads g c = λ count.
 
 pub returns-in_err-chunk-clause-leads : goal.returns-in_err-chunk-clause-leads
 returns-in_err-chunk-clause-leads g c = λ count.
-    pull_left c.args.met.now (g.K.Lookup.keeping c.args.keeper.now) _ _ c.ask_chunk.result count
-    (record { it = c.in_ok-request.request; made = c.in_ok-request.ensures.made; envelopes = c.in_ok-request.ensures.next; call = c.ask_chunk.ensures })
+    pull_left c.args.met.now (g.K.Lookup.keeping c.args.keeper.now) _ _ c.ask.result count
+    (record { it = c.in_ok-request.request; made = c.in_ok-request.ensures.made; envelopes = c.in_ok-request.ensures.next; call = c.ask.ensures })
     _ _ (λ why came. refl) (by_wire _ _ _ c.in_err-chunk.was c.from_residual-in_err-chunk.ensures.1)
 
 pub take_chunk-requires-clause-taken : goal.take_chunk-requires-clause-taken
 take_chunk-requires-clause-taken g c =
-    let give = granted_give _ _ _ _ _ chunk_in _ _ c.ask_chunk.ensures c.in_ok-chunk.was in
+    let give = granted_give _ _ _ _ _ chunk_in _ _ c.ask.ensures c.in_ok-chunk.was in
     (chunk_are give.0 c.in_ok-chunk.chunk give.1).1
 
 pub returns-in_err-take_chunk-clause-leads : goal.returns-in_err-take_chunk-clause-leads
 returns-in_err-take_chunk-clause-leads g c = λ count.
-    pull_left c.args.met.now (g.K.Lookup.keeping c.args.keeper.now) _ _ c.ask_chunk.result count
-    (record { it = c.in_ok-request.request; made = c.in_ok-request.ensures.made; envelopes = c.in_ok-request.ensures.next; call = c.ask_chunk.ensures })
+    pull_left c.args.met.now (g.K.Lookup.keeping c.args.keeper.now) _ _ c.ask.result count
+    (record { it = c.in_ok-request.request; made = c.in_ok-request.ensures.made; envelopes = c.in_ok-request.ensures.next; call = c.ask.ensures })
     _ _ (kept_granted _ _ _ _ c.in_ok-chunk.was) (keeper_after _ _ _ _ c.in_ok-chunk.was c.from_residual-in_err-take_chunk.ensures.1)
 
 pub returns-clause-leads : goal.returns-clause-leads
 returns-clause-leads g c = λ count.
     let usn : SFits w64 c.args.met.now.meta.usn = search rules in
-    pull_took c.args.met.now (g.K.Lookup.keeping c.args.keeper.now) _ _ c.ask_chunk.result count
-    (record { it = c.in_ok-request.request; made = c.in_ok-request.ensures.made; envelopes = c.in_ok-request.ensures.next; call = c.ask_chunk.ensures })
+    pull_took c.args.met.now (g.K.Lookup.keeping c.args.keeper.now) _ _ c.ask.result count
+    (record { it = c.in_ok-request.request; made = c.in_ok-request.ensures.made; envelopes = c.in_ok-request.ensures.next; call = c.ask.ensures })
     _ c.in_ok-chunk.chunk c.in_ok-chunk.was (rw (to_z-of_z w64 c.args.met.now.meta.usn usn) at c.in_ok-take_chunk.ensures.ok)
 
 pub returns-clause-took : goal.returns-clause-took

@@ -29,24 +29,24 @@ returns-in_err-request-clause-leads g c =
     stays_here _ _ _ _ _ _ _ _ _ _ _ (graves_lead c.args.part c.args.graves.now most) refl refl c.in_err-request.ensures.stays
     (by_memory _ c.from_residual-in_err-request.ensures.1)
 
-pub returns-in_err-ask_nothing-clause-leads : goal.returns-in_err-ask_nothing-clause-leads
-returns-in_err-ask_nothing-clause-leads g c =
-    graves_refused c.args.met.now (g.K.Lookup.keeping c.args.keeper.now) _ _ c.ask_nothing.result c.args.part c.args.graves.now c.in_ok-ids.ids c.requires.part c.in_ok-ids.ensures
-    (record { it = c.in_ok-request.request; made = c.in_ok-request.ensures.made; envelopes = c.in_ok-request.ensures.next; call = c.ask_nothing.ensures })
-    _ _ (λ why came. refl) (by_wire _ _ _ c.in_err-ask_nothing.was c.from_residual-in_err-ask_nothing.ensures.1)
+pub returns-in_err-ask-clause-leads : goal.returns-in_err-ask-clause-leads
+returns-in_err-ask-clause-leads g c =
+    graves_refused c.args.met.now (g.K.Lookup.keeping c.args.keeper.now) _ _ c.ask.result c.args.part c.args.graves.now c.in_ok-ids.ids c.requires.part c.in_ok-ids.ensures
+    (record { it = c.in_ok-request.request; made = c.in_ok-request.ensures.made; envelopes = c.in_ok-request.ensures.next; call = c.ask.ensures })
+    _ _ (λ why came. refl) (by_wire _ _ _ c.in_err-ask.was c.from_residual-in_err-ask.ensures.1)
 
 pub returns-in_err-settle_sent-clause-leads : goal.returns-in_err-settle_sent-clause-leads
 returns-in_err-settle_sent-clause-leads g c =
-    graves_refused c.args.met.now (g.K.Lookup.keeping c.args.keeper.now) _ _ c.ask_nothing.result c.args.part c.args.graves.now c.in_ok-ids.ids c.requires.part c.in_ok-ids.ensures
-    (record { it = c.in_ok-request.request; made = c.in_ok-request.ensures.made; envelopes = c.in_ok-request.ensures.next; call = c.ask_nothing.ensures })
-    _ _ (kept_granted _ _ _ _ c.in_ok-ask_nothing.was) (keeper_after _ _ _ _ c.in_ok-ask_nothing.was c.from_residual-in_err-settle_sent.ensures.1)
+    graves_refused c.args.met.now (g.K.Lookup.keeping c.args.keeper.now) _ _ c.ask.result c.args.part c.args.graves.now c.in_ok-ids.ids c.requires.part c.in_ok-ids.ensures
+    (record { it = c.in_ok-request.request; made = c.in_ok-request.ensures.made; envelopes = c.in_ok-request.ensures.next; call = c.ask.ensures })
+    _ _ (kept_granted _ _ _ _ c.in_ok-ask.was) (keeper_after _ _ _ _ c.in_ok-ask.was c.from_residual-in_err-settle_sent.ensures.1)
 
 pub returns-clause-leads : goal.returns-clause-leads
 returns-clause-leads g c =
     let usn : SFits w64 c.args.met.now.meta.usn = search rules in
-    graves_took c.args.met.now (g.K.Lookup.keeping c.args.keeper.now) _ _ c.ask_nothing.result c.args.part c.args.graves.now c.in_ok-ids.ids c.requires.part c.in_ok-ids.ensures
-    (record { it = c.in_ok-request.request; made = c.in_ok-request.ensures.made; envelopes = c.in_ok-request.ensures.next; call = c.ask_nothing.ensures })
-    _ _ _ c.in_ok-ask_nothing.was
+    graves_took c.args.met.now (g.K.Lookup.keeping c.args.keeper.now) _ _ c.ask.result c.args.part c.args.graves.now c.in_ok-ids.ids c.requires.part c.in_ok-ids.ensures
+    (record { it = c.in_ok-request.request; made = c.in_ok-request.ensures.made; envelopes = c.in_ok-request.ensures.next; call = c.ask.ensures })
+    _ _ _ c.in_ok-ask.was
     (settled_ask _ (asks.ApplyGraves c.in_ok-ids.ids) c.in_ok-request.request.ask _ _ (ap (λ (it : Request). it.ask) c.in_ok-request.ensures.made)
     (rw (to_z-of_z w64 c.args.met.now.meta.usn usn) at c.in_ok-settle_sent.ensures.ok))
 
@@ -56,8 +56,8 @@ returns-in_err-ids-clause-keeper g c = cause_memory _ (goes_nowhere _) c.from_re
 pub returns-in_err-request-clause-keeper : goal.returns-in_err-request-clause-keeper
 returns-in_err-request-clause-keeper g c = cause_memory _ (goes_nowhere _) c.from_residual-in_err-request.ensures.1
 
-pub returns-in_err-ask_nothing-clause-keeper : goal.returns-in_err-ask_nothing-clause-keeper
-returns-in_err-ask_nothing-clause-keeper g c = cause_wire _ _ (goes_nowhere _) c.from_residual-in_err-ask_nothing.ensures.1
+pub returns-in_err-ask-clause-keeper : goal.returns-in_err-ask-clause-keeper
+returns-in_err-ask-clause-keeper g c = cause_wire _ _ (goes_nowhere _) c.from_residual-in_err-ask.ensures.1
 
 pub returns-in_err-settle_sent-clause-keeper : goal.returns-in_err-settle_sent-clause-keeper
 returns-in_err-settle_sent-clause-keeper g c = cause_keeper _ _ c.in_err-settle_sent.ensures.cause c.from_residual-in_err-settle_sent.ensures.1

@@ -20,21 +20,21 @@ pub returns-in_err-graves-clause-leads : goal.returns-in_err-graves-clause-leads
 returns-in_err-graves-clause-leads g c =
     let usn : SFits w64 c.args.met.now.head.usn = search rules in
     let moment : SFits w64 c.args.met.now.head.moment = search rules in
-    start_refused c.args.met.now (g.K.Lookup.keeping c.args.keeper.now) _ _ c.ask_graves.result
-    (record { it = c.in_ok-request.request; made = rw (to_z-of_z w64 c.args.met.now.head.usn usn, to_z-of_z w64 c.args.met.now.head.moment moment) at c.in_ok-request.ensures.made; envelopes = c.in_ok-request.ensures.next; call = c.ask_graves.ensures })
+    start_refused c.args.met.now (g.K.Lookup.keeping c.args.keeper.now) _ _ c.ask.result
+    (record { it = c.in_ok-request.request; made = rw (to_z-of_z w64 c.args.met.now.head.usn usn, to_z-of_z w64 c.args.met.now.head.moment moment) at c.in_ok-request.ensures.made; envelopes = c.in_ok-request.ensures.next; call = c.ask.ensures })
     _ _ (λ why came. refl) (by_wire _ _ _ c.in_err-graves.was c.from_residual-in_err-graves.ensures.1)
 
 pub take_graves-requires-clause-taken : goal.take_graves-requires-clause-taken
 take_graves-requires-clause-taken g c =
-    let give = granted_give _ _ _ _ _ graves_in _ _ c.ask_graves.ensures c.in_ok-graves.was in
+    let give = granted_give _ _ _ _ _ graves_in _ _ c.ask.ensures c.in_ok-graves.was in
     (graves_are give.0 c.in_ok-graves.graves give.1).1
 
 pub returns-in_err-take_graves-clause-leads : goal.returns-in_err-take_graves-clause-leads
 returns-in_err-take_graves-clause-leads g c =
     let usn : SFits w64 c.args.met.now.head.usn = search rules in
     let moment : SFits w64 c.args.met.now.head.moment = search rules in
-    start_refused c.args.met.now (g.K.Lookup.keeping c.args.keeper.now) _ _ c.ask_graves.result
-    (record { it = c.in_ok-request.request; made = rw (to_z-of_z w64 c.args.met.now.head.usn usn, to_z-of_z w64 c.args.met.now.head.moment moment) at c.in_ok-request.ensures.made; envelopes = c.in_ok-request.ensures.next; call = c.ask_graves.ensures })
+    start_refused c.args.met.now (g.K.Lookup.keeping c.args.keeper.now) _ _ c.ask.result
+    (record { it = c.in_ok-request.request; made = rw (to_z-of_z w64 c.args.met.now.head.usn usn, to_z-of_z w64 c.args.met.now.head.moment moment) at c.in_ok-request.ensures.made; envelopes = c.in_ok-request.ensures.next; call = c.ask.ensures })
     _ _ (kept_granted _ _ _ _ c.in_ok-graves.was) (keeper_after _ _ _ _ c.in_ok-graves.was c.from_residual-in_err-take_graves.ensures.1)
 
 pub returns-clause-leads : goal.returns-clause-leads
@@ -42,8 +42,8 @@ returns-clause-leads g c =
     let usn : SFits w64 c.args.met.now.meta.usn = search rules in
     let own : SFits w64 c.args.met.now.head.usn = search rules in
     let moment : SFits w64 c.args.met.now.head.moment = search rules in
-    start_took c.args.met.now (g.K.Lookup.keeping c.args.keeper.now) _ _ c.ask_graves.result
-    (record { it = c.in_ok-request.request; made = rw (to_z-of_z w64 c.args.met.now.head.usn own, to_z-of_z w64 c.args.met.now.head.moment moment) at c.in_ok-request.ensures.made; envelopes = c.in_ok-request.ensures.next; call = c.ask_graves.ensures })
+    start_took c.args.met.now (g.K.Lookup.keeping c.args.keeper.now) _ _ c.ask.result
+    (record { it = c.in_ok-request.request; made = rw (to_z-of_z w64 c.args.met.now.head.usn own, to_z-of_z w64 c.args.met.now.head.moment moment) at c.in_ok-request.ensures.made; envelopes = c.in_ok-request.ensures.next; call = c.ask.ensures })
     _ _ c.in_ok-graves.graves c.in_ok-graves.was (rw (to_z-of_z w64 c.args.met.now.meta.usn usn) at c.in_ok-take_graves.ensures.ok)
 
 pub returns-clause-took : goal.returns-clause-took
