@@ -4,11 +4,12 @@ use Rattle.std.specs.Prelude.{◌≡◌, ◌==◌, ℤ, Bool, true, false, if◌
 use Rattle.std.proofs.Common.{refl, sym, ap, subst, ◌∙◌, inl, inr, arith}
 use Rattle.std.proofs.lemmas.Option.{none-some, same_Some}
 use Rattle.ak_base.specs.declared.heads.Head.{Head}
-use Rattle.ak_client.proofs.Clocks.{fault_told, unanswered_told}
+use Rattle.ak_client.proofs.Clocks.{stop_told}
 use Rattle.ak_client.specs.Greetings.{EndsAtDevice, EndsGreeting, Finds, IsGreeting, IsReady, clock_stop, device_stop, head_stop, is_unchanged, meta_of}
 use Rattle.ak_client.specs.Outcomes.{is_told_by_meta, outcome_at}
 use Rattle.ak_client.specs.Syncs.{EndsBecause, EndsByMeta, told_by}
 use Rattle.ak_client.specs.declared.outcomes.Outcome.{Outcome}
+use Rattle.ak_client.specs.declared.outcomes.Outcome.TheVariants as outcomes
 use Rattle.ak_client_wire.specs.Forms.{meta_in}
 use Rattle.ak_client_wire.specs.Tries.{granted_in, in_form}
 use Rattle.ak_client_wire.specs.Wires.{WireKind, WireState}
@@ -21,8 +22,6 @@ use Rattle.ak_exchange.specs.Asked.{TriedAsk}
 use Rattle.ak_exchange.specs.Stops.{keep_stop, wire_stop}
 use Rattle.ak_exchange.specs.declared.envelopes.Ids.{Ids}
 use Rattle.ak_exchange.specs.declared.envelopes.Met.{Met}
-use Rattle.ak_exchange.specs.declared.stops.Stop.{Stop}
-use Rattle.ak_exchange.specs.declared.stops.Stop.TheVariants as stops
 use Rattle.ak_faults.specs.Causes.{Health}
 use Rattle.ak_io.specs.Arrivals.{GivesNext}
 use Rattle.ak_keep.specs.Collections.{Holding}
@@ -69,17 +68,17 @@ ok_told (Ok reply) said is = by (reply.status == 200) is
     by false is = absurd (err-ok (unanswered.Refused reply.status reply.word reply.seen) said is)
 
 -- ---- what the device says
-by_head : (meta : MetaSaid) (h : Holding) (head : Head) (unchanged : Bool) (stop : Stop) → Finds meta head unchanged h → head_stop meta head unchanged ≡ Some stop → device_stop meta h ≡ Some stop
-by_head meta h head unchanged stop found is =
-    ap (option_and_then (λ (own : Head). option_or (head_stop meta own (is_unchanged meta own h.rows)) (option_map (λ (fault : CheckFault). stops.OwnCheck fault) (first_fault h.rows)))) found.holds
-    ∙ ap (λ (o : Option Stop). option_or o (option_map (λ (fault : CheckFault). stops.OwnCheck fault) (first_fault h.rows))) (ap (head_stop meta head) (sym found.tells) ∙ is)
+by_head : (meta : MetaSaid) (h : Holding) (head : Head) (unchanged : Bool) (why : Outcome) → Finds meta head unchanged h → head_stop meta head unchanged ≡ Some why → device_stop meta h ≡ Some why
+by_head meta h head unchanged why found is =
+    ap (option_and_then (λ (own : Head). option_or (head_stop meta own (is_unchanged meta own h.rows)) (option_map (λ (fault : CheckFault). outcomes.OwnCheck fault) (first_fault h.rows)))) found.holds
+    ∙ ap (λ (o : Option Outcome). option_or o (option_map (λ (fault : CheckFault). outcomes.OwnCheck fault) (first_fault h.rows))) (ap (head_stop meta head) (sym found.tells) ∙ is)
 
 by_rows : (meta : MetaSaid) (h : Holding) (head : Head) (found : Option CheckFault) → h.head ≡ Some head → head_stop meta head (is_unchanged meta head h.rows) ≡ None → first_fault h.rows ≡ found
-    → device_stop meta h ≡ option_map (λ (fault : CheckFault). stops.OwnCheck fault) found
+    → device_stop meta h ≡ option_map (λ (fault : CheckFault). outcomes.OwnCheck fault) found
 by_rows meta h head found held pass is =
-    ap (option_and_then (λ (own : Head). option_or (head_stop meta own (is_unchanged meta own h.rows)) (option_map (λ (fault : CheckFault). stops.OwnCheck fault) (first_fault h.rows)))) held
-    ∙ ap (λ (o : Option Stop). option_or o (option_map (λ (fault : CheckFault). stops.OwnCheck fault) (first_fault h.rows))) pass
-    ∙ ap (option_map (λ (fault : CheckFault). stops.OwnCheck fault)) is
+    ap (option_and_then (λ (own : Head). option_or (head_stop meta own (is_unchanged meta own h.rows)) (option_map (λ (fault : CheckFault). outcomes.OwnCheck fault) (first_fault h.rows)))) held
+    ∙ ap (λ (o : Option Outcome). option_or o (option_map (λ (fault : CheckFault). outcomes.OwnCheck fault) (first_fault h.rows))) pass
+    ∙ ap (option_map (λ (fault : CheckFault). outcomes.OwnCheck fault)) is
 
 -- what is true of all is true of what is told
 where_all : (keeping : Keeping) (P : Holding → Type 0) → ((h : Holding) → P h) → WhereTold keeping P
@@ -105,60 +104,56 @@ where_both keeping P Q R so = by keeping.told
     by (Some w) one two = so w.current one two
 
 -- ---- a greeting that ended the sync
-abbrev Ends : Keeping → Stop → MetaSaid → ℤ → Type 0
-Ends keeping stop meta at = EndsByMeta meta at keeping (outcome_at stop)
-
-by_clocks : (keeping : Keeping) (stop : Stop) (meta : MetaSaid) (at : ℤ) → clock_stop meta (second_of at) ≡ Some stop → Ends keeping stop meta at
-by_clocks keeping stop meta at is = record {
-  by_clocks = λ other found. ap outcome_at (same_Some stop other (sym is ∙ found));
-  by_device = λ pass. absurd (none-some stop (sym pass ∙ is));
-  only = λ told. (stop, refl, inl is);
+by_clocks : (keeping : Keeping) (outcome : Outcome) (meta : MetaSaid) (at : ℤ) → clock_stop meta (second_of at) ≡ Some outcome → EndsByMeta meta at keeping outcome
+by_clocks keeping outcome meta at is = record {
+  by_clocks = λ why found. same_Some outcome why (sym is ∙ found);
+  by_device = λ pass. absurd (none-some outcome (sym pass ∙ is));
+  only = λ told. inl is;
 }
 
-module _ (keeping : Keeping) (stop : Stop) (meta : MetaSaid) (at : ℤ) (pass : clock_stop meta (second_of at) ≡ None) where
+module _ (keeping : Keeping) (outcome : Outcome) (meta : MetaSaid) (at : ℤ) (pass : clock_stop meta (second_of at) ≡ None) where
   abbrev ByDevice : Holding → Type 0
-  ByDevice h = (other : Stop) → device_stop meta h ≡ Some other
-      → (outcome_at stop ≡ outcome_at other) ⊎ ((fault : KeepFault) × (outcome_at stop ≡ outcome_at (keep_stop fault)))
+  ByDevice h = (why : Outcome) → device_stop meta h ≡ Some why → (outcome ≡ why) ⊎ ((fault : KeepFault) × (outcome ≡ outcome_at (keep_stop fault)))
 
   -- the device's own reason
-  found : WhereTold keeping (λ h. device_stop meta h ≡ Some stop) → Ends keeping stop meta at
+  found : WhereTold keeping (λ h. device_stop meta h ≡ Some outcome) → EndsByMeta meta at keeping outcome
   found is = record {
-    by_clocks = λ other found. absurd (none-some other (sym pass ∙ found));
-    by_device = λ passed. where_so keeping (λ h. device_stop meta h ≡ Some stop) ByDevice
-        (λ h own other found. inl (ap outcome_at (same_Some stop other (sym own ∙ found)))) is;
-    only = λ told. (stop, refl, inr (pass, is));
+    by_clocks = λ why found. absurd (none-some why (sym pass ∙ found));
+    by_device = λ passed. where_so keeping (λ h. device_stop meta h ≡ Some outcome) ByDevice
+        (λ h own why found. inl (same_Some outcome why (sym own ∙ found))) is;
+    only = λ told. inr (pass, is);
   }
 
-  by_device : EndsAtDevice meta keeping stop → Ends keeping stop meta at
+  by_device : EndsAtDevice meta keeping outcome → EndsByMeta meta at keeping outcome
   by_device (inl (fault, is)) = record {
-    by_clocks = λ other found. absurd (none-some other (sym pass ∙ found));
-    by_device = λ passed. where_all keeping ByDevice (λ h other found. inr (fault, ap outcome_at is));
-    only = λ told. absurd (not_both (sym (ap (λ (s : Stop). is_told_by_meta (outcome_at s)) is) ∙ told) (fault_told fault));
+    by_clocks = λ why found. absurd (none-some why (sym pass ∙ found));
+    by_device = λ passed. where_all keeping ByDevice (λ h why found. inr (fault, is));
+    only = λ told. absurd (not_both (sym (ap is_told_by_meta is) ∙ told) (stop_told (keep_stop fault)));
   }
   by_device (inr (head, unchanged, finds, inl is)) =
-      found (where_so keeping (Finds meta head unchanged) (λ h. device_stop meta h ≡ Some stop) (λ h own. by_head meta h head unchanged stop own is) finds.told)
+      found (where_so keeping (Finds meta head unchanged) (λ h. device_stop meta h ≡ Some outcome) (λ h own. by_head meta h head unchanged outcome own is) finds.told)
   by_device (inr (head, unchanged, finds, inr (passed, unsound))) =
-      found (where_both keeping (Finds meta head unchanged) (λ h. first_fault h.rows ≡ Some unsound.0) (λ h. device_stop meta h ≡ Some stop)
-      (λ h own bad. by_rows meta h head (Some unsound.0) own.holds (ap (head_stop meta head) (sym own.tells) ∙ passed) bad ∙ ap (λ (s : Stop). Some s) (sym unsound.1)) finds.told unsound.2)
+      found (where_both keeping (Finds meta head unchanged) (λ h. first_fault h.rows ≡ Some unsound.0) (λ h. device_stop meta h ≡ Some outcome)
+      (λ h own bad. by_rows meta h head (Some unsound.0) own.holds (ap (head_stop meta head) (sym own.tells) ∙ passed) bad ∙ ap (λ (o : Outcome). Some o) (sym unsound.1)) finds.told unsound.2)
 
-pub unmet_because : {kind : WireKind} (ids : Ids) (h0 h1 : Health) (w0 w1 : WireState kind) (old new : Option (List ℤ)) (keeping : Keeping) (stop : Stop)
-    → (it : IsGreeting ids h0 h1 w0 w1 old new keeping (Err stop)) → (moment : ℤ) → EndsBecause it.heard.answer moment [] keeping old (outcome_at stop)
-unmet_because ids h0 h1 w0 w1 old new keeping stop it moment = record {
+pub unmet_because : {kind : WireKind} (ids : Ids) (h0 h1 : Health) (w0 w1 : WireState kind) (old new : Option (List ℤ)) (keeping : Keeping) (outcome : Outcome)
+    → (it : IsGreeting ids h0 h1 w0 w1 old new keeping (Err outcome)) → (moment : ℤ) → EndsBecause it.heard.answer moment [] keeping old outcome
+unmet_because ids h0 h1 w0 w1 old new keeping outcome it moment = record {
   unmet = λ none. untold it.answer it.heard.came it.ends none;
-  met = λ said told. met said (subst (λ (r : Result MetaSaid Unanswered). EndsGreeting r old new keeping stop)
+  met = λ said told. met said (subst (λ (r : Result MetaSaid Unanswered). EndsGreeting r old new keeping outcome)
       (it.heard.came ∙ told_ok it.heard.answer said told) it.ends);
   more = inl refl;
 }
   where
-    untold : (r : Result MetaSaid Unanswered) → r ≡ in_form meta_in (granted_in it.heard.answer) → EndsGreeting r old new keeping stop → told_by it.heard.answer ≡ None
-        → is_told_by_meta (outcome_at stop) ≡ false
-    untold (Err why) came is none = ap (λ (s : Stop). is_told_by_meta (outcome_at s)) is ∙ unanswered_told why
+    untold : (r : Result MetaSaid Unanswered) → r ≡ in_form meta_in (granted_in it.heard.answer) → EndsGreeting r old new keeping outcome → told_by it.heard.answer ≡ None
+        → is_told_by_meta outcome ≡ false
+    untold (Err why) came is none = ap is_told_by_meta is ∙ stop_told (wire_stop why)
     untold (Ok said) came is none = absurd (none-some said (sym none ∙ ok_told it.heard.answer said (sym came)))
 
-    met : (said : MetaSaid) → EndsGreeting (Ok said) old new keeping stop
-        → (at : ℤ) × (to_come : Option (List ℤ)) × GivesNext old to_come at × EndsByMeta said at keeping (outcome_at stop)
-    met said (at, given, inl is) = (at, new, given, by_clocks keeping stop said at is)
-    met said (at, given, inr (pass, is)) = (at, new, given, by_device keeping stop said at pass is)
+    met : (said : MetaSaid) → EndsGreeting (Ok said) old new keeping outcome
+        → (at : ℤ) × (to_come : Option (List ℤ)) × GivesNext old to_come at × EndsByMeta said at keeping outcome
+    met said (at, given, inl is) = (at, new, given, by_clocks keeping outcome said at is)
+    met said (at, given, inr (pass, is)) = (at, new, given, by_device keeping outcome said at pass is)
 
 -- ---- a greeting after which the sync went on
 pub met_because : {kind : WireKind} (ids : Ids) (h0 h1 : Health) (w0 w1 : WireState kind) (old new : Option (List ℤ)) (keeping : Keeping) (met : Met) (tries : List TriedAsk) (outcome : Outcome)
@@ -174,10 +169,10 @@ met_because ids h0 h1 w0 w1 old new keeping met tries outcome it ready clocks un
         new,
         clocks.1,
         subst (λ (m : MetaSaid). EndsByMeta m clocks.0 keeping outcome) (same_Some met.meta said (sym told ∙ is)) (record {
-          by_clocks = λ stop found. absurd (none-some stop (sym clocks.2 ∙ found));
-          by_device = λ pass. where_so keeping (λ h. IsReady h met) (λ h. (stop : Stop) → device_stop met.meta h ≡ Some stop
-              → (outcome ≡ outcome_at stop) ⊎ ((fault : KeepFault) × (outcome ≡ outcome_at (keep_stop fault))))
-              (λ h own stop found. absurd (none-some stop (sym (by_rows met.meta h met.head None own.head own.pass own.sound) ∙ found))) ready;
+          by_clocks = λ why found. absurd (none-some why (sym clocks.2 ∙ found));
+          by_device = λ pass. where_so keeping (λ h. IsReady h met) (λ h. (why : Outcome) → device_stop met.meta h ≡ Some why
+              → (outcome ≡ why) ⊎ ((fault : KeepFault) × (outcome ≡ outcome_at (keep_stop fault))))
+              (λ h own why found. absurd (none-some why (sym (by_rows met.meta h met.head None own.head own.pass own.sound) ∙ found))) ready;
           only = λ is_told. absurd (not_both is_told untold);
         }),
       );

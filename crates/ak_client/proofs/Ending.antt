@@ -4,10 +4,10 @@ use Rattle.std.specs.Prelude.{◌≡◌, ◌≢◌, ℕ, ℤ, pos, ◌+◌, ◌�
 use Rattle.std.specs.Int.{div_ceil}
 use Rattle.std.proofs.Common.{refl, sym, ap, subst, ◌∙◌, append-nil, inl, inr, arith}
 use Rattle.std.proofs.lemmas.Result.{IfErr-weaker, IfOk-weaker}
-use Rattle.ak_client.proofs.Clocks.{fault_ends, fault_fair, fault_not_early, fault_told, late_fair, not_early, not_finished, stop_ends, stop_fair, stop_told}
+use Rattle.ak_client.proofs.Clocks.{fault_ends, fault_fair, fault_not_early, finished_fair, late_fair, not_early, not_finished, stop_ends, stop_fair, stop_told, unanswered_good}
 use Rattle.ak_client.proofs.Committing.{ended}
 use Rattle.ak_client.specs.Endings.{Ended, Ends, Exchanged, ExchangesAll, IsGranted, StopsBeforeCommit}
-use Rattle.ak_client.specs.Outcomes.{EndsFor, is_told_by_meta, outcome_at, outcome_of}
+use Rattle.ak_client.specs.Outcomes.{EndsFor, is_told_by_meta, outcome_at}
 use Rattle.ak_client.specs.Syncs.{ArePlain, EndsAt, LacksMemoryEarly, ends_before_finish}
 use Rattle.ak_client.specs.declared.outcomes.Outcome.{Outcome}
 use Rattle.ak_client.specs.declared.outcomes.Outcome.TheVariants as outcomes
@@ -38,6 +38,7 @@ use Rattle.ak_messages.specs.declared.requests.Ask.TheVariants.{Finish}
 use Rattle.ak_protocol.proofs.Commits.{not_both}
 use Rattle.ak_protocol.specs.Accounts.{AccountState}
 use Rattle.ak_session.specs.Plans.{planned}
+use Rattle.ak_session.specs.Sessions.{MaySync}
 use Rattle.ak_session.specs.Slices.{wanted_graves}
 
 -- ---- the requests for graves
@@ -84,13 +85,6 @@ memory_unanswered tries unanswered.Memory is ends = ends
 memory_early : (tries : List TriedAsk) (stop : Stop) → StopsBeforeCommit tries stop → outcome_at stop ≡ outcomes.Memory → LacksMemoryEarly tries
 memory_early tries stop (inl plain) is = inl plain
 memory_early tries stop (inr (why, same, ends)) is = inr (memory_unanswered tries why (sym (ap outcome_at same) ∙ is) ends)
-
--- a request that is not granted shows no bad sanity check
-unanswered_good : (why : Unanswered) → shows_bad_check (wire_stop why) ≡ false
-unanswered_good unanswered.Lost = refl
-unanswered_good unanswered.BadReply = refl
-unanswered_good (unanswered.Refused status word seen) = refl
-unanswered_good unanswered.Memory = refl
 
 -- a sync that stopped so at a bad sanity check had not asked its finish
 bad_plain : (tries : List TriedAsk) (stop : Stop) → StopsBeforeCommit tries stop → shows_bad_check stop ≡ true → ArePlain (asks_in tries)
@@ -185,7 +179,8 @@ module _ {kind : WireKind} (ids : Ids) (met : Met) (before mid : Keeping) (h0 h1
                 passed = led.1.has.placed;
                 device = led.1.device;
               }) end.1;
-          fair = IfErr-weaker result (λ (stop : Stop). comes_before_finish stop ≡ false) (IsFairStop c s) (λ stop late. late_fair c s stop late) fin.late;
+          fair = IfErr-weaker result (λ (stop : Stop). comes_before_finish stop ≡ false) (λ (stop : Stop). MaySync c s → IsFairStop c s stop)
+              (λ stop late may. late_fair c s stop late) fin.late;
         });
   }
 
@@ -201,12 +196,12 @@ asked_nothing spares ids met before left h w fault = record {
   graves_most = no_graves before;
   few = few_none 40_000 39_999 (5 + 0);
   rows = tt;
-  ends = (λ is. tt, fault_ends [] w fault tt, fault_told fault, λ spared is. inl tt);
+  ends = (λ is. tt, fault_ends [] w fault tt, stop_told (keep_stop fault), λ spared is. inl tt);
   told = λ c s account is_met reached holds. record {
     shown = record { reached = reached; front = λ may. (planned c s, refl) };
     early = λ early. tt;
     finished = λ is. absurd (not_finished (keep_stop fault) is);
-    fair = fault_fair c s fault;
+    fair = λ may. fault_fair c s fault;
   };
 }
 
@@ -236,33 +231,33 @@ module _ {kind : WireKind} (spares : Bool) (ids : Ids) (met : Met) (before marke
   }
 
   -- a sync that stopped ends for that reason, or because of a keeper's fault after it
-  pub ends_stopped : (stop : Stop) (result : Result (Unit {0}) Stop) → ExchangesAll ids met marked mid h0 h1 w0 w1 (Err stop) → EndsFor stop result
-      → Ends spares ids met before left h0 h1 w0 w1 (outcome_of result)
-  ends_stopped stop result ex (inl same) =
-      subst (λ (r : Result (Unit {0}) Stop). Ends spares ids met before left h0 h1 w0 w1 (outcome_of r)) (sym same)
+  pub ends_stopped : (stop : Stop) (outcome : Outcome) → ExchangesAll ids met marked mid h0 h1 w0 w1 (Err stop) → EndsFor stop outcome
+      → Ends spares ids met before left h0 h1 w0 w1 outcome
+  ends_stopped stop outcome ex (inl same) =
+      subst (λ (o : Outcome). Ends spares ids met before left h0 h1 w0 w1 o) (sym same)
       (ends_with (Err stop) (outcome_at stop) ex (
         λ is. absurd (not_finished stop is),
         stop_ends ex.tries w1 stop ex.ends.1,
-        stop_told ex.tries w1 stop ex.ends.1,
+        stop_told stop,
         λ spared out. memory_early ex.tries stop ex.ends.2 out,
       ) (λ c s account is_met it. record {
         shown = it.shown;
         early = it.early;
         finished = λ is. absurd (not_finished stop is);
-        fair = stop_fair c s stop it.fair;
+        fair = λ may. stop_fair c s stop (it.fair may);
       }))
-  ends_stopped stop result ex (inr (fault, bad, same)) =
-      subst (λ (r : Result (Unit {0}) Stop). Ends spares ids met before left h0 h1 w0 w1 (outcome_of r)) (sym same)
+  ends_stopped stop outcome ex (inr (fault, bad, same)) =
+      subst (λ (o : Outcome). Ends spares ids met before left h0 h1 w0 w1 o) (sym same)
       (ends_with (Err stop) (outcome_at (keep_stop fault)) ex (
         λ is. absurd (not_finished (keep_stop fault) is),
         fault_ends ex.tries w1 fault (bad_check_granted ex.tries w1 stop bad ex.granted ex.ends.1),
-        fault_told fault,
+        stop_told (keep_stop fault),
         λ spared out. inl (bad_plain ex.tries stop ex.ends.2 bad),
       ) (λ c s account is_met it. record {
         shown = it.shown;
         early = λ early. absurd (fault_not_early fault early);
         finished = λ is. absurd (not_finished (keep_stop fault) is);
-        fair = fault_fair c s fault;
+        fair = λ may. fault_fair c s fault;
       }))
 
   -- the device's commit was refused
@@ -271,13 +266,13 @@ module _ {kind : WireKind} (spares : Bool) (ids : Ids) (met : Met) (before marke
   ends_refused moment fault never ex = ends_with (Ok moment) (outcome_at (keep_stop fault)) ex (
     λ is. absurd (not_finished (keep_stop fault) is),
     fault_ends ex.tries w1 fault ex.ends.0,
-    fault_told fault,
+    stop_told (keep_stop fault),
     λ spared out. absurd (never spared (memory_fault fault out)),
   ) (λ c s account is_met it. record {
     shown = it.shown;
     early = λ early. absurd (fault_not_early fault early);
     finished = λ is. absurd (not_finished (keep_stop fault) is);
-    fair = fault_fair c s fault;
+    fair = λ may. fault_fair c s fault;
   })
 
   -- it is finished
@@ -288,5 +283,5 @@ module _ {kind : WireKind} (spares : Bool) (ids : Ids) (met : Met) (before marke
     shown = it.shown;
     early = λ early. absurd (not_both early refl);
     finished = λ is. ended c s account (asker ids) (asks_in ex.tries) w1.log met moment mid left it.granted is_met commits;
-    fair = λ may. tt;
+    fair = λ may. finished_fair c s;
   })

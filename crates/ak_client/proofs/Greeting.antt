@@ -1,23 +1,20 @@
 -- What the meta of a sync makes of the log, and what its reply tells.
 use Rattle.std.specs.List.{AllByRecursion}
-use Rattle.std.specs.Ordering.{int_eq}
-use Rattle.std.specs.Prelude.{◌≡◌, ◌==◌, ℕ, ℤ, Bool, true, false, not, if◌then◌else◌, List, [], ◌∷◌, Option, Some, None, Result, Ok, Err, IfOk, ok_or}
+use Rattle.std.specs.Prelude.{◌≡◌, ◌==◌, ℕ, ℤ, Bool, true, false, if◌then◌else◌, List, [], ◌∷◌, Option, Some, None, Result, Ok, Err, IfOk, ok_or}
 use Rattle.std.proofs.Common.{refl, sym, ap, subst, ◌∙◌, inl, inr, arith}
 use Rattle.std.proofs.lemmas.Option.{none-some, same_Some}
 use Rattle.ak_base.specs.declared.heads.Head.{Head}
-use Rattle.ak_base.specs.Limits.{last_head_usn}
-use Rattle.ak_client.proofs.Clocks.{fault_ends, stop_ends}
+use Rattle.ak_client.proofs.Clocks.{fault_ends, stop_ends, told_ends}
 use Rattle.ak_client.proofs.Growing.{timely_growth}
-use Rattle.ak_client.specs.Greetings.{EndsAtDevice, EndsGreeting, GreetsTold, IsGreeting, IsMetBy, IsMetOver, are_far_apart, clock_stop, head_stop, meta_of}
-use Rattle.ak_client.specs.Outcomes.{outcome_at}
+use Rattle.ak_client.proofs.Testing.{clock_told, head_told}
+use Rattle.ak_client.specs.Greetings.{EndsAtDevice, EndsGreeting, GreetsTold, IsGreeting, IsMetBy, IsMetOver, meta_of}
+use Rattle.ak_client.specs.declared.outcomes.Outcome.{Outcome}
 use Rattle.ak_client.specs.Syncs.{EndsAt, meta_tried}
 use Rattle.ak_exchange.proofs.Stopping.{unanswered_stops, was_granted, was_not_granted}
 use Rattle.ak_exchange.specs.Asked.{AreTried, TriedAsk, asker}
 use Rattle.ak_exchange.specs.Grants.{AllGranted, IsGranted}
 use Rattle.ak_exchange.specs.Stops.{wire_stop}
 use Rattle.ak_exchange.specs.declared.envelopes.Ids.{Ids}
-use Rattle.ak_exchange.specs.declared.stops.Stop.{Stop}
-use Rattle.ak_exchange.specs.declared.stops.Stop.TheVariants as stops
 use Rattle.ak_faults.specs.Causes.{Health}
 use Rattle.ak_keep.specs.Collections.{Collection}
 use Rattle.ak_keep.specs.Keepers.{Keeping}
@@ -130,57 +127,29 @@ meta_granted ids before now was is result meta call granted =
     (was_granted meta_in asks.Meta (λ give. refl) call.answer meta (sym call.came ∙ granted)).granted
 
 -- why a greeting ends, by its meta
-clock_ends : {kind : WireKind} (tries : List TriedAsk) (now : WireState kind) (meta : MetaSaid) (second : ℤ) (stop : Stop) → clock_stop meta second ≡ Some stop
-    → EndsAt tries now (outcome_at stop)
-clock_ends tries now meta second stop = by (not meta.cont) (are_far_apart second meta.ts)
+device_ends : {kind : WireKind} (tries : List TriedAsk) (now : WireState kind) (meta : MetaSaid) (keeping : Keeping) (outcome : Outcome) → AllGranted tries
+    → EndsAtDevice meta keeping outcome → EndsAt tries now outcome
+device_ends tries now meta keeping outcome all (inl (fault, is)) = subst (EndsAt tries now) (sym is) (fault_ends tries now fault all)
+device_ends tries now meta keeping outcome all (inr (head, unchanged, found, inl is)) = told_ends tries now outcome (head_told meta head unchanged outcome is)
+device_ends tries now meta keeping outcome all (inr (head, unchanged, found, inr (pass, unsound))) = subst (EndsAt tries now) (sym unsound.1) tt
+
+pub greeting_ends : {kind : WireKind} (ids : Ids) (h0 h1 : Health) (w0 w1 : WireState kind) (old new : Option (List ℤ)) (keeping : Keeping) (outcome : Outcome)
+    → (it : IsGreeting ids h0 h1 w0 w1 old new keeping (Err outcome)) → EndsAt (meta_tried it.heard.answer ∷ []) w1 outcome
+greeting_ends ids h0 h1 w0 w1 old new keeping outcome it = by it.answer refl it.ends
   where
-    is_so : (one : Stop) → EndsAt tries now (outcome_at one) → Some one ≡ Some stop → EndsAt tries now (outcome_at stop)
-    is_so one ends is = subst (λ (s : Stop). EndsAt tries now (outcome_at s)) (same_Some one stop is) ends
-
-    by : (stopped far : Bool) → (if stopped then Some stops.Stopped else if far then Some (stops.ClockOff second meta.ts) else None) ≡ Some stop
-        → EndsAt tries now (outcome_at stop)
-    by true far is = is_so stops.Stopped tt is
-    by false true is = is_so (stops.ClockOff second meta.ts) tt is
-    by false false is = absurd (none-some stop is)
-
-head_ends : {kind : WireKind} (tries : List TriedAsk) (now : WireState kind) (meta : MetaSaid) (head : Head) (unchanged : Bool) (stop : Stop) → head_stop meta head unchanged ≡ Some stop
-    → EndsAt tries now (outcome_at stop)
-head_ends tries now meta head unchanged stop = by unchanged (not (int_eq head.schema meta.scm)) (int_eq meta.usn last_head_usn)
-  where
-    is_so : (one : Stop) → EndsAt tries now (outcome_at one) → Some one ≡ Some stop → EndsAt tries now (outcome_at stop)
-    is_so one ends is = subst (λ (s : Stop). EndsAt tries now (outcome_at s)) (same_Some one stop is) ends
-
-    by : (same schemas last : Bool)
-        → (if same then Some stops.NoChanges else if schemas then Some (stops.FullSchema head.schema meta.scm) else if last then Some (stops.FullSequence meta.usn) else None) ≡ Some stop
-        → EndsAt tries now (outcome_at stop)
-    by true schemas last is = is_so stops.NoChanges tt is
-    by false true last is = is_so (stops.FullSchema head.schema meta.scm) tt is
-    by false false true is = is_so (stops.FullSequence meta.usn) tt is
-    by false false false is = absurd (none-some stop is)
-
-device_ends : {kind : WireKind} (tries : List TriedAsk) (now : WireState kind) (meta : MetaSaid) (keeping : Keeping) (stop : Stop) → AllGranted tries
-    → EndsAtDevice meta keeping stop → EndsAt tries now (outcome_at stop)
-device_ends tries now meta keeping stop all (inl (fault, is)) = subst (λ (s : Stop). EndsAt tries now (outcome_at s)) (sym is) (fault_ends tries now fault all)
-device_ends tries now meta keeping stop all (inr (head, unchanged, found, inl is)) = head_ends tries now meta head unchanged stop is
-device_ends tries now meta keeping stop all (inr (head, unchanged, found, inr (pass, unsound))) = subst (λ (s : Stop). EndsAt tries now (outcome_at s)) (sym unsound.1) tt
-
-pub greeting_ends : {kind : WireKind} (ids : Ids) (h0 h1 : Health) (w0 w1 : WireState kind) (old new : Option (List ℤ)) (keeping : Keeping) (stop : Stop)
-    → (it : IsGreeting ids h0 h1 w0 w1 old new keeping (Err stop)) → EndsAt (meta_tried it.heard.answer ∷ []) w1 (outcome_at stop)
-greeting_ends ids h0 h1 w0 w1 old new keeping stop it = by it.answer refl it.ends
-  where
-    by : (answer : Result MetaSaid Unanswered) → it.answer ≡ answer → EndsGreeting answer old new keeping stop → EndsAt (meta_tried it.heard.answer ∷ []) w1 (outcome_at stop)
+    by : (answer : Result MetaSaid Unanswered) → it.answer ≡ answer → EndsGreeting answer old new keeping outcome → EndsAt (meta_tried it.heard.answer ∷ []) w1 outcome
     by (Err why) is ends =
-        subst (λ (s : Stop). EndsAt (meta_tried it.heard.answer ∷ []) w1 (outcome_at s)) (sym ends)
+        subst (EndsAt (meta_tried it.heard.answer ∷ []) w1) (sym ends)
         (stop_ends (meta_tried it.heard.answer ∷ []) w1 (wire_stop why) (unanswered_stops (meta_tried it.heard.answer ∷ []) w1 (meta_tried it.heard.answer) why ([], refl)
         (was_not_granted meta_in asks.Meta (λ give. refl) it.heard.answer why (sym it.heard.came ∙ is))))
-    by (Ok meta) is (at, given, inl stopped) = clock_ends (meta_tried it.heard.answer ∷ []) w1 meta (second_of at) stop stopped
+    by (Ok meta) is (at, given, inl stopped) = told_ends (meta_tried it.heard.answer ∷ []) w1 outcome (clock_told meta (second_of at) outcome stopped)
     by (Ok meta) is (at, given, inr (pass, ends)) =
-        device_ends (meta_tried it.heard.answer ∷ []) w1 meta keeping stop (meta_granted ids h0 h1 w0 w1 it.answer meta it.heard is, tt) ends
+        device_ends (meta_tried it.heard.answer ∷ []) w1 meta keeping outcome (meta_granted ids h0 h1 w0 w1 it.answer meta it.heard is, tt) ends
 
 -- a greeting that stops
-pub greets_stop : {kind : WireKind} (ids : Ids) (before now : Health) (was is : WireState kind) (result : Result MetaSaid Unanswered) (stop : Stop)
-    → Answered before now was is (meta_of ids) meta_in result → GreetsTold ids was.log is.log (Err stop)
-greets_stop ids before now was is result stop call account old told unused =
+pub greets_stop : {kind : WireKind} (ids : Ids) (before now : Health) (was is : WireState kind) (result : Result MetaSaid Unanswered) (outcome : Outcome)
+    → Answered before now was is (meta_of ids) meta_in result → GreetsTold ids was.log is.log (Err outcome)
+greets_stop ids before now was is result outcome call account old told unused =
     let it = greeted ids account old unused before now was is result told call in
     (it.0, it.1, record { unused = it.2; met = tt })
 

@@ -6,7 +6,7 @@ use Rattle.std.proofs.lemmas.List.{length-append}
 use Rattle.std.proofs.lemmas.Option.{same_Some}
 use Rattle.ak_client.proofs.Alone.{alone_stays, commits_alone, requests_are_of}
 use Rattle.ak_client.proofs.Causes.{met_because, unmet_because}
-use Rattle.ak_client.proofs.Clocks.{good_end, not_finished, unanswered_told}
+use Rattle.ak_client.proofs.Clocks.{good_end, stop_told, unchanged_unfinished}
 use Rattle.ak_client.proofs.Ending.{no_graves}
 use Rattle.ak_client.proofs.Fates.{at_most_once, plain_commits_nothing, stays_once, stays_unused}
 use Rattle.ak_client.proofs.Greeting.{IsMetBySome, asked_meta, greeted, greeting_ends, meta_granted}
@@ -16,7 +16,7 @@ use Rattle.ak_client.proofs.Meeting.{formed_by, is_met, may_sync}
 use Rattle.ak_client.proofs.Unchanging.{found_unchanged, same_content}
 use Rattle.ak_client.specs.Endings.{Ended, Ends, IsEnded}
 use Rattle.ak_client.specs.Greetings.{EndsGreeting, GreetsTold, IsGreeting, IsMetBy, IsMetOver, IsReady, clock_stop, meta_of}
-use Rattle.ak_client.specs.Outcomes.{is_told_by_meta, outcome_at}
+use Rattle.ak_client.specs.Outcomes.{changes_device, is_told_by_meta}
 use Rattle.ak_client.specs.Syncs.{CommitsAtMostOnce, EndsAt, IsCommittedIn, IsFairEnd, IsShown, IsSync, IsSyncEnded, IsSyncFinished, IsSyncSparing, LacksMemoryEarly, MayBegin, StaysOnce, Synced, meta_tried, world_at}
 use Rattle.ak_client.specs.declared.outcomes.Outcome.{Outcome}
 use Rattle.ak_client.specs.declared.outcomes.Outcome.TheVariants as outcomes
@@ -28,8 +28,7 @@ use Rattle.ak_exchange.specs.Grants.{AreTooMany, IsGranted}
 use Rattle.ak_exchange.specs.Phases.{AreGraveRequests, IsMet, holding, held_by}
 use Rattle.ak_exchange.specs.declared.envelopes.Ids.{Ids}
 use Rattle.ak_exchange.specs.declared.envelopes.Met.{Met}
-use Rattle.ak_exchange.specs.Stops.{shows_bad_check}
-use Rattle.ak_exchange.specs.declared.stops.Stop.{Stop}
+use Rattle.ak_exchange.specs.Stops.{wire_stop}
 use Rattle.ak_exchange.specs.declared.stops.Stop.TheVariants as stops
 use Rattle.ak_faults.specs.Causes.{Health}
 use Rattle.ak_io.specs.Arrivals.{GivesNext}
@@ -61,11 +60,11 @@ use Rattle.ak_client_wire.specs.declared.wires.MetaSaid.{MetaSaid}
 use Rattle.ak_client_wire.specs.declared.wires.WireEnd.{WireEnd}
 
 -- ---- a sync whose meta was not answered, or that was ended by it
-synced_unmet : (ids : Ids) (stop : Stop) (c base : Collection) (account : AccountState) (old now : Log) (growth : List Event) (left : Keeping)
-    → now ≡ with_growth old growth → AllByRecursion IsTimely growth → IsUnused ids.host.digits ids.session.0 account now → IsFairEnd c base (outcome_at stop)
-    → (outcome_at stop ≡ outcomes.NoChanges → IsCommittedIn (asker ids) account old growth base × SameContent (content_of c) (content_of base))
-    → Synced (asker ids) (pos 0) [] c account old now left (outcome_at stop)
-synced_unmet ids stop c base account old now growth left grown timely unused fair unchanged = record {
+synced_unmet : (ids : Ids) (outcome : Outcome) (c base : Collection) (account : AccountState) (old now : Log) (growth : List Event) (left : Keeping)
+    → now ≡ with_growth old growth → AllByRecursion IsTimely growth → IsUnused ids.host.digits ids.session.0 account now → changes_device outcome ≡ false → IsFairEnd c base outcome
+    → (outcome ≡ outcomes.NoChanges → IsCommittedIn (asker ids) account old growth base × SameContent (content_of c) (content_of base))
+    → Synced (asker ids) (pos 0) [] c account old now left outcome
+synced_unmet ids outcome c base account old now growth left grown timely unused kept fair unchanged = record {
   growth = growth;
   grown = grown;
   timely = timely;
@@ -78,23 +77,23 @@ synced_unmet ids stop c base account old now growth left grown timely unused fai
   short = omega arith;
   once = stays_unused (asker ids) c base (pos 0) account now unused;
   early = λ early. unused_keys_commit_nothing ids.host.digits ids.session.0 account now unused;
-  finished = λ is. absurd (not_finished stop is);
+  finished = λ is. absurd (unchanged_unfinished outcome kept is);
   fair = fair;
   unchanged = unchanged;
 }
 
 -- by what the meta was answered
-synced_greeted : (ids : Ids) (stop : Stop) (c : Collection) (account : AccountState) (old now : Log) (growth : List Event) (before left : Keeping) (old_moments new_moments : Option (List ℤ))
+synced_greeted : (ids : Ids) (outcome : Outcome) (c : Collection) (account : AccountState) (old now : Log) (growth : List Event) (before left : Keeping) (old_moments new_moments : Option (List ℤ))
     → now ≡ with_growth old growth → AllByRecursion IsTimely growth → IsUnused ids.host.digits ids.session.0 account now → before ≡ holding c → MayBegin (asker ids) c account old
-    → EachNewer (HasFreshSchema c) (world_at (asker ids) account old) (world_at (asker ids) account now) → ((base : Collection) → IsFairEnd c base (outcome_at stop))
+    → EachNewer (HasFreshSchema c) (world_at (asker ids) account old) (world_at (asker ids) account now) → changes_device outcome ≡ false → ((base : Collection) → IsFairEnd c base outcome)
     → (answer : Result MetaSaid Unanswered) → IfOk answer (λ meta. (s : Collection) × IsMetOver (asker ids) account old now s × IsMetBy meta s)
-    → EndsGreeting answer old_moments new_moments before stop → Synced (asker ids) (pos 0) [] c account old now left (outcome_at stop)
-synced_greeted ids stop c account old now growth before left old_moments new_moments grown timely unused holds may fresh fair (Err why) met ends =
-    synced_unmet ids stop c c account old now growth left grown timely unused (fair c)
-    (λ none. absurd (not_both (ap is_told_by_meta none) (ap (λ (s : Stop). is_told_by_meta (outcome_at s)) ends ∙ unanswered_told why)))
-synced_greeted ids stop c account old now growth before left old_moments new_moments grown timely unused holds may fresh fair (Ok meta) (s, over, by_meta) ends =
-    synced_unmet ids stop c s account old now (over.front ++ over.rest) left over.grown over.timely unused (fair s) (λ none.
-    let found = found_unchanged old_moments new_moments before meta stop ends none in (
+    → EndsGreeting answer old_moments new_moments before outcome → Synced (asker ids) (pos 0) [] c account old now left outcome
+synced_greeted ids outcome c account old now growth before left old_moments new_moments grown timely unused holds may fresh kept fair (Err why) met ends =
+    synced_unmet ids outcome c c account old now growth left grown timely unused kept (fair c)
+    (λ none. absurd (not_both (ap is_told_by_meta none) (ap is_told_by_meta ends ∙ stop_told (wire_stop why))))
+synced_greeted ids outcome c account old now growth before left old_moments new_moments grown timely unused holds may fresh kept fair (Ok meta) (s, over, by_meta) ends =
+    synced_unmet ids outcome c s account old now (over.front ++ over.rest) left over.grown over.timely unused kept (fair s) (λ none.
+    let found = found_unchanged old_moments new_moments before meta outcome ends none in (
       record { front = over.front; rest = over.rest; parts = refl; place = over.place },
       same_content (asker ids) c s account old now before meta found.0 holds may over by_meta fresh found.1,
     ))
@@ -104,10 +103,10 @@ meta_is_one : (answer : Result Reply WireEnd) → AreTooMany (meta_tried answer 
 meta_is_one answer (inl came) = omega (arith, came)
 meta_is_one answer (inr sent) = omega (arith, sent)
 
-pub unmet : {kind : WireKind} (ids : Ids) (stop : Stop) (before left : Keeping) (h0 h1 : Health) (w0 w1 : WireState kind) (old_moments new_moments : Option (List ℤ))
-    → IsGreeting ids h0 h1 w0 w1 old_moments new_moments before (Err stop) → shows_bad_check stop ≡ false
-    → GreetsTold ids w0.log w1.log (Err stop) → IsSync ids before left h0 h1 w0 w1 (outcome_at stop)
-unmet ids stop before left h0 h1 w0 w1 old_moments new_moments it good greets =
+pub unmet : {kind : WireKind} (ids : Ids) (outcome : Outcome) (before left : Keeping) (h0 h1 : Health) (w0 w1 : WireState kind) (old_moments new_moments : Option (List ℤ))
+    → IsGreeting ids h0 h1 w0 w1 old_moments new_moments before (Err outcome) → changes_device outcome ≡ false
+    → GreetsTold ids w0.log w1.log (Err outcome) → IsSync ids before left h0 h1 w0 w1 outcome
+unmet ids outcome before left h0 h1 w0 w1 old_moments new_moments it kept greets =
     let tried : AreTried (meta_of ids ∷ []) (it.heard.answer ∷ []) h0 h1 w0 w1 = asked_meta ids h0 h1 w0 w1 it.answer it.heard in
     record {
       meta = it.heard.answer;
@@ -115,12 +114,12 @@ unmet ids stop before left h0 h1 w0 w1 old_moments new_moments it good greets =
       tries = [];
       tried = tried;
       granted = tt;
-      all_granted = λ is. absurd (not_finished stop is);
+      all_granted = λ is. absurd (unchanged_unfinished outcome kept is);
       graves = 0;
       graves_most = no_graves before;
       few = few_none 40_000 39_999 (5 + 0);
       rows = tt;
-      ends = greeting_ends ids h0 h1 w0 w1 old_moments new_moments before stop it;
+      ends = greeting_ends ids h0 h1 w0 w1 old_moments new_moments before outcome it;
       told = λ old told.
           let grown = tried_grows (meta_of ids ∷ []) (it.heard.answer ∷ []) h0 h1 w0 w1 old tried told in (
             grown.now,
@@ -128,10 +127,10 @@ unmet ids stop before left h0 h1 w0 w1 old_moments new_moments it good greets =
             λ c account holds may fresh.
                 let greeted_so = greeted ids account old may.unused h0 h1 w0 w1 it.answer told it.heard in
                 let same : greeted_so.0 ≡ grown.now = same_Some greeted_so.0 grown.now (sym greeted_so.1 ∙ grown.is) in
-                synced_greeted ids stop c account old grown.now grown.growth before left old_moments new_moments grown.grown grown.timely
-                (subst (λ (log : Log). IsUnused ids.host.digits ids.session.0 account log) same greeted_so.2) holds may fresh
-                (λ base. good_end c base stop (meta_tried it.heard.answer ∷ []) w1 good (meta_is_one it.heard.answer)
-                (greeting_ends ids h0 h1 w0 w1 old_moments new_moments before stop it))
+                synced_greeted ids outcome c account old grown.now grown.growth before left old_moments new_moments grown.grown grown.timely
+                (subst (λ (log : Log). IsUnused ids.host.digits ids.session.0 account log) same greeted_so.2) holds may fresh kept
+                (λ base. good_end c base outcome (meta_tried it.heard.answer ∷ []) w1 kept (meta_is_one it.heard.answer)
+                (greeting_ends ids h0 h1 w0 w1 old_moments new_moments before outcome it))
                 it.answer (subst (λ (log : Log). IfOk it.answer (IsMetBySome ids account old may.unused log)) same greeted_so.3) it.ends,
           );
       alone = alone_stays (meta_of ids ∷ []) (it.heard.answer ∷ []) h0 h1 w0 w1 tried;
@@ -139,22 +138,22 @@ unmet ids stop before left h0 h1 w0 w1 old_moments new_moments it good greets =
     }
 
 -- and why
-pub unmet_ended : {kind : WireKind} (ids : Ids) (stop : Stop) (before left : Keeping) (h0 h1 : Health) (w0 w1 : WireState kind) (old_moments new_moments : Option (List ℤ))
-    → IsGreeting ids h0 h1 w0 w1 old_moments new_moments before (Err stop) → shows_bad_check stop ≡ false
-    → GreetsTold ids w0.log w1.log (Err stop) → IsSyncEnded ids before left h0 h1 w0 w1 old_moments (outcome_at stop)
+pub unmet_ended : {kind : WireKind} (ids : Ids) (outcome : Outcome) (before left : Keeping) (h0 h1 : Health) (w0 w1 : WireState kind) (old_moments new_moments : Option (List ℤ))
+    → IsGreeting ids h0 h1 w0 w1 old_moments new_moments before (Err outcome) → changes_device outcome ≡ false
+    → GreetsTold ids w0.log w1.log (Err outcome) → IsSyncEnded ids before left h0 h1 w0 w1 old_moments outcome
 unfolding unmet
-unmet_ended ids stop before left h0 h1 w0 w1 old_moments new_moments it good greets = record {
-  sync = unmet ids stop before left h0 h1 w0 w1 old_moments new_moments it good greets;
-  because = unmet_because ids h0 h1 w0 w1 old_moments new_moments before stop it (pos 0);
+unmet_ended ids outcome before left h0 h1 w0 w1 old_moments new_moments it kept greets = record {
+  sync = unmet ids outcome before left h0 h1 w0 w1 old_moments new_moments it kept greets;
+  because = unmet_because ids h0 h1 w0 w1 old_moments new_moments before outcome it (pos 0);
 }
 
 -- what ended it at its meta asked no finish
-pub unmet_sparing : {kind : WireKind} (spares : Bool) (ids : Ids) (stop : Stop) (before left : Keeping) (h0 h1 : Health) (w0 w1 : WireState kind) (old_moments new_moments : Option (List ℤ))
-    → IsGreeting ids h0 h1 w0 w1 old_moments new_moments before (Err stop) → shows_bad_check stop ≡ false
-    → GreetsTold ids w0.log w1.log (Err stop) → IsSyncSparing spares ids before left h0 h1 w0 w1 old_moments (outcome_at stop)
+pub unmet_sparing : {kind : WireKind} (spares : Bool) (ids : Ids) (outcome : Outcome) (before left : Keeping) (h0 h1 : Health) (w0 w1 : WireState kind) (old_moments new_moments : Option (List ℤ))
+    → IsGreeting ids h0 h1 w0 w1 old_moments new_moments before (Err outcome) → changes_device outcome ≡ false
+    → GreetsTold ids w0.log w1.log (Err outcome) → IsSyncSparing spares ids before left h0 h1 w0 w1 old_moments outcome
 unfolding unmet unmet_ended
-unmet_sparing spares ids stop before left h0 h1 w0 w1 old_moments new_moments it good greets = record {
-  ended = unmet_ended ids stop before left h0 h1 w0 w1 old_moments new_moments it good greets;
+unmet_sparing spares ids outcome before left h0 h1 w0 w1 old_moments new_moments it kept greets = record {
+  ended = unmet_ended ids outcome before left h0 h1 w0 w1 old_moments new_moments it kept greets;
   memory = λ spared out. inl (refl, tt);
 }
 

@@ -3,11 +3,14 @@ use Rattle.std.specs.Ordering.{int_eq}
 use Rattle.std.specs.Prelude.{◌≡◌, ◌≢◌, ◌==◌, ℤ, pos, ◌<ℤ◌, ◌&&◌, Bool, true, false, not, if◌then◌else◌, List, Option, Some, None, IfSome, Result, Ok, Err, IfOk, IsErrAnd, ok_or, ◌⊎◌}
 use Rattle.std.proofs.Common.{refl, sym, ap, subst, ◌∙◌, inl, inr, arith}
 use Rattle.std.proofs.lemmas.Int.{ints}
-use Rattle.std.proofs.lemmas.Option.{same_Some}
+use Rattle.std.proofs.lemmas.Option.{none-some, same_Some}
 use Rattle.ak_base.specs.Heads.{IsWithin}
 use Rattle.ak_base.specs.Limits.{last_head_usn}
 use Rattle.ak_base.specs.declared.heads.Head.{Head}
-use Rattle.ak_client.specs.Greetings.{EndsAtDevice, Finds, FindsTold, IsGreeting, IsReady, clock_stop, head_stop, is_unchanged, meta_of}
+use Rattle.ak_client.specs.Greetings.{EndsAtDevice, Finds, FindsTold, IsGreeting, IsReady, are_far_apart, clock_stop, head_stop, is_unchanged, meta_of}
+use Rattle.ak_client.specs.Outcomes.{end_or_go, is_told_by_meta, outcome_at}
+use Rattle.ak_client.specs.declared.outcomes.Outcome.{Outcome}
+use Rattle.ak_client.specs.declared.outcomes.Outcome.TheVariants as outcomes
 use Rattle.ak_client_wire.specs.Forms.{is_meta_in_range, is_moment, meta_in, meta_told}
 use Rattle.ak_client_wire.specs.Tries.{Answered, granted_in, in_form}
 use Rattle.ak_client_wire.specs.Wires.{WireKind, WireState}
@@ -16,11 +19,9 @@ use Rattle.ak_client_wire.specs.declared.asks.Unanswered.TheVariants as unanswer
 use Rattle.ak_client_wire.specs.declared.wires.MetaSaid.{MetaSaid}
 use Rattle.ak_client_wire.specs.declared.wires.WireEnd.{WireEnd}
 use Rattle.ak_client_wire.specs.declared.wires.WireEnd.TheVariants as ends
-use Rattle.ak_exchange.specs.Stops.{keep_stop, stop_or_go, wire_stop}
+use Rattle.ak_exchange.specs.Stops.{keep_stop, wire_stop}
 use Rattle.ak_exchange.specs.declared.envelopes.Ids.{Ids}
 use Rattle.ak_exchange.specs.declared.envelopes.Met.{Met}
-use Rattle.ak_exchange.specs.declared.stops.Stop.{Stop}
-use Rattle.ak_exchange.specs.declared.stops.Stop.TheVariants as stops
 use Rattle.ak_faults.specs.Causes.{Health}
 use Rattle.ak_io.specs.Arrivals.{GivesNext}
 use Rattle.ak_keep.specs.Collections.{Holding, Rows}
@@ -38,18 +39,52 @@ use Rattle.ak_session.proofs.Ranges.{within}
 use Rattle.ak_session.specs.Refusals.{is_between}
 
 -- a test that lets a sync go on found no reason to stop
-pub passed : (o : Option Stop) → stop_or_go o ≡ Ok tt → o ≡ None
+pub passed : (o : Option Outcome) → end_or_go o ≡ Ok tt → o ≡ None
 passed None is = refl
-passed (Some stop) is = grind (arith, is)
+passed (Some why) is = grind (arith, is)
 
-none_of : (stop : Stop) → Some stop ≡ None → ⊥
-none_of stop is = grind (arith, is)
+none_of : (why : Outcome) → Some why ≡ None → ⊥
+none_of why is = grind (arith, is)
 
 -- what holds of the result of an exit by this reason
-pub exits : {T : Type 0} (result : Result T Stop) (stop : Stop) (P : Result T Stop → Type 0) → IsErrAnd result (λ (other : Stop). other ≡ stop)
-    → P (Err stop) → P result
-exits (Ok value) stop P is so = absurd is
-exits (Err other) stop P is so = subst (λ (s : Stop). P (Err s)) (sym is) so
+pub exits : {T E : Type 0} (result : Result T E) (why : E) (P : Result T E → Type 0) → IsErrAnd result (λ (other : E). other ≡ why)
+    → P (Err why) → P result
+exits (Ok value) why P is so = absurd is
+exits {T} {E} (Err other) why P is so = subst (λ (e : E). P (Err e)) (sym is) so
+
+-- ---- the reasons that the tests give
+-- what holds of those that the server and the clocks give
+pub of_clocks : (P : Outcome → Type 0) → P outcomes.Stopped → ((device server : ℤ) → P (outcomes.ClockOff device server)) → (meta : MetaSaid) (second : ℤ) (why : Outcome)
+    → clock_stop meta second ≡ Some why → P why
+of_clocks P stopped off meta second why = by (not meta.cont) (are_far_apart second meta.ts)
+  where
+    by : (no far : Bool) → (if no then Some outcomes.Stopped else if far then Some (outcomes.ClockOff second meta.ts) else None) ≡ Some why → P why
+    by true far is = subst P (same_Some outcomes.Stopped why is) stopped
+    by false true is = subst P (same_Some (outcomes.ClockOff second meta.ts) why is) (off second meta.ts)
+    by false false is = absurd (none-some why is)
+
+-- and of those that the heads give
+pub of_heads : (P : Outcome → Type 0) → P outcomes.NoChanges → ((device server : ℤ) → P (outcomes.FullSchema device server)) → ((usn : ℤ) → P (outcomes.FullSequence usn))
+    → (meta : MetaSaid) (head : Head) (unchanged : Bool) (why : Outcome) → head_stop meta head unchanged ≡ Some why → P why
+of_heads P none schemas number meta head unchanged why = by unchanged (not (int_eq head.schema meta.scm)) (int_eq meta.usn last_head_usn)
+  where
+    by : (same other last : Bool)
+        → (if same then Some outcomes.NoChanges else if other then Some (outcomes.FullSchema head.schema meta.scm) else if last then Some (outcomes.FullSequence meta.usn) else None) ≡ Some why
+        → P why
+    by true other last is = subst P (same_Some outcomes.NoChanges why is) none
+    by false true last is = subst P (same_Some (outcomes.FullSchema head.schema meta.scm) why is) (schemas head.schema meta.scm)
+    by false false true is = subst P (same_Some (outcomes.FullSequence meta.usn) why is) (number meta.usn)
+    by false false false is = absurd (none-some why is)
+
+-- the meta tells them all
+pub clock_told : (meta : MetaSaid) (second : ℤ) (why : Outcome) → clock_stop meta second ≡ Some why → is_told_by_meta why ≡ true
+clock_told meta second why is = of_clocks (λ (o : Outcome). is_told_by_meta o ≡ true) refl (λ device server. refl) meta second why is
+
+pub head_told : (meta : MetaSaid) (head : Head) (unchanged : Bool) (why : Outcome) → head_stop meta head unchanged ≡ Some why → is_told_by_meta why ≡ true
+head_told meta head unchanged why is =
+    of_heads (λ (o : Outcome). is_told_by_meta o ≡ true) refl (λ device server. refl) (λ usn. refl) meta head unchanged why is
+
+-- ---- the heads
 
 -- there is something to sync, the schema moments agree, and the server's number is not the last one
 pub heads_pass : (meta : MetaSaid) (head : Head) (unchanged : Bool) → head_stop meta head unchanged ≡ None
@@ -58,14 +93,14 @@ heads_pass meta head unchanged is =
     by unchanged (int_eq head.schema meta.scm) (int_eq meta.usn last_head_usn) refl refl is
   where
     by : (same schemas last : Bool) → int_eq head.schema meta.scm ≡ schemas → int_eq meta.usn last_head_usn ≡ last
-        → (if same then Some stops.NoChanges
-        else if not schemas then Some (stops.FullSchema head.schema meta.scm)
-        else if last then Some (stops.FullSequence meta.usn)
+        → (if same then Some outcomes.NoChanges
+        else if not schemas then Some (outcomes.FullSchema head.schema meta.scm)
+        else if last then Some (outcomes.FullSequence meta.usn)
         else None) ≡ None
         → (head.schema ≡ meta.scm) × (meta.usn ≢ last_head_usn)
-    by true schemas last two three is = absurd (none_of (stops.NoChanges) is)
-    by false false last two three is = absurd (none_of (stops.FullSchema head.schema meta.scm) is)
-    by false true true two three is = absurd (none_of (stops.FullSequence meta.usn) is)
+    by true schemas last two three is = absurd (none_of outcomes.NoChanges is)
+    by false false last two three is = absurd (none_of (outcomes.FullSchema head.schema meta.scm) is)
+    by false true true two three is = absurd (none_of (outcomes.FullSequence meta.usn) is)
     by false true false two three is = (grind (arith, ints, two), λ same. grind (arith, ints, three, same))
 
 -- a number in the range of a head that is not the last one is below it
@@ -153,37 +188,37 @@ heads_told before now met same ready = subst (λ (k : Keeping). WhereTold k (λ 
     by (Some w) is = is.head
 
 -- ---- why a greeting ends
-stopped_by : (o : Option Stop) (stop : Stop) → stop_or_go o ≡ Err stop → o ≡ Some stop
-stopped_by None stop is = grind (arith, is)
-stopped_by (Some own) stop is = grind (arith, is)
+pub stopped_by : (o : Option Outcome) (why : Outcome) → end_or_go o ≡ Err why → o ≡ Some why
+stopped_by None why is = grind (arith, is)
+stopped_by (Some own) why is = grind (arith, is)
 
 -- what the heads and the rows say
-pub ends_by_heads : (keeping : Keeping) (meta : MetaSaid) (head : Head) (unchanged : Bool) (stop : Stop) → FindsTold meta head unchanged keeping
-    → Err stop ≡ stop_or_go (head_stop meta head unchanged) → EndsAtDevice meta keeping stop
-ends_by_heads keeping meta head unchanged stop finds is = inr (head, unchanged, finds, inl (stopped_by (head_stop meta head unchanged) stop (sym is)))
+pub ends_by_heads : (keeping : Keeping) (meta : MetaSaid) (head : Head) (unchanged : Bool) (why : Outcome) → FindsTold meta head unchanged keeping
+    → Err why ≡ end_or_go (head_stop meta head unchanged) → EndsAtDevice meta keeping why
+ends_by_heads keeping meta head unchanged why finds is = inr (head, unchanged, finds, inl (stopped_by (head_stop meta head unchanged) why (sym is)))
 
-pub ends_by_rows : (keeping read : Keeping) (meta : MetaSaid) (head : Head) (unchanged : Bool) (stop : Stop) → read ≡ keeping → FindsTold meta head unchanged keeping
+pub ends_by_rows : (keeping read : Keeping) (meta : MetaSaid) (head : Head) (unchanged : Bool) (why : Outcome) → read ≡ keeping → FindsTold meta head unchanged keeping
     → head_stop meta head unchanged ≡ None
-    → ((fault : KeepFault) × (stop ≡ keep_stop fault))
-    ⊎ ((fault : CheckFault) × (stop ≡ stops.OwnCheck fault) × WhereTold read (λ h. first_fault h.rows ≡ Some fault))
-    → EndsAtDevice meta keeping stop
-ends_by_rows keeping read meta head unchanged stop same finds pass (inl refused) = inl refused
-ends_by_rows keeping read meta head unchanged stop same finds pass (inr (fault, own, unsound)) =
+    → ((fault : KeepFault) × (why ≡ outcome_at (keep_stop fault)))
+    ⊎ ((fault : CheckFault) × (why ≡ outcomes.OwnCheck fault) × WhereTold read (λ h. first_fault h.rows ≡ Some fault))
+    → EndsAtDevice meta keeping why
+ends_by_rows keeping read meta head unchanged why same finds pass (inl refused) = inl refused
+ends_by_rows keeping read meta head unchanged why same finds pass (inr (fault, own, unsound)) =
     inr (head, unchanged, finds, inr (pass, (fault, own, subst (λ (k : Keeping). WhereTold k (λ h. first_fault h.rows ≡ Some fault)) same unsound)))
 
 -- the greeting, once its meta was granted and the clock gave this moment
-module _ {kind : WireKind} (ids : Ids) (h0 h1 : Health) (w0 w1 : WireState kind) (old new : Option (List ℤ)) (keeping : Keeping) (meta : MetaSaid) (stop : Stop)
+module _ {kind : WireKind} (ids : Ids) (h0 h1 : Health) (w0 w1 : WireState kind) (old new : Option (List ℤ)) (keeping : Keeping) (meta : MetaSaid) (why : Outcome)
     (heard : Answered h0 h1 w0 w1 (meta_of ids) meta_in (Ok meta)) (at second : ℤ) (given : GivesNext old new at) (is : second ≡ second_of at) where
-  pub greeting_by_clocks : Err stop ≡ stop_or_go (clock_stop meta second) → IsGreeting ids h0 h1 w0 w1 old new keeping (Err stop)
+  pub greeting_by_clocks : Err why ≡ end_or_go (clock_stop meta second) → IsGreeting ids h0 h1 w0 w1 old new keeping (Err why)
   greeting_by_clocks stopped = record {
     answer = Ok meta;
     heard = heard;
     goes_on = tt;
-    ends = (at, given, inl (subst (λ (s : ℤ). clock_stop meta s ≡ Some stop) is (stopped_by (clock_stop meta second) stop (sym stopped))));
+    ends = (at, given, inl (subst (λ (s : ℤ). clock_stop meta s ≡ Some why) is (stopped_by (clock_stop meta second) why (sym stopped))));
   }
 
-  pub greeting_by_device : Ok tt ≡ stop_or_go (clock_stop meta second) → EndsAtDevice meta keeping stop
-      → IsGreeting ids h0 h1 w0 w1 old new keeping (Err stop)
+  pub greeting_by_device : Ok tt ≡ end_or_go (clock_stop meta second) → EndsAtDevice meta keeping why
+      → IsGreeting ids h0 h1 w0 w1 old new keeping (Err why)
   greeting_by_device pass ends = record {
     answer = Ok meta;
     heard = heard;
@@ -192,7 +227,7 @@ module _ {kind : WireKind} (ids : Ids) (h0 h1 : Health) (w0 w1 : WireState kind)
   }
 
 pub greeting_unheard : {kind : WireKind} (ids : Ids) (h0 h1 : Health) (w0 w1 : WireState kind) (old : Option (List ℤ)) (keeping : Keeping) (why : Unanswered)
-    → Answered h0 h1 w0 w1 (meta_of ids) meta_in (Err why) → IsGreeting ids h0 h1 w0 w1 old old keeping (Err (wire_stop why))
+    → Answered h0 h1 w0 w1 (meta_of ids) meta_in (Err why) → IsGreeting ids h0 h1 w0 w1 old old keeping (Err (outcome_at (wire_stop why)))
 greeting_unheard ids h0 h1 w0 w1 old keeping why heard = record { answer = Err why; heard = heard; goes_on = tt; ends = refl }
 
 pub greeting_goes_on : {kind : WireKind} (ids : Ids) (h0 h1 : Health) (w0 w1 : WireState kind) (old new : Option (List ℤ)) (keeping : Keeping) (met : Met)

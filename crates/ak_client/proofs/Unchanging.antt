@@ -1,7 +1,7 @@
 -- A greeting that finds nothing to sync: the device has the content of what was committed at its meta.
 use Rattle.std.specs.Cmp.{signed_Decides}
 use Rattle.std.specs.Ordering.{int_eq}
-use Rattle.std.specs.Prelude.{◌≡◌, ℤ, ◌&&◌, Bool, true, false, not, if◌then◌else◌, List, [], ◌++◌, Option, Some, None, Ok}
+use Rattle.std.specs.Prelude.{◌≡◌, ◌≢◌, ℤ, ◌&&◌, Bool, true, false, not, if◌then◌else◌, List, [], ◌++◌, Option, Some, None, Ok}
 use Rattle.std.proofs.Common.{refl, sym, ap, subst, ◌∙◌, inl, inr, arith}
 use Rattle.std.proofs.lemmas.List.{append-nil}
 use Rattle.std.proofs.lemmas.Option.{none-some, same_Some}
@@ -10,18 +10,19 @@ use Rattle.ak_base.specs.Rows.{IsChecked}
 use Rattle.ak_base.specs.declared.heads.Head.{Head}
 use Rattle.ak_base.specs.declared.names.Name.{Name}
 use Rattle.ak_base.specs.declared.rows.Row.{Row}
-use Rattle.ak_client.proofs.Clocks.{fault_told}
+use Rattle.ak_client.proofs.Clocks.{stop_told}
 use Rattle.ak_client.proofs.Meeting.{formed_by, linked_at_meta, linked_parts}
 use Rattle.ak_client.proofs.Pending.{all_is_sent}
-use Rattle.ak_client.specs.Greetings.{EndsAtDevice, EndsGreeting, Finds, FindsTold, IsMetBy, IsMetOver, are_far_apart, clock_stop, have_equal_heads, head_stop, is_unchanged}
-use Rattle.ak_client.specs.Outcomes.{is_told_by_meta, outcome_at}
+use Rattle.ak_client.proofs.Testing.{of_clocks}
+use Rattle.ak_client.specs.Greetings.{EndsAtDevice, EndsGreeting, Finds, FindsTold, IsMetBy, IsMetOver, clock_stop, have_equal_heads, head_stop, is_unchanged}
+use Rattle.ak_client.specs.Outcomes.{is_told_by_meta}
 use Rattle.ak_client.specs.Syncs.{MayBegin, world_at}
 use Rattle.ak_client.specs.Unsent.{has_unsent}
+use Rattle.ak_client.specs.declared.outcomes.Outcome.{Outcome}
 use Rattle.ak_client.specs.declared.outcomes.Outcome.TheVariants as outcomes
 use Rattle.ak_client_wire.specs.declared.wires.MetaSaid.{MetaSaid}
 use Rattle.ak_exchange.specs.Phases.{holding, held_by}
-use Rattle.ak_exchange.specs.declared.stops.Stop.{Stop}
-use Rattle.ak_exchange.specs.declared.stops.Stop.TheVariants as stops
+use Rattle.ak_exchange.specs.Stops.{keep_stop}
 use Rattle.ak_keep.proofs.RowsByName.{all_gets, named-get}
 use Rattle.ak_keep.specs.Collections.{Collection, IsWellFormed}
 use Rattle.ak_keep.specs.Keepers.{Keeping, WhereTold}
@@ -34,23 +35,12 @@ use Rattle.ak_protocol.specs.Logs.{Event, Log, with_growth}
 use Rattle.ak_session.specs.Plans.{Asker}
 
 -- ---- no other reason says so
-not_by_clocks : (meta : MetaSaid) (second : ℤ) (stop : Stop) → clock_stop meta second ≡ Some stop → outcome_at stop ≡ outcomes.NoChanges → ⊥
-not_by_clocks meta second stop is none = by (not meta.cont) (are_far_apart second meta.ts) is
-  where
-    stopped : outcomes.Stopped ≡ outcomes.NoChanges → ⊥
-    stopped is = grind (arith, is)
+not_by_clocks : (meta : MetaSaid) (second : ℤ) (outcome : Outcome) → clock_stop meta second ≡ Some outcome → outcome ≡ outcomes.NoChanges → ⊥
+not_by_clocks meta second outcome is = of_clocks (λ (o : Outcome). o ≢ outcomes.NoChanges) (λ same. grind (arith, same)) (λ device server same. grind (arith, same)) meta second outcome is
 
-    off : outcomes.ClockOff second meta.ts ≡ outcomes.NoChanges → ⊥
-    off is = grind (arith, is)
-
-    by : (no far : Bool) → (if no then Some stops.Stopped else if far then Some (stops.ClockOff second meta.ts) else None) ≡ Some stop → ⊥
-    by true far is = stopped (ap outcome_at (same_Some stops.Stopped stop is) ∙ none)
-    by false true is = off (ap outcome_at (same_Some (stops.ClockOff second meta.ts) stop is) ∙ none)
-    by false false is = none-some stop is
-
-by_heads : (meta : MetaSaid) (head : Head) (unchanged : Bool) (stop : Stop) → head_stop meta head unchanged ≡ Some stop → outcome_at stop ≡ outcomes.NoChanges → unchanged ≡ true
-by_heads meta head true stop is none = refl
-by_heads meta head false stop is none = absurd (by (not (int_eq head.schema meta.scm)) (int_eq meta.usn last_head_usn) is)
+by_heads : (meta : MetaSaid) (head : Head) (unchanged : Bool) (outcome : Outcome) → head_stop meta head unchanged ≡ Some outcome → outcome ≡ outcomes.NoChanges → unchanged ≡ true
+by_heads meta head true outcome is none = refl
+by_heads meta head false outcome is none = absurd (by (not (int_eq head.schema meta.scm)) (int_eq meta.usn last_head_usn) is)
   where
     full : outcomes.FullSchema head.schema meta.scm ≡ outcomes.NoChanges → ⊥
     full is = grind (arith, is)
@@ -58,24 +48,24 @@ by_heads meta head false stop is none = absurd (by (not (int_eq head.schema meta
     last_one : outcomes.FullSequence meta.usn ≡ outcomes.NoChanges → ⊥
     last_one is = grind (arith, is)
 
-    by : (schemas last : Bool) → (if schemas then Some (stops.FullSchema head.schema meta.scm) else if last then Some (stops.FullSequence meta.usn) else None) ≡ Some stop → ⊥
-    by true last is = full (ap outcome_at (same_Some (stops.FullSchema head.schema meta.scm) stop is) ∙ none)
-    by false true is = last_one (ap outcome_at (same_Some (stops.FullSequence meta.usn) stop is) ∙ none)
-    by false false is = none-some stop is
+    by : (schemas last : Bool) → (if schemas then Some (outcomes.FullSchema head.schema meta.scm) else if last then Some (outcomes.FullSequence meta.usn) else None) ≡ Some outcome → ⊥
+    by true last is = full (same_Some (outcomes.FullSchema head.schema meta.scm) outcome is ∙ none)
+    by false true is = last_one (same_Some (outcomes.FullSequence meta.usn) outcome is ∙ none)
+    by false false is = none-some outcome is
 
 -- what a greeting that says so has found
-pub found_unchanged : (old new : Option (List ℤ)) (keeping : Keeping) (meta : MetaSaid) (stop : Stop) → EndsGreeting (Ok meta) old new keeping stop → outcome_at stop ≡ outcomes.NoChanges
+pub found_unchanged : (old new : Option (List ℤ)) (keeping : Keeping) (meta : MetaSaid) (outcome : Outcome) → EndsGreeting (Ok meta) old new keeping outcome → outcome ≡ outcomes.NoChanges
     → (head : Head) × FindsTold meta head true keeping
-found_unchanged old new keeping meta stop (at, given, inl stopped) none = absurd (not_by_clocks meta _ stop stopped none)
-found_unchanged old new keeping meta stop (at, given, inr (pass, ends)) none = by ends
+found_unchanged old new keeping meta outcome (at, given, inl stopped) none = absurd (not_by_clocks meta _ outcome stopped none)
+found_unchanged old new keeping meta outcome (at, given, inr (pass, ends)) none = by ends
   where
-    unsound_not : (one : Stop) → stop ≡ one → (outcome_at one ≡ outcomes.NoChanges → ⊥) → ⊥
-    unsound_not one is never = never (ap outcome_at (sym is) ∙ none)
+    unsound_not : (one : Outcome) → outcome ≡ one → (one ≡ outcomes.NoChanges → ⊥) → ⊥
+    unsound_not one is never = never (sym is ∙ none)
 
-    by : EndsAtDevice meta keeping stop → (head : Head) × FindsTold meta head true keeping
-    by (inl (fault, is)) = absurd (not_both (ap is_told_by_meta none) (ap (λ (s : Stop). is_told_by_meta (outcome_at s)) is ∙ fault_told fault))
-    by (inr (head, unchanged, finds, inl is)) = (head, subst (λ (b : Bool). FindsTold meta head b keeping) (by_heads meta head unchanged stop is none) finds)
-    by (inr (head, unchanged, finds, inr (passed, unsound))) = absurd (unsound_not (stops.OwnCheck unsound.0) unsound.1 (λ same. grind (arith, same)))
+    by : EndsAtDevice meta keeping outcome → (head : Head) × FindsTold meta head true keeping
+    by (inl (fault, is)) = absurd (not_both (ap is_told_by_meta none) (ap is_told_by_meta is ∙ stop_told (keep_stop fault)))
+    by (inr (head, unchanged, finds, inl is)) = (head, subst (λ (b : Bool). FindsTold meta head b keeping) (by_heads meta head unchanged outcome is none) finds)
+    by (inr (head, unchanged, finds, inr (passed, unsound))) = absurd (unsound_not (outcomes.OwnCheck unsound.0) unsound.1 (λ same. grind (arith, same)))
 
 -- ---- equal heads
 three : (a b c : Bool) → (a && b && c) ≡ true → (a ≡ true) × (b ≡ true) × (c ≡ true)

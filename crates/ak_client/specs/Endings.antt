@@ -1,7 +1,7 @@
 -- What a sync that goes on after its meta asks and leaves.
 use Rattle.std.specs.List.{AllByRecursion}
 use Rattle.std.specs.Prelude.{◌≡◌, ℕ, ℤ, pos, ◌+◌, ◌≤◌, ◌+ℤ◌, Bool, true, false, List, [], ◌∷◌, ◌++◌, Option, Some, Result, IfOk, IfErr, ◌⊎◌}
-use Rattle.ak_client.specs.Outcomes.{is_told_by_meta, outcome_at}
+use Rattle.ak_client.specs.Outcomes.{changes_device, is_told_by_meta, outcome_at}
 use Rattle.ak_client.specs.Syncs.{ArePlain, EndsAt, IsFairEnd, LacksMemoryEarly, ends_before_finish, fewest_moments, most_moments, world_at}
 use Rattle.ak_client.specs.declared.outcomes.Outcome.{Outcome}
 use Rattle.ak_client.specs.declared.outcomes.Outcome.TheVariants as outcomes
@@ -10,7 +10,6 @@ use Rattle.ak_device.specs.Settlings.{taken_and_settled}
 use Rattle.ak_exchange.specs.Asked.{AreFew, AreTried, TriedAsk, answers_in, asker, asks_in}
 use Rattle.ak_exchange.specs.Grants.{AllGranted, AllGrantedButLast, AreGranted, SendsRows, StopsFor, StopsUnanswered}
 use Rattle.ak_exchange.specs.Phases.{AreGraveRequests, HasPassedCheck, IsFairStop, IsMet, IsReached, holding, marked_at}
-use Rattle.ak_exchange.specs.Stops.{shows_bad_check}
 use Rattle.ak_exchange.specs.declared.envelopes.Ids.{Ids}
 use Rattle.ak_exchange.specs.declared.envelopes.Met.{Met}
 use Rattle.ak_exchange.specs.declared.stops.Stop.{Stop}
@@ -29,11 +28,11 @@ use Rattle.ak_session.specs.Plans.{Asker, planned, requests_from}
 use Rattle.ak_session.specs.Replies.{all_replied}
 use Rattle.ak_session.specs.Sessions.{MaySync}
 
--- why a sync may stop between its meta and its start: it takes one moment of its clock then, and shows no bad sanity check
-pub record IsOfGreeting (stop : Stop) : Type 0 where
-  pub least : fewest_moments (outcome_at stop) ≤ 1
-  pub most : 1 ≤ most_moments (outcome_at stop)
-  pub good : shows_bad_check stop ≡ false
+-- how a sync may end between its meta and its start: it takes one moment of its clock then, and leaves the device as it was
+pub record IsOfGreeting (outcome : Outcome) : Type 0 where
+  pub least : fewest_moments outcome ≤ 1
+  pub most : 1 ≤ most_moments outcome
+  pub unchanged : changes_device outcome ≡ false
 
 -- a sync stopped so before it asked its finish, or because what it asked last was not granted
 abbrev pub StopsBeforeCommit : List TriedAsk → Stop → Type 0
@@ -87,7 +86,7 @@ pub record Exchanged (c s : Collection) (account : AccountState) (who : Asker) (
   pub shown : IsShownAfter c s account who asks told
   pub early : IfErr result (λ (stop : Stop). ends_before_finish (outcome_at stop) ≡ true → ArePlain asks)
   pub granted : IfOk result (λ (moment : ℤ). IsGranted c s account who asks told left moment)
-  pub fair : IfErr result (IsFairStop c s)
+  pub fair : IfErr result (λ (stop : Stop). MaySync c s → IsFairStop c s stop)
 
 -- the same from a marked keeper on
 abbrev pub ExchangesAll : {kind : WireKind} → Ids → Met → Keeping → Keeping → Health → Health → WireState kind → WireState kind → Result ℤ Stop → Type 0

@@ -5,7 +5,10 @@ use Rattle.std.specs.Ordering.{int_eq}
 use Rattle.std.specs.Prelude.{◌≡◌, ℤ, pos, ◌+ℤ◌, ◌<ℤ◌, ◌||◌, ◌&&◌, Bool, not, int_lt, if◌then◌else◌, List, [], ◌++◌, Option, Some, None, option_and_then, Result, Ok, Err, IfOk, IfErr, ◌⊎◌}
 use Rattle.ak_base.specs.Limits.{last_head_usn}
 use Rattle.ak_base.specs.declared.heads.Head.{Head}
+use Rattle.ak_client.specs.Outcomes.{outcome_at}
 use Rattle.ak_client.specs.Unsent.{has_unsent}
+use Rattle.ak_client.specs.declared.outcomes.Outcome.{Outcome}
+use Rattle.ak_client.specs.declared.outcomes.Outcome.TheVariants as outcomes
 use Rattle.ak_client_wire.specs.Forms.{meta_in}
 use Rattle.ak_client_wire.specs.Tries.{Answered}
 use Rattle.ak_client_wire.specs.Wires.{WireKind, WireState}
@@ -15,8 +18,6 @@ use Rattle.ak_exchange.specs.Asked.{asker}
 use Rattle.ak_exchange.specs.Stops.{keep_stop, wire_stop}
 use Rattle.ak_exchange.specs.declared.envelopes.Ids.{Ids}
 use Rattle.ak_exchange.specs.declared.envelopes.Met.{Met}
-use Rattle.ak_exchange.specs.declared.stops.Stop.{Stop}
-use Rattle.ak_exchange.specs.declared.stops.Stop.TheVariants as stops
 use Rattle.ak_faults.specs.Causes.{Health}
 use Rattle.ak_io.specs.Arrivals.{GivesNext}
 use Rattle.ak_keep.specs.Collections.{Collection, Holding, Rows}
@@ -42,10 +43,10 @@ abbrev pub are_far_apart : ℤ → ℤ → Bool
 are_far_apart one other = int_lt (other +ℤ pos 300) one || int_lt (one +ℤ pos 300) other
 
 -- why a sync ends at a meta, by the device's clock in seconds: the server does not let it go on, or the clocks are far apart
-abbrev pub clock_stop : MetaSaid → ℤ → Option Stop
+abbrev pub clock_stop : MetaSaid → ℤ → Option Outcome
 clock_stop meta second =
-    if not meta.cont then Some stops.Stopped
-    else if are_far_apart second meta.ts then Some (stops.ClockOff second meta.ts)
+    if not meta.cont then Some outcomes.Stopped
+    else if are_far_apart second meta.ts then Some (outcomes.ClockOff second meta.ts)
     else None
 
 -- whether the moments, the schema moments and the usns of device and server are equal
@@ -57,17 +58,17 @@ abbrev pub is_unchanged : MetaSaid → Head → Rows → Bool
 is_unchanged meta head held = have_equal_heads meta head && not (has_unsent held head.tags)
 
 -- why it ends by the two heads: there is nothing to sync, or the whole collection has to be sent
-abbrev pub head_stop : MetaSaid → Head → Bool → Option Stop
+abbrev pub head_stop : MetaSaid → Head → Bool → Option Outcome
 head_stop meta head unchanged =
-    if unchanged then Some stops.NoChanges
-    else if not (int_eq head.schema meta.scm) then Some (stops.FullSchema head.schema meta.scm)
-    else if int_eq meta.usn last_head_usn then Some (stops.FullSequence meta.usn)
+    if unchanged then Some outcomes.NoChanges
+    else if not (int_eq head.schema meta.scm) then Some (outcomes.FullSchema head.schema meta.scm)
+    else if int_eq meta.usn last_head_usn then Some (outcomes.FullSequence meta.usn)
     else None
 
 -- why it ends by the device, once the server and the clocks let it go on: by the two heads, or else by the first fault of its own rows
-abbrev pub device_stop : MetaSaid → Holding → Option Stop
+abbrev pub device_stop : MetaSaid → Holding → Option Outcome
 device_stop meta h = option_and_then (λ (head : Head). option_or (head_stop meta head (is_unchanged meta head h.rows))
-    (option_map (λ (fault : CheckFault). stops.OwnCheck fault) (first_fault h.rows))) h.head
+    (option_map (λ (fault : CheckFault). outcomes.OwnCheck fault) (first_fault h.rows))) h.head
 
 -- ---- why a greeting ends
 -- what a greeting finds on a device: this head, and whether there is nothing to sync
@@ -81,24 +82,24 @@ pub record FindsTold (meta : MetaSaid) (head : Head) (unchanged : Bool) (keeping
   pub told : WhereTold keeping (Finds meta head unchanged)
 
 -- once the clocks let it go on: the keeper refused; or what it finds does not let it; or else the device's rows are not sound
-abbrev pub EndsAtDevice : MetaSaid → Keeping → Stop → Type 0
-EndsAtDevice meta keeping stop =
-    ((fault : KeepFault) × (stop ≡ keep_stop fault))
+abbrev pub EndsAtDevice : MetaSaid → Keeping → Outcome → Type 0
+EndsAtDevice meta keeping outcome =
+    ((fault : KeepFault) × (outcome ≡ outcome_at (keep_stop fault)))
     ⊎ ((head : Head) × (unchanged : Bool) × FindsTold meta head unchanged keeping
-    × ((head_stop meta head unchanged ≡ Some stop)
-    ⊎ ((head_stop meta head unchanged ≡ None) × ((fault : CheckFault) × (stop ≡ stops.OwnCheck fault)
+    × ((head_stop meta head unchanged ≡ Some outcome)
+    ⊎ ((head_stop meta head unchanged ≡ None) × ((fault : CheckFault) × (outcome ≡ outcomes.OwnCheck fault)
     × WhereTold keeping (λ h. first_fault h.rows ≡ Some fault)))))
 
 -- the meta was not granted; or the server or the clocks, by the moment that the clock gave, do not let it go on; or else the device does not
-abbrev pub EndsGreeting : Result MetaSaid Unanswered → Option (List ℤ) → Option (List ℤ) → Keeping → Stop → Type 0
-EndsGreeting (Err why) to_come_before to_come keeping stop = stop ≡ wire_stop why
-EndsGreeting (Ok meta) to_come_before to_come keeping stop = (at : ℤ) × GivesNext to_come_before to_come at
-    × ((clock_stop meta (second_of at) ≡ Some stop)
-    ⊎ ((clock_stop meta (second_of at) ≡ None) × EndsAtDevice meta keeping stop))
+abbrev pub EndsGreeting : Result MetaSaid Unanswered → Option (List ℤ) → Option (List ℤ) → Keeping → Outcome → Type 0
+EndsGreeting (Err why) to_come_before to_come keeping outcome = outcome ≡ outcome_at (wire_stop why)
+EndsGreeting (Ok meta) to_come_before to_come keeping outcome = (at : ℤ) × GivesNext to_come_before to_come at
+    × ((clock_stop meta (second_of at) ≡ Some outcome)
+    ⊎ ((clock_stop meta (second_of at) ≡ None) × EndsAtDevice meta keeping outcome))
 
 -- what a greeting heard, over any keeper and wire, and why it ended
 pub record IsGreeting {kind : WireKind} (ids : Ids) (health_before health_now : Health) (old now : WireState kind)
-    (to_come_before to_come : Option (List ℤ)) (keeping : Keeping) (result : Result Met Stop) : Type 0 where
+    (to_come_before to_come : Option (List ℤ)) (keeping : Keeping) (result : Result Met Outcome) : Type 0 where
   pub answer : Result MetaSaid Unanswered
   pub heard : Answered health_before health_now old now (meta_of ids) meta_in answer
   pub goes_on : IfOk result (λ met. answer ≡ Ok met.meta)
@@ -122,12 +123,12 @@ pub record IsMetBy (meta : MetaSaid) (s : Collection) : Type 0 where
   pub usn : meta.usn ≡ s.head.usn
 
 -- what a greeting knows of the server: its key is unused still, but for metas; and if the sync may go on, over what its meta was answered
-pub record Greets (ids : Ids) (account : AccountState) (old now : Log) (result : Result Met Stop) : Type 0 where
+pub record Greets (ids : Ids) (account : AccountState) (old now : Log) (result : Result Met Outcome) : Type 0 where
   pub unused : IsUnused ids.host.digits ids.session.0 account now
   pub met : IfOk result (λ met. (s : Collection) × IsMetOver (asker ids) account old now s × IsMetBy met.meta s)
 
 -- the same wherever the wire tells a log in which nothing but metas has the session key
-abbrev pub GreetsTold : Ids → Option Log → Option Log → Result Met Stop → Type 0
+abbrev pub GreetsTold : Ids → Option Log → Option Log → Result Met Outcome → Type 0
 GreetsTold ids told_before told_now result = (account : AccountState) (old : Log) → told_before ≡ Some old
     → IsUnused ids.host.digits ids.session.0 account old
     → (now : Log) × (told_now ≡ Some now) × Greets ids account old now result

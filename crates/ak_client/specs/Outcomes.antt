@@ -1,5 +1,5 @@
 -- What an outcome says.
-use Rattle.std.specs.Prelude.{◌≡◌, ◌≢◌, ◌≤◌, ℕ, ℤ, Bool, true, false, Option, Some, Result, Ok, Err, ◌⊎◌}
+use Rattle.std.specs.Prelude.{◌≡◌, ◌≢◌, ◌≤◌, ℕ, ℤ, Bool, true, false, Option, Some, None, Result, Ok, Err, ◌⊎◌}
 use Rattle.ak_client.specs.declared.outcomes.Outcome.{Outcome}
 use Rattle.ak_client.specs.declared.outcomes.Outcome.TheVariants as outcomes
 use Rattle.ak_client_wire.specs.Wires.{more}
@@ -11,16 +11,10 @@ use Rattle.ak_faults.specs.Causes.{GoesOn, Health, Rose}
 use Rattle.ak_keep.specs.declared.keepers.KeepFault.{KeepFault}
 use Rattle.ak_messages.specs.declared.replies.Word.{Word}
 
--- the outcome of a sync that stopped
+-- the outcome of a sync whose exchange stopped
 abbrev pub outcome_at : Stop → Outcome
-outcome_at stops.NoChanges = outcomes.NoChanges
-outcome_at (stops.FullSchema device server) = outcomes.FullSchema device server
-outcome_at (stops.FullSequence usn) = outcomes.FullSequence usn
 outcome_at (stops.BadRow fault) = outcomes.BadRow fault
 outcome_at (stops.BadCounts client server) = outcomes.BadCounts client server
-outcome_at (stops.ClockOff device server) = outcomes.ClockOff device server
-outcome_at (stops.OwnCheck fault) = outcomes.OwnCheck fault
-outcome_at stops.Stopped = outcomes.Stopped
 outcome_at (stops.Refused status word seen) = outcomes.Refused status word seen
 outcome_at stops.Lost = outcomes.Lost
 outcome_at stops.BadReply = outcomes.BadReply
@@ -29,14 +23,19 @@ outcome_at stops.Keep = outcomes.Keep
 outcome_at stops.Memory = outcomes.Memory
 
 -- the outcome of a sync
-abbrev pub outcome_of : Result (Unit {0}) Stop → Outcome
+abbrev pub outcome_of : Result (Unit {0}) Outcome → Outcome
 outcome_of (Ok done) = outcomes.Finished
-outcome_of (Err stop) = outcome_at stop
+outcome_of (Err outcome) = outcome
 
--- a sync that is stopped so ends for that reason; or, after a bad sanity check, because the keeper refused what was left to do
-abbrev pub EndsFor : Stop → Result (Unit {0}) Stop → Type 0
-EndsFor stop result = (result ≡ Err stop)
-    ⊎ ((fault : KeepFault) × (shows_bad_check stop ≡ true) × (result ≡ Err (keep_stop fault)))
+-- a sync that goes on, unless there is a reason to end it
+abbrev pub end_or_go : Option Outcome → Result (Unit {0}) Outcome
+end_or_go None = Ok tt
+end_or_go (Some outcome) = Err outcome
+
+-- a sync whose exchange stopped so ends for that reason; or, after a bad sanity check, because the keeper refused what was left to do
+abbrev pub EndsFor : Stop → Outcome → Type 0
+EndsFor stop outcome = (outcome ≡ outcome_at stop)
+    ⊎ ((fault : KeepFault) × (shows_bad_check stop ≡ true) × (outcome ≡ outcome_at (keep_stop fault)))
 
 -- an outcome comes only if the count of faults of an end to the outside rose meanwhile, and never of an end that is calm
 pub record HasOutcomeCause (outcome : Outcome) (before now : Health) (result : Outcome) : Type 0 where
@@ -75,3 +74,10 @@ is_told_by_meta outcomes.BadReply = false
 is_told_by_meta outcomes.TooManyChunks = false
 is_told_by_meta outcomes.Keep = false
 is_told_by_meta outcomes.Memory = false
+
+-- whether a sync that ends so has changed the device: it is finished, or both moments have risen after a bad sanity check
+abbrev pub changes_device : Outcome → Bool
+changes_device outcomes.Finished = true
+changes_device (outcomes.BadRow fault) = true
+changes_device (outcomes.BadCounts client server) = true
+changes_device outcome = false

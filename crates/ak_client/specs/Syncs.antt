@@ -9,7 +9,7 @@ use Rattle.ak_client.specs.declared.outcomes.Outcome.TheVariants as outcomes
 use Rattle.ak_device.specs.Devices.{RaisesMoments}
 use Rattle.ak_exchange.specs.Asked.{AreFew, AreTried, TriedAsk, answers_in, asker, asks_in}
 use Rattle.ak_exchange.specs.Grants.{AllGranted, AllGrantedButLast, AreTooMany, EndsForMemory, EndsUnanswered, IsCheckedLast, SendsRows}
-use Rattle.ak_exchange.specs.Phases.{AreGraveRequests, HasTenMillionRows, holding}
+use Rattle.ak_exchange.specs.Phases.{AreGraveRequests, IsFairStop, holding}
 use Rattle.ak_exchange.specs.declared.envelopes.Ids.{Ids}
 use Rattle.ak_exchange.specs.Stops.{keep_stop}
 use Rattle.ak_exchange.specs.declared.stops.Stop.{Stop}
@@ -121,13 +121,10 @@ ends_before_finish outcomes.TooManyChunks = true
 ends_before_finish outcomes.Keep = false
 ends_before_finish outcomes.Memory = false
 
--- from a server that meets the protocol a sync ends at a bad row only if the join of the two is not sound, never at counts that differ, and at too
--- many chunks only if one side has ten million rows to send
+-- an end that is fair to two sides that may sync: if it comes of a stop, this is fair. So a sync ends at a bad row only if the join of the two
+-- is not sound, never at counts that differ, and at too many chunks only if one side has ten million rows to send
 abbrev pub IsFairEnd : Collection → Collection → Outcome → Type 0
-IsFairEnd c base (outcomes.BadRow fault) = IsSound (joined_under (row_under c) (row_under base)) → ⊥
-IsFairEnd c base (outcomes.BadCounts client server) = ⊥
-IsFairEnd c base outcomes.TooManyChunks = HasTenMillionRows c base
-IsFairEnd c base outcome = ⊤
+IsFairEnd c base outcome = (stop : Stop) → outcome ≡ outcome_at stop → IsFairStop c base stop
 
 -- a collection was committed at a place of what came to the account
 pub record IsCommittedIn (who : Asker) (account : AccountState) (old : Log) (growth : List Event)
@@ -254,14 +251,13 @@ told_by (Err end) = None
 -- then the device's own rows
 pub record EndsByMeta (meta : MetaSaid) (at : ℤ) (before : Keeping) (outcome : Outcome) : Type 0 where
   -- if the server or the clocks do not let it go on, it ends for that reason
-  pub by_clocks : (stop : Stop) → clock_stop meta (second_of at) ≡ Some stop → outcome ≡ outcome_at stop
+  pub by_clocks : (why : Outcome) → clock_stop meta (second_of at) ≡ Some why → outcome ≡ why
   -- if they do, and the device does not, it ends for that reason, or because the keeper refused to be read
-  pub by_device : clock_stop meta (second_of at) ≡ None → WhereTold before (λ h. (stop : Stop) → device_stop meta h ≡ Some stop
-      → (outcome ≡ outcome_at stop) ⊎ ((fault : KeepFault) × (outcome ≡ outcome_at (keep_stop fault))))
+  pub by_device : clock_stop meta (second_of at) ≡ None → WhereTold before (λ h. (why : Outcome) → device_stop meta h ≡ Some why
+      → (outcome ≡ why) ⊎ ((fault : KeepFault) × (outcome ≡ outcome_at (keep_stop fault))))
   -- and it ends so for no other reason
-  pub only : is_told_by_meta outcome ≡ true → (stop : Stop) × (outcome ≡ outcome_at stop)
-      × ((clock_stop meta (second_of at) ≡ Some stop)
-      ⊎ ((clock_stop meta (second_of at) ≡ None) × WhereTold before (λ h. device_stop meta h ≡ Some stop)))
+  pub only : is_told_by_meta outcome ≡ true → (clock_stop meta (second_of at) ≡ Some outcome)
+      ⊎ ((clock_stop meta (second_of at) ≡ None) × WhereTold before (λ h. device_stop meta h ≡ Some outcome))
 
 -- why a sync ended that tried these after its meta, over the moment that this told
 pub record EndsBecause (meta : Result Reply WireEnd) (moment : ℤ) (tries : List TriedAsk) (before : Keeping)

@@ -1,12 +1,12 @@
-ghost use Rattle.std.specs.Prelude.{◌≡◌, ◌≤ℤ◌, ◌<ℤ◌, ℤ, pos, true, false, Some, None, IfOk, IfErr, OnOk, ◌⊎◌};
+ghost use Rattle.std.specs.Prelude.{◌≡◌, ◌≢◌, ◌≤ℤ◌, ◌<ℤ◌, ℤ, pos, true, false, Some, None, IfOk, IfErr, OnOk, ◌⊎◌};
 ghost use Rattle.ak_base.specs.Heads.{IsHeadInRange, IsWithin};
 ghost use Rattle.ak_base.specs.Limits.{last_head_usn};
 ghost use Rattle.ak_client.specs.Endings.{IsOfGreeting};
 ghost use Rattle.ak_client.specs.Greetings.{EndsAtDevice, GreetsTold, IsGreeting, IsReady, are_far_apart, clock_stop, have_equal_heads, head_stop, is_unchanged};
-ghost use Rattle.ak_client.specs.Outcomes.{outcome_at};
+ghost use Rattle.ak_client.specs.Outcomes.{changes_device, end_or_go, outcome_at};
 ghost use Rattle.ak_client.specs.Syncs.{HasGiven, TakesMoments};
-ghost use Rattle.ak_exchange.specs.Stops.{is_keep, keep_stop, shows_bad_check, stop_or_go};
-ghost use Rattle.ak_exchange.specs.declared.stops.Stop.TheVariants as stops;
+ghost use Rattle.ak_client.specs.declared.outcomes.Outcome.TheVariants as outcomes;
+ghost use Rattle.ak_exchange.specs.Stops.{keep_stop};
 ghost use Rattle.ak_faults.specs.Causes.{HasCauseOf};
 ghost use Rattle.ak_io.specs.Arrivals.{GivesNext, IsClockMoment};
 ghost use Rattle.ak_keep.specs.Keepers.{IsRightlyKnown, WhereTold};
@@ -15,10 +15,11 @@ ghost use Rattle.ak_merge.specs.Edits.{second_of};
 ghost use Rattle.ak_merge.specs.Soundness.{first_fault};
 ghost use Rattle.ak_merge.specs.declared.checks.CheckFault.{CheckFault};
 
+use crate::outcomes::Outcome;
 use crate::unsent::has_unsent;
 use ak_base::{Head, LAST_HEAD_USN};
 use ak_client_wire::{MetaSaid, Wire, ask};
-use ak_exchange::{Ids, Met, Stop, meta_request};
+use ak_exchange::{Ids, Met, meta_request};
 use ak_io::Clock;
 use ak_keep::{KeepFault, Keeper};
 use ak_merge::check;
@@ -34,7 +35,7 @@ pub(crate) fn greet<K: Keeper, W: Wire, C: Clock>(
     wire: &mut W,
     clock: &mut C,
     ids: Ids,
-) -> Result<Met, Stop>
+) -> Result<Met, Outcome>
     requires held { (K.keeping keeper.old).headed.current ≡ true }
 
     // Where the wire tells its log, what is known of the server.
@@ -56,12 +57,11 @@ pub(crate) fn greet<K: Keeper, W: Wire, C: Clock>(
     ensures heard { IsGreeting ids (W.health wire.old) (W.health wire.new) (W.state wire.old) (W.state wire.new)
         (C.to_come clock.old) (C.to_come clock.new) (K.keeping keeper.old) result }
 
-    // It ends at no bad sanity check, and takes one moment of the clock once its meta is granted.
-    ensures early { IfErr result (λ stop. shows_bad_check stop ≡ false) }
+    // It ends with the device unchanged, and takes one moment of the clock once its meta is granted.
+    ensures early { IfErr result (λ outcome. changes_device outcome ≡ false) }
     ensures once { OnOk result (HasGiven 1 (C.to_come clock.old) (C.to_come clock.new)) }
-    ensures clock { IfErr result (λ stop.
-        TakesMoments 0 (C.to_come clock.old) (C.to_come clock.new) (outcome_at stop)) }
-    ensures keeper { HasCauseOf stops.Keep (K.health keeper.old) (K.health keeper.new) result }
+    ensures clock { IfErr result (TakesMoments 0 (C.to_come clock.old) (C.to_come clock.new)) }
+    ensures keeper { HasCauseOf outcomes.Keep (K.health keeper.old) (K.health keeper.new) result }
 {
     let request = meta_request(ids);
     let meta: MetaSaid = ask(wire, &request)?;
@@ -82,17 +82,17 @@ pub fn second_of(at: i64) -> i64
 }
 
 /// Whether the server lets the device go on, and the clocks are at most 300 seconds apart.
-pub fn test_clocks(meta: MetaSaid, second: i64) -> Result<(), Stop>
+pub fn test_clocks(meta: MetaSaid, second: i64) -> Result<(), Outcome>
     requires { IsWithin (pos 0) (pos 4_294_967_294) second }
-    ensures stop { result ≡ stop_or_go (clock_stop meta second) }
+    ensures stop { result ≡ end_or_go (clock_stop meta second) }
     ensures early { IfErr result IsOfGreeting }
-    ensures unkept { IfErr result (λ stop. is_keep stop ≡ false) }
+    ensures unkept { IfErr result (λ outcome. outcome ≢ outcomes.Keep) }
 {
     if !meta.cont {
-        return Err(Stop::Stopped);
+        return Err(Outcome::Stopped);
     }
     if are_far_apart(second, meta.ts) {
-        return Err(Stop::ClockOff {
+        return Err(Outcome::ClockOff {
             device: second,
             server: meta.ts,
         });
@@ -110,7 +110,7 @@ fn are_far_apart(device: i64, server: i64) -> bool
 
 /// Reads the device's head, and tests whether there is something to sync, no need to send the whole collection, and
 /// whether the device's own collection is sound.
-fn test_device<K: Keeper>(keeper: &mut K, meta: MetaSaid) -> Result<Head, Stop>
+fn test_device<K: Keeper>(keeper: &mut K, meta: MetaSaid) -> Result<Head, Outcome>
     requires held { (K.keeping keeper.old).headed.current ≡ true }
     requires usn { IsWithin (pos 0) last_head_usn meta.usn }
     ensures ready { IfOk result (λ head. WhereTold (K.keeping keeper.old) (λ h. IsReady h (record { meta = meta; head = head }))) }
@@ -120,7 +120,7 @@ fn test_device<K: Keeper>(keeper: &mut K, meta: MetaSaid) -> Result<Head, Stop>
     ensures same { K.keeping keeper.new ≡ K.keeping keeper.old }
     ensures ends { IfErr result (EndsAtDevice meta (K.keeping keeper.old)) }
     ensures early { IfErr result IsOfGreeting }
-    ensures keeper { HasCauseOf stops.Keep (K.health keeper.old) (K.health keeper.new) result }
+    ensures keeper { HasCauseOf outcomes.Keep (K.health keeper.old) (K.health keeper.new) result }
 {
     let head = head_of(keeper)?;
     let unchanged = is_unchanged(keeper, meta, &head)?;
@@ -152,38 +152,38 @@ fn have_equal_heads(meta: MetaSaid, head: &Head) -> bool
 }
 
 /// Whether there is something to sync, and no need to send the whole collection.
-fn test_heads(meta: MetaSaid, head: &Head, unchanged: bool) -> Result<(), Stop>
-    ensures stop { result ≡ stop_or_go (head_stop meta head.now unchanged) }
+fn test_heads(meta: MetaSaid, head: &Head, unchanged: bool) -> Result<(), Outcome>
+    ensures stop { result ≡ end_or_go (head_stop meta head.now unchanged) }
     ensures early { IfErr result IsOfGreeting }
-    ensures unkept { IfErr result (λ stop. is_keep stop ≡ false) }
+    ensures unkept { IfErr result (λ outcome. outcome ≢ outcomes.Keep) }
 {
     if unchanged {
-        return Err(Stop::NoChanges);
+        return Err(Outcome::NoChanges);
     }
     if head.schema != meta.scm {
-        return Err(Stop::FullSchema {
+        return Err(Outcome::FullSchema {
             device: head.schema,
             server: meta.scm,
         });
     }
     if meta.usn == LAST_HEAD_USN {
-        return Err(Stop::FullSequence { usn: meta.usn });
+        return Err(Outcome::FullSequence { usn: meta.usn });
     }
     Ok(())
 }
 
 /// Whether the device's own collection is sound.
-pub fn test_rows<K: Keeper>(keeper: &mut K) -> Result<(), Stop>
+pub fn test_rows<K: Keeper>(keeper: &mut K) -> Result<(), Outcome>
     ensures sound { OnOk result (WhereTold (K.keeping keeper.old) (λ h. first_fault h.rows ≡ None)) }
     ensures same { K.keeping keeper.new ≡ K.keeping keeper.old }
-    ensures fault { IfErr result (λ stop. ((fault : KeepFault) × (stop ≡ keep_stop fault))
-        ⊎ ((fault : CheckFault) × (stop ≡ stops.OwnCheck fault)
+    ensures fault { IfErr result (λ outcome. ((fault : KeepFault) × (outcome ≡ outcome_at (keep_stop fault)))
+        ⊎ ((fault : CheckFault) × (outcome ≡ outcomes.OwnCheck fault)
         × WhereTold (K.keeping keeper.old) (λ h. first_fault h.rows ≡ Some fault))) }
     ensures early { IfErr result IsOfGreeting }
-    ensures keeper { HasCauseOf stops.Keep (K.health keeper.old) (K.health keeper.new) result }
+    ensures keeper { HasCauseOf outcomes.Keep (K.health keeper.old) (K.health keeper.new) result }
 {
     match check(keeper)? {
-        Some(fault) => Err(Stop::OwnCheck(fault)),
+        Some(fault) => Err(Outcome::OwnCheck(fault)),
         None => Ok(()),
     }
 }

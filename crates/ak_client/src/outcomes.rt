@@ -1,9 +1,11 @@
-ghost use Rattle.ak_client.specs.declared.outcomes.Outcome.TheVariants as outcomes;
-ghost use Rattle.ak_client.specs.Outcomes.{outcome_at, outcome_of};
+ghost use Rattle.ak_client.specs.Outcomes.{outcome_of};
 ghost use Rattle.ak_exchange.specs.Stops.{shows_bad_check};
 ghost use Rattle.std.specs.Prelude.{◌≡◌};
 
+use ak_base::Memory;
+use ak_client_wire::Unanswered;
 use ak_exchange::Stop;
+use ak_keep::KeepFault;
 use ak_merge::CheckFault;
 use ak_messages::{SanityCounts, Word};
 
@@ -57,35 +59,72 @@ pub enum Outcome {
     Memory,
 }
 
+impl From<Stop> for Outcome {
+    ghost use Rattle.ak_client.specs.Outcomes.{outcome_at};
+
+    ghost from_gives = { λ stop outcome. outcome ≡ outcome_at stop };
+
+    fn from(stop: Stop) -> Outcome {
+        match stop {
+            Stop::BadRow(fault) => Outcome::BadRow(fault),
+            Stop::BadCounts { client, server } => Outcome::BadCounts { client, server },
+            Stop::Refused { status, word, seen } => Outcome::Refused { status, word, seen },
+            Stop::Lost => Outcome::Lost,
+            Stop::BadReply => Outcome::BadReply,
+            Stop::TooManyChunks => Outcome::TooManyChunks,
+            Stop::Keep => Outcome::Keep,
+            Stop::Memory => Outcome::Memory,
+        }
+    }
+}
+
+impl From<KeepFault> for Outcome {
+    ghost use Rattle.ak_client.specs.Outcomes.{outcome_at};
+    ghost use Rattle.ak_exchange.specs.Stops.{keep_stop};
+
+    ghost from_gives = { λ fault outcome. outcome ≡ outcome_at (keep_stop fault) };
+
+    fn from(fault: KeepFault) -> Outcome {
+        match fault {
+            KeepFault::Failed => Outcome::Keep,
+            KeepFault::Memory => Outcome::Memory,
+        }
+    }
+}
+
+impl From<Unanswered> for Outcome {
+    ghost use Rattle.ak_client.specs.Outcomes.{outcome_at};
+    ghost use Rattle.ak_exchange.specs.Stops.{wire_stop};
+
+    ghost from_gives = { λ why outcome. outcome ≡ outcome_at (wire_stop why) };
+
+    fn from(why: Unanswered) -> Outcome {
+        match why {
+            Unanswered::Lost => Outcome::Lost,
+            Unanswered::BadReply => Outcome::BadReply,
+            Unanswered::Refused { status, word, seen } => Outcome::Refused { status, word, seen },
+            Unanswered::Memory => Outcome::Memory,
+        }
+    }
+}
+
+impl From<Memory> for Outcome {
+    ghost use Rattle.ak_client.specs.declared.outcomes.Outcome.TheVariants as outcomes;
+
+    ghost from_gives = { λ memory outcome. outcome ≡ outcomes.Memory };
+
+    fn from(_memory: Memory) -> Outcome {
+        Outcome::Memory
+    }
+}
+
 /// The outcome of a sync, or of an upload or a download.
-pub fn outcome_of(end: Result<(), Stop>) -> Outcome
+pub fn outcome_of(end: Result<(), Outcome>) -> Outcome
     ensures { result ≡ outcome_of end }
 {
     match end {
         Ok(()) => Outcome::Finished,
-        Err(stop) => outcome_at(stop),
-    }
-}
-
-/// The outcome of a sync that did not finish.
-pub(crate) fn outcome_at(stop: Stop) -> Outcome
-    ensures { result ≡ outcome_at stop }
-{
-    match stop {
-        Stop::NoChanges => Outcome::NoChanges,
-        Stop::FullSchema { device, server } => Outcome::FullSchema { device, server },
-        Stop::FullSequence { usn } => Outcome::FullSequence { usn },
-        Stop::BadRow(fault) => Outcome::BadRow(fault),
-        Stop::BadCounts { client, server } => Outcome::BadCounts { client, server },
-        Stop::ClockOff { device, server } => Outcome::ClockOff { device, server },
-        Stop::OwnCheck(fault) => Outcome::OwnCheck(fault),
-        Stop::Stopped => Outcome::Stopped,
-        Stop::Refused { status, word, seen } => Outcome::Refused { status, word, seen },
-        Stop::Lost => Outcome::Lost,
-        Stop::BadReply => Outcome::BadReply,
-        Stop::TooManyChunks => Outcome::TooManyChunks,
-        Stop::Keep => Outcome::Keep,
-        Stop::Memory => Outcome::Memory,
+        Err(outcome) => outcome,
     }
 }
 

@@ -11,7 +11,7 @@ ghost use Rattle.ak_keep.specs.Keepers.{IsMarkedAt, IsRightlyKnown, WhereTold, b
 ghost use Rattle.ak_session.specs.Plans.{planned_changes, planned_chunks, planned_pushes, planned_start};
 
 use crate::greetings::greet;
-use crate::outcomes::{Outcome, outcome_at, outcome_of};
+use crate::outcomes::{Outcome, outcome_of};
 use crate::syncs::after_stop;
 use ak_client_wire::Wire;
 use ak_device::commit_at;
@@ -129,16 +129,14 @@ impl<'a, K: Keeper, W: Wire> Hello<'a, K, W> {
             wire,
             ids,
         } = self;
-        match greet(keeper, wire, clock, ids) {
-            Ok(met) => Ok(Greeted {
-                alloc,
-                keeper,
-                wire,
-                ids,
-                met,
-            }),
-            Err(stop) => Err(outcome_at(stop)),
-        }
+        let met = greet(keeper, wire, clock, ids)?;
+        Ok(Greeted {
+            alloc,
+            keeper,
+            wire,
+            ids,
+            met,
+        })
     }
 
     /// Leaves the device as it is.
@@ -183,10 +181,7 @@ impl<'a, K: Keeper, W: Wire> Greeted<'a, K, W> {
             ids,
             met,
         } = self;
-        match keeper.mark() {
-            Ok(()) => {}
-            Err(fault) => return Err(outcome_at(Stop::from(fault))),
-        }
+        keeper.mark()?;
         let mut envelopes = Envelopes {
             ids,
             base: met.meta.moment,
@@ -202,7 +197,7 @@ impl<'a, K: Keeper, W: Wire> Greeted<'a, K, W> {
             }),
             Err(stop) => {
                 keeper.back();
-                Err(outcome_at(stop))
+                Err(Outcome::from(stop))
             }
         }
     }
@@ -253,7 +248,7 @@ impl<'a, K: Keeper, W: Wire> Started<'a, K, W> {
             }),
             Err(stop) => {
                 keeper.back();
-                Err(outcome_at(stop))
+                Err(Outcome::from(stop))
             }
         }
     }
@@ -310,7 +305,7 @@ impl<'a, K: Keeper, W: Wire> Exchanged<'a, K, W> {
             }),
             Err(stop) => {
                 keeper.back();
-                Err(outcome_at(stop))
+                Err(Outcome::from(stop))
             }
         }
     }
@@ -365,7 +360,7 @@ impl<'a, K: Keeper, W: Wire> Pulled<'a, K, W> {
             }),
             Err(stop) => {
                 keeper.back();
-                Err(outcome_at(stop))
+                Err(Outcome::from(stop))
             }
         }
     }
@@ -421,7 +416,7 @@ impl<'a, K: Keeper, W: Wire> Pushed<'a, K, W> {
             }),
             Err(stop) => {
                 keeper.back();
-                Err(outcome_of(after_stop(keeper, clock, stop)))
+                Err(after_stop(keeper, clock, stop))
             }
         }
     }
@@ -458,7 +453,7 @@ impl<'a, K: Keeper, W: Wire> Checked<'a, K, W> {
             Ok(moment) => outcome_of(commit_synced(keeper, moment, &met)),
             Err(stop) => {
                 keeper.back();
-                outcome_at(stop)
+                Outcome::from(stop)
             }
         }
     }
@@ -499,7 +494,7 @@ fn send_graves_and_changes<K: Keeper, W: Wire>(
 }
 
 /// Commits what was taken and settled, at the moment that the server committed at.
-fn commit_synced<K: Keeper>(keeper: &mut K, moment: i64, met: &Met) -> Result<(), Stop>
+fn commit_synced<K: Keeper>(keeper: &mut K, moment: i64, met: &Met) -> Result<(), Outcome>
     requires in_sync { IsInSync (K.keeping keeper.old) met.now }
     requires moment { IsMoment moment }
 {

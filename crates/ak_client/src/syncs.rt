@@ -84,7 +84,7 @@ fn sync_device<K: Keeper, W: Wire, C: Clock>(
     wire: &mut W,
     clock: &mut C,
     ids: Ids,
-) -> Result<(), Stop>
+) -> Result<(), Outcome>
     requires unmarked { is_marked (K.keeping keeper.old) ≡ false }
     requires held { (K.keeping keeper.old).headed.current ≡ true }
     ensures spares { IsSyncSparing K.spares_memory ids (K.keeping keeper.old) (K.keeping keeper.new)
@@ -94,7 +94,7 @@ fn sync_device<K: Keeper, W: Wire, C: Clock>(
     ensures unmarked { is_marked (K.keeping keeper.new) ≡ false }
     ensures held { (K.keeping keeper.new).headed.current ≡ true }
     ensures clock { TakesMoments 0 (C.to_come clock.old) (C.to_come clock.new) (outcome_of result) }
-    ensures keeper { HasCauseOf stops.Keep (K.health keeper.old) (K.health keeper.new) result }
+    ensures keeper { HasCauseOf outcomes.Keep (K.health keeper.old) (K.health keeper.new) result }
 {
     let met = greet(keeper, wire, clock, ids)?;
     sync_met(alloc, keeper, wire, clock, ids, &met)
@@ -108,7 +108,7 @@ fn sync_met<K: Keeper, W: Wire, C: Clock>(
     clock: &mut C,
     ids: Ids,
     met: &Met,
-) -> Result<(), Stop>
+) -> Result<(), Outcome>
     requires unmarked { is_marked (K.keeping keeper.old) ≡ false }
     requires held { (K.keeping keeper.old).headed.current ≡ true }
     requires head { IsHeadInRange met.now.head }
@@ -122,14 +122,14 @@ fn sync_met<K: Keeper, W: Wire, C: Clock>(
     ensures clock { TakesMoments 1 (C.to_come clock.old) (C.to_come clock.new) (outcome_of result) }
     ensures unmarked { is_marked (K.keeping keeper.new) ≡ false }
     ensures held { (K.keeping keeper.new).headed.current ≡ true }
-    ensures keeper { HasCauseOf stops.Keep (K.health keeper.old) (K.health keeper.new) result }
+    ensures keeper { HasCauseOf outcomes.Keep (K.health keeper.old) (K.health keeper.new) result }
 {
     keeper.mark()?;
     match exchange_all(alloc, keeper, wire, ids, met) {
         Ok(moment) => Ok(commit_at(keeper, moment, met.head.schema, met.meta.usn)?),
         Err(stop) => {
             keeper.back();
-            after_stop(keeper, clock, stop)
+            Err(after_stop(keeper, clock, stop))
         }
     }
 }
@@ -163,27 +163,26 @@ fn exchange_all<K: Keeper, W: Wire>(
     finish(wire, &mut envelopes)
 }
 
-/// What follows once a device is back at its mark: after a bad sanity check its moments rise.
-pub(crate) fn after_stop<K: Keeper, C: Clock>(
-    keeper: &mut K,
-    clock: &mut C,
-    stop: Stop,
-) -> Result<(), Stop>
+/// What follows once a device is back at its mark, and how the sync ends then: after a bad sanity check its moments rise.
+pub(crate) fn after_stop<K: Keeper, C: Clock>(keeper: &mut K, clock: &mut C, stop: Stop) -> Outcome
     requires unmarked { is_marked (K.keeping keeper.old) ≡ false }
     requires held { (K.keeping keeper.old).headed.current ≡ true }
     ensures ends { EndsFor stop result }
     ensures device { KeepsDevice 0 (K.keeping keeper.old) (K.keeping keeper.new)
-        (C.to_come clock.old) (C.to_come clock.new) (outcome_of result) }
-    ensures clock { TakesMoments 1 (C.to_come clock.old) (C.to_come clock.new) (outcome_of result) }
+        (C.to_come clock.old) (C.to_come clock.new) result }
+    ensures clock { TakesMoments 1 (C.to_come clock.old) (C.to_come clock.new) result }
     ensures unmarked { is_marked (K.keeping keeper.new) ≡ false }
     ensures held { (K.keeping keeper.new).headed.current ≡ true }
     ensures keeper { GoesOn (K.health keeper.old) (K.health keeper.new) }
-    ensures cause { is_keep stop ≡ false → HasCauseOf stops.Keep (K.health keeper.old) (K.health keeper.new) result }
+    ensures cause { is_keep stop ≡ false
+        → HasOutcomeCause outcomes.Keep (K.health keeper.old) (K.health keeper.new) result }
 {
     if !shows_bad_check(stop) {
-        return Err(stop);
+        return Outcome::from(stop);
     }
     let at = clock.now();
-    raise_moments(keeper, at)?;
-    Err(stop)
+    match raise_moments(keeper, at) {
+        Ok(()) => Outcome::from(stop),
+        Err(fault) => Outcome::from(fault),
+    }
 }

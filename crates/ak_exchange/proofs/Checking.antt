@@ -137,19 +137,13 @@ module _ (who : Asker) (c s : Collection) (reply : SanityReply) (may : MaySync c
 
 pub fair_stop : (who : Asker) (c s : Collection) (stop : Stop) (reply : SanityReply) → verdict_of reply ≡ Err stop
     → (MaySync c s → verdict_in (answer_to s (planned_pushes c s) (asks.SanityCheck2 (counts_of (device_rows c s (planned_pushes c s))))) ≡ Some reply)
-    → IsFairStop c s stop
-fair_stop who c s (stops.BadRow fault) reply bad shown = λ may sound. not_sound who c s reply may (shown may) (stops.BadRow fault) bad sound
-fair_stop who c s (stops.BadCounts client server) reply bad shown =
-    λ may. never_counts who c s reply may (shown may) (stops.BadCounts client server) bad client server refl
-fair_stop who c s stops.NoChanges reply bad shown = tt
-fair_stop who c s (stops.FullSchema device server) reply bad shown = tt
-fair_stop who c s (stops.FullSequence usn) reply bad shown = tt
-fair_stop who c s (stops.ClockOff device server) reply bad shown = tt
-fair_stop who c s (stops.OwnCheck fault) reply bad shown = tt
-fair_stop who c s stops.Stopped reply bad shown = tt
-fair_stop who c s (stops.Refused status word seen) reply bad shown = tt
-fair_stop who c s stops.Lost reply bad shown = tt
-fair_stop who c s stops.BadReply reply bad shown = tt
-fair_stop who c s stops.TooManyChunks reply bad shown = absurd (not_both (verdict_is_bad reply stops.TooManyChunks bad) refl)
-fair_stop who c s stops.Keep reply bad shown = tt
-fair_stop who c s stops.Memory reply bad shown = tt
+    → MaySync c s → IsFairStop c s stop
+fair_stop who c s (stops.BadRow fault) reply bad shown may = not_sound who c s reply may (shown may) (stops.BadRow fault) bad
+fair_stop who c s (stops.BadCounts client server) reply bad shown may =
+    never_counts who c s reply may (shown may) (stops.BadCounts client server) bad client server refl
+fair_stop who c s (stops.Refused status word seen) reply bad shown may = tt
+fair_stop who c s stops.Lost reply bad shown may = tt
+fair_stop who c s stops.BadReply reply bad shown may = tt
+fair_stop who c s stops.TooManyChunks reply bad shown may = absurd (not_both (verdict_is_bad reply stops.TooManyChunks bad) refl)
+fair_stop who c s stops.Keep reply bad shown may = tt
+fair_stop who c s stops.Memory reply bad shown may = tt

@@ -1,5 +1,5 @@
 -- A part of a sync stops because the keeper failed only if the keeper's count of faults rose.
-use Rattle.std.specs.Prelude.{◌≡◌, true, false, Result, Ok, Err, IsErrAnd, IfErr}
+use Rattle.std.specs.Prelude.{◌≡◌, ◌≢◌, true, false, Result, Ok, Err, IsErrAnd, IfErr}
 use Rattle.std.proofs.Common.{refl, sym, ap, subst, ◌∙◌, arith}
 use Rattle.ak_client_wire.specs.declared.asks.Unanswered.{Unanswered}
 use Rattle.ak_client_wire.specs.declared.asks.Unanswered.TheVariants as unanswered
@@ -10,6 +10,42 @@ use Rattle.ak_faults.specs.Causes.{GoesOn, HasCauseOf, Health, Rose}
 use Rattle.ak_keep.specs.Keepers.{KeepCause}
 use Rattle.ak_keep.specs.declared.keepers.KeepFault.{KeepFault}
 use Rattle.ak_keep.specs.declared.keepers.KeepFault.TheVariants as faults
+
+-- ---- whatever the errors are
+pub err_is : {T E : Type 0} (result : Result T E) (why : E) → IsErrAnd result (λ (e : E). e ≡ why) → result ≡ Err why
+err_is {T} {E} (Ok x) why is = absurd is
+err_is {T} {E} (Err e) why is = ap (λ (x : E). Err x) is
+
+pub same_err : {T E : Type 0} (one other : E) → (let refused : Result T E = Err one in refused ≡ Err other) → one ≡ other
+same_err one other is = grind (arith, is)
+
+-- it ended well, or with another error
+pub cause_unlike : {T E : Type 0} {error : E} (result : Result T E) {a b : Health} → GoesOn a b → IfErr result (λ (e : E). e ≢ error)
+    → HasCauseOf error a b result
+cause_unlike {T} {E} {error} result {a} {b} goes unlike = record {
+  goes = goes;
+  failed = λ is. absurd (never result unlike is);
+  unfailed = λ calm is. never result unlike is;
+}
+  where
+    never : (r : Result T E) → IfErr r (λ (e : E). e ≢ error) → r ≡ Err error → ⊥
+    never (Ok x) other is = grind (arith, is)
+    never (Err e) other is = other (same_err {T = T} e error is)
+
+pub cause_ok : {T E : Type 0} {error : E} (x : T) {a b : Health} → GoesOn a b → HasCauseOf {T = T} error a b (Ok x)
+cause_ok {T} {E} {error} x goes = cause_unlike {T = T} {E = E} {error = error} (Ok x) goes tt
+
+-- it passed on what a part of it ended with
+pub cause_passed : {T U E : Type 0} {error : E} (result : Result T E) (e : E) {a b : Health} → HasCauseOf {T = U} error a b (Err e)
+    → IsErrAnd result (λ (other : E). other ≡ e) → HasCauseOf error a b result
+cause_passed {T} {U} {E} {error} result e cause is = record {
+  goes = cause.goes;
+  failed = λ so. cause.failed (ap (λ (x : E). Err x) (why so));
+  unfailed = λ calm so. cause.unfailed calm (ap (λ (x : E). Err x) (why so));
+}
+  where
+    why : result ≡ Err error → e ≡ error
+    why so = same_err {T = T} e error (sym (err_is result e is) ∙ so)
 
 -- ---- it stopped for another reason
 abbrev pub IsUnkept : {T : Type 0} → Result T Stop → Type 0
@@ -44,9 +80,6 @@ cause_unkept {T} result {a} {b} goes unkept = record {
     never : result ≡ Err stops.Keep → ⊥
     never is = let not : true ≡ false = subst (λ (r : Result T Stop). IsUnkept r) is unkept in grind (arith, not)
 
-pub cause_ok : {T : Type 0} (x : T) {a b : Health} → GoesOn a b → HasCauseOf {T = T} stops.Keep a b (Ok x)
-cause_ok x goes = cause_unkept (Ok x) goes tt
-
 pub cause_memory : {T : Type 0} (result : Result T Stop) {a b : Health} → GoesOn a b → IsErrAnd result (λ (stop : Stop). stop ≡ stops.Memory)
     → HasCauseOf stops.Keep a b result
 cause_memory result goes is = cause_unkept result goes (unkept_memory result is)
@@ -55,15 +88,7 @@ pub cause_wire : {T : Type 0} (result : Result T Stop) (why : Unanswered) {a b :
     → HasCauseOf stops.Keep a b result
 cause_wire result why goes is = cause_unkept result goes (unkept_wire result why is)
 
--- ---- it stopped at a refusal
-err_is : {T : Type 0} (result : Result T Stop) (why : Stop) → IsErrAnd result (λ (stop : Stop). stop ≡ why) → result ≡ Err why
-err_is (Ok x) why is = absurd is
-err_is (Err stop) why is = ap (λ (s : Stop). Err s) is
-
-same_stop : {T : Type 0} (one other : Stop) → (let refused : Result T Stop = Err one in refused ≡ Err other) → one ≡ other
-same_stop one other is = grind (arith, is)
-
--- of the keeper
+-- ---- it stopped since the keeper refused
 pub cause_keeper : {T U : Type 0} (result : Result T Stop) (fault : KeepFault) {a b : Health} → KeepCause {T = U} a b (Err fault)
     → IsErrAnd result (λ (stop : Stop). stop ≡ keep_stop fault) → HasCauseOf stops.Keep a b result
 cause_keeper {T} {U} result fault {a} {b} cause is = record {
@@ -73,7 +98,7 @@ cause_keeper {T} {U} result fault {a} {b} cause is = record {
 }
   where
     why : result ≡ Err stops.Keep → keep_stop fault ≡ stops.Keep
-    why keep = same_stop {T = T} (keep_stop fault) stops.Keep (sym (err_is result (keep_stop fault) is) ∙ keep)
+    why keep = same_err {T = T} (keep_stop fault) stops.Keep (sym (err_is result (keep_stop fault) is) ∙ keep)
 
     rose : (f : KeepFault) → KeepCause {T = U} a b (Err f) → keep_stop f ≡ stops.Keep → Rose a b
     rose faults.Failed by keep = by.failed refl
@@ -82,15 +107,3 @@ cause_keeper {T} {U} result fault {a} {b} cause is = record {
     never : (f : KeepFault) → KeepCause {T = U} a b (Err f) → keep_stop f ≡ stops.Keep → a.calm ≡ true → ⊥
     never faults.Failed by keep calm = by.unfailed calm refl
     never faults.Memory by keep calm = grind (arith, keep)
-
--- of a part of it
-pub cause_passed : {T U : Type 0} (result : Result T Stop) (e : Stop) {a b : Health} → HasCauseOf {T = U} stops.Keep a b (Err e)
-    → IsErrAnd result (λ (stop : Stop). stop ≡ e) → HasCauseOf stops.Keep a b result
-cause_passed {T} {U} result e cause is = record {
-  goes = cause.goes;
-  failed = λ keep. cause.failed (ap (λ (s : Stop). Err s) (why keep));
-  unfailed = λ calm keep. cause.unfailed calm (ap (λ (s : Stop). Err s) (why keep));
-}
-  where
-    why : result ≡ Err stops.Keep → e ≡ stops.Keep
-    why keep = same_stop {T = T} e stops.Keep (sym (err_is result e is) ∙ keep)

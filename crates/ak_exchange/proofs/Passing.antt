@@ -154,7 +154,7 @@ advances_then p q o p2 q2 o2 from mid to met k0 k1 k2 t0 t1 t2 x result one two 
       (exchanged_then met.meta.usn one.tries two.tries k0 k1 k2 one.device) two.device);
   leads = λ c s account earlier met_is at.
       let there = two.leads c s account (earlier ++ asks_in one.tries) met_is (one.leads c s account earlier met_is at).1 in
-      subst (λ (l : List Ask). IsLeft c s account (asker t0.envelopes.ids) l t2 × OnOk result (IsAt c s account l to k2 t2) × IfErr result (IsFairStop c s))
+      subst (λ (l : List Ask). IsLeft c s account (asker t0.envelopes.ids) l t2 × OnOk result (IsAt c s account l to k2 t2) × IfErr result (λ (stop : Stop). MaySync c s → IsFairStop c s stop))
       (append_assoc earlier (asks_in one.tries) (asks_in two.tries)
       ∙ ap (λ (l : List Ask). earlier ++ l) (sym (asks_append one.tries two.tries))) (
         subst (λ (e : Envelopes). IsLeft c s account (asker e.ids) ((earlier ++ asks_in one.tries) ++ asks_in two.tries) t2) one.asked.envelopes there.0,
@@ -272,7 +272,7 @@ advances_more p q o p2 q2 o2 from to met k0 k1 t0 t1 result pulled pushed others
 -- a part that went well, and then stopped all the same, for a reason that what it asked shows
 advances_stopped : {kind : WireKind} {T U : Type 0} (p q o : ℕ) (from mid to : Place) (met : Met) (k0 k1 k2 : Keeping) (t0 t1 : Talk kind) (x : T) (result : Result U Stop)
     → (one : Advances p q o from mid met k0 k1 t0 t1 (Ok x)) → IsErrAnd result (StopsFor one.tries t1.wire)
-    → ((c s : Collection) (account : AccountState) (asked : List Ask) → IsAt c s account asked mid k1 t1 → IfErr result (IsFairStop c s))
+    → ((c s : Collection) (account : AccountState) (asked : List Ask) → IsAt c s account asked mid k1 t1 → IfErr result (λ (stop : Stop). MaySync c s → IsFairStop c s stop))
     → UnlessHalfDone one.tries result (k2 ≡ k1) → Advances p q o from to met k0 k2 t0 t1 result
 advances_stopped {U = U} p q o from mid to met k0 k1 k2 t0 t1 x result one is fair kept = record {
   tries = one.tries;
@@ -331,7 +331,7 @@ advances_passed p q o from mid to met k0 k1 t0 t1 e (Err stop) is one = record {
   ends = subst (StopsFor one.tries t1.wire) (sym is) one.ends;
   device = λ whole. one.device (ap (λ (it : Stop). is_keep_or_memory it && are_granted one.tries) (sym is) ∙ whole);
   leads = λ c s account earlier met_is at.
-      let led = one.leads c s account earlier met_is at in (led.0, tt, subst (IsFairStop c s) (sym is) led.2);
+      let led = one.leads c s account earlier met_is at in (led.0, tt, λ may. subst (IsFairStop c s) (sym is) (led.2 may));
 }
 
 -- over a keeper that was left as it was

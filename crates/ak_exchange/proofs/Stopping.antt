@@ -27,6 +27,7 @@ use Rattle.ak_messages.specs.declared.replies.Reply.{Reply}
 use Rattle.ak_messages.specs.declared.replies.SanityReply.{SanityReply}
 use Rattle.ak_messages.specs.declared.requests.Ask.{Ask}
 use Rattle.ak_session.proofs.Ranges.{all_append, not_both}
+use Rattle.ak_session.specs.Sessions.{MaySync}
 
 -- ---- a part that was refused
 -- a part was refused, and not by what it asked
@@ -78,14 +79,8 @@ pub quiet_stops : {kind : WireKind} (tries : List TriedAsk) (wire : WireState ki
     → StopsFor tries wire stop
 quiet_stops tries wire stops.Keep all quiet = all
 quiet_stops tries wire stops.Memory all quiet = inl all
-quiet_stops tries wire stops.NoChanges all quiet = absurd (grind (arith, quiet))
-quiet_stops tries wire (stops.FullSchema device server) all quiet = absurd (grind (arith, quiet))
-quiet_stops tries wire (stops.FullSequence usn) all quiet = absurd (grind (arith, quiet))
 quiet_stops tries wire (stops.BadRow fault) all quiet = absurd (grind (arith, quiet))
 quiet_stops tries wire (stops.BadCounts client server) all quiet = absurd (grind (arith, quiet))
-quiet_stops tries wire (stops.ClockOff device server) all quiet = absurd (grind (arith, quiet))
-quiet_stops tries wire (stops.OwnCheck fault) all quiet = absurd (grind (arith, quiet))
-quiet_stops tries wire stops.Stopped all quiet = absurd (grind (arith, quiet))
 quiet_stops tries wire (stops.Refused status word seen) all quiet = absurd (grind (arith, quiet))
 quiet_stops tries wire stops.Lost all quiet = absurd (grind (arith, quiet))
 quiet_stops tries wire stops.BadReply all quiet = absurd (grind (arith, quiet))
@@ -116,14 +111,8 @@ refused_after_stops wire it given (Err stop) so not_so (inr (why, came, is)) =
 pub quiet_is_fair : (c s : Collection) (stop : Stop) → is_keep_or_memory stop ≡ true → IsFairStop c s stop
 quiet_is_fair c s stops.Keep quiet = tt
 quiet_is_fair c s stops.Memory quiet = tt
-quiet_is_fair c s stops.NoChanges quiet = tt
-quiet_is_fair c s (stops.FullSchema device server) quiet = tt
-quiet_is_fair c s (stops.FullSequence usn) quiet = tt
 quiet_is_fair c s (stops.BadRow fault) quiet = absurd (grind (arith, quiet))
 quiet_is_fair c s (stops.BadCounts client server) quiet = absurd (grind (arith, quiet))
-quiet_is_fair c s (stops.ClockOff device server) quiet = tt
-quiet_is_fair c s (stops.OwnCheck fault) quiet = tt
-quiet_is_fair c s stops.Stopped quiet = tt
 quiet_is_fair c s (stops.Refused status word seen) quiet = tt
 quiet_is_fair c s stops.Lost quiet = tt
 quiet_is_fair c s stops.BadReply quiet = tt
@@ -135,15 +124,15 @@ unanswered_is_fair c s unanswered.BadReply = tt
 unanswered_is_fair c s (unanswered.Refused status word seen) = tt
 unanswered_is_fair c s unanswered.Memory = tt
 
-pub refused_is_fair : {T : Type 0} (c s : Collection) (result : Result T Stop) → IsRefused result → IfErr result (IsFairStop c s)
+pub refused_is_fair : {T : Type 0} (c s : Collection) (result : Result T Stop) → IsRefused result → IfErr result (λ (stop : Stop). MaySync c s → IsFairStop c s stop)
 refused_is_fair c s (Ok x) is = tt
-refused_is_fair c s (Err stop) is = quiet_is_fair c s stop is
+refused_is_fair c s (Err stop) is = λ may. quiet_is_fair c s stop is
 
 pub refused_after_is_fair : {T G : Type 0} (c s : Collection) (given : Result G Unanswered) (result : Result T Stop) → IsRefusedAfter given result
-    → IfErr result (IsFairStop c s)
+    → IfErr result (λ (stop : Stop). MaySync c s → IsFairStop c s stop)
 refused_after_is_fair c s given (Ok x) is = tt
-refused_after_is_fair c s given (Err stop) (inl (g, was, quiet)) = quiet_is_fair c s stop quiet
-refused_after_is_fair c s given (Err stop) (inr (why, came, is)) = subst (IsFairStop c s) (sym is) (unanswered_is_fair c s why)
+refused_after_is_fair c s given (Err stop) (inl (g, was, quiet)) = λ may. quiet_is_fair c s stop quiet
+refused_after_is_fair c s given (Err stop) (inr (why, came, is)) = λ may. subst (IsFairStop c s) (sym is) (unanswered_is_fair c s why)
 
 -- ---- what an answer comes to
 status_is : (status : ℕ) → (status == 200) ≡ true → status ≡ 200
@@ -311,12 +300,6 @@ stops_then a b wire stops.BadReply all is = ends_then a b unanswered.BadReply is
 stops_then a b wire stops.TooManyChunks all is = many_then a b is
 stops_then a b wire stops.Keep all is = all_append IsGranted a b all is
 stops_then a b wire stops.Memory all is = memory_then a b all is
-stops_then a b wire stops.NoChanges all is = is
-stops_then a b wire (stops.FullSchema device server) all is = is
-stops_then a b wire (stops.FullSequence usn) all is = is
-stops_then a b wire (stops.ClockOff device server) all is = is
-stops_then a b wire (stops.OwnCheck fault) all is = is
-stops_then a b wire stops.Stopped all is = is
 
 pub part_stops : {kind : WireKind} {T : Type 0} (a b : List TriedAsk) (wire : WireState kind) (result : Result T Stop) → AllGranted a
     → IfErr result (StopsFor b wire) → IfErr result (StopsFor (a ++ b) wire)
@@ -388,12 +371,6 @@ checked_exactly tries wire (stops.BadRow fault) bad = (λ is. is, λ is. is)
 checked_exactly tries wire (stops.BadCounts client server) bad = (λ is. is, λ is. is)
 checked_exactly tries wire stops.Keep bad = absurd (grind (arith, bad))
 checked_exactly tries wire stops.Memory bad = absurd (grind (arith, bad))
-checked_exactly tries wire stops.NoChanges bad = absurd (grind (arith, bad))
-checked_exactly tries wire (stops.FullSchema device server) bad = absurd (grind (arith, bad))
-checked_exactly tries wire (stops.FullSequence usn) bad = absurd (grind (arith, bad))
-checked_exactly tries wire (stops.ClockOff device server) bad = absurd (grind (arith, bad))
-checked_exactly tries wire (stops.OwnCheck fault) bad = absurd (grind (arith, bad))
-checked_exactly tries wire stops.Stopped bad = absurd (grind (arith, bad))
 checked_exactly tries wire (stops.Refused status word seen) bad = absurd (grind (arith, bad))
 checked_exactly tries wire stops.Lost bad = absurd (grind (arith, bad))
 checked_exactly tries wire stops.BadReply bad = absurd (grind (arith, bad))

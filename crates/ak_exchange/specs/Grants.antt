@@ -133,8 +133,7 @@ AreTooMany tries = (40_000 ≤ count_by came_unfinished tries) ⊎ (39_999 ≤ c
 abbrev pub EndsForMemory : List TriedAsk → Type 0
 EndsForMemory tries = AllGranted tries ⊎ EndsUnanswered tries unanswered.Memory
 
--- why an exchange stopped, by what was tried. The keeper fails only in what the device does itself, so all that was tried was granted. The reasons
--- that are none here come before an exchange
+-- why an exchange stopped, by what was tried. The keeper fails only in what the device does itself, so all that was tried was granted
 abbrev pub StopsFor : {kind : WireKind} → List TriedAsk → WireState kind → Stop → Type 0
 StopsFor tries wire (stops.BadRow fault) = IsCheckedLast tries (stops.BadRow fault) wire
 StopsFor tries wire (stops.BadCounts client server) = IsCheckedLast tries (stops.BadCounts client server) wire
@@ -144,9 +143,3 @@ StopsFor tries wire stops.BadReply = EndsUnanswered tries unanswered.BadReply
 StopsFor tries wire stops.TooManyChunks = AreTooMany tries
 StopsFor tries wire stops.Keep = AllGranted tries
 StopsFor tries wire stops.Memory = EndsForMemory tries
-StopsFor tries wire stops.NoChanges = ⊥
-StopsFor tries wire (stops.FullSchema device server) = ⊥
-StopsFor tries wire (stops.FullSequence usn) = ⊥
-StopsFor tries wire (stops.ClockOff device server) = ⊥
-StopsFor tries wire (stops.OwnCheck fault) = ⊥
-StopsFor tries wire stops.Stopped = ⊥

@@ -127,12 +127,12 @@ abbrev pub HasTenMillionRows : Collection → Collection → Type 0
 HasTenMillionRows c s = (10_000_000 ≤ length (wanted_in_chunks (From c.head.usn) s.rows))
     ⊎ (10_000_000 ≤ length (wanted_in_chunks Unsent c.rows))
 
--- from a server that meets the protocol a sanity check is bad only if the join of the two is not sound, and two counts never differ there.
--- There are too many chunks only if one side has ten million rows to send
+-- if the two may sync, and the server meets the protocol, a sanity check is bad only if the join of the two is not sound, and two counts
+-- never differ there. There are too many chunks only if one side has ten million rows to send
 abbrev pub IsFairStop : Collection → Collection → Stop → Type 0
-IsFairStop c s (stops.BadRow fault) = MaySync c s → IsSound (joined_under (row_under c) (row_under s)) → ⊥
-IsFairStop c s (stops.BadCounts client server) = MaySync c s → ⊥
-IsFairStop c s stops.TooManyChunks = MaySync c s → HasTenMillionRows c s
+IsFairStop c s (stops.BadRow fault) = IsSound (joined_under (row_under c) (row_under s)) → ⊥
+IsFairStop c s (stops.BadCounts client server) = ⊥
+IsFairStop c s stops.TooManyChunks = HasTenMillionRows c s
 IsFairStop c s stop = ⊤
 
 -- a part of a sync: what it asked, and that nothing of it commits; what the device took and settled, also if it stopped, unless it is half
@@ -152,7 +152,7 @@ pub record Advances {kind : WireKind} {T : Type 0} (pulled pushed others : ℕ) 
       → IsAt c s account earlier from before was
       → IsLeft c s account (asker was.envelopes.ids) (earlier ++ asks_in tries) now
       × OnOk result (IsAt c s account (earlier ++ asks_in tries) to after now)
-      × IfErr result (IsFairStop c s)
+      × IfErr result (λ stop. MaySync c s → IsFairStop c s stop)
 
 -- a number that is at most the requests that the graves need which were not sent yet: 250 go in each
 abbrev pub AreGraveRequests : Keeping → ℕ → Type 0
@@ -176,7 +176,7 @@ pub record Exchanges {kind : WireKind} (met : Met) (before after : Keeping) (was
   pub leads : (c s : Collection) (account : AccountState) → IsMet c s met → IsAt c s account [] at_meta before was
       → IsLeft c s account (asker was.envelopes.ids) (asks_in tries) now
       × OnOk result (IsAt c s account (asks_in tries) HasPassedCheck after now)
-      × IfErr result (IsFairStop c s)
+      × IfErr result (λ stop. MaySync c s → IsFairStop c s stop)
 
 -- ---- the finish
 -- the finish of a sync that asked these after its meta

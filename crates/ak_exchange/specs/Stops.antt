@@ -22,22 +22,11 @@ wire_stop unanswered.BadReply = stops.BadReply
 wire_stop (unanswered.Refused status word seen) = stops.Refused status word seen
 wire_stop unanswered.Memory = stops.Memory
 
--- a sync that goes on, unless there is a reason to stop
-abbrev pub stop_or_go : Option Stop → Result (Unit {0}) Stop
-stop_or_go None = Ok tt
-stop_or_go (Some stop) = Err stop
-
 -- whether a sync that stops so has not asked its finish. A request that is not granted may be the finish, and so may one that there is no
 -- memory for
 abbrev pub comes_before_finish : Stop → Bool
-comes_before_finish stops.NoChanges = true
-comes_before_finish (stops.FullSchema device server) = true
-comes_before_finish (stops.FullSequence usn) = true
 comes_before_finish (stops.BadRow fault) = true
 comes_before_finish (stops.BadCounts client server) = true
-comes_before_finish (stops.ClockOff device server) = true
-comes_before_finish (stops.OwnCheck fault) = true
-comes_before_finish stops.Stopped = true
 comes_before_finish (stops.Refused status word seen) = false
 comes_before_finish stops.Lost = false
 comes_before_finish stops.BadReply = false

@@ -1,4 +1,4 @@
-// Why a sync ends before it is finished.
+// Why an exchange ends before it is finished.
 ghost use Rattle.std.specs.Prelude.{◌≡◌};
 
 use ak_base::Memory;
@@ -7,28 +7,14 @@ use ak_keep::KeepFault;
 use ak_merge::CheckFault;
 use ak_messages::{SanityCounts, Word};
 
-/// Why a sync did not finish.
+/// Why an exchange did not finish.
 #[derive(Clone, Copy, Debug, PartialEq, Eq)]
 pub enum Stop {
-    NoChanges,
-    FullSchema {
-        device: i64,
-        server: i64,
-    },
-    FullSequence {
-        usn: i64,
-    },
     BadRow(CheckFault),
     BadCounts {
         client: SanityCounts,
         server: SanityCounts,
     },
-    ClockOff {
-        device: i64,
-        server: i64,
-    },
-    OwnCheck(CheckFault),
-    Stopped,
     Refused {
         status: u16,
         word: Word,

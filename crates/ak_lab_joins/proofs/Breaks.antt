@@ -1,16 +1,13 @@
 -- An entry of a run of a lab met a fault of the server's keeper only in a sync for which a break of the server stood.
 use Rattle.std.specs.Prelude.{◌≡◌, ◌+◌, ℕ, zero, suc, Bool, true, false, not, List, [], ◌∷◌, ◌++◌, length, Option, replicate}
 use Rattle.std.proofs.Common.{refl, sym, ap, ◌∙◌, inl, inr, append-nil}
-use Rattle.ak_desk_runs.specs.DeskRuns.{IsNext}
 use Rattle.ak_faults.specs.Calls.{names_none}
-use Rattle.ak_io.specs.declared.endings.ScriptEnd.{ScriptEnd}
-use Rattle.ak_io.specs.declared.endings.ScriptEnd.TheVariants as ends
 use Rattle.ak_io.specs.declared.lines.Line.{Line}
 use Rattle.ak_keep.specs.Collections.{Collection}
-use Rattle.ak_lab.specs.LabRuns.{AllGo, NextEnds, RunsLab, Stops}
+use Rattle.ak_lab.specs.LabRuns.{RunsLab}
 use Rattle.ak_lab.specs.LabStates.{LabState, at_line, opened_lab}
 use Rattle.ak_lab.specs.LabSteps.{Accepts, RefusesWith, RunsShort, SideHolds}
-use Rattle.ak_lab.specs.LineOutcomes.{Accepted, EndsAs, OutOfMemory, Outcome, Refused, Says}
+use Rattle.ak_lab.specs.LineOutcomes.{EndsAs, Says}
 use Rattle.ak_lab_joins.proofs.Unfailed.{SessionMeets, StaysUnfailed, all_unfailed, nothing_came, session_meets}
 use Rattle.ak_lab_joins.specs.LabBreaks.{FaultsByBreak, FaultsInLine, GoByBreaks, HasCalmServer, LastFaultsByBreak, RunFaultsByBreaks, StandsSo, stands_after}
 use Rattle.ak_lab_joins.specs.LabMishaps.{AreFaultless}
@@ -20,6 +17,9 @@ use Rattle.ak_lab_lines.specs.declared.lab_lines.Side.{Side}
 use Rattle.ak_lab_lines.specs.declared.lab_lines.Side.TheVariants as sides
 use Rattle.ak_lab_wires.specs.Servings.{named_from, requests_in}
 use Rattle.ak_lab_wires.specs.declared.lab_sessions.SessionKind.TheVariants as kinds
+use Rattle.ak_line_runs.specs.LineRuns.{Accepted, AllGo, Failed, IsNext, NextEnds, OutOfMemory, Outcome, Refused, Stops}
+use Rattle.ak_line_runs.specs.declared.command_ends.CommandEnd.{CommandEnd}
+use Rattle.ak_line_runs.specs.declared.command_ends.CommandEnd.TheVariants as ends
 use Rattle.ak_openings.specs.declared.whole_collections.Opening.{Opening}
 use Rattle.ak_server_copies.specs.Copies.{IsViewed}
 use Rattle.ak_sync_in_memory.specs.Entries.{LoggedState, entry_of, health_in}
@@ -168,7 +168,7 @@ line_meets number line s t printed stood stands calm ends =
 
 -- ---- lines that went
 pub all_meet : (number : ℕ) (all : List Line) (s t : LabState) (printed : List (List ℕ)) (stood : Bool) → StandsSo stood s → HasCalmServer s
-    → AllGo number all s t printed → GoByBreaks number all stood s t printed
+    → AllGo EndsAs number all s t printed → GoByBreaks number all stood s t printed
 all_meet number [] s t printed stood stands calm (same, nothing) = record {
   stands = stood;
   goes = (refl, same, nothing);
@@ -274,7 +274,7 @@ said_last left line said number stood s t outcome is says ends comes = inr (
 )
 
 next_comes : (left : Option (List Line)) (number : ℕ) (s t : LabState) (outcome : Outcome) (stood : Bool) → StandsSo stood s → HasCalmServer s
-    → NextEnds left number s t outcome → LastFaultsByBreak left number stood s t
+    → NextEnds EndsAs left number s t outcome → LastFaultsByBreak left number stood s t
 next_comes left number s t outcome stood stands calm (line, is, inl nothing) = inl (ap (λ (x : LabState). x.server.entries) nothing.0)
 next_comes left number s t (Accepted printed) stood stands calm (line, is, inr (said, says, accepts)) =
     said_last left line said number stood s t (Accepted printed) is says (inr (said, says, accepts))
@@ -282,16 +282,18 @@ next_comes left number s t (Accepted printed) stood stands calm (line, is, inr (
 next_comes left number s t (Refused why) stood stands calm (line, is, inr (said, says, refuses)) =
     said_last left line said number stood s t (Refused why) is says (inr (said, says, refuses))
     (comes_unfailed said stood (at_line number s) t calm (refused_unfailed said (at_line number s) t why refuses))
+next_comes left number s t Failed stood stands calm (line, is, inr (said, says, nothing)) = absurd nothing
 next_comes left number s t OutOfMemory stood stands calm (line, is, inr (said, says, short)) =
     said_last left line said number stood s t OutOfMemory is says (inr (said, says, short)) (short_comes said (at_line number s) t stood stands calm short)
 
-stops_comes : (end : ScriptEnd) (left : Option (List Line)) (number : ℕ) (s t : LabState) (more : List ℕ) (stood : Bool) → StandsSo stood s → HasCalmServer s
-    → Stops end left number s t more → LastFaultsByBreak left number stood s t
+stops_comes : (end : CommandEnd) (left : Option (List Line)) (number : ℕ) (s t : LabState) (more : List ℕ) (stood : Bool) → StandsSo stood s → HasCalmServer s
+    → Stops EndsAs end left number s t more → LastFaultsByBreak left number stood s t
 stops_comes ends.Done left number s t more stood stands calm (none, same, nothing) = same_last left number stood s t same
 stops_comes ends.Refused left number s t more stood stands calm (why, next, is) = next_comes left number s t (Refused why) stood stands calm next
 stops_comes ends.ReadFailed left number s t more stood stands calm (same, nothing) = same_last left number stood s t same
 stops_comes ends.WriteFailed left number s t more stood stands calm (inl (printed, next, part)) = next_comes left number s t (Accepted printed) stood stands calm next
 stops_comes ends.WriteFailed left number s t more stood stands calm (inr (why, next, part)) = next_comes left number s t (Refused why) stood stands calm next
+stops_comes ends.KeeperFailed left number s t more stood stands calm (next, nothing) = next_comes left number s t Failed stood stands calm next
 stops_comes ends.Memory left number s t more stood stands calm (nothing, inl same) = same_last left number stood s t same
 stops_comes ends.Memory left number s t more stood stands calm (nothing, inr (inl next)) = next_comes left number s t OutOfMemory stood stands calm next
 stops_comes ends.Memory left number s t more stood stands calm (nothing, inr (inr (why, next))) = next_comes left number s t (Refused why) stood stands calm next
@@ -300,7 +302,7 @@ stops_comes ends.Memory left number s t more stood stands calm (nothing, inr (in
 pub opened_meets : (opening : Opening) → StandsSo false (opened_lab opening) × HasCalmServer (opened_lab opening)
 opened_meets opening = (refl, refl)
 
-pub runs_meet_by_breaks : (end : ScriptEnd) (all : Option (List Line)) (entries : List Entry) (old new : Option (List ℕ)) → (it : RunsLab end all entries old new)
+pub runs_meet_by_breaks : (end : CommandEnd) (all : Option (List Line)) (entries : List Entry) (old new : Option (List ℕ)) → (it : RunsLab end all entries old new)
     → RunFaultsByBreaks it.run.gone it.run.left (opened_lab it.opening) it.run.reached it.last it.run.printed
 runs_meet_by_breaks end all entries old new it =
     let run = it.run in

@@ -9,11 +9,10 @@ use Rattle.ak_faults.specs.Causes.{one_more}
 use Rattle.ak_io.specs.declared.lines.Line.{Line}
 use Rattle.ak_keep.specs.Collections.{Collection}
 use Rattle.ak_lab.specs.LabPlans.{Plans, with_act, with_break, with_mishap}
-use Rattle.ak_lab.specs.LabRuns.{AllGo}
 use Rattle.ak_lab.specs.LabStates.{LabState, at_line, with_changed}
 use Rattle.ak_lab.specs.LabSteps.{Accepts, SideHolds}
 use Rattle.ak_lab.specs.LabSyncs.{EndsLabSession, EndsSync, mishaps_for, server_met, with_fails}
-use Rattle.ak_lab.specs.LineOutcomes.{Accepted, EndsAs, Says}
+use Rattle.ak_lab.specs.LineOutcomes.{EndsAs, Says}
 use Rattle.ak_lab_devices.proofs.Places.{found_has_name}
 use Rattle.ak_lab_devices.specs.Devices.{device_of, new_device, same_name, with_device}
 use Rattle.ak_lab_devices.specs.declared.devices.Device.{Device}
@@ -38,6 +37,7 @@ use Rattle.ak_lab_wires.specs.Turns.{InTurn, due}
 use Rattle.ak_lab_wires.specs.declared.crossed_syncs.Crossings.{Crossings}
 use Rattle.ak_lab_wires.specs.declared.lab_sessions.SessionKind.{SessionKind}
 use Rattle.ak_lab_wires.specs.declared.lab_sessions.SessionKind.TheVariants as kinds
+use Rattle.ak_line_runs.specs.LineRuns.{Accepted, AllGo}
 use Rattle.ak_sync_in_memory.specs.Betweens.{ActEnd}
 use Rattle.ak_sync_in_memory.specs.Entries.{LoggedState}
 use Rattle.ak_sync_in_memory.specs.declared.mishaps.Mishap.{Mishap}
@@ -230,7 +230,7 @@ module _ (name : List ℕ) where
 
   -- ---- all lines
   pub all_none : (number : ℕ) (all : List Line) (s t : LabState) (printed : List (List ℕ)) → name ≢ [] → HasNoBreak name s → AllByRecursion (BreaksNot name) all
-      → AllGo number all s t printed → HasNoBreak name t
+      → AllGo EndsAs number all s t printed → HasNoBreak name t
   all_none number [] s t printed named none others (same, nothing) = subst (λ (x : LabState). HasNoBreak name x) (sym same) none
   all_none number (line ∷ more) s t printed named none others (mid, first, later, ends, goes, is) =
       all_none (number + 1) more mid t later named (line_none number line s mid first named none others.0 ends) others.1 goes

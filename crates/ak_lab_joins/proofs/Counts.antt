@@ -5,11 +5,10 @@ use Rattle.std.proofs.Common.{sym, ap, subst, inl, inr, arith}
 use Rattle.ak_client.specs.declared.outcomes.Outcome.{Outcome}
 use Rattle.ak_faults.specs.Causes.{one_more}
 use Rattle.ak_io.specs.declared.lines.Line.{Line}
-use Rattle.ak_lab.specs.LabRuns.{AllGo}
 use Rattle.ak_lab.specs.LabStates.{LabState, at_line}
 use Rattle.ak_lab.specs.LabSteps.{Accepts}
 use Rattle.ak_lab.specs.LabSyncs.{EndsLabSession}
-use Rattle.ak_lab.specs.LineOutcomes.{Accepted, EndsAs, Says}
+use Rattle.ak_lab.specs.LineOutcomes.{EndsAs, Says}
 use Rattle.ak_lab_joins.proofs.Alone.{sync_alone, transfer_alone}
 use Rattle.ak_lab_joins.specs.LabJoins.{AllGoFresh, AllGoUncrossed, HasNoPlans, HasSession, IsUncrossed, SaysNoAct}
 use Rattle.ak_lab_joins.proofs.Plain.{at_line_plans, line_plans}
@@ -20,6 +19,7 @@ use Rattle.ak_lab_wires.proofs.Kept.{StaysLab, session_lab}
 use Rattle.ak_lab_wires.specs.CrossedSyncs.{CrossState, cross_state}
 use Rattle.ak_lab_wires.specs.declared.lab_sessions.SessionKind.{SessionKind}
 use Rattle.ak_lab_wires.specs.declared.lab_sessions.SessionKind.TheVariants as kinds
+use Rattle.ak_line_runs.specs.LineRuns.{Accepted, AllGo}
 use Rattle.ak_protocol.specs.Accounts.{AccountState}
 
 -- ---- it never falls: if there is a key after a line, there was one before it
@@ -69,14 +69,14 @@ pub line_room : (number : ℕ) (line : Line) (s t : LabState) (printed : List (L
 line_room number line s t printed (inl nothing) room = same_room s t (ap (λ (x : LabState). x.sessions) nothing.0) room
 line_room number line s t printed (inr (said, says, accepts)) room = said_room said (at_line number s) t printed accepts room
 
-pub all_room : (number : ℕ) (all : List Line) (s t : LabState) (printed : List (List ℕ)) → AllGo number all s t printed → HasSession t → HasSession s
+pub all_room : (number : ℕ) (all : List Line) (s t : LabState) (printed : List (List ℕ)) → AllGo EndsAs number all s t printed → HasSession t → HasSession s
 all_room number [] s t printed (same, none) room = same_room s t (ap (λ (x : LabState). x.sessions) same) room
 all_room number (line ∷ more) s t printed (mid, first, others, ends, goes, is) room =
     line_room number line s mid first ends (all_room (number + 1) more mid t others goes room)
 
 -- lines that took fresh schema moments went
 pub fresh_goes : (account : AccountState) (number : ℕ) (all : List Line) (s t : LabState) (printed : List (List ℕ)) → AllGoFresh account number all s t printed
-    → AllGo number all s t printed
+    → AllGo EndsAs number all s t printed
 fresh_goes account number [] s t printed goes = goes
 fresh_goes account number (line ∷ more) s t printed (mid, first, others, ends, takes, goes, is) =
     (mid, first, others, ends, fresh_goes account (number + 1) more mid t others goes, is)
@@ -143,7 +143,7 @@ uncrossed : (said : LabLine) (s : LabState) → HasNoPlans s → IsUncrossed sai
 uncrossed (lines.Sync name) s plans = plans name
 uncrossed said s plans = tt
 
-pub all_uncrossed : (number : ℕ) (all : List Line) (s t : LabState) (printed : List (List ℕ)) → HasNoPlans s → AllByRecursion SaysNoAct all → AllGo number all s t printed
+pub all_uncrossed : (number : ℕ) (all : List Line) (s t : LabState) (printed : List (List ℕ)) → HasNoPlans s → AllByRecursion SaysNoAct all → AllGo EndsAs number all s t printed
     → AllGoUncrossed number all s t printed
 all_uncrossed number [] s t printed plans none goes = goes
 all_uncrossed number (line ∷ more) s t printed plans none (mid, first, others, ends, goes, is) = (

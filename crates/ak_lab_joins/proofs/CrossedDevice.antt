@@ -8,7 +8,7 @@ use Rattle.ak_base.specs.declared.heads.Head.{Head}
 use Rattle.ak_call_counts.specs.CallCounts.{no_calls}
 use Rattle.ak_client.proofs.Growing.{linked_grown}
 use Rattle.ak_client.specs.Outcomes.{is_told_by_meta}
-use Rattle.ak_client.specs.Syncs.{EndsAt, EndsBecause, HasRaised, IsFairEnd, KeepsDevice, MayBegin, Synced, meta_tried, told_by, world_at}
+use Rattle.ak_client.specs.Syncs.{EndsAt, EndsBecause, HasRaised, KeepsDevice, MayBegin, Synced, meta_tried, told_by, world_at}
 use Rattle.ak_client.specs.declared.outcomes.Outcome.{Outcome}
 use Rattle.ak_client.specs.declared.outcomes.Outcome.TheVariants as outcomes
 use Rattle.ak_client_wire.specs.Wires.{WireState}
@@ -217,7 +217,7 @@ module _ {X : Type 0} (acts : Acting X) (idle : X → Bool) (account : AccountSt
   left_by : (o : Outcome) → outcome ≡ o → KeepsDevice 1 (keeping_of d) (keeping_of made) (Some (device_at ∷ [])) session.to_come o → LeavesLinked
   left_by outcomes.Finished is keeps = finished_left is
   left_by (outcomes.BadRow fault) is keeps = raised_left session.to_come (met_schema fault is) keeps
-  left_by (outcomes.BadCounts client server) is keeps = absurd (subst (IsFairEnd own.c synced.base) is synced.fair)
+  left_by (outcomes.BadCounts client server) is keeps = absurd (synced.fair (stops.BadCounts client server) is)
   left_by outcomes.NoChanges is keeps = same_left keeps
   left_by (outcomes.FullSchema device server) is keeps = same_left keeps
   left_by (outcomes.FullSequence usn) is keeps = same_left keeps

@@ -9,6 +9,7 @@ use Rattle.ak_client.specs.declared.outcomes.Outcome.TheVariants as outcomes
 use Rattle.ak_faults.specs.Causes.{one_more}
 use Rattle.ak_io.specs.declared.lines.Line.{Line}
 use Rattle.ak_keep.specs.Collections.{Collection}
+use Rattle.ak_lab.specs.LineOutcomes.{EndsAs}
 use Rattle.ak_lab_joins.proofs.Alone.{EndsAlone, sync_alone}
 use Rattle.ak_lab_joins.proofs.Counts.{all_room, fresh_goes}
 use Rattle.ak_lab_joins.proofs.Devices.{changed_found, others_found}
@@ -21,7 +22,7 @@ use Rattle.ak_lab_joins.proofs.Synced as synced
 use Rattle.ak_lab_joins.proofs.Synced.{holds_is}
 use Rattle.ak_lab_joins.proofs.Worlds.{commit_as, StaysQuiet}
 use Rattle.ak_lab_joins.specs.LabJoins.{Agrees, AllGoFresh, CommitsOnceIn, Finishes, GoFresh, HasFreshCheck, HasSession, IsLinkedDevice, IsLinkedLab, IsLinkedServer, KeepsCommitted, KeepsOthers, KeepsSides, MayHoldJoin, PlansNothing, RunsToSync, SaysNoUpload, StillCommits, StillHolds, ends_at_check, world_in}
-use Rattle.ak_lab.specs.LabRuns.{AllGo, IsLabOpening}
+use Rattle.ak_lab.specs.LabRuns.{IsLabOpening}
 use Rattle.ak_lab.specs.LabStates.{LabState, at_line, opened_lab}
 use Rattle.ak_lab_wires.specs.LabSessions.{lab_host}
 use Rattle.ak_lab.specs.LabSyncs.{EndsSync, server_met, with_fails}
@@ -31,6 +32,7 @@ use Rattle.ak_lab_devices.proofs.Places.{found_has_name}
 use Rattle.ak_lab_devices.specs.Devices.{device_of}
 use Rattle.ak_lab_devices.specs.declared.devices.Device.{Device}
 use Rattle.ak_lab_devices.specs.RestingKeepers.{Holds}
+use Rattle.ak_line_runs.specs.LineRuns.{AllGo}
 use Rattle.ak_sync_in_memory.specs.Entries.{account_opened}
 use Rattle.ak_merge.specs.Exchanges.{AreExchanged, HoldsJoin}
 use Rattle.ak_merge.specs.Holdings.{SameContent, content_of}
@@ -332,7 +334,7 @@ module _ (steps : LinesStep) (opening : Opening) (all : List Line) (name : List 
   linked_before : IsLinkedLab (account_opened opening) (at_line (length all + 1) s)
   linked_before = at_line_linked (account_opened opening) (length all + 1) s here
 
-  goes : AllGo 1 all (opened_lab opening) s runs.printed
+  goes : AllGo EndsAs 1 all (opened_lab opening) s runs.printed
   goes =
       fresh_goes (account_opened opening) 1 all (opened_lab opening) s runs.printed (goes_fresh steps opening all s runs.printed runs.opens runs.room runs.goes.0)
 

@@ -4,11 +4,10 @@ use Rattle.std.proofs.Common.{refl, sym, ap, subst, ◌∙◌, inl, inr, append_
 use Rattle.ak_client.specs.declared.outcomes.Outcome.{Outcome}
 use Rattle.ak_io.specs.declared.lines.Line.{Line}
 use Rattle.ak_keep.specs.Collections.{Collection}
-use Rattle.ak_lab.specs.LabRuns.{AllGo}
 use Rattle.ak_lab.specs.LabStates.{LabState, at_line}
 use Rattle.ak_lab.specs.LabSteps.{Accepts, SideHolds}
 use Rattle.ak_lab.specs.LabSyncs.{EndsLabSession}
-use Rattle.ak_lab.specs.LineOutcomes.{Accepted, EndsAs}
+use Rattle.ak_lab.specs.LineOutcomes.{EndsAs}
 use Rattle.ak_lab_devices.specs.declared.devices.Device.{Device}
 use Rattle.ak_lab_devices.specs.declared.plans.Act.{Act}
 use Rattle.ak_lab_devices.specs.declared.plans.Act.TheVariants as acts
@@ -30,6 +29,7 @@ use Rattle.ak_lab_wires.specs.declared.crossed_syncs.Crossings.{Crossings}
 use Rattle.ak_lab_wires.specs.declared.lab_sessions.SessionKind.{SessionKind}
 use Rattle.ak_lab_wires.specs.declared.lab_sessions.SessionKind.TheVariants as kinds
 use Rattle.ak_lab_wires.specs.declared.replayed_requests.Replays.{Replays}
+use Rattle.ak_line_runs.specs.LineRuns.{Accepted, AllGo}
 use Rattle.ak_sync_in_memory.proofs.Logging.{events_append}
 use Rattle.ak_sync_in_memory.specs.Betweens.{ActEnd, Acting}
 use Rattle.ak_sync_in_memory.specs.Entries.{LoggedState, entry_of, events_in, log_in, log_with}
@@ -170,7 +170,7 @@ line_grows number line s t printed (inl nothing) =
     lined number s t.server (nothing_came (at_line number s).server t.server (ap (λ (x : LabState). x.server) nothing.0))
 line_grows number line s t printed (inr (said, says, accepts)) = lined number s t.server (said_grows said (at_line number s) t printed accepts)
 
-pub all_go_grow : (number : ℕ) (all : List Line) (s t : LabState) (printed : List (List ℕ)) → AllGo number all s t printed → LogGrows s.server t.server
+pub all_go_grow : (number : ℕ) (all : List Line) (s t : LabState) (printed : List (List ℕ)) → AllGo EndsAs number all s t printed → LogGrows s.server t.server
 all_go_grow number [] s t printed (same, nothing) = same_server s t (ap (λ (x : LabState). x.server) same)
 all_go_grow number (line ∷ more) s t printed (mid, first, others, ended, goes, is) =
     further s.server mid.server t.server (line_grows number line s mid first ended) (all_go_grow (number + 1) more mid t others goes)
@@ -186,5 +186,5 @@ leads_on account s t grows =
 pub lines_lead : (account : AccountState) (number : ℕ) (line : Line) (s t : LabState) (printed : List (List ℕ)) → EndsAs number line s t (Accepted printed) → LeadsOn account s t
 lines_lead account number line s t printed ended = leads_on account s t (line_grows number line s t printed ended)
 
-pub runs_lead : (account : AccountState) (number : ℕ) (all : List Line) (s t : LabState) (printed : List (List ℕ)) → AllGo number all s t printed → LeadsOn account s t
+pub runs_lead : (account : AccountState) (number : ℕ) (all : List Line) (s t : LabState) (printed : List (List ℕ)) → AllGo EndsAs number all s t printed → LeadsOn account s t
 runs_lead account number all s t printed goes = leads_on account s t (all_go_grow number all s t printed goes)

@@ -8,7 +8,6 @@ use Rattle.ak_any_lines.specs.LineSeries.{IsInSteps}
 use Rattle.ak_client.specs.declared.outcomes.Outcome.{Outcome}
 use Rattle.ak_client.specs.declared.outcomes.Outcome.TheVariants as client_outcomes
 use Rattle.ak_desk_lines.specs.DeskStates.{DeskState}
-use Rattle.ak_desk_runs.specs.LineOutcomes.{is_skipped_line}
 use Rattle.ak_desk_lines.specs.declared.turns.Turn.{Turn}
 use Rattle.ak_exchange.specs.Phases.{holding}
 use Rattle.ak_faults.specs.Causes.{one_more}
@@ -36,12 +35,14 @@ use Rattle.ak_lab.specs.LabStates.{LabState, at_line, opened_lab, with_changed}
 use Rattle.ak_lab.specs.LabSyncs.{EndsSync, server_met, with_fails}
 use Rattle.ak_lab_wires.specs.LabSessions.{lab_host}
 use Rattle.ak_lab.specs.LabSteps.{Accepts, AddsDevice, Shifts, SideHolds, plan_of}
-use Rattle.ak_lab.specs.LineOutcomes.{Accepted, EndsAs, Says}
+use Rattle.ak_lab.specs.LineOutcomes.{EndsAs, Says}
 use Rattle.ak_lab_wires.specs.declared.lab_sessions.SessionKind.TheVariants as kinds
 use Rattle.ak_lab_devices.specs.Devices.{as_downloaded, device_of, keeping_of, new_device}
 use Rattle.ak_lab_devices.specs.declared.devices.Device.{Device}
 use Rattle.ak_lab_devices.specs.declared.plans.Act.{Act}
 use Rattle.ak_lab_devices.specs.declared.plans.Act.TheVariants as acts
+use Rattle.ak_line_runs.specs.LineRuns.{Accepted}
+use Rattle.ak_line_runs.specs.LineTexts.{is_skipped_line}
 use Rattle.ak_sync_in_memory.specs.declared.mishaps.What.{What}
 use Rattle.ak_lab_lines.specs.LabLines.{lab_line_of}
 use Rattle.ak_lab_lines.specs.declared.lab_lines.Direction.TheVariants as directions

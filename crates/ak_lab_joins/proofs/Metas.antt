@@ -7,7 +7,8 @@ use Rattle.std.proofs.Common.{refl, sym, ap, subst, ◌∙◌, inl, inr, arith}
 use Rattle.std.proofs.lemmas.Option.{none-some, same_Some}
 use Rattle.ak_base.specs.Limits.{last_head_usn}
 use Rattle.ak_base.specs.declared.heads.Head.{Head}
-use Rattle.ak_client.specs.Greetings.{are_far_apart, clock_stop, device_stop, head_stop, is_unchanged}
+use Rattle.ak_client.proofs.Testing.{clock_told}
+use Rattle.ak_client.specs.Greetings.{clock_stop, device_stop, head_stop, is_unchanged}
 use Rattle.ak_client.specs.Outcomes.{is_told_by_meta, outcome_at}
 use Rattle.ak_client.specs.Syncs.{EndsByMeta}
 use Rattle.ak_client.specs.declared.outcomes.Outcome.{Outcome}
@@ -16,8 +17,6 @@ use Rattle.ak_client_wire.specs.Forms.{is_meta_in_range, meta_in, meta_told}
 use Rattle.ak_client_wire.specs.declared.wires.MetaSaid.{MetaSaid}
 use Rattle.ak_exchange.specs.Phases.{held_by, holding}
 use Rattle.ak_exchange.specs.Stops.{keep_stop}
-use Rattle.ak_exchange.specs.declared.stops.Stop.{Stop}
-use Rattle.ak_exchange.specs.declared.stops.Stop.TheVariants as stops
 use Rattle.ak_keep.specs.Collections.{Collection}
 use Rattle.ak_keep.specs.declared.keepers.KeepFault.{KeepFault}
 use Rattle.ak_keep.specs.declared.keepers.KeepFault.TheVariants as faults
@@ -49,52 +48,39 @@ granted_so false o said is = absurd (none-some said is)
 not_both : {b : Bool} → b ≡ true → b ≡ false → ⊥
 not_both is not = grind (arith, is, not)
 
--- the server and the clocks end a sync by its meta
-clock_told : (meta : MetaSaid) (second : ℤ) (stop : Stop) → clock_stop meta second ≡ Some stop → is_told_by_meta (outcome_at stop) ≡ true
-clock_told meta second stop = by (not meta.cont) (are_far_apart second meta.ts)
-  where
-    is_so : (one : Stop) → is_told_by_meta (outcome_at one) ≡ true → Some one ≡ Some stop → is_told_by_meta (outcome_at stop) ≡ true
-    is_so one told is = subst (λ (s : Stop). is_told_by_meta (outcome_at s) ≡ true) (same_Some one stop is) told
-
-    by : (stopped far : Bool) → (if stopped then Some stops.Stopped else if far then Some (stops.ClockOff second meta.ts) else None) ≡ Some stop
-        → is_told_by_meta (outcome_at stop) ≡ true
-    by true far is = is_so stops.Stopped refl is
-    by false true is = is_so (stops.ClockOff second meta.ts) refl is
-    by false false is = absurd (none-some stop is)
-
--- heads of two schema moments end it too
+-- heads of two schema moments end a sync by its meta
 head_told : (meta : MetaSaid) (head : Head) (unchanged : Bool) → head.schema ≢ meta.scm
-    → (stop : Stop) × (head_stop meta head unchanged ≡ Some stop) × (is_told_by_meta (outcome_at stop) ≡ true)
+    → (why : Outcome) × (head_stop meta head unchanged ≡ Some why) × (is_told_by_meta why ≡ true)
 head_told meta head unchanged differ =
     by unchanged (int_eq head.schema meta.scm) (int_eq meta.usn last_head_usn) refl
   where
     by : (same schemas last : Bool) → int_eq head.schema meta.scm ≡ schemas
-        → (stop : Stop) × ((if same then Some stops.NoChanges else if not schemas then Some (stops.FullSchema head.schema meta.scm)
-        else if last then Some (stops.FullSequence meta.usn) else None) ≡ Some stop) × (is_told_by_meta (outcome_at stop) ≡ true)
-    by true schemas last is = (stops.NoChanges, refl, refl)
-    by false false last is = (stops.FullSchema head.schema meta.scm, refl, refl)
+        → (why : Outcome) × ((if same then Some outcomes.NoChanges else if not schemas then Some (outcomes.FullSchema head.schema meta.scm)
+        else if last then Some (outcomes.FullSequence meta.usn) else None) ≡ Some why) × (is_told_by_meta why ≡ true)
+    by true schemas last is = (outcomes.NoChanges, refl, refl)
+    by false false last is = (outcomes.FullSchema head.schema meta.scm, refl, refl)
     by false true last is = absurd (differ ((signed_Decides head.schema meta.scm).0 is))
 
 -- a sync that ended for no reason that its meta gave, and not for want of memory or a keeper's fault, met one schema moment
 module _ (meta : MetaSaid) (at : ℤ) (c : Collection) (outcome : Outcome) (ends : EndsByMeta meta at (holding c) outcome)
     (untold : is_told_by_meta outcome ≡ false) (unfailed : outcome ≢ outcomes.Keep) (enough : outcome ≢ outcomes.Memory) where
-  told_so : (stop : Stop) → is_told_by_meta (outcome_at stop) ≡ true → outcome ≡ outcome_at stop → ⊥
-  told_so stop told is = not_both (ap is_told_by_meta is ∙ told) untold
+  told_so : (why : Outcome) → is_told_by_meta why ≡ true → outcome ≡ why → ⊥
+  told_so why told is = not_both (ap is_told_by_meta is ∙ told) untold
 
   not_kept : (fault : KeepFault) → outcome ≡ outcome_at (keep_stop fault) → ⊥
   not_kept faults.Failed is = unfailed is
   not_kept faults.Memory is = enough is
 
-  by_clock : (o : Option Stop) → clock_stop meta (second_of at) ≡ o → c.head.schema ≢ meta.scm → ⊥
-  by_clock (Some stop) is differ = told_so stop (clock_told meta (second_of at) stop is) (ends.by_clocks stop is)
+  by_clock : (o : Option Outcome) → clock_stop meta (second_of at) ≡ o → c.head.schema ≢ meta.scm → ⊥
+  by_clock (Some why) is differ = told_so why (clock_told meta (second_of at) why is) (ends.by_clocks why is)
   by_clock None is differ =
       let told = head_told meta c.head (is_unchanged meta c.head c.rows) differ in
       let stop_is : device_stop meta (held_by c) ≡ Some told.0 =
-      ap (λ (o : Option Stop). option_or o (option_map (λ (fault : CheckFault). stops.OwnCheck fault) (first_fault c.rows))) told.1 in
+      ap (λ (o : Option Outcome). option_or o (option_map (λ (fault : CheckFault). outcomes.OwnCheck fault) (first_fault c.rows))) told.1 in
       either told (ends.by_device is told.0 stop_is)
     where
-      either : (told : (stop : Stop) × (head_stop meta c.head (is_unchanged meta c.head c.rows) ≡ Some stop) × (is_told_by_meta (outcome_at stop) ≡ true))
-          → (outcome ≡ outcome_at told.0) ⊎ ((fault : KeepFault) × (outcome ≡ outcome_at (keep_stop fault))) → ⊥
+      either : (told : (why : Outcome) × (head_stop meta c.head (is_unchanged meta c.head c.rows) ≡ Some why) × (is_told_by_meta why ≡ true))
+          → (outcome ≡ told.0) ⊎ ((fault : KeepFault) × (outcome ≡ outcome_at (keep_stop fault))) → ⊥
       either told (inl is) = told_so told.0 told.2 is
       either told (inr kept) = not_kept kept.0 kept.1
 

@@ -23,12 +23,12 @@ use Rattle.ak_keep.specs.Marks.{WithMark}
 use Rattle.ak_lab.specs.LabPlans.{Plans, Resends, with_act, with_break, with_mishap}
 use Rattle.ak_lab_wires.specs.declared.lab_sessions.SessionKind.TheVariants as kinds
 use Rattle.ak_lab.specs.LabDesks.{EndsDo, EndsReview, desk_of, turn_of}
-use Rattle.ak_lab.specs.LabRuns.{AllGo, IsLabOpening}
+use Rattle.ak_lab.specs.LabRuns.{IsLabOpening}
 use Rattle.ak_lab.specs.LabStates.{LabState, at_line, opened_lab}
 use Rattle.ak_lab.specs.LabSyncs.{server_met, with_fails}
 use Rattle.ak_lab_wires.specs.LabSessions.{lab_host}
 use Rattle.ak_lab.specs.LabSteps.{Accepts, AddsDevice, SideHolds, plan_of}
-use Rattle.ak_lab.specs.LineOutcomes.{Accepted, EndsAs}
+use Rattle.ak_lab.specs.LineOutcomes.{EndsAs}
 use Rattle.ak_lab_devices.proofs.Places.{found_has_name}
 use Rattle.ak_lab_devices.specs.Devices.{as_downloaded, device_of, keeping_of, new_device, with_device}
 use Rattle.ak_lab_devices.specs.declared.devices.Device.{Device}
@@ -56,6 +56,7 @@ use Rattle.ak_lab_lines.specs.declared.lab_lines.LabLine.TheVariants as lines
 use Rattle.ak_lab_lines.specs.declared.lab_lines.Side.{Side}
 use Rattle.ak_lab_lines.specs.declared.lab_lines.Side.TheVariants as sides
 use Rattle.ak_lab_devices.specs.NewReviews.{EndsReviews}
+use Rattle.ak_line_runs.specs.LineRuns.{Accepted, AllGo}
 use Rattle.ak_sync_in_memory.specs.Entries.{account_opened}
 use Rattle.ak_merge.proofs.EditFacts.{advanced_past}
 use Rattle.ak_merge.specs.Edits.{advanced}
@@ -490,7 +491,7 @@ line_unloaded steps account number line s t printed linked room ordered none qui
 
 -- ---- all lines
 all_unloaded : LinesStep → (account : AccountState) (number : ℕ) (all : List Line) (s t : LabState) (printed : List (List ℕ)) → IsLinkedLab account s → HasOrderedSchemas account s
-    → HasNoUpload s.server → HasSession t → AllByRecursion SaysNoUpload all → AllGo number all s t printed
+    → HasNoUpload s.server → HasSession t → AllByRecursion SaysNoUpload all → AllGo EndsAs number all s t printed
     → AllGoFresh account number all s t printed × HasOrderedSchemas account t × HasNoUpload t.server
 all_unloaded steps account number [] s t printed linked ordered none room quiet (same, nothing) =
     ((same, nothing), subst (HasOrderedSchemas account) (sym same) ordered, subst (λ (x : LabState). HasNoUpload x.server) (sym same) none)
@@ -502,7 +503,7 @@ all_unloaded steps account number (line ∷ more) s t printed linked ordered non
     ((mid, first, others, ends, here.0, rest.0, is), rest.1, rest.2)
 
 pub run_unloaded : LinesStep → (opening : Opening) (all : List Line) (s : LabState) (printed : List (List ℕ)) → IsLabOpening opening
-    → HasSession s → AllByRecursion SaysNoUpload all → AllGo 1 all (opened_lab opening) s printed
+    → HasSession s → AllByRecursion SaysNoUpload all → AllGo EndsAs 1 all (opened_lab opening) s printed
     → AllGoFresh (account_opened opening) 1 all (opened_lab opening) s printed × HasOrderedSchemas (account_opened opening) s × HasNoUpload s.server
 run_unloaded steps opening all s printed opens room quiet goes =
     all_unloaded steps (account_opened opening) 1 all (opened_lab opening) s printed (opened_linked opening opens) (opened_ordered opening opens) tt room quiet goes

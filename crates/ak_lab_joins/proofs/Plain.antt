@@ -8,17 +8,17 @@ use Rattle.ak_keep.specs.Collections.{Collection}
 use Rattle.ak_lab.specs.LabPlans.{with_break, with_mishap}
 use Rattle.ak_lab.specs.LabStates.{LabState, at_line, opened_lab, with_changed}
 use Rattle.ak_lab.specs.LabSteps.{Accepts, AddsDevice, SideHolds}
-use Rattle.ak_lab.specs.LineOutcomes.{Accepted, EndsAs}
+use Rattle.ak_lab.specs.LineOutcomes.{EndsAs}
 use Rattle.ak_lab_devices.specs.Devices.{device_of, new_device}
 use Rattle.ak_lab_devices.specs.declared.devices.Device.{Device}
 use Rattle.ak_lab_joins.proofs.Alone.{sync_alone, transfer_alone}
 use Rattle.ak_lab_joins.proofs.Devices.{changed_or_old, new_or_old}
 use Rattle.ak_lab_joins.specs.LabJoins.{HasNoPlans, IsPlain, PlansNoAct, SaysNoAct, SaysPlain}
-use Rattle.ak_lab.specs.LabRuns.{AllGo}
 use Rattle.ak_lab_lines.specs.declared.lab_lines.LabLine.{LabLine}
 use Rattle.ak_lab_lines.specs.declared.lab_lines.LabLine.TheVariants as lines
 use Rattle.ak_lab_lines.specs.declared.lab_lines.Side.{Side}
 use Rattle.ak_lab_lines.specs.declared.lab_lines.Side.TheVariants as sides
+use Rattle.ak_line_runs.specs.LineRuns.{Accepted, AllGo}
 use Rattle.ak_openings.specs.declared.whole_collections.Opening.{Opening}
 
 -- there is no device at first
@@ -100,7 +100,7 @@ pub says_no_act : (line : Line) → SaysPlain line → SaysNoAct line
 says_no_act line plain said says = plain_no_act said (plain said says)
 
 -- ---- all lines
-pub all_plans : (number : ℕ) (all : List Line) (s t : LabState) (printed : List (List ℕ)) → HasNoPlans s → AllByRecursion SaysNoAct all → AllGo number all s t printed → HasNoPlans t
+pub all_plans : (number : ℕ) (all : List Line) (s t : LabState) (printed : List (List ℕ)) → HasNoPlans s → AllByRecursion SaysNoAct all → AllGo EndsAs number all s t printed → HasNoPlans t
 all_plans number [] s t printed plans none (same, nothing) = subst HasNoPlans (sym same) plans
 all_plans number (line ∷ more) s t printed plans none (mid, first, others, ends, goes, is) =
     all_plans (number + 1) more mid t others (line_plans number line s mid first plans none.0 ends) none.1 goes

@@ -14,10 +14,11 @@ use Rattle.ak_lab.specs.LabStates.{LabState, at_line}
 use Rattle.ak_lab.specs.LabSteps.{Accepts}
 use Rattle.ak_lab.specs.LabSyncs.{EndsSync}
 use Rattle.ak_lab_joins.proofs.Alone.{sync_uncrossed}
-use Rattle.ak_lab.specs.LineOutcomes.{Accepted, EndsAs, Says}
+use Rattle.ak_lab.specs.LineOutcomes.{EndsAs, Says}
 use Rattle.ak_lab_lines.specs.LabTexts.{ending_text, sync_text}
 use Rattle.ak_lab_lines.specs.declared.lab_lines.LabLine.{LabLine}
 use Rattle.ak_lab_lines.specs.declared.lab_lines.LabLine.TheVariants as lines
+use Rattle.ak_line_runs.specs.LineRuns.{Accepted}
 use Rattle.ak_sync_in_memory.specs.Entries.{account_opened}
 use Rattle.ak_openings.specs.declared.whole_collections.Opening.{Opening}
 use Rattle.ak_outcomes.specs.OutcomeTexts.{outcome_text}

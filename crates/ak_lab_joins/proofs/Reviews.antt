@@ -10,12 +10,12 @@ use Rattle.ak_base.specs.declared.rows.Row.{Row}
 use Rattle.ak_io.specs.declared.lines.Line.{Line}
 use Rattle.ak_keep.specs.Collections.{Collection, Rows}
 use Rattle.ak_keep.specs.Graves.{RowsByName}
-use Rattle.ak_lab.specs.LabRuns.{AllGo}
 use Rattle.ak_lab.specs.LabStates.{LabState}
-use Rattle.ak_lab.specs.LineOutcomes.{Accepted, EndsAs}
+use Rattle.ak_lab.specs.LineOutcomes.{EndsAs}
 use Rattle.ak_lab_joins.proofs.Leading.{lines_lead, runs_lead}
 use Rattle.ak_lab_joins.specs.LabCrossings.{HasReviewsOf, HasSameReviews, LeadsOn, review_name}
 use Rattle.ak_lab_joins.specs.LabJoins.{IsFinish, IsLinkedLab, committed_of, lab_world}
+use Rattle.ak_line_runs.specs.LineRuns.{Accepted, AllGo}
 use Rattle.ak_merge.proofs.CommitLaws.{commit_under, stays_unstamped, unstamped}
 use Rattle.ak_merge.proofs.Settling.{taken_named}
 use Rattle.ak_merge.proofs.TakingLaws.{newest_in, newest_named, received, received_under}
@@ -97,6 +97,6 @@ pub line_reviews_stay : (account : AccountState) (number : ℕ) (line : Line) (s
 line_reviews_stay account number line s t printed linked ended each = reviews_stay account s t linked (lines_lead account number line s t printed ended) each
 
 pub run_reviews_stay : (account : AccountState) (number : ℕ) (all : List Line) (s t : LabState) (printed : List (List ℕ)) → IsLinkedLab account s
-    → AllGo number all s t printed → EachNewer IsFinish (lab_world account s) (lab_world account t)
+    → AllGo EndsAs number all s t printed → EachNewer IsFinish (lab_world account s) (lab_world account t)
     → HasSameReviews (committed_of account s) (committed_of account t)
 run_reviews_stay account number all s t printed linked goes each = reviews_stay account s t linked (runs_lead account number all s t printed goes) each

@@ -9,7 +9,7 @@ use Rattle.ak_lab.specs.LabRuns.{IsLabOpening}
 use Rattle.ak_lab.specs.LabStates.{LabState, at_line}
 use Rattle.ak_lab.specs.LabSteps.{Accepts}
 use Rattle.ak_lab.specs.LabSyncs.{EndsTransfer}
-use Rattle.ak_lab.specs.LineOutcomes.{Accepted, EndsAs, Says}
+use Rattle.ak_lab.specs.LineOutcomes.{EndsAs, Says}
 use Rattle.ak_lab_joins.proofs.Alone.{transfer_alone}
 use Rattle.ak_lab_joins.proofs.Ends.{lines_aside_others, run_linked}
 use Rattle.ak_lab_joins.proofs.Lines.{LinesStep, at_line_linked, says_one, skips_nothing}
@@ -22,6 +22,7 @@ use Rattle.ak_lab_lines.specs.declared.lab_lines.Direction.TheVariants as direct
 use Rattle.ak_lab_lines.specs.declared.lab_lines.LabLine.{LabLine}
 use Rattle.ak_lab_lines.specs.declared.lab_lines.LabLine.TheVariants as lines
 use Rattle.ak_lab_wires.specs.declared.lab_sessions.SessionKind.TheVariants as kinds
+use Rattle.ak_line_runs.specs.LineRuns.{Accepted}
 use Rattle.ak_openings.specs.declared.whole_collections.Opening.{Opening}
 use Rattle.ak_protocol.specs.Accounts.{AccountState}
 use Rattle.ak_sync_in_memory.specs.Entries.{account_opened}

@@ -19,7 +19,6 @@ use Rattle.ak_exchange.specs.Asked.{answers_in, asker, asks_in}
 use Rattle.ak_exchange.specs.Phases.{holding}
 use Rattle.ak_exchange.specs.Stops.{wire_stop}
 use Rattle.ak_exchange.specs.declared.envelopes.Ids.{Ids}
-use Rattle.ak_exchange.specs.declared.stops.Stop.{Stop}
 use Rattle.ak_faults.specs.Causes.{one_more}
 use Rattle.ak_keep.specs.Collections.{Collection, Rows}
 use Rattle.ak_keep.specs.Keepers.{Keeping}
@@ -107,9 +106,9 @@ module _ {kind : WireKind} (k k' : Keeping) (ids : Ids) (asked : List Ask) (was 
   came ask (Ok given) (inr (inl kept)) = inr (inr (inr kept))
   came ask (Ok given) (inr (inr (memory, spared))) = inl (ap may_have_uploaded memory)
 
-  continued : (said : MetaSaid) (stop : Option Stop) → Continues (upload_errand true k k') ids said stop asked transfer.met now.line outcome
+  continued : (said : MetaSaid) (why : Option Outcome) → Continues (upload_errand true k k') ids said why asked transfer.met now.line outcome
       → (asked ≡ []) ⊎ EndsAfterAsk outcome
-  continued said (Some stop) goes = inl goes.0.none
+  continued said (Some why) goes = inl goes.0.none
   continued said None (inl goes) = inl goes.0.none
   continued said None (inr once) = inr (came once.ask once.answer once.ends)
 

@@ -5,11 +5,10 @@ use Rattle.ak_client.specs.declared.outcomes.Outcome.{Outcome}
 use Rattle.ak_io.specs.declared.lines.Line.{Line}
 use Rattle.ak_keep.specs.Collections.{Collection}
 use Rattle.ak_lab.specs.LabPlans.{PlansBreak, with_act, with_break, with_mishap}
-use Rattle.ak_lab.specs.LabRuns.{AllGo}
 use Rattle.ak_lab.specs.LabStates.{LabState, at_line, with_changed}
 use Rattle.ak_lab.specs.LabSteps.{Accepts, SideHolds}
 use Rattle.ak_lab.specs.LabSyncs.{EndsLabSession, mishaps_for}
-use Rattle.ak_lab.specs.LineOutcomes.{Accepted, EndsAs}
+use Rattle.ak_lab.specs.LineOutcomes.{EndsAs}
 use Rattle.ak_lab_devices.specs.Devices.{new_device}
 use Rattle.ak_lab_devices.specs.declared.devices.Device.{Device}
 use Rattle.ak_lab_devices.specs.declared.plans.Act.TheVariants as acts
@@ -24,6 +23,7 @@ use Rattle.ak_lab_wires.proofs.Kept.{StaysLab, faces, session_lab}
 use Rattle.ak_lab_wires.specs.CrossedSyncs.{CrossState, cross_state}
 use Rattle.ak_lab_wires.specs.declared.lab_sessions.SessionKind.{SessionKind}
 use Rattle.ak_lab_wires.specs.declared.lab_sessions.SessionKind.TheVariants as kinds
+use Rattle.ak_line_runs.specs.LineRuns.{Accepted, AllGo}
 
 -- ---- a session
 -- the names are as they were
@@ -82,7 +82,7 @@ said_unlike (lines.Count side) s t printed (c, holds, is) unlike = looked_unlike
 said_unlike (lines.Requests name) s t printed is unlike = same_unlike s t (ap (λ (x : LabState). x.devices) is.0) unlike
 
 -- ---- all lines
-pub all_unlike : (number : ℕ) (all : List Line) (s t : LabState) (printed : List (List ℕ)) → AllGo number all s t printed → AreUnlike (device_names s.devices)
+pub all_unlike : (number : ℕ) (all : List Line) (s t : LabState) (printed : List (List ℕ)) → AllGo EndsAs number all s t printed → AreUnlike (device_names s.devices)
     → AreUnlike (device_names t.devices)
 all_unlike number [] s t printed (same, nothing) unlike = subst IsUnlike (sym same) unlike
 all_unlike number (line ∷ more) s t printed (mid, first, others, ends, goes, is) unlike =

@@ -10,7 +10,6 @@ use Rattle.ak_client_wire.specs.declared.wires.MetaSaid.{MetaSaid}
 use Rattle.ak_exchange.specs.Asked.{answers_in}
 use Rattle.ak_exchange.specs.Grants.{SendsRows}
 use Rattle.ak_exchange.specs.declared.envelopes.Ids.{Ids}
-use Rattle.ak_exchange.specs.declared.stops.Stop.{Stop}
 use Rattle.ak_faults.specs.Causes.{one_more}
 use Rattle.ak_io.specs.declared.lines.Line.{Line}
 use Rattle.ak_keep.specs.Collections.{Collection}
@@ -18,7 +17,7 @@ use Rattle.ak_keep.specs.Keepers.{Keeping}
 use Rattle.ak_lab.specs.LabStates.{LabState, at_line}
 use Rattle.ak_lab.specs.LabSteps.{Accepts, SideHolds}
 use Rattle.ak_lab.specs.LabSyncs.{EndsTransfer}
-use Rattle.ak_lab.specs.LineOutcomes.{Accepted, EndsAs}
+use Rattle.ak_lab.specs.LineOutcomes.{EndsAs}
 use Rattle.ak_lab_joins.proofs.CrossedLab.{calls_stay, sync_uploads_none}
 use Rattle.ak_lab_joins.proofs.Keys.{AreOwnCalls, UploadsNone, all_served_none, append_none, asked_none, own_calls}
 use Rattle.ak_lab_joins.proofs.NoUploads.{past_uploads_none}
@@ -32,6 +31,7 @@ use Rattle.ak_lab_wires.proofs.Between.{named_asked}
 use Rattle.ak_lab_wires.specs.LabSessions.{moment_told}
 use Rattle.ak_lab_wires.specs.Servings.{named_from, requests_in}
 use Rattle.ak_lab_wires.specs.declared.lab_sessions.SessionKind.TheVariants as kinds
+use Rattle.ak_line_runs.specs.LineRuns.{Accepted}
 use Rattle.ak_merge.specs.Edits.{second_of}
 use Rattle.ak_messages.specs.declared.requests.Ask.{Ask}
 use Rattle.ak_protocol.specs.Accounts.{AccountState}
@@ -55,9 +55,9 @@ module _ {kind : WireKind} (ids : Ids) (before left : Keeping) (asked : List Ask
   may_asked was now moment (inl nothing) = nothing_asked was now nothing.0
   may_asked was now moment (inr once) = once_asked was now moment once
 
-  continued : (was now : WireLine kind) (said : MetaSaid) (stop : Option Stop) → Continues (download_errand before left) ids said stop asked was now outcome
+  continued : (was now : WireLine kind) (said : MetaSaid) (why : Option Outcome) → Continues (download_errand before left) ids said why asked was now outcome
       → AllByRecursion SendsRows asked
-  continued was now said (Some stop) it = nothing_asked was now it.0
+  continued was now said (Some why) it = nothing_asked was now it.0
   continued was now said None it = may_asked was now said.moment it
 
   followed : (was now : TransferOutside kind) (met : WireLine kind) (answer : Result MetaSaid Unanswered)

@@ -5,10 +5,9 @@ use Rattle.std.proofs.Common.{sym, ap, subst, ◌∙◌, arith}
 use Rattle.std.proofs.lemmas.List.{length-map}
 use Rattle.ak_client.specs.declared.outcomes.Outcome.{Outcome}
 use Rattle.ak_io.specs.declared.lines.Line.{Line}
-use Rattle.ak_lab.specs.LabRuns.{AllGo}
 use Rattle.ak_lab.specs.LabStates.{LabState}
 use Rattle.ak_lab.specs.LabSyncs.{EndsLabSession}
-use Rattle.ak_lab.specs.LineOutcomes.{Accepted, EndsAs}
+use Rattle.ak_lab.specs.LineOutcomes.{EndsAs}
 use Rattle.ak_lab_joins.proofs.Leading.{LogGrows, all_go_grow, lab_session_grows, line_grows}
 use Rattle.ak_lab_joins.proofs.ServingsTold.{nothing_new, plain_serving, quiet_then}
 use Rattle.ak_lab_joins.proofs.Worlds.{StaysQuiet, world_grown}
@@ -16,6 +15,7 @@ use Rattle.ak_lab_joins.specs.LabJoins.{KeepsCommitted, lab_world}
 use Rattle.ak_lab_joins.specs.LabWords.{AsksNoCommit, ServesNoCommit}
 use Rattle.ak_lab_wires.specs.LabSessions.{lab_host}
 use Rattle.ak_lab_wires.specs.declared.lab_sessions.SessionKind.{SessionKind}
+use Rattle.ak_line_runs.specs.LineRuns.{Accepted, AllGo}
 use Rattle.ak_protocol.proofs.ContentLaws.{some_of_all}
 use Rattle.ak_protocol.specs.Accounts.{AccountState}
 use Rattle.ak_protocol.specs.Logs.{Asked, Event, Log, View, World, events_of, world_after, world_next}
@@ -93,6 +93,6 @@ pub unserved_lines : (account : AccountState) (number : ℕ) (line : Line) (s t 
     → ServesNoCommit s.server t.server → KeepsCommitted (lab_world account s) (lab_world account t)
 unserved_lines account number line s t printed ended = commits_nothing account s t (line_grows number line s t printed ended)
 
-pub unserved_runs : (account : AccountState) (number : ℕ) (all : List Line) (s t : LabState) (printed : List (List ℕ)) → AllGo number all s t printed
+pub unserved_runs : (account : AccountState) (number : ℕ) (all : List Line) (s t : LabState) (printed : List (List ℕ)) → AllGo EndsAs number all s t printed
     → ServesNoCommit s.server t.server → KeepsCommitted (lab_world account s) (lab_world account t)
 unserved_runs account number all s t printed goes = commits_nothing account s t (all_go_grow number all s t printed goes)

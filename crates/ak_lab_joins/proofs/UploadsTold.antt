@@ -15,7 +15,6 @@ use Rattle.ak_client_wire.specs.declared.wires.WireEnd.{WireEnd}
 use Rattle.ak_client_wire.specs.declared.wires.WireEnd.TheVariants as ends
 use Rattle.ak_exchange.specs.Asked.{AreTried, TriedAsk, answers_in, asker}
 use Rattle.ak_exchange.specs.declared.envelopes.Ids.{Ids}
-use Rattle.ak_exchange.specs.declared.stops.Stop.{Stop}
 use Rattle.ak_faults.specs.Causes.{one_more}
 use Rattle.ak_keep.specs.Keepers.{Keeping}
 use Rattle.ak_lab.specs.LabStates.{LabState}
@@ -121,8 +120,8 @@ module _ {kind : WireKind} (k k' : Keeping) (ids : Ids) (asked : List Ask) (was 
   may_more moment (inl nothing) = nothing_more nothing.0
   may_more moment (inr once) = once_more moment once
 
-  continued : (said : MetaSaid) (stop : Option Stop) → Continues (upload_errand true k k') ids said stop asked met now.line outcome → TriesMild ids was.line now.line
-  continued said (Some stop) goes = nothing_more goes.0
+  continued : (said : MetaSaid) (why : Option Outcome) → Continues (upload_errand true k k') ids said why asked met now.line outcome → TriesMild ids was.line now.line
+  continued said (Some why) goes = nothing_more goes.0
   continued said None goes = may_more said.moment goes
 
   followed : (answer : Result MetaSaid Unanswered) → Follows (upload_errand true k k') ids answer asked (record was { line = met }) now outcome

@@ -7,7 +7,7 @@ use Rattle.ak_client.specs.declared.outcomes.Outcome.TheVariants as outcomes
 use Rattle.ak_io.specs.declared.lines.Line.{Line}
 use Rattle.ak_lab.specs.LabStates.{LabState, at_line}
 use Rattle.ak_lab.specs.LabSyncs.{EndsSync, EndsTransfer}
-use Rattle.ak_lab.specs.LineOutcomes.{Accepted, EndsAs, Says}
+use Rattle.ak_lab.specs.LineOutcomes.{EndsAs, Says}
 use Rattle.ak_lab_joins.proofs.Alone.{EndsAlone, sync_alone, transfer_alone}
 use Rattle.ak_lab_joins.proofs.BreaksPlanned.{none_stands}
 use Rattle.ak_lab_joins.proofs.Ends.{finished_joins, lines_aside_finishes}
@@ -26,6 +26,7 @@ use Rattle.ak_lab_lines.specs.LabTexts.{sync_text}
 use Rattle.ak_lab_lines.specs.declared.lab_lines.Direction.TheVariants as directions
 use Rattle.ak_lab_lines.specs.declared.lab_lines.LabLine.TheVariants as lines
 use Rattle.ak_lab_wires.specs.declared.lab_sessions.SessionKind.TheVariants as kinds
+use Rattle.ak_line_runs.specs.LineRuns.{Accepted}
 use Rattle.ak_outcomes.specs.OutcomeTexts.{outcome_text}
 use Rattle.ak_protocol.proofs.Commits.{not_both}
 use Rattle.ak_protocol.specs.Accounts.{AccountState}

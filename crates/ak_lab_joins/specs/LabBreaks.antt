@@ -2,12 +2,10 @@
 use Rattle.std.specs.List.{AllByRecursion}
 use Rattle.std.specs.Prelude.{◌≡◌, ◌≢◌, ◌⊎◌, ◌+◌, ℕ, Bool, true, false, not, List, [], ◌∷◌, ◌++◌, length, Option, Some, ⊤}
 use Rattle.ak_client.specs.declared.outcomes.Outcome.TheVariants as outcomes
-use Rattle.ak_desk_runs.specs.DeskRuns.{IsNext}
-use Rattle.ak_desk_runs.specs.LineOutcomes.{is_skipped_line}
 use Rattle.ak_faults.specs.Calls.{names_none}
 use Rattle.ak_io.specs.declared.lines.Line.{Line}
 use Rattle.ak_lab.specs.LabStates.{LabState}
-use Rattle.ak_lab.specs.LineOutcomes.{Accepted, EndsAs, Outcome, Says}
+use Rattle.ak_lab.specs.LineOutcomes.{EndsAs, Says}
 use Rattle.ak_lab_devices.specs.Devices.{device_of}
 use Rattle.ak_lab_devices.specs.declared.devices.Device.{Device}
 use Rattle.ak_lab_joins.specs.EachCrossed.{SaidOfCrossed}
@@ -15,6 +13,8 @@ use Rattle.ak_lab_joins.specs.LabMishaps.{AreFaultless}
 use Rattle.ak_lab_lines.specs.declared.lab_lines.LabLine.{LabLine}
 use Rattle.ak_lab_lines.specs.declared.lab_lines.LabLine.TheVariants as lines
 use Rattle.ak_lab_lines.specs.declared.lab_lines.Side.TheVariants as sides
+use Rattle.ak_line_runs.specs.LineRuns.{Accepted, IsNext, Outcome}
+use Rattle.ak_line_runs.specs.LineTexts.{is_skipped_line}
 use Rattle.ak_sync_in_memory.specs.Entries.{health_in}
 use Rattle.ak_sync_in_memory.specs.declared.logs.Entry.{Entry}
 

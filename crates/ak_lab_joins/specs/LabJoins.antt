@@ -10,12 +10,12 @@ use Rattle.ak_edit.specs.Undos.{SuitsNow}
 use Rattle.ak_faults.specs.Causes.{one_more}
 use Rattle.ak_io.specs.declared.lines.Line.{Line}
 use Rattle.ak_keep.specs.Collections.{Collection}
-use Rattle.ak_lab.specs.LabRuns.{AllGo, IsLabOpening}
+use Rattle.ak_lab.specs.LabRuns.{IsLabOpening}
 use Rattle.ak_lab.specs.LabStates.{LabState, at_line, opened_lab}
 use Rattle.ak_lab.specs.LabSyncs.{EndsSync, without_plan_for}
 use Rattle.ak_lab_wires.specs.declared.lab_sessions.SessionKind.{SessionKind}
 use Rattle.ak_lab_wires.specs.declared.lab_sessions.SessionKind.TheVariants as kinds
-use Rattle.ak_lab.specs.LineOutcomes.{Accepted, EndsAs, Says}
+use Rattle.ak_lab.specs.LineOutcomes.{EndsAs, Says}
 use Rattle.ak_lab_devices.specs.Devices.{device_of}
 use Rattle.ak_lab_devices.specs.declared.devices.Device.{Device}
 use Rattle.ak_lab_devices.specs.RestingKeepers.{Holds, kept_of}
@@ -25,6 +25,7 @@ use Rattle.ak_lab_lines.specs.declared.lab_lines.Direction.{Direction}
 use Rattle.ak_lab_lines.specs.declared.lab_lines.Direction.TheVariants as directions
 use Rattle.ak_lab_lines.specs.declared.lab_lines.LabLine.{LabLine}
 use Rattle.ak_lab_lines.specs.declared.lab_lines.LabLine.TheVariants as lines
+use Rattle.ak_line_runs.specs.LineRuns.{Accepted, AllGo}
 use Rattle.ak_sync_in_memory.specs.Entries.{LoggedState, account_opened, log_in}
 use Rattle.ak_merge.specs.Commits.{IsCopyOf, Received}
 use Rattle.ak_merge.specs.Exchanges.{HoldsJoin}
@@ -244,7 +245,7 @@ pub record GoFresh (opening : Opening) (all : List Line) (t : LabState) (printed
   pub mid : LabState
   pub first : List (List ℕ)
   pub later : List (List ℕ)
-  pub goes : AllGo 1 front (opened_lab opening) mid first
+  pub goes : AllGo EndsAs 1 front (opened_lab opening) mid first
   pub fresh : AllGoFresh (account_opened opening) (length front + 1) rest mid t later
   pub said : printed ≡ first ++ later
 

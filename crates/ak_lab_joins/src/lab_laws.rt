@@ -5,7 +5,6 @@ ghost use Rattle.ak_client.specs.declared.outcomes.Outcome.{Outcome};
 ghost use Rattle.ak_client.specs.declared.outcomes.Outcome.TheVariants as outcomes;
 ghost use Rattle.ak_faults.specs.Calls.{names_none};
 ghost use Rattle.ak_faults.specs.Causes.{one_more};
-ghost use Rattle.ak_io.specs.declared.endings.ScriptEnd.{ScriptEnd};
 ghost use Rattle.ak_io.specs.declared.lines.Line.{Line};
 ghost use Rattle.ak_lab_joins.specs.LabJoins.{
   Agrees,
@@ -70,10 +69,10 @@ ghost use Rattle.ak_lab_joins.specs.LabWords.{
   hides_commit,
 };
 ghost use Rattle.ak_lab.specs.LabPlans.{Resends};
-ghost use Rattle.ak_lab.specs.LabRuns.{AllGo, IsLabOpening, RunsLab};
+ghost use Rattle.ak_lab.specs.LabRuns.{IsLabOpening, RunsLab};
 ghost use Rattle.ak_lab.specs.LabStates.{LabState, at_line, opened_lab};
 ghost use Rattle.ak_lab.specs.LabSyncs.{EndsLabSession, EndsSync, EndsTransfer};
-ghost use Rattle.ak_lab.specs.LineOutcomes.{Accepted, EndsAs, Says};
+ghost use Rattle.ak_lab.specs.LineOutcomes.{EndsAs, Says};
 ghost use Rattle.ak_lab_devices.specs.declared.devices.Device.{Device};
 ghost use Rattle.ak_lab_lines.specs.LabTexts.{ending_text, sync_text};
 ghost use Rattle.ak_lab_lines.specs.declared.lab_lines.Direction.{Direction};
@@ -83,6 +82,8 @@ ghost use Rattle.ak_lab_wires.specs.CrossedSyncs.{SyncsCrossed};
 ghost use Rattle.ak_lab_wires.specs.LabSessions.{fails_in};
 ghost use Rattle.ak_lab_wires.specs.declared.lab_sessions.SessionKind.{SessionKind};
 ghost use Rattle.ak_lab_wires.specs.declared.lab_sessions.SessionKind.TheVariants as kinds;
+ghost use Rattle.ak_line_runs.specs.LineRuns.{Accepted, AllGo};
+ghost use Rattle.ak_line_runs.specs.declared.command_ends.CommandEnd.{CommandEnd};
 ghost use Rattle.ak_openings.specs.declared.whole_collections.Opening.{Opening};
 ghost use Rattle.ak_protocol.specs.Accounts.{AccountState};
 ghost use Rattle.ak_protocol.specs.Commits.{EachNewer};
@@ -130,7 +131,7 @@ pub fn lines_without_uploads_take_fresh_schemas()
         → EndsAs number line s t (Accepted printed)
         → TakesFreshSchemas account number line s t × HasOrderedSchemas account t × HasNoUpload t.server }
     ensures runs { (opening : Opening) (all : List Line) (s : LabState) (printed : List (List ℕ)) → IsLabOpening opening
-        → HasSession s → AllByRecursion SaysNoUpload all → AllGo 1 all (opened_lab opening) s printed
+        → HasSession s → AllByRecursion SaysNoUpload all → AllGo EndsAs 1 all (opened_lab opening) s printed
         → AllGoFresh (account_opened opening) 1 all (opened_lab opening) s printed
         × HasOrderedSchemas (account_opened opening) s × HasNoUpload s.server }
 {
@@ -143,7 +144,7 @@ pub fn only_lines_plan()
     ensures lines { (number : ℕ) (line : Line) (s t : LabState) (printed : List (List ℕ)) → HasNoPlans s → SaysNoAct line
         → EndsAs number line s t (Accepted printed) → HasNoPlans t }
     ensures runs { (opening : Opening) (all : List Line) (s : LabState) (printed : List (List ℕ)) → AllByRecursion SaysNoAct all
-        → AllGo 1 all (opened_lab opening) s printed → HasNoPlans s }
+        → AllGo EndsAs 1 all (opened_lab opening) s printed → HasNoPlans s }
 {}
 
 /// Whatever lines come and whatever comes between the calls of a sync: what is committed is committed over what was committed before.
@@ -151,7 +152,7 @@ pub fn commits_lead_on()
     ensures lines { (account : AccountState) (number : ℕ) (line : Line) (s t : LabState) (printed : List (List ℕ))
         → EndsAs number line s t (Accepted printed) → LeadsOn account s t }
     ensures runs { (account : AccountState) (number : ℕ) (all : List Line) (s t : LabState) (printed : List (List ℕ))
-        → AllGo number all s t printed → LeadsOn account s t }
+        → AllGo EndsAs number all s t printed → LeadsOn account s t }
 {}
 
 /// A review that is committed stays as it is, until an upload is committed: whatever lines come, whatever they lose, repeat and cross.
@@ -161,7 +162,7 @@ pub fn committed_reviews_stay()
         → EachNewer IsFinish (lab_world account s) (lab_world account t)
         → HasSameReviews (committed_of account s) (committed_of account t) }
     ensures runs { (account : AccountState) (number : ℕ) (all : List Line) (s t : LabState) (printed : List (List ℕ))
-        → IsLinkedLab account s → AllGo number all s t printed
+        → IsLinkedLab account s → AllGo EndsAs number all s t printed
         → EachNewer IsFinish (lab_world account s) (lab_world account t)
         → HasSameReviews (committed_of account s) (committed_of account t) }
 {}
@@ -256,7 +257,7 @@ pub fn only_served_requests_commit()
         → EndsAs number line s t (Accepted printed) → ServesNoCommit s.server t.server
         → KeepsCommitted (lab_world account s) (lab_world account t) }
     ensures runs { (account : AccountState) (number : ℕ) (all : List Line) (s t : LabState) (printed : List (List ℕ))
-        → AllGo number all s t printed → ServesNoCommit s.server t.server
+        → AllGo EndsAs number all s t printed → ServesNoCommit s.server t.server
         → KeepsCommitted (lab_world account s) (lab_world account t) }
 {}
 
@@ -331,9 +332,9 @@ pub fn keepers_fail_by_breaks_alone()
     // And so it is of whole scripts and runs, line by line: a line `break server` plans a break, and a line `sync` uses it up. When a lab is
     // opened none stands.
     ensures scripts { (number : ℕ) (all : List Line) (s t : LabState) (printed : List (List ℕ)) (stood : Bool)
-        → StandsSo stood s → HasCalmServer s → AllGo number all s t printed → GoByBreaks number all stood s t printed }
+        → StandsSo stood s → HasCalmServer s → AllGo EndsAs number all s t printed → GoByBreaks number all stood s t printed }
     ensures opened { (opening : Opening) → StandsSo false (opened_lab opening) × HasCalmServer (opened_lab opening) }
-    ensures runs { (end : ScriptEnd) (all : Maybe (List Line)) (entries : List Entry) (old new : Maybe (List ℕ))
+    ensures runs { (end : CommandEnd) (all : Maybe (List Line)) (entries : List Entry) (old new : Maybe (List ℕ))
         → (it : RunsLab end all entries old new)
         → RunFaultsByBreaks it.run.gone it.run.left (opened_lab it.opening) it.run.reached it.last it.run.printed }
 {}
@@ -344,7 +345,7 @@ pub fn only_lines_break()
     ensures lines { (name : List ℕ) (number : ℕ) (line : Line) (s t : LabState) (printed : List (List ℕ)) → name ≢ []
         → HasNoBreak name s → BreaksNot name line → EndsAs number line s t (Accepted printed) → HasNoBreak name t }
     ensures runs { (name : List ℕ) (number : ℕ) (all : List Line) (s t : LabState) (printed : List (List ℕ)) → name ≢ []
-        → HasNoBreak name s → AllByRecursion (BreaksNot name) all → AllGo number all s t printed → HasNoBreak name t }
+        → HasNoBreak name s → AllByRecursion (BreaksNot name) all → AllGo EndsAs number all s t printed → HasNoBreak name t }
     ensures opened { (name : List ℕ) (opening : Opening) → HasNoBreak name (opened_lab opening) }
 {}
 
@@ -358,7 +359,7 @@ pub fn syncs_use_up_breaks()
     ensures crossings { (line key : ℕ) (at : ℤ) (moments : List ℤ) (d made : Device) (old new : LoggedState) (outcome : Outcome)
         → SyncsCrossed line key at moments d made old new outcome → made.fails ≡ [] }
     ensures unlike { (opening : Opening) (all : List Line) (s : LabState) (printed : List (List ℕ))
-        → AllGo 1 all (opened_lab opening) s printed → AreUnlike (device_names s.devices) }
+        → AllGo EndsAs 1 all (opened_lab opening) s printed → AreUnlike (device_names s.devices) }
 {}
 
 /// Fewer lines than session keys leave one, if nothing comes between the calls of their syncs. So it is if no line plans anything there. A
@@ -367,7 +368,7 @@ pub fn few_lines_leave_a_session_key()
     ensures uncrossed { (opening : Opening) (all : List Line) (s : LabState) (printed : List (List ℕ))
         → length all < 18_446_744_073_709_551_615 → AllGoUncrossed 1 all (opened_lab opening) s printed → HasSession s }
     ensures unplanned { (opening : Opening) (all : List Line) (s : LabState) (printed : List (List ℕ)) → AllByRecursion SaysNoAct all
-        → AllGo 1 all (opened_lab opening) s printed → AllGoUncrossed 1 all (opened_lab opening) s printed }
+        → AllGo EndsAs 1 all (opened_lab opening) s printed → AllGoUncrossed 1 all (opened_lab opening) s printed }
 {}
 
 /// So it is of each sync of a script, whatever lines came before it, if the schema moments that were taken from the first upload on were

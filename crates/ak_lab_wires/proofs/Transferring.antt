@@ -8,7 +8,6 @@ use Rattle.ak_client_wire.specs.declared.wires.MetaSaid.{MetaSaid}
 use Rattle.ak_client_wire.specs.declared.wires.WireEnd.{WireEnd}
 use Rattle.ak_exchange.specs.Asked.{AreTried, TriedAsk, answers_in, asks_in}
 use Rattle.ak_exchange.specs.declared.envelopes.Ids.{Ids}
-use Rattle.ak_exchange.specs.declared.stops.Stop.{Stop}
 use Rattle.ak_lab_wires.specs.LabSessions.{moment_told, sent_by}
 use Rattle.ak_merge.specs.Edits.{second_of}
 use Rattle.ak_messages.specs.declared.replies.Reply.{Reply}
@@ -50,8 +49,8 @@ module _ {kind : WireKind} {T : Type 0} (errand : Errand T) (ids : Ids) (asked :
   may_more moment (inl nothing) = nothing_more moment nothing.0
   may_more moment (inr once) = once_more moment once
 
-  continued : (said : MetaSaid) (stop : Option Stop) → Continues errand ids said stop asked met now.line outcome → Tries said.moment
-  continued said (Some stop) goes = nothing_more said.moment goes.0
+  continued : (said : MetaSaid) (why : Option Outcome) → Continues errand ids said why asked met now.line outcome → Tries said.moment
+  continued said (Some why) goes = nothing_more said.moment goes.0
   continued said None goes = may_more said.moment goes
 
   followed : (answer : Result MetaSaid Unanswered) → Follows errand ids answer asked (record was { line = met }) now outcome → Tries (moment_told answer)

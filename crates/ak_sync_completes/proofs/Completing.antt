@@ -202,12 +202,12 @@ module _ {kind : WireKind} (ids : Ids) (c : Collection) (account : AccountState)
   bad_row : (fault : CheckFault) → outcome ≡ outcomes.BadRow fault → (own.tries ≡ [] ⊎ IsFairEnd c held outcome) → ⊥
   bad_row fault is (inl none) =
       unchecked (stops.BadRow fault) none (subst (EndsAt (meta_tried own.meta ∷ own.tries) after.wire) is own.ends)
-  bad_row fault is (inr fair_end) = subst (IsFairEnd c held) is fair_end it.joinable.joins
+  bad_row fault is (inr fair_end) = fair_end (stops.BadRow fault) is it.joinable.joins
 
   bad_counts : (client server : SanityCounts) → outcome ≡ outcomes.BadCounts client server → (own.tries ≡ [] ⊎ IsFairEnd c held outcome) → ⊥
   bad_counts client server is (inl none) =
       unchecked (stops.BadCounts client server) none (subst (EndsAt (meta_tried own.meta ∷ own.tries) after.wire) is own.ends)
-  bad_counts client server is (inr fair_end) = subst (IsFairEnd c held) is fair_end
+  bad_counts client server is (inr fair_end) = fair_end (stops.BadCounts client server) is
 
   -- and the chunks are few
   too_many : outcome ≡ outcomes.TooManyChunks → (own.tries ≡ [] ⊎ IsFairEnd c held outcome) → ⊥
@@ -217,7 +217,7 @@ module _ {kind : WireKind} (ids : Ids) (c : Collection) (account : AccountState)
       none_many : AreTooMany (meta_tried own.meta ∷ []) → ⊥
       none_many (inl came) = omega (arith, came)
       none_many (inr sent) = omega (arith, sent)
-  too_many is (inr fair_end) = by (subst (IsFairEnd c held) is fair_end)
+  too_many is (inr fair_end) = by (fair_end stops.TooManyChunks is)
     where
       by : HasTenMillionRows c held → ⊥
       by (inl pulled) = let less = it.joinable.pulled in omega (arith, pulled, less)

@@ -25,7 +25,6 @@ use Rattle.ak_exchange.specs.Grants.{AllGrantedButLast, IsCheckedLast, IsGranted
 use Rattle.ak_exchange.specs.Phases.{held_by}
 use Rattle.ak_exchange.specs.Stops.{keep_stop, verdict_of}
 use Rattle.ak_exchange.specs.declared.envelopes.Ids.{Ids}
-use Rattle.ak_exchange.specs.declared.stops.Stop.{Stop}
 use Rattle.ak_exchange.specs.declared.stops.Stop.TheVariants as stops
 use Rattle.ak_faults.specs.Causes.{HasCauseOf}
 use Rattle.ak_keep.specs.Collections.{Collection}
@@ -104,38 +103,38 @@ is_later outcome = false
 
 -- a sync that ended so was not ended by the clocks
 clocks_pass : (said : MetaSaid) (second : ℤ) (outcome : Outcome) → is_later outcome ≡ true
-    → ((stop : Stop) → clock_stop said second ≡ Some stop → outcome ≡ outcome_at stop) → clock_stop said second ≡ None
+    → ((why : Outcome) → clock_stop said second ≡ Some why → outcome ≡ why) → clock_stop said second ≡ None
 clocks_pass said second outcome later = by said.cont (are_far_apart second said.ts)
   where
     by : (cont far : Bool)
-        → ((stop : Stop) → (if not cont then Some stops.Stopped else if far then Some (stops.ClockOff second said.ts) else None) ≡ Some stop → outcome ≡ outcome_at stop)
-        → (if not cont then Some stops.Stopped else if far then Some (stops.ClockOff second said.ts) else None) ≡ None
-    by false far ends = absurd (not_both later (ap is_later (ends stops.Stopped refl)))
-    by true true ends = absurd (not_both later (ap is_later (ends (stops.ClockOff second said.ts) refl)))
+        → ((why : Outcome) → (if not cont then Some outcomes.Stopped else if far then Some (outcomes.ClockOff second said.ts) else None) ≡ Some why → outcome ≡ why)
+        → (if not cont then Some outcomes.Stopped else if far then Some (outcomes.ClockOff second said.ts) else None) ≡ None
+    by false far ends = absurd (not_both later (ap is_later (ends outcomes.Stopped refl)))
+    by true true ends = absurd (not_both later (ap is_later (ends (outcomes.ClockOff second said.ts) refl)))
     by true false ends = refl
 
 -- and the two sides have one schema moment
 schemas_agree : (said : MetaSaid) (c : Collection) (outcome : Outcome) → is_later outcome ≡ true
-    → ((stop : Stop) → device_stop said (held_by c) ≡ Some stop → (outcome ≡ outcome_at stop) ⊎ ((fault : KeepFault) × (outcome ≡ outcome_at (keep_stop fault))))
+    → ((why : Outcome) → device_stop said (held_by c) ≡ Some why → (outcome ≡ why) ⊎ ((fault : KeepFault) × (outcome ≡ outcome_at (keep_stop fault))))
     → c.head.schema ≡ said.scm
 schemas_agree said c outcome later = by (is_unchanged said c.head c.rows) (int_eq c.head.schema said.scm) refl
   where
-    never : (stop : Stop) → is_later (outcome_at stop) ≡ false
-        → (outcome ≡ outcome_at stop) ⊎ ((fault : KeepFault) × (outcome ≡ outcome_at (keep_stop fault))) → ⊥
-    never stop other (inl is) = not_both later (ap is_later is ∙ other)
-    never stop other (inr (faults.Failed, is)) = not_both later (ap is_later is)
-    never stop other (inr (faults.Memory, is)) = not_both later (ap is_later is)
+    never : (why : Outcome) → is_later why ≡ false
+        → (outcome ≡ why) ⊎ ((fault : KeepFault) × (outcome ≡ outcome_at (keep_stop fault))) → ⊥
+    never why other (inl is) = not_both later (ap is_later is ∙ other)
+    never why other (inr (faults.Failed, is)) = not_both later (ap is_later is)
+    never why other (inr (faults.Memory, is)) = not_both later (ap is_later is)
 
     by : (unchanged schemas : Bool) → int_eq c.head.schema said.scm ≡ schemas
-        → ((stop : Stop) → option_or (if unchanged then Some stops.NoChanges
-        else if not schemas then Some (stops.FullSchema c.head.schema said.scm)
-        else if int_eq said.usn last_head_usn then Some (stops.FullSequence said.usn)
-        else None) (option_map (λ (fault : CheckFault). stops.OwnCheck fault) (first_fault c.rows)) ≡ Some stop
-        → (outcome ≡ outcome_at stop) ⊎ ((fault : KeepFault) × (outcome ≡ outcome_at (keep_stop fault))))
+        → ((why : Outcome) → option_or (if unchanged then Some outcomes.NoChanges
+        else if not schemas then Some (outcomes.FullSchema c.head.schema said.scm)
+        else if int_eq said.usn last_head_usn then Some (outcomes.FullSequence said.usn)
+        else None) (option_map (λ (fault : CheckFault). outcomes.OwnCheck fault) (first_fault c.rows)) ≡ Some why
+        → (outcome ≡ why) ⊎ ((fault : KeepFault) × (outcome ≡ outcome_at (keep_stop fault))))
         → c.head.schema ≡ said.scm
-    by true schemas is found = absurd (never stops.NoChanges refl (found stops.NoChanges refl))
+    by true schemas is found = absurd (never outcomes.NoChanges refl (found outcomes.NoChanges refl))
     by false false is found =
-        absurd (never (stops.FullSchema c.head.schema said.scm) refl (found (stops.FullSchema c.head.schema said.scm) refl))
+        absurd (never (outcomes.FullSchema c.head.schema said.scm) refl (found (outcomes.FullSchema c.head.schema said.scm) refl))
     by false true is found = grind (arith, ints, is)
 
 -- ---- what was tried last
@@ -225,8 +224,8 @@ module _ {kind : WireKind} (ids : Ids) (c : Collection) (account : AccountState)
         by : (at : ℤ) → EndsByMeta said.0 at before.keeping outcome → c.head.schema ≡ said.0.scm
         by at ends =
             schemas_agree said.0 c outcome later
-            (subst (λ (k : Keeping). WhereTold k (λ h. (stop : Stop) → device_stop said.0 h ≡ Some stop
-            → (outcome ≡ outcome_at stop) ⊎ ((fault : KeepFault) × (outcome ≡ outcome_at (keep_stop fault))))) it.holds
+            (subst (λ (k : Keeping). WhereTold k (λ h. (why : Outcome) → device_stop said.0 h ≡ Some why
+            → (outcome ≡ why) ⊎ ((fault : KeepFault) × (outcome ≡ outcome_at (keep_stop fault))))) it.holds
             (ends.by_device (clocks_pass said.0 (second_of at) outcome later ends.by_clocks)))
 
     -- what came after the meta

@@ -13,11 +13,10 @@ use Rattle.ak_client.specs.Unsent.{has_unsent}
 use Rattle.ak_client.specs.Outcomes.{is_told_by_meta}
 use Rattle.ak_client.specs.Syncs.{EndsBecause, EndsByMeta, told_by, world_at}
 use Rattle.ak_client.specs.declared.outcomes.Outcome.{Outcome}
+use Rattle.ak_client.specs.declared.outcomes.Outcome.TheVariants as outcomes
 use Rattle.ak_exchange.specs.Asked.{AreTried, TriedAsk, asker}
 use Rattle.ak_exchange.specs.Phases.{held_by, holding}
 use Rattle.ak_exchange.specs.declared.envelopes.Ids.{Ids}
-use Rattle.ak_exchange.specs.declared.stops.Stop.{Stop}
-use Rattle.ak_exchange.specs.declared.stops.Stop.TheVariants as stops
 use Rattle.ak_faults.specs.Causes.{Health}
 use Rattle.ak_io.specs.Arrivals.{GivesNext}
 use Rattle.ak_keep.specs.Collections.{Collection}
@@ -132,17 +131,17 @@ module _ {kind : WireKind} (ids : Ids) (account : AccountState) (old now : Log) 
 -- ---- it lets the sync go on
 pub clocks_pass : (s : Collection) (at : ℤ) (said : MetaSaid) → Says s at said → clock_stop said (second_of at) ≡ None
 clocks_pass s at said says =
-    ap (λ (b : Bool). if not b then Some stops.Stopped else if are_far_apart (second_of at) said.ts then Some (stops.ClockOff (second_of at) said.ts) else None) says.cont
-    ∙ ap (λ (b : Bool). if b then Some (stops.ClockOff (second_of at) said.ts) else None) says.near
+    ap (λ (b : Bool). if not b then Some outcomes.Stopped else if are_far_apart (second_of at) said.ts then Some (outcomes.ClockOff (second_of at) said.ts) else None) says.cont
+    ∙ ap (λ (b : Bool). if b then Some (outcomes.ClockOff (second_of at) said.ts) else None) says.near
 
 module _ (c s : Collection) (schema : c.head.schema ≡ s.head.schema) (differ : have_nothing_to_sync c s ≡ false) (room : s.head.usn <ℤ last_head_usn)
     (sound : first_fault c.rows ≡ None) (at : ℤ) (said : MetaSaid) (says : Says s at said) where
   heads_pass : head_stop said c.head (is_unchanged said c.head c.rows) ≡ None
   heads_pass =
-      ap (λ (b : Bool). if b then Some stops.NoChanges else if not (int_eq c.head.schema said.scm) then Some (stops.FullSchema c.head.schema said.scm)
-      else if int_eq said.usn last_head_usn then Some (stops.FullSequence said.usn) else None) changed
-      ∙ ap (λ (b : Bool). if not b then Some (stops.FullSchema c.head.schema said.scm) else if int_eq said.usn last_head_usn then Some (stops.FullSequence said.usn) else None) schemas
-      ∙ ap (λ (b : Bool). if b then Some (stops.FullSequence said.usn) else None) numbers
+      ap (λ (b : Bool). if b then Some outcomes.NoChanges else if not (int_eq c.head.schema said.scm) then Some (outcomes.FullSchema c.head.schema said.scm)
+      else if int_eq said.usn last_head_usn then Some (outcomes.FullSequence said.usn) else None) changed
+      ∙ ap (λ (b : Bool). if not b then Some (outcomes.FullSchema c.head.schema said.scm) else if int_eq said.usn last_head_usn then Some (outcomes.FullSequence said.usn) else None) schemas
+      ∙ ap (λ (b : Bool). if b then Some (outcomes.FullSequence said.usn) else None) numbers
     where
       changed : is_unchanged said c.head c.rows ≡ false
       changed =
@@ -159,8 +158,8 @@ module _ (c s : Collection) (schema : c.head.schema ≡ s.head.schema) (differ :
 
   device_passes : device_stop said (held_by c) ≡ None
   device_passes =
-      ap (λ (o : Option Stop). option_or o (option_map (λ (fault : CheckFault). stops.OwnCheck fault) (first_fault c.rows))) heads_pass
-      ∙ ap (option_map (λ (fault : CheckFault). stops.OwnCheck fault)) sound
+      ap (λ (o : Option Outcome). option_or o (option_map (λ (fault : CheckFault). outcomes.OwnCheck fault) (first_fault c.rows))) heads_pass
+      ∙ ap (option_map (λ (fault : CheckFault). outcomes.OwnCheck fault)) sound
 
 -- the clock gives the moment that it told
 pub gives_told : (at other : ℤ) (later : List ℤ) (new : Option (List ℤ)) → GivesNext (Some (at ∷ later)) new other → other ≡ at
@@ -183,8 +182,7 @@ goes_on_after ids c s answer moment at later tries before moments outcome says s
       where
         ended : (other : ℤ) (to_come : Option (List ℤ)) → GivesNext moments to_come other → EndsByMeta said other before outcome → ⊥
         ended other to_come given ends =
-            let why = ends.only told in
-            by_why why.0 why.2
+            by_why (ends.only told)
           where
             pass : clock_stop said (second_of other) ≡ None
             pass =
@@ -192,9 +190,9 @@ goes_on_after ids c s answer moment at later tries before moments outcome says s
                 (gives_told at other later to_come (subst (λ (o : Option (List ℤ)). GivesNext o to_come other) clock given))
                 ∙ clocks_pass s at said (says said is)
 
-            by_why : (stop : Stop) → (clock_stop said (second_of other) ≡ Some stop)
-                ⊎ ((clock_stop said (second_of other) ≡ None) × WhereTold before (λ h. device_stop said h ≡ Some stop)) → ⊥
-            by_why stop (inl found) = none-some stop (sym pass ∙ found)
-            by_why stop (inr (passed, found)) =
-                none-some stop (sym (device_passes c s schema differ room sound at said (says said is))
-                ∙ subst (λ (k : Keeping). WhereTold k (λ h. device_stop said h ≡ Some stop)) holds found)
+            by_why : (clock_stop said (second_of other) ≡ Some outcome)
+                ⊎ ((clock_stop said (second_of other) ≡ None) × WhereTold before (λ h. device_stop said h ≡ Some outcome)) → ⊥
+            by_why (inl found) = none-some outcome (sym pass ∙ found)
+            by_why (inr (passed, found)) =
+                none-some outcome (sym (device_passes c s schema differ room sound at said (says said is))
+                ∙ subst (λ (k : Keeping). WhereTold k (λ h. device_stop said h ≡ Some outcome)) holds found)

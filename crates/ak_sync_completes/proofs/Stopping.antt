@@ -6,7 +6,7 @@ use Rattle.std.proofs.Common.{refl, sym, ap, subst, ◌∙◌, inl, inr}
 use Rattle.std.proofs.lemmas.Option.{none-some, same_Some}
 use Rattle.ak_base.specs.Limits.{last_head_usn}
 use Rattle.ak_client.specs.Greetings.{are_far_apart, clock_stop, device_stop, is_unchanged, meta_of}
-use Rattle.ak_client.specs.Outcomes.{is_told_by_meta, outcome_at}
+use Rattle.ak_client.specs.Outcomes.{is_told_by_meta}
 use Rattle.ak_client.specs.Syncs.{IsSyncEnded, told_by}
 use Rattle.ak_client.specs.declared.outcomes.Outcome.{Outcome}
 use Rattle.ak_client.specs.declared.outcomes.Outcome.TheVariants as outcomes
@@ -16,8 +16,6 @@ use Rattle.ak_client_wire.specs.declared.wires.MetaSaid.{MetaSaid}
 use Rattle.ak_exchange.specs.Asked.{AreTried, answers_in, asker, asks_in}
 use Rattle.ak_exchange.specs.Phases.{held_by, holding}
 use Rattle.ak_exchange.specs.declared.envelopes.Ids.{Ids}
-use Rattle.ak_exchange.specs.declared.stops.Stop.{Stop}
-use Rattle.ak_exchange.specs.declared.stops.Stop.TheVariants as stops
 use Rattle.ak_faults.specs.Causes.{Health}
 use Rattle.ak_keep.specs.Collections.{Collection}
 use Rattle.ak_keep.specs.Keepers.{Keeping, WhereTold}
@@ -43,31 +41,31 @@ is_stopped outcomes.Stopped = true
 is_stopped outcome = false
 
 -- the server lets the sync go on, so the clocks do not stop it so
-pub clocks_other : (said : MetaSaid) (second : ℤ) (stop : Stop) → said.cont ≡ true → clock_stop said second ≡ Some stop → is_stopped (outcome_at stop) ≡ false
-clocks_other said second stop goes is =
+pub clocks_other : (said : MetaSaid) (second : ℤ) (why : Outcome) → said.cont ≡ true → clock_stop said second ≡ Some why → is_stopped why ≡ false
+clocks_other said second why goes is =
     by (are_far_apart second said.ts)
-    (sym (ap (λ (b : Bool). if not b then Some stops.Stopped else if are_far_apart second said.ts then Some (stops.ClockOff second said.ts) else None) goes) ∙ is)
+    (sym (ap (λ (b : Bool). if not b then Some outcomes.Stopped else if are_far_apart second said.ts then Some (outcomes.ClockOff second said.ts) else None) goes) ∙ is)
   where
-    by : (b : Bool) → (if b then Some (stops.ClockOff second said.ts) else None) ≡ Some stop → is_stopped (outcome_at stop) ≡ false
-    by true found = ap (λ (s : Stop). is_stopped (outcome_at s)) (sym (same_Some (stops.ClockOff second said.ts) stop found))
-    by false found = absurd (none-some stop found)
+    by : (b : Bool) → (if b then Some (outcomes.ClockOff second said.ts) else None) ≡ Some why → is_stopped why ≡ false
+    by true found = ap is_stopped (sym (same_Some (outcomes.ClockOff second said.ts) why found))
+    by false found = absurd (none-some why found)
 
 -- and neither does the device
-device_other : (said : MetaSaid) (c : Collection) (stop : Stop) → device_stop said (held_by c) ≡ Some stop → is_stopped (outcome_at stop) ≡ false
-device_other said c stop = by (is_unchanged said c.head c.rows) (int_eq c.head.schema said.scm) (int_eq said.usn last_head_usn)
+device_other : (said : MetaSaid) (c : Collection) (why : Outcome) → device_stop said (held_by c) ≡ Some why → is_stopped why ≡ false
+device_other said c why = by (is_unchanged said c.head c.rows) (int_eq c.head.schema said.scm) (int_eq said.usn last_head_usn)
   where
-    own : (o : Option CheckFault) → option_map (λ (fault : CheckFault). stops.OwnCheck fault) o ≡ Some stop → is_stopped (outcome_at stop) ≡ false
-    own None found = absurd (none-some stop found)
-    own (Some fault) found = ap (λ (s : Stop). is_stopped (outcome_at s)) (sym (same_Some (stops.OwnCheck fault) stop found))
+    own : (o : Option CheckFault) → option_map (λ (fault : CheckFault). outcomes.OwnCheck fault) o ≡ Some why → is_stopped why ≡ false
+    own None found = absurd (none-some why found)
+    own (Some fault) found = ap is_stopped (sym (same_Some (outcomes.OwnCheck fault) why found))
 
     by : (unchanged schemas last : Bool)
-        → option_or (if unchanged then Some stops.NoChanges
-        else if not schemas then Some (stops.FullSchema c.head.schema said.scm)
-        else if last then Some (stops.FullSequence said.usn)
-        else None) (option_map (λ (fault : CheckFault). stops.OwnCheck fault) (first_fault c.rows)) ≡ Some stop → is_stopped (outcome_at stop) ≡ false
-    by true schemas last found = ap (λ (s : Stop). is_stopped (outcome_at s)) (sym (same_Some stops.NoChanges stop found))
-    by false false last found = ap (λ (s : Stop). is_stopped (outcome_at s)) (sym (same_Some (stops.FullSchema c.head.schema said.scm) stop found))
-    by false true true found = ap (λ (s : Stop). is_stopped (outcome_at s)) (sym (same_Some (stops.FullSequence said.usn) stop found))
+        → option_or (if unchanged then Some outcomes.NoChanges
+        else if not schemas then Some (outcomes.FullSchema c.head.schema said.scm)
+        else if last then Some (outcomes.FullSequence said.usn)
+        else None) (option_map (λ (fault : CheckFault). outcomes.OwnCheck fault) (first_fault c.rows)) ≡ Some why → is_stopped why ≡ false
+    by true schemas last found = ap is_stopped (sym (same_Some outcomes.NoChanges why found))
+    by false false last found = ap is_stopped (sym (same_Some (outcomes.FullSchema c.head.schema said.scm) why found))
+    by false true true found = ap is_stopped (sym (same_Some (outcomes.FullSequence said.usn) why found))
     by false true false found = own (first_fault c.rows) found
 
 -- ---- the meta
@@ -104,16 +102,15 @@ module _ {kind : WireKind} (ids : Ids) (old : Log) (h0 h1 : Health) (w0 w1 : Wir
       goes : (said : MetaSaid) → told_by ended.sync.meta ≡ Some said → said.cont ≡ true
       goes = said_goes ended.sync.meta (requests_from (asker ids) ended.sync.moment 1 (asks_in ended.sync.tries)) (answers_in ended.sync.tries) ended.sync.tried
 
-      of_stop : (said : MetaSaid) (second : ℤ) → said.cont ≡ true → (stop : Stop) → outcome ≡ outcome_at stop
-          → (clock_stop said second ≡ Some stop) ⊎ ((clock_stop said second ≡ None) × WhereTold before (λ h. device_stop said h ≡ Some stop)) → ⊥
-      of_stop said second cont stop is (inl found) = not_both (ap is_stopped (sym is ∙ stopped)) (clocks_other said second stop cont found)
-      of_stop said second cont stop is (inr (pass, found)) =
-          not_both (ap is_stopped (sym is ∙ stopped))
-          (device_other said c stop (subst (λ (k : Keeping). WhereTold k (λ h. device_stop said h ≡ Some stop)) holds found))
+      by_why : (said : MetaSaid) (second : ℤ) → said.cont ≡ true
+          → (clock_stop said second ≡ Some outcome) ⊎ ((clock_stop said second ≡ None) × WhereTold before (λ h. device_stop said h ≡ Some outcome)) → ⊥
+      by_why said second cont (inl found) = not_both (ap is_stopped stopped) (clocks_other said second outcome cont found)
+      by_why said second cont (inr (pass, found)) =
+          not_both (ap is_stopped stopped)
+          (device_other said c outcome (subst (λ (k : Keeping). WhereTold k (λ h. device_stop said h ≡ Some outcome)) holds found))
 
       by : (o : Option MetaSaid) → told_by ended.sync.meta ≡ o → ⊥
       by None none = not_both (ap is_told_by_meta stopped) (ended.because.unmet none)
       by (Some said) is =
           let met = ended.because.met said is in
-          let why = met.3.only (ap is_told_by_meta stopped) in
-          of_stop said (second_of met.0) (goes said is) why.0 why.1 why.2
+          by_why said (second_of met.0) (goes said is) (met.3.only (ap is_told_by_meta stopped))

@@ -10,7 +10,6 @@ use Rattle.ak_client.specs.declared.outcomes.Outcome.TheVariants as outcomes
 use Rattle.ak_exchange.specs.Asked.{AreTried, asker, request_at}
 use Rattle.ak_exchange.specs.Stops.{wire_stop}
 use Rattle.ak_exchange.specs.declared.envelopes.Ids.{Ids}
-use Rattle.ak_exchange.specs.declared.stops.Stop.{Stop}
 use Rattle.ak_faults.proofs.Healths.{cause_after}
 use Rattle.ak_io.specs.Arrivals.{GivesNext}
 use Rattle.ak_keep.specs.Collections.{Collection}
@@ -180,10 +179,10 @@ module _ {kind : WireKind} {T : Type 0} (errand : Errand T) (ids : Ids) (c : Col
         (meta_comes ids c account before after it answer (request_at (asker ids) said.moment 1 once.ask ∷ []) (once.heard.answer ∷ [])
         (met.health, met.wire, transfer.meta.tried, (after.health, after.wire, once.heard.tried, (refl, refl))))) once once.heard.answer refl
 
-    continued : (said : MetaSaid) → transfer.answer ≡ Ok said → (at : ℤ) → GivesNext before.moments after.moments at → (stop : Option Stop) → clock_stop said (second_of at) ≡ stop
-        → Continues errand ids said stop asked met now outcome → Ends
-    continued said is at given (Some stop) stops_it (nothing, ends_so) =
-        absurd (none-some stop (sym pass ∙ stops_it))
+    continued : (said : MetaSaid) → transfer.answer ≡ Ok said → (at : ℤ) → GivesNext before.moments after.moments at → (why : Option Outcome) → clock_stop said (second_of at) ≡ why
+        → Continues errand ids said why asked met now outcome → Ends
+    continued said is at given (Some why) ends_it (nothing, ends_so) =
+        absurd (none-some why (sym pass ∙ ends_it))
       where
         own : IsMet said
         own = met_so said is (meta_comes ids c account before after it answer [] [] (asked_nothing nothing))
@@ -192,7 +191,7 @@ module _ {kind : WireKind} {T : Type 0} (errand : Errand T) (ids : Ids) (c : Col
         pass =
             ap (λ (moment : ℤ). clock_stop said (second_of moment)) (clock_is ids c account before after it at after.moments given)
             ∙ clocks_pass held it.at said own.says
-    continued said is at given None stops_it goes = may_end said is goes
+    continued said is at given None ends_it goes = may_end said is goes
 
     followed : (result : Result MetaSaid Unanswered) → transfer.answer ≡ result
         → Follows errand ids result asked (record { line = met; moments = before.moments }) (record { line = now; moments = after.moments }) outcome → Ends

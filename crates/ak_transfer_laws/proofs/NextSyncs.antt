@@ -6,7 +6,6 @@ use Rattle.ak_client.specs.declared.outcomes.Outcome.{Outcome}
 use Rattle.ak_client.specs.declared.outcomes.Outcome.TheVariants as outcomes
 use Rattle.ak_client_wire.specs.Wires.{WireKind}
 use Rattle.ak_exchange.specs.declared.envelopes.Ids.{Ids}
-use Rattle.ak_exchange.specs.declared.stops.Stop.TheVariants as stops
 use Rattle.ak_keep.specs.Collections.{Collection}
 use Rattle.ak_keep.specs.Keepers.{Keeping}
 use Rattle.ak_merge.specs.Commits.{IsCopyOf}
@@ -26,18 +25,18 @@ module _ {kind : WireKind} (ids : Ids) (d : Collection) (account : AccountState)
     (over : IsSyncOver ids before after outcome) where
   pub copies_end : IsCopyOf (committed_before ids account it.old) d → EndsWith outcomes.NoChanges it.growth outcome ⊎ (outcome ≡ outcomes.Lost)
   copies_end copy =
-      syncs_end ids d account before after outcome it over stops.NoChanges
+      syncs_end ids d account before after outcome it over outcomes.NoChanges
       (λ said says. copies_stop (committed_before ids account it.old) d it.at said (lawful ids d account before after it) copy says)
 
   pub equals_end : have_nothing_to_sync d (committed_before ids account it.old) ≡ true → EndsWith outcomes.NoChanges it.growth outcome ⊎ (outcome ≡ outcomes.Lost)
   equals_end nothing =
-      syncs_end ids d account before after outcome it over stops.NoChanges
+      syncs_end ids d account before after outcome it over outcomes.NoChanges
       (λ said says. equal_sides_stop (committed_before ids account it.old) d it.at said nothing says)
 
   pub schemas_end : d.head.schema ≢ (committed_before ids account it.old).head.schema
       → EndsWith (outcomes.FullSchema d.head.schema (committed_before ids account it.old).head.schema) it.growth outcome ⊎ (outcome ≡ outcomes.Lost)
   schemas_end differ =
-      syncs_end ids d account before after outcome it over (stops.FullSchema d.head.schema (committed_before ids account it.old).head.schema)
+      syncs_end ids d account before after outcome it over (outcomes.FullSchema d.head.schema (committed_before ids account it.old).head.schema)
       (λ said says. schemas_stop (committed_before ids account it.old) d it.at said differ says)
 
 pub after_upload : {kind : WireKind} (who : Asker) (asked : List Ask) (sent : Collection) (account : AccountState) (was now : Log) (left : Keeping)

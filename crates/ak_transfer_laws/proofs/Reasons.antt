@@ -8,10 +8,10 @@ use Rattle.ak_base.specs.Limits.{last_head_usn}
 use Rattle.ak_base.specs.declared.heads.Head.{Head}
 use Rattle.ak_client.specs.Greetings.{device_stop, is_unchanged}
 use Rattle.ak_client.specs.Unsent.{has_unsent}
+use Rattle.ak_client.specs.declared.outcomes.Outcome.{Outcome}
+use Rattle.ak_client.specs.declared.outcomes.Outcome.TheVariants as outcomes
 use Rattle.ak_client_wire.specs.declared.wires.MetaSaid.{MetaSaid}
 use Rattle.ak_exchange.specs.Phases.{held_by}
-use Rattle.ak_exchange.specs.declared.stops.Stop.{Stop}
-use Rattle.ak_exchange.specs.declared.stops.Stop.TheVariants as stops
 use Rattle.ak_keep.specs.Collections.{Collection}
 use Rattle.ak_merge.specs.Commits.{IsCommitted, IsCopyOf}
 use Rattle.ak_merge.specs.Soundness.{first_fault}
@@ -21,8 +21,8 @@ use Rattle.ak_sync_completes.proofs.Metas.{Says}
 use Rattle.ak_sync_completes.specs.Completing.{have_nothing_to_sync}
 use Rattle.ak_transfer_laws.proofs.Sent.{all_sent}
 
-abbrev own_faults : Collection → Option Stop
-own_faults c = option_map (λ (fault : CheckFault). stops.OwnCheck fault) (first_fault c.rows)
+abbrev own_faults : Collection → Option Outcome
+own_faults c = option_map (λ (fault : CheckFault). outcomes.OwnCheck fault) (first_fault c.rows)
 
 same_is : (a b : ℤ) → a ≡ b → int_eq a b ≡ true
 same_is a b is = (signed_Decides a b).1 is
@@ -35,14 +35,14 @@ differs_is a b differs = by (int_eq a b) refl
     by false is = is
 
 -- a device on which nothing changed has nothing to sync
-unchanged_stop : (c : Collection) (said : MetaSaid) → is_unchanged said c.head c.rows ≡ true → device_stop said (held_by c) ≡ Some stops.NoChanges
+unchanged_stop : (c : Collection) (said : MetaSaid) → is_unchanged said c.head c.rows ≡ true → device_stop said (held_by c) ≡ Some outcomes.NoChanges
 unchanged_stop c said unchanged =
-    ap (λ (b : Bool). option_or (if b then Some stops.NoChanges else if not (int_eq c.head.schema said.scm) then Some (stops.FullSchema c.head.schema said.scm)
-    else if int_eq said.usn last_head_usn then Some (stops.FullSequence said.usn) else None) (own_faults c)) unchanged
+    ap (λ (b : Bool). option_or (if b then Some outcomes.NoChanges else if not (int_eq c.head.schema said.scm) then Some (outcomes.FullSchema c.head.schema said.scm)
+    else if int_eq said.usn last_head_usn then Some (outcomes.FullSequence said.usn) else None) (own_faults c)) unchanged
 
 -- so it is where the heads are equal and nothing is to be sent
 pub equal_sides_stop : (s c : Collection) (at : ℤ) (said : MetaSaid) → have_nothing_to_sync c s ≡ true → Says s at said
-    → device_stop said (held_by c) ≡ Some stops.NoChanges
+    → device_stop said (held_by c) ≡ Some outcomes.NoChanges
 equal_sides_stop s c at said nothing says =
     unchanged_stop c said
     (ap (λ (moment : ℤ). (int_eq c.head.moment moment && int_eq c.head.schema said.scm && int_eq c.head.usn said.usn) && not (has_unsent c.rows c.head.tags)) says.moment
@@ -51,7 +51,7 @@ equal_sides_stop s c at said nothing says =
     ∙ nothing)
 
 -- a copy has nothing to sync
-pub copies_stop : (s c : Collection) (at : ℤ) (said : MetaSaid) → IsCommitted s → IsCopyOf s c → Says s at said → device_stop said (held_by c) ≡ Some stops.NoChanges
+pub copies_stop : (s c : Collection) (at : ℤ) (said : MetaSaid) → IsCommitted s → IsCopyOf s c → Says s at said → device_stop said (held_by c) ≡ Some outcomes.NoChanges
 copies_stop s c at said lawful copy says = unchanged_stop c said unchanged
   where
     moment : int_eq c.head.moment said.moment ≡ true
@@ -72,13 +72,13 @@ copies_stop s c at said lawful copy says = unchanged_stop c said unchanged
 
 -- another schema moment needs the whole collection
 pub schemas_stop : (s c : Collection) (at : ℤ) (said : MetaSaid) → c.head.schema ≢ s.head.schema → Says s at said
-    → device_stop said (held_by c) ≡ Some (stops.FullSchema c.head.schema s.head.schema)
+    → device_stop said (held_by c) ≡ Some (outcomes.FullSchema c.head.schema s.head.schema)
 schemas_stop s c at said differ says =
-    ap (λ (b : Bool). option_or (if b then Some stops.NoChanges else if not (int_eq c.head.schema said.scm) then Some (stops.FullSchema c.head.schema said.scm)
-    else if int_eq said.usn last_head_usn then Some (stops.FullSequence said.usn) else None) (own_faults c)) changed
-    ∙ ap (λ (b : Bool). option_or (if not b then Some (stops.FullSchema c.head.schema said.scm)
-    else if int_eq said.usn last_head_usn then Some (stops.FullSequence said.usn) else None) (own_faults c)) schemas
-    ∙ ap (λ (scm : ℤ). Some (stops.FullSchema c.head.schema scm)) says.schema
+    ap (λ (b : Bool). option_or (if b then Some outcomes.NoChanges else if not (int_eq c.head.schema said.scm) then Some (outcomes.FullSchema c.head.schema said.scm)
+    else if int_eq said.usn last_head_usn then Some (outcomes.FullSequence said.usn) else None) (own_faults c)) changed
+    ∙ ap (λ (b : Bool). option_or (if not b then Some (outcomes.FullSchema c.head.schema said.scm)
+    else if int_eq said.usn last_head_usn then Some (outcomes.FullSequence said.usn) else None) (own_faults c)) schemas
+    ∙ ap (λ (scm : ℤ). Some (outcomes.FullSchema c.head.schema scm)) says.schema
   where
     schemas : int_eq c.head.schema said.scm ≡ false
     schemas = differs_is c.head.schema said.scm (λ is. differ (is ∙ says.schema))

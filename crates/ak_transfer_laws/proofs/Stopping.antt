@@ -15,7 +15,6 @@ use Rattle.ak_client_wire.specs.declared.wires.MetaSaid.{MetaSaid}
 use Rattle.ak_client_wire.specs.declared.wires.WireEnd.TheVariants as ends
 use Rattle.ak_exchange.specs.Stops.{wire_stop}
 use Rattle.ak_exchange.specs.declared.envelopes.Ids.{Ids}
-use Rattle.ak_exchange.specs.declared.stops.Stop.{Stop}
 use Rattle.ak_keep.specs.Keepers.{Keeping}
 use Rattle.ak_merge.specs.Edits.{second_of}
 use Rattle.ak_messages.specs.declared.replies.Reply.{Reply}
@@ -59,9 +58,9 @@ module _ {kind : WireKind} {T : Type 0} (errand : Errand T) (ids : Ids) (old : L
   asked_other ask (Err why) is = ap is_stopped is ∙ wire_other why
   asked_other ask (Ok given) how = ended ask given how
 
-  met_other : (said : MetaSaid) (second : ℤ) (asked : List Ask) (met : Line kind) → said.cont ≡ true → (stop : Option Stop) → clock_stop said second ≡ stop
-      → Continues errand ids said stop asked met now.line outcome → is_stopped outcome ≡ false
-  met_other said second asked met cont (Some stop) found (nothing, is) = ap is_stopped is ∙ clocks_other said second stop cont found
+  met_other : (said : MetaSaid) (second : ℤ) (asked : List Ask) (met : Line kind) → said.cont ≡ true → (why : Option Outcome) → clock_stop said second ≡ why
+      → Continues errand ids said why asked met now.line outcome → is_stopped outcome ≡ false
+  met_other said second asked met cont (Some why) found (nothing, is) = ap is_stopped is ∙ clocks_other said second why cont found
   met_other said second asked met cont None found (inl (nothing, how)) = unasked how
   met_other said second asked met cont None found (inr once) = asked_other once.ask once.answer once.ends
 

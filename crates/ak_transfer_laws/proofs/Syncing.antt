@@ -51,13 +51,13 @@ ungiven : (reply : Reply) → reply.status ≢ 200 → told_by (Ok reply) ≡ No
 ungiven reply other = ap (λ (b : Bool). if b then meta_in reply.give else None) (not_granted reply other)
 
 module _ {kind : WireKind} (ids : Ids) (c : Collection) (account : AccountState) (before after : SyncEnds kind) (outcome : Outcome) (it : IsLeftAlone ids c account before after)
-    (over : IsSyncOver ids before after outcome) (stop : Stop)
-    (stops_so : (said : MetaSaid) → Says (committed_before ids account it.old) it.at said → device_stop said (held_by c) ≡ Some stop) where
+    (over : IsSyncOver ids before after outcome) (why : Outcome)
+    (stops_so : (said : MetaSaid) → Says (committed_before ids account it.old) it.at said → device_stop said (held_by c) ≡ Some why) where
   abbrev own : IsSync ids before.keeping after.keeping before.health after.health before.wire after.wire outcome
   own = over.ended.sync
 
   abbrev Ends : Type 0
-  Ends = EndsWith (outcome_at stop) it.growth outcome ⊎ (outcome ≡ outcomes.Lost)
+  Ends = EndsWith why it.growth outcome ⊎ (outcome ≡ outcomes.Lost)
 
   unkept : outcome ≢ outcomes.Keep
   unkept is = it.keeper (over.kept.failed is)
@@ -70,7 +70,7 @@ module _ {kind : WireKind} (ids : Ids) (c : Collection) (account : AccountState)
       refused faults.Failed is = absurd (unkept is)
       refused faults.Memory is = inl (inr (inl is))
 
-      by_device : (outcome ≡ outcome_at stop) ⊎ ((fault : KeepFault) × (outcome ≡ outcome_at (keep_stop fault))) → Ends
+      by_device : (outcome ≡ why) ⊎ ((fault : KeepFault) × (outcome ≡ outcome_at (keep_stop fault))) → Ends
       by_device (inl is) = inl (inl is)
       by_device (inr (fault, is)) = refused fault is
 
@@ -80,8 +80,8 @@ module _ {kind : WireKind} (ids : Ids) (c : Collection) (account : AccountState)
           ap (λ (moment : ℤ). clock_stop said (second_of moment)) (clock_is ids c account before after it at to_come given)
           ∙ clocks_pass (committed_before ids account it.old) it.at said says in
           by_device
-          (subst (λ (k : Keeping). WhereTold k (λ h. (why : Stop) → device_stop said h ≡ Some why
-          → (outcome ≡ outcome_at why) ⊎ ((fault : KeepFault) × (outcome ≡ outcome_at (keep_stop fault))))) it.holds (ends_so.by_device pass) stop (stops_so said says))
+          (subst (λ (k : Keeping). WhereTold k (λ h. (other : Outcome) → device_stop said h ≡ Some other
+          → (outcome ≡ other) ⊎ ((fault : KeepFault) × (outcome ≡ outcome_at (keep_stop fault))))) it.holds (ends_so.by_device pass) why (stops_so said says))
 
   -- ---- one that was not
   module _ (none : told_by own.meta ≡ None) (refused : (reply : Reply) → own.meta ≡ Ok reply → (reply.status ≢ 200) × RanOutOfMemory it.growth) (readable : own.meta ≢ Err ends.BadReply) where
@@ -102,8 +102,8 @@ module _ {kind : WireKind} (ids : Ids) (c : Collection) (account : AccountState)
     ungranted : IsGranted (meta_tried own.meta) → ⊥
     ungranted one = (refused one.reply one.is).0 one.status
 
-    unchecked : (why : Stop) → IsCheckedLast (meta_tried own.meta ∷ own.tries) why after.wire → ⊥
-    unchecked why check =
+    unchecked : (stop : Stop) → IsCheckedLast (meta_tried own.meta ∷ own.tries) stop after.wire → ⊥
+    unchecked stop check =
         let ask : asks.Meta ≡ asks.SanityCheck2 check.counts =
         ap (λ (t : TriedAsk). t.ask) (sym (only_meta check.it check.last.0 check.last.1)) ∙ check.asks in
         grind (arith, ask)
@@ -159,12 +159,12 @@ module _ {kind : WireKind} (ids : Ids) (c : Collection) (account : AccountState)
       (λ is. absurd (err_ok ends.BadReply reply (sym is ∙ answered))) outcome refl
   ends_by (inr (inr (inr (reply, said, answered, ok, given, says)))) = met said (ap told_by answered ∙ told_of reply said ok given) says
 
-  pub syncs_end : EndsWith (outcome_at stop) it.growth outcome ⊎ (outcome ≡ outcomes.Lost)
+  pub syncs_end : EndsWith why it.growth outcome ⊎ (outcome ≡ outcomes.Lost)
   syncs_end = ends_by (meta_comes ids c account before after it own.meta (requests_from (asker ids) own.moment 1 (asks_in own.tries)) (answers_in own.tries) own.tried)
 
-  pub syncs_end_faultless : (Rose before.health after.health → ⊥) → EndsWith (outcome_at stop) it.growth outcome
+  pub syncs_end_faultless : (Rose before.health after.health → ⊥) → EndsWith why it.growth outcome
   syncs_end_faultless calm = by syncs_end
     where
-      by : Ends → EndsWith (outcome_at stop) it.growth outcome
+      by : Ends → EndsWith why it.growth outcome
       by (inl so) = so
       by (inr lost) = absurd (calm (over.lost.failed lost))

@@ -19,7 +19,6 @@ use Rattle.ak_exchange.specs.Asked.{asker, request_at}
 use Rattle.ak_exchange.specs.Phases.{holding}
 use Rattle.ak_exchange.specs.Stops.{wire_stop}
 use Rattle.ak_exchange.specs.declared.envelopes.Ids.{Ids}
-use Rattle.ak_exchange.specs.declared.stops.Stop.{Stop}
 use Rattle.ak_exchange.specs.declared.stops.Stop.TheVariants as stops
 use Rattle.ak_keep.proofs.RowsByName.{all_from_gets}
 use Rattle.ak_keep.specs.Collections.{Collection, Rows, StandsUnderNames, rows_of}
@@ -40,7 +39,7 @@ use Rattle.ak_protocol.specs.Replies.{download_reply, whole_of}
 use Rattle.ak_protocol.specs.Sessions.{IsAsked}
 use Rattle.ak_protocol.specs.Syncs.{IsUnderWay, IsUnused}
 use Rattle.ak_session.specs.Plans.{Asker}
-use Rattle.ak_transfers.proofs.Logs.{Met, carried, grew_on, grew_once, grown_twice, met_by, met_said, unfinished, unused_later}
+use Rattle.ak_transfers.proofs.Logs.{Met, carried, clocks_unfinished, grew_on, grew_once, grown_twice, met_by, met_said, unfinished, unused_later}
 use Rattle.ak_transfers.specs.Forms.{downloaded_head, whole_in}
 use Rattle.ak_transfers.specs.Greetings.{Line, TransferOutside}
 use Rattle.ak_transfers.specs.Transfers.{AsksNothing, AsksOnce, Continues, DownloadEnds, Downloaded, DownloadsTold, Follows, Grew, HoldsLater, IsDownloaded, IsServedOver, IsTransfer, MayTransfer, TransferEnds, download_errand, put_in_place}
@@ -295,11 +294,11 @@ module _ {kind : WireKind} (ids : Ids) (before left : Keeping) (was now : Transf
             (λ end grows.
             asked_once ids c account old met.0 second.0 before left outcome holds lawful s over asks_it.answer reply came end grows))
 
-    goes : (said : MetaSaid) → it.answer ≡ Ok said → (o : Option Stop) → Continues (download_errand before left) ids said o asked it.met now.line outcome
-        → LeavesIt old
-    goes said is (Some stop) (none, end) = nothing none (unfinished outcome stop end)
-    goes said is None (inl (none, stops_it)) = absurd stops_it
-    goes said is None (inr asks_it) = once said is asks_it
+    goes : (said : MetaSaid) → it.answer ≡ Ok said → (second : ℤ) (o : Option Outcome) → clock_stop said second ≡ o
+        → Continues (download_errand before left) ids said o asked it.met now.line outcome → LeavesIt old
+    goes said is second (Some why) so (none, end) = nothing none (clocks_unfinished outcome why said second so end)
+    goes said is second None so (inl (none, stops_it)) = absurd stops_it
+    goes said is second None so (inr asks_it) = once said is asks_it
 
     leaves : LeavesIt old
     leaves = by it.answer refl it.follows
@@ -307,7 +306,7 @@ module _ {kind : WireKind} (ids : Ids) (before left : Keeping) (was now : Transf
         by : (answer : Result MetaSaid Unanswered) → it.answer ≡ answer
             → Follows (download_errand before left) ids answer asked (record was { line = it.met }) now outcome → LeavesIt old
         by (Err why) is (none, still, end) = nothing none (unfinished outcome (wire_stop why) end)
-        by (Ok said) is (at, given, follows) = goes said is (clock_stop said (second_of at)) follows
+        by (Ok said) is (at, given, follows) = goes said is (second_of at) (clock_stop said (second_of at)) refl follows
 
   -- what a download makes of what keeper and wire tell
   pub downloads_told : DownloadsTold ids asked before left was.line.wire.log now.line.wire.log outcome

@@ -1,16 +1,14 @@
 -- What a download asks, and how it ends then.
-use Rattle.std.specs.Prelude.{◌≡◌, false, List, [], ◌∷◌, Result, Ok, Err, ◌⊎◌}
-use Rattle.std.proofs.Common.{refl, sym, ap, subst, ◌∙◌, inl, inr}
+use Rattle.std.specs.Prelude.{◌≡◌, ◌≢◌, List, [], ◌∷◌, Result, Ok, Err, ◌⊎◌}
+use Rattle.std.proofs.Common.{refl, sym, ap, subst, ◌∙◌, inl, inr, arith}
 use Rattle.ak_base.specs.declared.heads.Head.{Head}
 use Rattle.ak_base.specs.declared.rows.Row.{Row}
 use Rattle.ak_client.specs.Outcomes.{outcome_at}
 use Rattle.ak_client.specs.declared.outcomes.Outcome.{Outcome}
 use Rattle.ak_client.specs.declared.outcomes.Outcome.TheVariants as outcomes
 use Rattle.ak_exchange.specs.Asked.{asker, request_at}
-use Rattle.ak_exchange.specs.Stops.{is_keep, keep_stop, wire_stop}
+use Rattle.ak_exchange.specs.Stops.{keep_stop, wire_stop}
 use Rattle.ak_exchange.specs.declared.envelopes.Ids.{Ids}
-use Rattle.ak_exchange.specs.declared.stops.Stop.{Stop}
-use Rattle.ak_exchange.specs.declared.stops.Stop.TheVariants as stops
 use Rattle.ak_keep.specs.Keepers.{Keeping}
 use Rattle.ak_keep.specs.declared.keepers.KeepFault.{KeepFault}
 use Rattle.ak_keep.specs.declared.keepers.KeepFault.TheVariants as faults
@@ -48,9 +46,9 @@ module _ {kind : WireKind} (ids : Ids) (before left : Keeping) (was mid : Transf
     granted outcome ends = asked_so outcome (subst (λ (r : Result Whole Unanswered). TransferEnds (download_errand before left) asks.Download r outcome) (sym is) ends)
 
     -- what was given may not be held, or memory ran out before that was known
-    pub not_held : (stop : Stop) → (stop ≡ stops.Memory) ⊎ ((stop ≡ stops.BadReply) × (MayBeHeld whole → ⊥)) → Ends (outcome_at stop)
-    not_held stop (inl memory) = subst (λ (s : Stop). Ends (outcome_at s)) (sym memory) (granted outcomes.Memory (inr (inr (inr refl))))
-    not_held stop (inr (bad, never)) = subst (λ (s : Stop). Ends (outcome_at s)) (sym bad) (granted outcomes.BadReply (inr (inl (never, refl))))
+    pub not_held : (outcome : Outcome) → (outcome ≡ outcomes.Memory) ⊎ ((outcome ≡ outcomes.BadReply) × (MayBeHeld whole → ⊥)) → Ends outcome
+    not_held outcome (inl memory) = granted outcome (inr (inr (inr memory)))
+    not_held outcome (inr (bad, never)) = granted outcome (inr (inl (never, bad)))
 
     -- the keeper refused it
     pub not_kept : (fault : KeepFault) → Ends (outcome_at (keep_stop fault))
@@ -65,6 +63,6 @@ module _ {kind : WireKind} (ids : Ids) (before left : Keeping) (was mid : Transf
         (inl (may, refl, put ∙ ap (λ (list : List Row). put_in_place list head before) the_rows ∙ ap (λ (h : Head). put_in_place whole.rows h before) the_head))
 
 -- what may not be held is no fault of the keeper
-pub held_unkept : (stop : Stop) (P : Type 0) → (stop ≡ stops.Memory) ⊎ ((stop ≡ stops.BadReply) × P) → is_keep stop ≡ false
-held_unkept stop P (inl memory) = ap is_keep memory
-held_unkept stop P (inr (bad, so)) = ap is_keep bad
+pub held_unkept : (outcome : Outcome) (P : Type 0) → (outcome ≡ outcomes.Memory) ⊎ ((outcome ≡ outcomes.BadReply) × P) → outcome ≢ outcomes.Keep
+held_unkept outcome P (inl memory) = λ keep. let both = sym memory ∙ keep in grind (arith, both)
+held_unkept outcome P (inr (bad, so)) = λ keep. let both = sym bad ∙ keep in grind (arith, both)

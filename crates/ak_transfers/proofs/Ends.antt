@@ -1,8 +1,8 @@
 -- Why a transfer ended, and what the wire shows of it.
-use Rattle.std.specs.Prelude.{◌≡◌, ◌≢◌, ◌==◌, ℕ, ◌≤◌, ℤ, Bool, true, false, not, if◌then◌else◌, List, Option, Some, None, Result, Ok, Err, OnErr, ok_or, ⊤, ◌⊎◌}
+use Rattle.std.specs.Prelude.{◌≡◌, ◌≢◌, ◌==◌, ℕ, ◌≤◌, ℤ, Bool, true, false, if◌then◌else◌, List, Option, Some, None, Result, Ok, Err, OnErr, ok_or, ⊤, ◌⊎◌}
 use Rattle.std.proofs.Common.{refl, sym, ap, subst, ◌∙◌, inl, inr, arith}
-use Rattle.std.proofs.lemmas.Option.{none-some, same_Some}
-use Rattle.ak_client.specs.Greetings.{are_far_apart, clock_stop, meta_of}
+use Rattle.ak_client.proofs.Testing.{of_clocks}
+use Rattle.ak_client.specs.Greetings.{clock_stop, meta_of}
 use Rattle.ak_client.specs.Outcomes.{HasLostThrice, HasOutcomeCause, ShowsRefusal, outcome_at, outcome_of}
 use Rattle.ak_client.specs.declared.outcomes.Outcome.{Outcome}
 use Rattle.ak_client.specs.declared.outcomes.Outcome.TheVariants as outcomes
@@ -18,8 +18,6 @@ use Rattle.ak_client_wire.specs.declared.wires.WireEnd.TheVariants as ends
 use Rattle.ak_exchange.specs.Asked.{asker, request_at}
 use Rattle.ak_exchange.specs.Stops.{wire_stop}
 use Rattle.ak_exchange.specs.declared.envelopes.Ids.{Ids}
-use Rattle.ak_exchange.specs.declared.stops.Stop.{Stop}
-use Rattle.ak_exchange.specs.declared.stops.Stop.TheVariants as stops
 use Rattle.ak_faults.proofs.Healths.{goes_further, goes_nowhere}
 use Rattle.ak_faults.specs.Causes.{GoesOn, Rose, one_more}
 use Rattle.ak_keep.specs.Keepers.{Keeping}
@@ -214,17 +212,8 @@ pub record IsPlain {T : Type 0} (errand : Errand T) : Type 0 where
   pub stops : (outcome : Outcome) → errand.stops outcome → is_silent outcome ≡ true
   pub ends : (ask : Ask) (given : T) (outcome : Outcome) → errand.ends ask given outcome → (is_silent outcome ≡ true) ⊎ (outcome ≡ outcomes.BadReply)
 
-clock_silent : (said : MetaSaid) (second : ℤ) (stop : Stop) → clock_stop said second ≡ Some stop → is_silent (outcome_at stop) ≡ true
-clock_silent said second stop = by (not said.cont) (are_far_apart second said.ts)
-  where
-    is_so : (one : Stop) → is_silent (outcome_at one) ≡ true → Some one ≡ Some stop → is_silent (outcome_at stop) ≡ true
-    is_so one silent is = subst (λ (s : Stop). is_silent (outcome_at s) ≡ true) (same_Some one stop is) silent
-
-    by : (stopped far : Bool) → (if stopped then Some stops.Stopped else if far then Some (stops.ClockOff second said.ts) else None) ≡ Some stop
-        → is_silent (outcome_at stop) ≡ true
-    by true far is = is_so stops.Stopped refl is
-    by false true is = is_so (stops.ClockOff second said.ts) refl is
-    by false false is = absurd (none-some stop is)
+clock_silent : (said : MetaSaid) (second : ℤ) (why : Outcome) → clock_stop said second ≡ Some why → is_silent why ≡ true
+clock_silent said second why is = of_clocks (λ (o : Outcome). is_silent o ≡ true) refl (λ device server. refl) said second why is
 
 module _ {kind : WireKind} {T : Type 0} (errand : Errand T) (ids : Ids) (asked : List Ask) (was now : TransferOutside kind) (outcome : Outcome)
     (it : IsTransfer errand ids asked was now outcome) where
@@ -246,9 +235,9 @@ module _ {kind : WireKind} {T : Type 0} (errand : Errand T) (ids : Ids) (asked :
   pub goes : GoesOn was.line.health now.line.health × GoesOn was.line.wire.reading now.line.wire.reading
   goes = by it.answer it.follows
     where
-      after : (said : MetaSaid) (o : Option Stop) → Continues errand ids said o asked it.met now.line outcome
+      after : (said : MetaSaid) (o : Option Outcome) → Continues errand ids said o asked it.met now.line outcome
           → GoesOn was.line.health now.line.health × GoesOn was.line.wire.reading now.line.wire.reading
-      after said (Some stop) (none, end) = still none
+      after said (Some why) (none, end) = still none
       after said None (inl (none, stops_it)) = still none
       after said None (inr once) = further said.moment once
 
@@ -300,9 +289,9 @@ module _ {kind : WireKind} {T : Type 0} (errand : Errand T) (ids : Ids) (asked :
                 inr (ask_last said is once, why, not_granted errand.part once.heard.answer why (sym once.heard.came ∙ so), end)
             each (Ok given) so end = granted given so (plain.ends once.ask given outcome end)
 
-        after : (said : MetaSaid) → it.answer ≡ Ok said → (second : ℤ) (o : Option Stop) → clock_stop said second ≡ o
+        after : (said : MetaSaid) → it.answer ≡ Ok said → (second : ℤ) (o : Option Outcome) → clock_stop said second ≡ o
             → Continues errand ids said o asked it.met now.line outcome → Shows was.line now.line outcome
-        after said is second (Some stop) so (none, end) = inl (ap is_silent end ∙ clock_silent said second stop so)
+        after said is second (Some why) so (none, end) = inl (ap is_silent end ∙ clock_silent said second why so)
         after said is second None so (inl (none, stops_it)) = inl (plain.stops outcome stops_it)
         after said is second None so (inr once) = asked_shows said is once
 
@@ -334,18 +323,6 @@ module _ {kind : WireKind} {T : Type 0} (may : Outcome → Bool) (errand : Erran
     (it : IsTransfer errand ids asked was now outcome) (unasked : (why : Unanswered) → may (outcome_at (wire_stop why)) ≡ true)
     (stopped : may outcomes.Stopped ≡ true) (clocks : (device server : ℤ) → may (outcomes.ClockOff device server) ≡ true)
     (stops_so : (o : Outcome) → errand.stops o → may o ≡ true) (ends_so : (ask : Ask) (given : T) (o : Outcome) → errand.ends ask given o → may o ≡ true) where
-  clock_may : (said : MetaSaid) (second : ℤ) (stop : Stop) → clock_stop said second ≡ Some stop → may (outcome_at stop) ≡ true
-  clock_may said second stop = by (not said.cont) (are_far_apart second said.ts)
-    where
-      is_so : (one : Stop) → may (outcome_at one) ≡ true → Some one ≡ Some stop → may (outcome_at stop) ≡ true
-      is_so one so is = subst (λ (s : Stop). may (outcome_at s) ≡ true) (same_Some one stop is) so
-
-      by : (no far : Bool) → (if no then Some stops.Stopped else if far then Some (stops.ClockOff second said.ts) else None) ≡ Some stop
-          → may (outcome_at stop) ≡ true
-      by true far is = is_so stops.Stopped stopped is
-      by false true is = is_so (stops.ClockOff second said.ts) (clocks second said.ts) is
-      by false false is = absurd (none-some stop is)
-
   pub may_end : may outcome ≡ true
   may_end = by it.answer it.follows
     where
@@ -353,9 +330,9 @@ module _ {kind : WireKind} {T : Type 0} (may : Outcome → Bool) (errand : Erran
       each ask (Err why) end = ap may end ∙ unasked why
       each ask (Ok given) end = ends_so ask given outcome end
 
-      after : (said : MetaSaid) (second : ℤ) (o : Option Stop) → clock_stop said second ≡ o → Continues errand ids said o asked it.met now.line outcome
+      after : (said : MetaSaid) (second : ℤ) (o : Option Outcome) → clock_stop said second ≡ o → Continues errand ids said o asked it.met now.line outcome
           → may outcome ≡ true
-      after said second (Some stop) so (none, end) = ap may end ∙ clock_may said second stop so
+      after said second (Some why) so (none, end) = ap may end ∙ of_clocks (λ (o : Outcome). may o ≡ true) stopped clocks said second why so
       after said second None so (inl (none, stops_it)) = stops_so outcome stops_it
       after said second None so (inr once) = each once.ask once.answer once.ends
 
@@ -430,22 +407,23 @@ module _ (before left : Keeping) where
 
 -- ---- the device
 -- it is as it was, unless the transfer is finished
-pub stays : (before left : Keeping) (result : Result (Unit {0}) Stop) → OnErr result (left ≡ before) → StaysUnlessFinished before left (outcome_of result)
+pub stays : (before left : Keeping) (result : Result (Unit {0}) Outcome) → OnErr result (left ≡ before) → StaysUnlessFinished before left (outcome_of result)
 stays before left (Ok done) is = tt
-stays before left (Err stop) is = each stop
+stays before left (Err outcome) is = each outcome
   where
-    each : (s : Stop) → StaysUnlessFinished before left (outcome_at s)
-    each stops.NoChanges = is
-    each (stops.FullSchema device server) = is
-    each (stops.FullSequence usn) = is
-    each (stops.BadRow fault) = is
-    each (stops.BadCounts client server) = is
-    each (stops.ClockOff device server) = is
-    each (stops.OwnCheck fault) = is
-    each stops.Stopped = is
-    each (stops.Refused status word seen) = is
-    each stops.Lost = is
-    each stops.BadReply = is
-    each stops.TooManyChunks = is
-    each stops.Keep = is
-    each stops.Memory = is
+    each : (o : Outcome) → StaysUnlessFinished before left o
+    each outcomes.Finished = tt
+    each outcomes.NoChanges = is
+    each (outcomes.FullSchema device server) = is
+    each (outcomes.FullSequence usn) = is
+    each (outcomes.BadRow fault) = is
+    each (outcomes.BadCounts client server) = is
+    each (outcomes.ClockOff device server) = is
+    each (outcomes.OwnCheck fault) = is
+    each outcomes.Stopped = is
+    each (outcomes.Refused status word seen) = is
+    each outcomes.Lost = is
+    each outcomes.BadReply = is
+    each outcomes.TooManyChunks = is
+    each outcomes.Keep = is
+    each outcomes.Memory = is

@@ -6,8 +6,9 @@ use Rattle.std.proofs.lemmas.Option.{same_Some}
 use Rattle.ak_client.proofs.Clocks.{not_finished}
 use Rattle.ak_client.proofs.Growing.{commits_grown, timely_growth}
 use Rattle.ak_client.proofs.Greeting.{greeted}
-use Rattle.ak_client.specs.Greetings.{IsMetBy, IsMetOver, meta_of}
-use Rattle.ak_client.specs.Outcomes.{outcome_at}
+use Rattle.ak_client.proofs.Testing.{clock_told}
+use Rattle.ak_client.specs.Greetings.{IsMetBy, IsMetOver, clock_stop, meta_of}
+use Rattle.ak_client.specs.Outcomes.{is_told_by_meta, outcome_at}
 use Rattle.ak_client.specs.Syncs.{IsCommittedIn, world_at}
 use Rattle.ak_client.specs.declared.outcomes.Outcome.{Outcome}
 use Rattle.ak_client.specs.declared.outcomes.Outcome.TheVariants as outcomes
@@ -18,6 +19,7 @@ use Rattle.ak_faults.specs.Causes.{Health}
 use Rattle.ak_keep.specs.Collections.{Collection}
 use Rattle.ak_messages.specs.declared.replies.Reply.{Reply}
 use Rattle.ak_messages.specs.declared.requests.Request.{Request}
+use Rattle.ak_protocol.proofs.Commits.{not_both}
 use Rattle.ak_protocol.proofs.Syncs.{all_append, events_leave_unused, unused_keys_commit_nothing}
 use Rattle.ak_protocol.specs.Accounts.{AccountState}
 use Rattle.ak_protocol.specs.Commits.{CommitsGrow}
@@ -37,6 +39,10 @@ use Rattle.ak_client_wire.specs.declared.wires.WireEnd.{WireEnd}
 -- ---- outcomes
 pub unfinished : (outcome : Outcome) (stop : Stop) → outcome ≡ outcome_at stop → outcome ≡ outcomes.Finished → ⊥
 unfinished outcome stop is finished = not_finished stop (sym is ∙ finished)
+
+-- nor did one that the server or the clocks ended
+pub clocks_unfinished : (outcome why : Outcome) (said : MetaSaid) (second : ℤ) → clock_stop said second ≡ Some why → outcome ≡ why → outcome ≡ outcomes.Finished → ⊥
+clocks_unfinished outcome why said second so is finished = not_both (clock_told said second why so) (ap is_told_by_meta (sym is ∙ finished))
 
 pub other_than_finished : (outcome other : Outcome) → (other ≡ outcomes.Finished → ⊥) → outcome ≡ other → outcome ≡ outcomes.Finished → ⊥
 other_than_finished outcome other differ is finished = differ (sym is ∙ finished)

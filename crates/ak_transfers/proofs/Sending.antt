@@ -8,9 +8,9 @@ use Rattle.ak_base.specs.Limits.{last_moment}
 use Rattle.ak_client.specs.Outcomes.{outcome_at}
 use Rattle.ak_client.specs.declared.outcomes.Outcome.{Outcome}
 use Rattle.ak_client.specs.declared.outcomes.Outcome.TheVariants as outcomes
+use Rattle.ak_exchange.proofs.Faults.{same_err}
 use Rattle.ak_exchange.specs.Stops.{keep_stop, wire_stop}
 use Rattle.ak_exchange.specs.declared.envelopes.Ids.{Ids}
-use Rattle.ak_exchange.specs.declared.stops.Stop.{Stop}
 use Rattle.ak_keep.specs.Collections.{Collection, Holding, collection_of}
 use Rattle.ak_keep.specs.Keepers.{Keeping, WhereTold, committed, marked_here, moments_set}
 use Rattle.ak_keep.specs.Marks.{WithMark}
@@ -19,7 +19,6 @@ use Rattle.ak_keep.specs.declared.keepers.KeepFault.TheVariants as faults
 use Rattle.ak_merge.specs.Commits.{uploaded_rows}
 use Rattle.ak_merge.specs.Soundness.{first_fault}
 use Rattle.ak_merge.specs.declared.checks.CheckFault.{CheckFault}
-use Rattle.ak_exchange.specs.declared.stops.Stop.TheVariants as stops
 use Rattle.ak_messages.specs.declared.replies.Give.{Give}
 use Rattle.ak_messages.specs.declared.replies.Give.TheVariants as gives
 use Rattle.ak_messages.specs.declared.requests.Ask.{Ask}
@@ -84,13 +83,10 @@ by_fault : (before : Keeping) (fault : KeepFault) → StopsUpload before (outcom
 by_fault before faults.Failed = inr (inl refl)
 by_fault before faults.Memory = inr (inr refl)
 
-same_stop : {T : Type 0} (one other : Stop) → (let stopped : Result T Stop = Err one in stopped ≡ Err other) → one ≡ other
-same_stop one other is = grind (arith, is)
+err_ok : (outcome : Outcome) (told : UploadMoments) → Err outcome ≡ Ok told → ⊥
+err_ok outcome told is = grind (arith, is)
 
-err_ok : (stop : Stop) (told : UploadMoments) → Err stop ≡ Ok told → ⊥
-err_ok stop told is = grind (arith, is)
-
-same_told : (one other : UploadMoments) → (let going : Result UploadMoments Stop = Ok one in going ≡ Ok other) → one ≡ other
+same_told : (one other : UploadMoments) → (let going : Result UploadMoments Outcome = Ok one in going ≡ Ok other) → one ≡ other
 same_told one other is = grind (arith, is)
 
 module _ {kind : WireKind} (spares : Bool) (ids : Ids) (moment : ℤ) (before left : Keeping) (was : Line kind) where
@@ -102,7 +98,7 @@ module _ {kind : WireKind} (spares : Bool) (ids : Ids) (moment : ℤ) (before le
   not_asked fault = ([], inl (record { none = refl; same = refl }, by_fault before fault))
 
   module _ (now : Line kind) (sound : WhereTold before (λ h. first_fault h.rows ≡ None)) (mid : Keeping) where
-    asks_once : (result : Result UploadMoments Stop) (sends : SendsOnce ids moment (marked_here before) mid was now result) (outcome : Outcome)
+    asks_once : (result : Result UploadMoments Outcome) (sends : SendsOnce ids moment (marked_here before) mid was now result) (outcome : Outcome)
         → ((why : Unanswered) → sends.answer ≡ Err why → outcome ≡ outcome_at (wire_stop why))
         → ((told : UploadMoments) → sends.answer ≡ Ok told → UploadEnds spares before left (asks.Upload sends.whole) told outcome)
         → Asks now outcome
@@ -129,20 +125,20 @@ module _ {kind : WireKind} (spares : Bool) (ids : Ids) (moment : ℤ) (before le
         by (Ok told) is = granted told is
 
     -- it was not granted
-    pub stopped : (stop : Stop) → Sends ids moment (marked_here before) mid was now (Err stop) → Asks now (outcome_at stop)
-    stopped stop (inl (same, (fault, is))) =
-        subst (λ (line : Line kind). Asks line (outcome_at stop)) (sym same)
-        (subst (λ (s : Stop). Asks was (outcome_at s)) (sym is) (not_asked fault))
-    stopped stop (inr sends) =
-        asks_once (Err stop) sends (outcome_at stop)
-        (λ why so. ap outcome_at (same_stop {T = UploadMoments} stop (wire_stop why) (sends.came ∙ ap wired so)))
-        (λ told so. absurd (err_ok stop told (sends.came ∙ ap wired so)))
+    pub stopped : (outcome : Outcome) → Sends ids moment (marked_here before) mid was now (Err outcome) → Asks now outcome
+    stopped outcome (inl (same, (fault, is))) =
+        subst (λ (line : Line kind). Asks line outcome) (sym same)
+        (subst (λ (o : Outcome). Asks was o) (sym is) (not_asked fault))
+    stopped outcome (inr sends) =
+        asks_once (Err outcome) sends outcome
+        (λ why so. same_err {T = UploadMoments} outcome (outcome_at (wire_stop why)) (sends.came ∙ ap wired so))
+        (λ told so. absurd (err_ok outcome told (sends.came ∙ ap wired so)))
 
     module _ (told : UploadMoments) where
       told_once : (sends : SendsOnce ids moment (marked_here before) mid was now (Ok told)) (outcome : Outcome)
           → ((whole : Whole) → mid ≡ prepared whole (marked_here before) → UploadEnds spares before left (asks.Upload whole) told outcome) → Asks now outcome
       told_once sends outcome ends =
-          asks_once (Ok told) sends outcome (λ why so. absurd (err_ok (wire_stop why) told (sym (sends.came ∙ ap wired so))))
+          asks_once (Ok told) sends outcome (λ why so. absurd (err_ok (outcome_at (wire_stop why)) told (sym (sends.came ∙ ap wired so))))
           (λ own so. subst (λ (m : UploadMoments). UploadEnds spares before left (asks.Upload sends.whole) m outcome)
           (same_told told own (sends.came ∙ ap wired so)) (ends sends.whole sends.put))
 
@@ -176,7 +172,7 @@ module _ {kind : WireKind} (spares : Bool) (ids : Ids) (moment : ℤ) (before le
           ))
 
 -- the device's own rows stop it
-pub rows_stop : (before : Keeping) (stop : Stop) → ((fault : KeepFault) × (stop ≡ keep_stop fault))
-    ⊎ ((fault : CheckFault) × (stop ≡ stops.OwnCheck fault) × WhereTold before (λ h. first_fault h.rows ≡ Some fault)) → StopsUpload before (outcome_at stop)
-rows_stop before stop (inl (fault, is)) = subst (λ (s : Stop). StopsUpload before (outcome_at s)) (sym is) (by_fault before fault)
-rows_stop before stop (inr (fault, is, unsound)) = inl (fault, ap outcome_at is, unsound)
+pub rows_stop : (before : Keeping) (outcome : Outcome) → ((fault : KeepFault) × (outcome ≡ outcome_at (keep_stop fault)))
+    ⊎ ((fault : CheckFault) × (outcome ≡ outcomes.OwnCheck fault) × WhereTold before (λ h. first_fault h.rows ≡ Some fault)) → StopsUpload before outcome
+rows_stop before outcome (inl (fault, is)) = subst (StopsUpload before) (sym is) (by_fault before fault)
+rows_stop before outcome (inr (fault, is, unsound)) = inl (fault, is, unsound)

@@ -14,7 +14,6 @@ use Rattle.ak_exchange.specs.Asked.{asker, request_at}
 use Rattle.ak_exchange.specs.Phases.{holding}
 use Rattle.ak_exchange.specs.Stops.{wire_stop}
 use Rattle.ak_exchange.specs.declared.envelopes.Ids.{Ids}
-use Rattle.ak_exchange.specs.declared.stops.Stop.{Stop}
 use Rattle.ak_exchange.specs.declared.stops.Stop.TheVariants as stops
 use Rattle.ak_keep.proofs.RowsByName.{named-get}
 use Rattle.ak_keep.specs.Collections.{Collection, rows_of}
@@ -39,7 +38,7 @@ use Rattle.ak_session.specs.Closings.{closed_by, of_upload}
 use Rattle.ak_session.specs.Contents.{closed}
 use Rattle.ak_session.specs.Plans.{Asker, requests_from}
 use Rattle.ak_session.specs.Uploads.{whole_to_send}
-use Rattle.ak_transfers.proofs.Logs.{Met, carried, grew_on, grew_once, met_by, met_in, met_said, one_log, unfinished, unused_later}
+use Rattle.ak_transfers.proofs.Logs.{Met, carried, clocks_unfinished, grew_on, grew_once, met_by, met_in, met_said, one_log, other_than_finished, unfinished, unused_later}
 use Rattle.ak_transfers.specs.Forms.{uploaded_in}
 use Rattle.ak_transfers.specs.Greetings.{Line, TransferOutside}
 use Rattle.ak_transfers.specs.Transfers.{AsksNothing, AsksOnce, Continues, Follows, Grew, HoldsLater, HoldsUpload, IsTransfer, IsUploaded, MayTransfer, StopsUpload, TransferEnds, UploadEnds, Uploaded, UploadsAtMostOnce, UploadsTold, put_in_place, upload_errand}
@@ -226,7 +225,7 @@ module _ {kind : WireKind} (ids : Ids) (c : Collection) (account : AccountState)
 
 -- ---- an upload
 stopped_unfinished : (before : Keeping) (outcome : Outcome) → StopsUpload before outcome → outcome ≡ outcomes.Finished → ⊥
-stopped_unfinished before outcome (inl (fault, is, unsound)) finished = unfinished outcome (stops.OwnCheck fault) is finished
+stopped_unfinished before outcome (inl (fault, is, unsound)) finished = other_than_finished outcome (outcomes.OwnCheck fault) (λ so. grind (arith, so)) is finished
 stopped_unfinished before outcome (inr (inl is)) finished = unkept outcome is finished
 stopped_unfinished before outcome (inr (inr is)) finished = unmade outcome is finished
 
@@ -296,11 +295,11 @@ module _ {kind : WireKind} (spares : Bool) (ids : Ids) (before left : Keeping) (
             asked_once ids c account old met.0 second.0 before left outcome holds (named_by c before holds named) s over spares it.met now.line
             asks_it.may.whole whole_is asks_it.answer heard ends met.1 second.1 grows))
 
-    goes : (said : MetaSaid) → it.answer ≡ Ok said → (o : Option Stop) → Continues (upload_errand spares before left) ids said o asked it.met now.line outcome
-        → LeavesIt old
-    goes said is (Some stop) (none, ends) = nothing none (unfinished outcome stop ends)
-    goes said is None (inl (none, stops_it)) = nothing none (stopped_unfinished before outcome stops_it)
-    goes said is None (inr asks_it) = once said is asks_it
+    goes : (said : MetaSaid) → it.answer ≡ Ok said → (second : ℤ) (o : Option Outcome) → clock_stop said second ≡ o
+        → Continues (upload_errand spares before left) ids said o asked it.met now.line outcome → LeavesIt old
+    goes said is second (Some why) so (none, ends) = nothing none (clocks_unfinished outcome why said second so ends)
+    goes said is second None so (inl (none, stops_it)) = nothing none (stopped_unfinished before outcome stops_it)
+    goes said is second None so (inr asks_it) = once said is asks_it
 
     leaves : LeavesIt old
     leaves = by it.answer refl it.follows
@@ -308,7 +307,7 @@ module _ {kind : WireKind} (spares : Bool) (ids : Ids) (before left : Keeping) (
         by : (answer : Result MetaSaid Unanswered) → it.answer ≡ answer
             → Follows (upload_errand spares before left) ids answer asked (record was { line = it.met }) now outcome → LeavesIt old
         by (Err why) is (none, still, ends) = nothing none (unfinished outcome (wire_stop why) ends)
-        by (Ok said) is (at, given, follows) = goes said is (clock_stop said (second_of at)) follows
+        by (Ok said) is (at, given, follows) = goes said is (second_of at) (clock_stop said (second_of at)) refl follows
 
   -- what an upload makes of what keeper and wire tell
   pub uploads_told : UploadsTold ids asked before left was.line.wire.log now.line.wire.log outcome

@@ -13,7 +13,6 @@ use Rattle.ak_exchange.specs.Asked.{asker, request_at}
 use Rattle.ak_exchange.specs.Phases.{holding}
 use Rattle.ak_exchange.specs.Stops.{wire_stop}
 use Rattle.ak_exchange.specs.declared.envelopes.Ids.{Ids}
-use Rattle.ak_exchange.specs.declared.stops.Stop.{Stop}
 use Rattle.ak_io.specs.Arrivals.{GivesNext}
 use Rattle.ak_keep.specs.Collections.{Collection}
 use Rattle.ak_keep.specs.Keepers.{Keeping, WhereHeld, WhereTold, committed, marked_here, replaced}
@@ -83,9 +82,9 @@ abbrev pub MayAsk : {kind : WireKind} {T : Type 0} → Errand T → Ids → ℤ 
 MayAsk errand ids moment asked was now outcome =
     (AsksNothing asked was now × errand.stops outcome) ⊎ AsksOnce errand ids moment asked was now outcome
 
--- what follows a meta that said this, by whether the server and the clocks give a reason to stop
-abbrev pub Continues : {kind : WireKind} {T : Type 0} → Errand T → Ids → MetaSaid → Option Stop → List Ask → Line kind → Line kind → Outcome → Type 0
-Continues errand ids said (Some stop) asked was now outcome = AsksNothing asked was now × (outcome ≡ outcome_at stop)
+-- what follows a meta that said this, by whether the server and the clocks give a reason to end it
+abbrev pub Continues : {kind : WireKind} {T : Type 0} → Errand T → Ids → MetaSaid → Option Outcome → List Ask → Line kind → Line kind → Outcome → Type 0
+Continues errand ids said (Some why) asked was now outcome = AsksNothing asked was now × (outcome ≡ why)
 Continues errand ids said None asked was now outcome = MayAsk errand ids said.moment asked was now outcome
 
 -- what follows a meta by what it was answered. One that was not granted ends it for that reason, and takes no moment of the clock. One that was

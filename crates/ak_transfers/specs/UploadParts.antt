@@ -8,10 +8,11 @@ use Rattle.ak_base.specs.Names.{name_cmp, table_place}
 use Rattle.ak_base.specs.Rows.{IsChecked, name_of}
 use Rattle.ak_base.specs.declared.heads.Head.{Head}
 use Rattle.ak_base.specs.declared.rows.Row.{Row}
+use Rattle.ak_client.specs.Outcomes.{outcome_at}
+use Rattle.ak_client.specs.declared.outcomes.Outcome.{Outcome}
 use Rattle.ak_exchange.specs.Asked.{asker, request_at}
 use Rattle.ak_exchange.specs.Stops.{keep_stop, wire_stop}
 use Rattle.ak_exchange.specs.declared.envelopes.Ids.{Ids}
-use Rattle.ak_exchange.specs.declared.stops.Stop.{Stop}
 use Rattle.ak_keep.specs.Collections.{Rows}
 use Rattle.ak_keep.specs.Keepers.{Keeping, WhereHeld, replaced}
 use Rattle.ak_keep.specs.declared.keepers.KeepFault.{KeepFault}
@@ -83,12 +84,12 @@ prepared whole = replaced (uploaded_rows whole.rows) (uploaded_device_head whole
 
 -- ---- the request
 -- what the answer to an upload comes to, for the transfer
-abbrev pub wired : {T : Type 0} → Result T Unanswered → Result T Stop
+abbrev pub wired : {T : Type 0} → Result T Unanswered → Result T Outcome
 wired (Ok given) = Ok given
-wired (Err why) = Err (wire_stop why)
+wired (Err why) = Err (outcome_at (wire_stop why))
 
 -- an upload was asked, with the device's collection without its graves; what it leaves, but for the moments, was put in place before
-pub record SendsOnce {kind : WireKind} (ids : Ids) (moment : ℤ) (before left : Keeping) (was now : Line kind) (result : Result UploadMoments Stop) : Type 0 where
+pub record SendsOnce {kind : WireKind} (ids : Ids) (moment : ℤ) (before left : Keeping) (was now : Line kind) (result : Result UploadMoments Outcome) : Type 0 where
   pub whole : Whole
   pub sent : WhereHeld before (λ c. whole ≡ whole_to_send c)
   pub put : left ≡ prepared whole before
@@ -97,7 +98,7 @@ pub record SendsOnce {kind : WireKind} (ids : Ids) (moment : ℤ) (before left :
   pub came : result ≡ wired answer
 
 -- the keeper refused before it was asked, or it was asked
-abbrev pub Sends : {kind : WireKind} → Ids → ℤ → Keeping → Keeping → Line kind → Line kind → Result UploadMoments Stop → Type 0
+abbrev pub Sends : {kind : WireKind} → Ids → ℤ → Keeping → Keeping → Line kind → Line kind → Result UploadMoments Outcome → Type 0
 Sends ids moment before left was now result =
-    ((now ≡ was) × IsErrAnd result (λ (stop : Stop). (fault : KeepFault) × (stop ≡ keep_stop fault)))
+    ((now ≡ was) × IsErrAnd result (λ (outcome : Outcome). (fault : KeepFault) × (outcome ≡ outcome_at (keep_stop fault))))
     ⊎ SendsOnce ids moment before left was now result

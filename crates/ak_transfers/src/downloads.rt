@@ -4,7 +4,6 @@ ghost use Rattle.ak_base.specs.Names.{name_cmp};
 ghost use Rattle.ak_base.specs.Rows.{IsChecked, name_of};
 ghost use Rattle.ak_client.specs.Outcomes.{HasLostThrice, HasOutcomeCause, ShowsRefusal, outcome_of};
 ghost use Rattle.ak_client.specs.declared.outcomes.Outcome.TheVariants as outcomes;
-ghost use Rattle.ak_exchange.specs.declared.stops.Stop.TheVariants as stops;
 ghost use Rattle.ak_faults.specs.Causes.{GoesOn, HasCauseOf};
 ghost use Rattle.ak_keep.specs.Keepers.{KeepCause, is_marked};
 ghost use Rattle.ak_messages.specs.declared.requests.Ask.{Ask as Asked};
@@ -16,7 +15,7 @@ use crate::forms::{Held, held_of};
 use crate::greetings::greet;
 use ak_client::{Outcome, outcome_of};
 use ak_client_wire::Wire;
-use ak_exchange::{Ids, Stop};
+use ak_exchange::Ids;
 use ak_io::Clock;
 use ak_keep::{KeepFault, Keeper, keep_or_back};
 use ak_messages::Ask;
@@ -77,7 +76,7 @@ fn download_device<K: Keeper, W: Wire, C: Clock>(
     wire: &mut W,
     clock: &mut C,
     ids: Ids,
-) -> Result<(), Stop>
+) -> Result<(), Outcome>
     requires unmarked { is_marked (K.keeping keeper.old) ≡ false }
     requires held { (K.keeping keeper.old).headed.current ≡ true }
     ensures transfer { (asked : List Asked)
@@ -88,7 +87,7 @@ fn download_device<K: Keeper, W: Wire, C: Clock>(
     ensures device { OnErr result (K.keeping keeper.new ≡ K.keeping keeper.old) }
     ensures unmarked { is_marked (K.keeping keeper.new) ≡ false }
     ensures held { (K.keeping keeper.new).headed.current ≡ true }
-    ensures keeper { HasCauseOf stops.Keep (K.health keeper.old) (K.health keeper.new) result }
+    ensures keeper { HasCauseOf outcomes.Keep (K.health keeper.old) (K.health keeper.new) result }
 {
     let meta = greet(wire, clock, ids)?;
     let request = first_request(ids, meta.moment, Ask::Download);

@@ -5,11 +5,11 @@ ghost use Rattle.std.specs.Prelude.{◌≡◌, map, IfOk, IfErr, Decides, ◌⊎
 ghost use Rattle.ak_base.specs.Heads.{IsHeadInRange};
 ghost use Rattle.ak_base.specs.Names.{name_cmp};
 ghost use Rattle.ak_base.specs.Rows.{IsChecked, name_of};
-ghost use Rattle.ak_exchange.specs.declared.stops.Stop.TheVariants as stops;
+ghost use Rattle.ak_client.specs.declared.outcomes.Outcome.TheVariants as outcomes;
 ghost use Rattle.ak_transfers.specs.Forms.{MayBeHeld, downloaded_head};
 
 use ak_base::{Head, List, Memory, Row};
-use ak_exchange::Stop;
+use ak_client::Outcome;
 use ak_messages::Whole;
 use ak_server_rules::{are_checked, has_twin_rows};
 use std::alloc::Global;
@@ -22,16 +22,16 @@ pub(crate) struct Held {
 }
 
 /// What a device holds once a whole collection was given. One that may not be held is a bad reply.
-pub(crate) fn held_of(alloc: Global, whole: Whole) -> Result<Held, Stop>
+pub(crate) fn held_of(alloc: Global, whole: Whole) -> Result<Held, Outcome>
     ensures held { IfOk result (λ held. MayBeHeld whole) }
     ensures rows { IfOk result (λ held. held.rows ≡ whole.rows) }
     ensures head { IfOk result (λ held. held.head ≡ downloaded_head whole) }
-    ensures refused { IfErr result (λ stop. (stop ≡ stops.Memory)
-        ⊎ ((stop ≡ stops.BadReply) × (MayBeHeld whole → ⊥))) }
+    ensures refused { IfErr result (λ outcome. (outcome ≡ outcomes.Memory)
+        ⊎ ((outcome ≡ outcomes.BadReply) × (MayBeHeld whole → ⊥))) }
 {
     let held = parts_of(whole);
     if !may_be_held(alloc, &held)? {
-        return Err(Stop::BadReply);
+        return Err(Outcome::BadReply);
     }
     Ok(held)
 }

@@ -2,7 +2,6 @@ ghost use Rattle.std.specs.Prelude.{◌≡◌, [], true, false, List, IfOk, OnEr
 ghost use Rattle.ak_base.specs.Heads.{IsMoment};
 ghost use Rattle.ak_client.specs.Outcomes.{HasLostThrice, HasOutcomeCause, ShowsRefusal, outcome_of};
 ghost use Rattle.ak_client.specs.declared.outcomes.Outcome.TheVariants as outcomes;
-ghost use Rattle.ak_exchange.specs.declared.stops.Stop.TheVariants as stops;
 ghost use Rattle.ak_faults.specs.Causes.{GoesOn, HasCauseOf};
 ghost use Rattle.ak_keep.specs.Keepers.{IsMarkedAt, WhereTold, back, is_marked};
 ghost use Rattle.ak_merge.specs.Soundness.{first_fault};
@@ -16,7 +15,7 @@ use crate::greetings::greet;
 use ak_client::{Outcome, outcome_of, test_rows};
 use ak_client_wire::Wire;
 use ak_device::commit_at;
-use ak_exchange::{Ids, Stop};
+use ak_exchange::Ids;
 use ak_io::Clock;
 use ak_keep::Keeper;
 use ak_messages::Ask;
@@ -80,7 +79,7 @@ fn upload_device<K: Keeper, W: Wire, C: Clock>(
     wire: &mut W,
     clock: &mut C,
     ids: Ids,
-) -> Result<(), Stop>
+) -> Result<(), Outcome>
     requires unmarked { is_marked (K.keeping keeper.old) ≡ false }
     requires held { (K.keeping keeper.old).headed.current ≡ true }
     ensures transfer { (asked : List Asked)
@@ -91,7 +90,7 @@ fn upload_device<K: Keeper, W: Wire, C: Clock>(
     ensures device { OnErr result (K.keeping keeper.new ≡ K.keeping keeper.old) }
     ensures unmarked { is_marked (K.keeping keeper.new) ≡ false }
     ensures held { (K.keeping keeper.new).headed.current ≡ true }
-    ensures keeper { HasCauseOf stops.Keep (K.health keeper.old) (K.health keeper.new) result }
+    ensures keeper { HasCauseOf outcomes.Keep (K.health keeper.old) (K.health keeper.new) result }
 {
     let meta = greet(wire, clock, ids)?;
     test_rows(keeper)?;
@@ -105,7 +104,7 @@ fn upload_met<K: Keeper, W: Wire>(
     wire: &mut W,
     ids: Ids,
     moment: i64,
-) -> Result<(), Stop>
+) -> Result<(), Outcome>
     requires unmarked { is_marked (K.keeping keeper.old) ≡ false }
     requires held { (K.keeping keeper.old).headed.current ≡ true }
     requires sound { WhereTold (K.keeping keeper.old) (λ h. first_fault h.rows ≡ None) }
@@ -116,15 +115,15 @@ fn upload_met<K: Keeper, W: Wire>(
     ensures device { OnErr result (K.keeping keeper.new ≡ K.keeping keeper.old) }
     ensures unmarked { is_marked (K.keeping keeper.new) ≡ false }
     ensures held { (K.keeping keeper.new).headed.current ≡ true }
-    ensures keeper { HasCauseOf stops.Keep (K.health keeper.old) (K.health keeper.new) result }
+    ensures keeper { HasCauseOf outcomes.Keep (K.health keeper.old) (K.health keeper.new) result }
 {
     keeper.mark()?;
     match send(alloc, keeper, wire, ids, moment) {
         // The usn is the one after 0. From here on memory runs out only if these calls of the keeper take some.
         Ok(told) => Ok(commit_at(keeper, told.moment, told.schema, 0)?),
-        Err(stop) => {
+        Err(outcome) => {
             keeper.back();
-            Err(stop)
+            Err(outcome)
         }
     }
 }
@@ -136,7 +135,7 @@ fn send<K: Keeper, W: Wire>(
     wire: &mut W,
     ids: Ids,
     moment: i64,
-) -> Result<UploadMoments, Stop>
+) -> Result<UploadMoments, Outcome>
     requires marked { is_marked (K.keeping keeper.old) ≡ true }
     requires held { (K.keeping keeper.old).headed.current ≡ true }
     ensures sends { Sends ids moment (K.keeping keeper.old) (K.keeping keeper.new)
@@ -145,7 +144,7 @@ fn send<K: Keeper, W: Wire>(
     ensures stays { IsMarkedAt (back (K.keeping keeper.old)) (K.keeping keeper.new) }
     ensures held { IfOk result (λ told. (K.keeping keeper.new).headed.current ≡ true) }
     ensures range { IfOk result (λ told. IsMoment told.moment × IsMoment told.schema) }
-    ensures keeper { HasCauseOf stops.Keep (K.health keeper.old) (K.health keeper.new) result }
+    ensures keeper { HasCauseOf outcomes.Keep (K.health keeper.old) (K.health keeper.new) result }
 {
     let whole = prepare(alloc, keeper)?;
     let request = first_request(ids, moment, Ask::Upload(whole));

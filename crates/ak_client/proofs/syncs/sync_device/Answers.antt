@@ -1,12 +1,12 @@
 use Rattle.std.specs.Prelude.{Result}
 use Rattle.std.proofs.Common.{subst}
-use Rattle.ak_client.proofs.Clocks.{keeps_more, takes_more}
+use Rattle.ak_client.proofs.Clocks.{keeps_more, takes_more, unchanged_keeps}
 use Rattle.ak_client.proofs.Syncing.{met_sparing, unmet_sparing}
 use Rattle.ak_client.proofs.Testing.{exits, heads_told}
 use Rattle.ak_client.specs.Outcomes.{outcome_of}
 use Rattle.ak_client.specs.Syncs.{IsSyncSparing, KeepsDevice}
+use Rattle.ak_client.specs.declared.outcomes.Outcome.{Outcome}
 use Rattle.ak_exchange.proofs.Faults.{cause_passed}
-use Rattle.ak_exchange.specs.declared.stops.Stop.{Stop}
 use Rattle.ak_faults.proofs.Healths.{cause_after}
 use Rattle.ak_keep.specs.Keepers.{Keeping}
 use Rattle.ak_client.proofs.syncs.sync_device.Goals as goal
@@ -14,13 +14,22 @@ use Rattle.ak_client.proofs.syncs.sync_device.Goals as goal
 pub returns-in_err-met-clause-spares : goal.returns-in_err-met-clause-spares
 returns-in_err-met-clause-spares g c =
     exits c.from_residual.result c.in_err-met.field-0.0
-    (λ (r : Result (Unit {0}) Stop). IsSyncSparing g.K.Keeper.spares_memory c.args.ids (g.K.Lookup.keeping c.args.keeper.now) (g.K.Lookup.keeping c.greet.new.keeper)
+    (λ (r : Result (Unit {0}) Outcome). IsSyncSparing g.K.Keeper.spares_memory c.args.ids (g.K.Lookup.keeping c.args.keeper.now) (g.K.Lookup.keeping c.greet.new.keeper)
     (g.W.End.health c.args.wire.now) (g.W.End.health c.greet.new.wire) (g.W.Wire.state c.args.wire.now) (g.W.Wire.state c.greet.new.wire)
     (g.C.Clock.to_come c.args.clock.now) (outcome_of r))
     c.from_residual.ensures.1
     (unmet_sparing g.K.Keeper.spares_memory c.args.ids c.in_err-met.field-0.0 (g.K.Lookup.keeping c.args.keeper.now) (g.K.Lookup.keeping c.greet.new.keeper)
     (g.W.End.health c.args.wire.now) (g.W.End.health c.greet.new.wire) (g.W.Wire.state c.args.wire.now) (g.W.Wire.state c.greet.new.wire)
     (g.C.Clock.to_come c.args.clock.now) (g.C.Clock.to_come c.greet.new.clock) c.in_err-met.ensures.heard c.in_err-met.ensures.early c.in_err-met.ensures.greets)
+
+pub returns-in_err-met-clause-device : goal.returns-in_err-met-clause-device
+returns-in_err-met-clause-device g c =
+    exits c.from_residual.result c.in_err-met.field-0.0
+    (λ (r : Result (Unit {0}) Outcome). KeepsDevice 1 (g.K.Lookup.keeping c.args.keeper.now) (g.K.Lookup.keeping c.greet.new.keeper)
+    (g.C.Clock.to_come c.args.clock.now) (g.C.Clock.to_come c.greet.new.clock) (outcome_of r))
+    c.from_residual.ensures.1
+    (unchanged_keeps 1 (g.K.Lookup.keeping c.args.keeper.now) (g.K.Lookup.keeping c.greet.new.keeper)
+    (g.C.Clock.to_come c.args.clock.now) (g.C.Clock.to_come c.greet.new.clock) c.in_err-met.field-0.0 c.in_err-met.ensures.early c.in_err-met.ensures.same)
 
 pub returns-clause-spares : goal.returns-clause-spares
 returns-clause-spares g c =

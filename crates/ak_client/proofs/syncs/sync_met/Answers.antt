@@ -6,19 +6,19 @@ use Rattle.ak_client.proofs.Committing.{commits_head}
 use Rattle.ak_client.proofs.Ending.{asked_nothing, ends_finished, ends_refused, ends_stopped}
 use Rattle.ak_client.proofs.Testing.{exits}
 use Rattle.ak_client.specs.Endings.{Ends}
-use Rattle.ak_client.specs.Outcomes.{outcome_of}
+use Rattle.ak_client.specs.Outcomes.{outcome_at, outcome_of}
 use Rattle.ak_client.specs.Syncs.{TakesMoments}
-use Rattle.ak_client.proofs.Keeping.{cause_stopped}
-use Rattle.ak_exchange.proofs.Faults.{cause_keeper, cause_ok}
+use Rattle.ak_client.specs.declared.outcomes.Outcome.{Outcome}
+use Rattle.ak_client.proofs.Keeping.{cause_stopped, keeper_cause}
+use Rattle.ak_exchange.proofs.Faults.{cause_ok}
 use Rattle.ak_exchange.specs.Stops.{keep_stop}
-use Rattle.ak_exchange.specs.declared.stops.Stop.{Stop}
 use Rattle.ak_faults.proofs.Healths.{cause_after, goes_further}
 use Rattle.ak_client.proofs.syncs.sync_met.Goals as goal
 
 pub returns-in_err-mark-clause-ends : goal.returns-in_err-mark-clause-ends
 returns-in_err-mark-clause-ends g c =
-    exits c.from_residual.result (keep_stop c.in_err-mark.field-0.0)
-    (λ (r : Result (Unit {0}) Stop). Ends g.K.Keeper.spares_memory c.args.ids c.args.met.now (g.K.Lookup.keeping c.args.keeper.now) (g.K.Lookup.keeping c.mark.new.self)
+    exits c.from_residual.result (outcome_at (keep_stop c.in_err-mark.field-0.0))
+    (λ (r : Result (Unit {0}) Outcome). Ends g.K.Keeper.spares_memory c.args.ids c.args.met.now (g.K.Lookup.keeping c.args.keeper.now) (g.K.Lookup.keeping c.mark.new.self)
     (g.W.End.health c.args.wire.now) (g.W.End.health c.args.wire.now) (g.W.Wire.state c.args.wire.now) (g.W.Wire.state c.args.wire.now) (outcome_of r))
     c.from_residual.ensures.1
     (asked_nothing g.K.Keeper.spares_memory c.args.ids c.args.met.now (g.K.Lookup.keeping c.args.keeper.now) (g.K.Lookup.keeping c.mark.new.self)
@@ -26,8 +26,8 @@ returns-in_err-mark-clause-ends g c =
 
 pub returns-in_err-commit_at-in-Ok-clause-ends : goal.returns-in_err-commit_at-in-Ok-clause-ends
 returns-in_err-commit_at-in-Ok-clause-ends g c =
-    exits c.from_residual-in_err-commit_at-in-Ok.result (keep_stop c.in_err-commit_at-in-Ok.field-0.0)
-    (λ (r : Result (Unit {0}) Stop). Ends g.K.Keeper.spares_memory c.args.ids c.args.met.now (g.K.Lookup.keeping c.args.keeper.now) (g.K.Lookup.keeping c.commit_at.new.keeper)
+    exits c.from_residual-in_err-commit_at-in-Ok.result (outcome_at (keep_stop c.in_err-commit_at-in-Ok.field-0.0))
+    (λ (r : Result (Unit {0}) Outcome). Ends g.K.Keeper.spares_memory c.args.ids c.args.met.now (g.K.Lookup.keeping c.args.keeper.now) (g.K.Lookup.keeping c.commit_at.new.keeper)
     (g.W.End.health c.args.wire.now) (g.W.End.health c.exchange_all.new.wire) (g.W.Wire.state c.args.wire.now) (g.W.Wire.state c.exchange_all.new.wire)
     (outcome_of r))
     c.from_residual-in_err-commit_at-in-Ok.ensures.1
@@ -39,8 +39,8 @@ returns-in_err-commit_at-in-Ok-clause-ends g c =
 
 pub returns-in_err-commit_at-in-Ok-clause-clock : goal.returns-in_err-commit_at-in-Ok-clause-clock
 returns-in_err-commit_at-in-Ok-clause-clock g c =
-    exits c.from_residual-in_err-commit_at-in-Ok.result (keep_stop c.in_err-commit_at-in-Ok.field-0.0)
-    (λ (r : Result (Unit {0}) Stop). TakesMoments 1 (g.C.Clock.to_come c.args.clock.now) (g.C.Clock.to_come c.args.clock.now) (outcome_of r))
+    exits c.from_residual-in_err-commit_at-in-Ok.result (outcome_at (keep_stop c.in_err-commit_at-in-Ok.field-0.0))
+    (λ (r : Result (Unit {0}) Outcome). TakesMoments 1 (g.C.Clock.to_come c.args.clock.now) (g.C.Clock.to_come c.args.clock.now) (outcome_of r))
     c.from_residual-in_err-commit_at-in-Ok.ensures.1
     (fault_takes c.in_err-commit_at-in-Ok.field-0.0 0 (g.C.Clock.to_come c.args.clock.now) (g.C.Clock.to_come c.args.clock.now) (omega arith) refl)
 
@@ -74,12 +74,12 @@ returns-in-Err-clause-ends g c =
     c.in_ok-mark.ensures.ok c.in-Err.stop c.after_stop.result c.in-Err.ensures.exchanges c.after_stop.ensures.ends
 
 pub returns-in_err-mark-clause-keeper : goal.returns-in_err-mark-clause-keeper
-returns-in_err-mark-clause-keeper g c = cause_keeper _ _ c.in_err-mark.ensures.cause c.from_residual.ensures.1
+returns-in_err-mark-clause-keeper g c = keeper_cause _ _ c.in_err-mark.ensures.cause c.from_residual.ensures.1
 
 pub returns-in_err-commit_at-in-Ok-clause-keeper : goal.returns-in_err-commit_at-in-Ok-clause-keeper
 returns-in_err-commit_at-in-Ok-clause-keeper g c =
     cause_after (goes_further c.in_ok-mark.ensures.cause.goes c.in-Ok.ensures.keeper.goes)
-    (cause_keeper _ _ c.in_err-commit_at-in-Ok.ensures.cause c.from_residual-in_err-commit_at-in-Ok.ensures.1)
+    (keeper_cause _ _ c.in_err-commit_at-in-Ok.ensures.cause c.from_residual-in_err-commit_at-in-Ok.ensures.1)
 
 pub returns-in_ok-commit_at-in-Ok-clause-keeper : goal.returns-in_ok-commit_at-in-Ok-clause-keeper
 returns-in_ok-commit_at-in-Ok-clause-keeper g c =
@@ -87,5 +87,5 @@ returns-in_ok-commit_at-in-Ok-clause-keeper g c =
 
 pub returns-in-Err-clause-keeper : goal.returns-in-Err-clause-keeper
 returns-in-Err-clause-keeper g c =
-    cause_stopped c.in-Err.stop c.after_stop.result c.in_ok-mark.ensures.cause.goes c.in-Err.ensures.keeper
-    (goes_further c.back.ensures.goes c.after_stop.ensures.keeper) (λ other. cause_after c.back.ensures.goes (c.after_stop.ensures.cause other))
+    cause_stopped c.in-Err.stop c.after_stop.result c.in_ok-mark.ensures.cause.goes c.in-Err.ensures.keeper c.back.ensures.goes
+    c.after_stop.ensures.keeper c.after_stop.ensures.cause
