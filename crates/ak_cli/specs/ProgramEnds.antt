@@ -2,24 +2,24 @@
 use Rattle.std.specs.Io.KnownBytes.{Appends, Keeps}
 use Rattle.std.specs.Prelude.{◌≡◌, ◌⊎◌, ℕ, ℤ, Bool, true, false, List, Option, Some, None}
 use Rattle.ak_base.specs.declared.keys.HostKey.{HostKey}
-use Rattle.ak_cli.specs.Programs.{Named, Lab, Init, Desk, Sync, Upload, Download, Import, Export, Make, command_status, status_of, usage_line}
+use Rattle.ak_cli.specs.Programs.{Named, Lab, Init, Desk, Sync, Upload, Download, Import, Export, Make, command_status, usage_line}
 use Rattle.ak_client_wire.specs.Wires.{WireKind, WireState}
 use Rattle.ak_csv_runs.specs.ExportRuns.{EndsExport}
 use Rattle.ak_csv_runs.specs.FileRuns.{FileOutside, file_outside}
 use Rattle.ak_csv_runs.specs.ImportRuns.{EndsImport}
-use Rattle.ak_desk_runs.specs.DeskRuns.{EndsDesk, input_lines}
+use Rattle.ak_desk_runs.specs.DeskRuns.{EndsDesk}
 use Rattle.ak_desk_runs.specs.Inits.{EndsInit}
 use Rattle.ak_desk_runs.specs.RunStates.{Outside, outside_of}
-use Rattle.ak_desk_runs.specs.declared.command_ends.CommandEnd.{CommandEnd}
 use Rattle.ak_faults.specs.Causes.{Health}
 use Rattle.ak_filters.specs.Meanings.{Meaning}
 use Rattle.ak_io.specs.Arrivals.{GivesNext, IsClockMoment}
 use Rattle.ak_io.specs.Scripts.{AppendsPart}
-use Rattle.ak_io.specs.declared.endings.ScriptEnd.{ScriptEnd}
-use Rattle.ak_io.specs.declared.endings.ScriptEnd.TheVariants as ends
 use Rattle.ak_io.specs.declared.lines.Line.{Line}
 use Rattle.ak_keep.specs.Keepers.{Keeping}
 use Rattle.ak_lab.specs.LabRuns.{RunsLab}
+use Rattle.ak_line_runs.specs.LineRuns.{input_lines}
+use Rattle.ak_line_runs.specs.declared.command_ends.CommandEnd.{CommandEnd}
+use Rattle.ak_line_runs.specs.declared.command_ends.CommandEnd.TheVariants as ends
 use Rattle.ak_makes.specs.MakeLines.{EndsMake}
 use Rattle.ak_sync_in_memory.specs.declared.logs.Entry.{Entry}
 use Rattle.ak_sync_runs.specs.SyncRuns.{EndsSync, SyncOutside, sync_outside}
@@ -97,7 +97,7 @@ uses_keeper None = false
 
 -- how `lab` ends over these lines: a lab ran them, and its server's log is handed out. Or memory was out before the first of them, and
 -- nothing is done
-abbrev pub EndsLab : {kind : WireKind} → ScriptEnd → Option (List Line) → ProgramOutside kind → ProgramOutside kind → Type 0
+abbrev pub EndsLab : {kind : WireKind} → CommandEnd → Option (List Line) → ProgramOutside kind → ProgramOutside kind → Type 0
 EndsLab end all a b =
     RunsLab end all b.log a.written b.written ⊎ (end ≡ ends.Memory) × Keeps a.written b.written × (b.log ≡ a.log)
 
@@ -106,7 +106,7 @@ EndsLab end all a b =
 -- `download` send and fetch the whole collection, a sync and an upload over a keeper that spares memory or not; `import` takes notes from the
 -- input, and `export` writes them; `make` makes a collection of its own and prints one line on it; and if there is no command, `usage` is printed
 abbrev pub EndsBy : {kind : WireKind} → Bool → Option Named → ℕ → ProgramOutside kind → ProgramOutside kind → Type 0
-EndsBy spares (Some Lab) status a b = (end : ScriptEnd) × (status ≡ status_of end) × EndsLab end (input_lines a.left) a b
+EndsBy spares (Some Lab) status a b = (end : CommandEnd) × (status ≡ command_status end) × EndsLab end (input_lines a.left) a b
 EndsBy spares (Some Init) status a b = (at : ℤ) × (end : CommandEnd)
     × IsClockMoment at × GivesNext a.moments b.moments at × EndsInit at end a.keeping b.keeping a.written b.written
     × (status ≡ command_status end)

@@ -8,10 +8,8 @@ use Rattle.ak_base.specs.Keys.{host_digits}
 use Rattle.ak_cli.specs.declared.program_commands.ProgramCommand.{ProgramCommand}
 use Rattle.ak_cli.specs.declared.program_commands.ProgramCommand.TheVariants as programs
 use Rattle.ak_desk_language.specs.Reading.{number_in}
-use Rattle.ak_desk_runs.specs.declared.command_ends.CommandEnd.{CommandEnd}
-use Rattle.ak_desk_runs.specs.declared.command_ends.CommandEnd.TheVariants as commands
-use Rattle.ak_io.specs.declared.endings.ScriptEnd.{ScriptEnd}
-use Rattle.ak_io.specs.declared.endings.ScriptEnd.TheVariants as ends
+use Rattle.ak_line_runs.specs.declared.command_ends.CommandEnd.{CommandEnd}
+use Rattle.ak_line_runs.specs.declared.command_ends.CommandEnd.TheVariants as commands
 use Rattle.ak_made_collections.specs.Sizes.{size_in}
 use Rattle.ak_note_files.specs.declared.places.ImportPlace.{ImportPlace}
 
@@ -107,16 +105,8 @@ command_of (word ∷ value ∷ more) = command_with (string_bytes word) (string_
 abbrev pub usage_line : List ℕ
 usage_line = codes "usage" ++ 10 ∷ []
 
--- the status of a script's end: 0 where the input was read to its end, 3 where a line was refused, 4 where the input failed, 5 where
--- the output failed, 8 where memory ran out
-abbrev pub status_of : ScriptEnd → ℕ
-status_of ends.Done = 0
-status_of ends.Refused = 3
-status_of ends.ReadFailed = 4
-status_of ends.WriteFailed = 5
-status_of ends.Memory = 8
-
--- the status of the end of `init` or `desk`: as that of a script, and 6 where the keeper failed
+-- the status of the end of `lab`, `init` or `desk`: 0 where the work is done, and the input read to its end; 3 where a line or the command was
+-- refused, 4 where the input failed, 5 where the output failed, 6 where the keeper failed, 8 where memory ran out
 abbrev pub command_status : CommandEnd → ℕ
 command_status commands.Done = 0
 command_status commands.Refused = 3

@@ -7,7 +7,7 @@ ghost use Rattle.ak_io.specs.Scripts.{AppendsPart};
 ghost use Rattle.ak_keep.specs.Keepers.{is_marked};
 
 use crate::program_commands::{ProgramCommand, command_of};
-use crate::statuses::{KEEPER_FAILED, READ_FAILED, USAGE, WRITE_FAILED, command_status, status_of};
+use crate::statuses::{KEEPER_FAILED, READ_FAILED, USAGE, WRITE_FAILED, command_status};
 use ak_client_wire::Wire;
 use ak_csv_runs::{run_export, run_import};
 use ak_desk_runs::{init_collection, run_desk};
@@ -178,7 +178,7 @@ fn run_command<I: Source, O: Sink, K: Keeper, W: Wire, C: Clock, R: Chance>(
     ensures goes { GoesOn (O.health out.old) (O.health out.new) }
 {
     match command {
-        ProgramCommand::Lab => status_of(run_lab(alloc, input, out, log)),
+        ProgramCommand::Lab => command_status(run_lab(alloc, input, out, log)),
         ProgramCommand::Init => command_status(init_collection(alloc, keeper, clock, out)),
         ProgramCommand::Desk => {
             let end = run_desk(alloc, keeper, clock, chance, filters, input, out);

@@ -1,8 +1,7 @@
 ghost use Rattle.std.specs.Prelude.{◌≡◌};
-ghost use Rattle.ak_cli.specs.Programs.{command_status, status_of};
+ghost use Rattle.ak_cli.specs.Programs.{command_status};
 
-use ak_desk_runs::CommandEnd;
-use ak_io::ScriptEnd;
+use ak_line_runs::CommandEnd;
 
 /// The work is done; with `lab`, `desk` and `import` the input was read to its end.
 pub const DONE: u8 = 0;
@@ -25,18 +24,6 @@ pub const KEEPER_FAILED: u8 = 6;
 
 /// Memory ran out.
 pub const NO_MEMORY: u8 = 8;
-
-pub(crate) fn status_of(end: ScriptEnd) -> u8
-    ensures { result ≡ status_of end }
-{
-    match end {
-        ScriptEnd::Done => DONE,
-        ScriptEnd::Refused => REFUSED,
-        ScriptEnd::ReadFailed => READ_FAILED,
-        ScriptEnd::WriteFailed => WRITE_FAILED,
-        ScriptEnd::Memory => NO_MEMORY,
-    }
-}
 
 pub(crate) fn command_status(end: CommandEnd) -> u8
     ensures { result ≡ command_status end }

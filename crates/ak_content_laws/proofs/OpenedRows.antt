@@ -13,11 +13,11 @@ use Rattle.ak_base.specs.declared.note_types.CardTemplate.{CardTemplate}
 use Rattle.ak_base.specs.declared.rows.Row.{Row}
 use Rattle.ak_base.specs.declared.rows.Row.TheVariants as rows
 use Rattle.ak_desk_runs.specs.Inits.{EndsInit, EndsInitOn, IsOpened}
-use Rattle.ak_desk_runs.specs.declared.command_ends.CommandEnd.TheVariants as ends
 use Rattle.ak_keep.proofs.RowsByName.{all_find}
 use Rattle.ak_keep.specs.Collections.{Holding, collection_of, made_of, rows_of}
 use Rattle.ak_keep.specs.Keepers.{Keeping}
 use Rattle.ak_keep.specs.Marks.{WithMark}
+use Rattle.ak_line_runs.specs.declared.command_ends.CommandEnd.TheVariants as ends
 use Rattle.ak_merge.proofs.EditFacts.{false_true}
 use Rattle.ak_merge.specs.Holdings.{name_in, row_under}
 use Rattle.ak_openings.specs.Openings.{AreOpeningRows, template_texts}

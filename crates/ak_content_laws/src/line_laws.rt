@@ -8,12 +8,12 @@ ghost use Rattle.ak_desk_lines.specs.declared.turns.Turn.{Turn};
 ghost use Rattle.ak_desk_runs.specs.DeskRuns.{EndsDesk};
 ghost use Rattle.ak_desk_runs.specs.Inits.{EndsInit};
 ghost use Rattle.ak_desk_runs.specs.RunStates.{Outside};
-ghost use Rattle.ak_desk_runs.specs.declared.command_ends.CommandEnd.{CommandEnd};
-ghost use Rattle.ak_desk_runs.specs.declared.command_ends.CommandEnd.TheVariants.{Done};
 ghost use Rattle.ak_desk_texts.specs.declared.answers.DeskAnswer.{DeskAnswer};
 ghost use Rattle.ak_desk_texts.specs.declared.line_refusals.LineRefusal.{LineRefusal};
 ghost use Rattle.ak_io.specs.declared.lines.Line.{Line};
 ghost use Rattle.ak_keep.specs.Keepers.{Keeping};
+ghost use Rattle.ak_line_runs.specs.declared.command_ends.CommandEnd.{CommandEnd};
+ghost use Rattle.ak_line_runs.specs.declared.command_ends.CommandEnd.TheVariants.{Done};
 
 /// The collection that the command `init` puts into a keeper that tells what it holds is sound.
 pub fn init_begins_sound()

@@ -1,6 +1,3 @@
 mod Going
 mod LineStopping
 mod Opened
-mod Pieces
-mod Stopping
-mod Texts

@@ -2,11 +2,11 @@
 use Rattle.std.proofs.Common.{◌≡◌, ℕ, true, false, ℤ, List, Option, Some, None, Result, Ok, Err, OnOk, IfOk, refl, ap, ◌∙◌, sym, subst}
 use Rattle.std.specs.Io.KnownBytes.{Keeps}
 use Rattle.ak_desk_runs.specs.Inits.{EndsInit, EndsInitOn, IsOpened, holding_only}
-use Rattle.ak_desk_runs.specs.declared.command_ends.CommandEnd.TheVariants as ends
 use Rattle.ak_keep.specs.Collections.{Holding}
 use Rattle.ak_keep.specs.Keepers.{Keeping, committed, marked_here, replaced}
 use Rattle.ak_keep.specs.Marks.{WithMark}
 use Rattle.ak_keep.specs.declared.keepers.KeepFault.{KeepFault}
+use Rattle.ak_line_runs.specs.declared.command_ends.CommandEnd.TheVariants as ends
 use Rattle.ak_openings.specs.Openings.{IsOpening}
 use Rattle.ak_openings.specs.declared.whole_collections.Opening.{Opening}
 

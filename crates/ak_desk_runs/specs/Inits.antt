@@ -2,11 +2,11 @@
 use Rattle.std.specs.Prelude.{◌≡◌, ℕ, ℤ, Bool, true, false, List, Option, None, codes}
 use Rattle.std.specs.Io.KnownBytes.{Keeps}
 use Rattle.std.specs.Option.{option_map}
-use Rattle.ak_desk_runs.specs.CommandEnds.{IsRefusedWith}
-use Rattle.ak_desk_runs.specs.declared.command_ends.CommandEnd.{CommandEnd}
-use Rattle.ak_desk_runs.specs.declared.command_ends.CommandEnd.TheVariants as ends
 use Rattle.ak_keep.specs.Collections.{made_of}
 use Rattle.ak_keep.specs.Keepers.{Keeping}
+use Rattle.ak_line_runs.specs.CommandEnds.{IsRefusedWith}
+use Rattle.ak_line_runs.specs.declared.command_ends.CommandEnd.{CommandEnd}
+use Rattle.ak_line_runs.specs.declared.command_ends.CommandEnd.TheVariants as ends
 use Rattle.ak_openings.specs.Openings.{IsOpening}
 use Rattle.ak_openings.specs.declared.whole_collections.Opening.{Opening}
 

@@ -1,17 +1,13 @@
 -- How a line of a run ends: a line of the input, by what the run was before it and is after it.
-use Rattle.std.specs.Prelude.{◌≡◌, ◌≢◌, ◌⊎◌, ℕ, Bool, true, false, ◌==◌, ◌||◌, if◌then◌else◌, List, Option, Some, None, Result, Ok, Err, codes}
+use Rattle.std.specs.Prelude.{◌≡◌, ◌≢◌, ◌⊎◌, ℕ, Bool, true, false, ◌==◌, ◌||◌, List, [], ◌∷◌, Option, Some, None, Result, Ok, Err, codes}
 use Rattle.std.specs.List.{starts_with}
-use Rattle.std.specs.Str.{is_utf8}
 use Rattle.ak_any_lines.specs.AnyEnds.{AppliesToAny, EndsAnyLine}
-use Rattle.ak_desk_language.specs.AnyLines.{RefusesAnyLine, SaysAnyLine}
-use Rattle.ak_desk_language.specs.DeskLines.{is_skipped}
+use Rattle.ak_desk_language.specs.AnyLines.{SaysAnyLine}
 use Rattle.ak_desk_language.specs.declared.any_lines.AnyLine.{AnyLine}
-use Rattle.ak_desk_language.specs.declared.line_faults.LineFault.{LineFault}
-use Rattle.ak_desk_lines.specs.LineEnds.{counted}
 use Rattle.ak_desk_lines.specs.declared.turns.Turn.{Turn}
 use Rattle.ak_desk_runs.specs.RunStates.{LineState, RunState, state_in}
 use Rattle.ak_desk_texts.specs.AnswerTexts.{answer_text}
-use Rattle.ak_desk_texts.specs.FaultTexts.{line_fault_text, refusal_text}
+use Rattle.ak_desk_texts.specs.FaultTexts.{refusal_text}
 use Rattle.ak_desk_texts.specs.declared.answers.DeskAnswer.{DeskAnswer}
 use Rattle.ak_desk_texts.specs.declared.line_refusals.LineRefusal.{LineRefusal}
 use Rattle.ak_desk_texts.specs.declared.line_refusals.LineRefusal.TheVariants as refusals
@@ -19,45 +15,17 @@ use Rattle.ak_edit.specs.declared.desk_faults.DeskFault.TheVariants as desks
 use Rattle.ak_io.specs.Arrivals.{GivesNext, IsClockMoment}
 use Rattle.ak_io.specs.declared.lines.Line.{Line}
 use Rattle.ak_io.specs.declared.lines.Line.TheVariants.{Whole, TooLong, PastInput}
+use Rattle.ak_line_runs.specs.AcceptedAnswers.{done_after}
+use Rattle.ak_line_runs.specs.LineRuns.{Accepted, Failed, OutOfMemory, Outcome, Refused, RunKind}
+use Rattle.ak_line_runs.specs.LineTexts.{SaysNoLine, is_skipped_line, text_in, textless}
 
--- how a line ends: it is skipped, accepted and answered by this text, or refused by this one; or the keeper failed, or
--- memory ran out
-pub data Outcome : Type 0 where
-  Skipped : Outcome
-  Accepted : List ℕ → Outcome
-  Refused : List ℕ → Outcome
-  Failed : Outcome
-  OutOfMemory : Outcome
-
--- ---- what a line is
--- its text, if it has one: it is not too long, not past what an input holds, and UTF-8
-abbrev pub text_in : Line → Option (List ℕ)
-text_in (Whole bytes) = if is_utf8 bytes then Some bytes else None
-text_in TooLong = None
-text_in PastInput = None
-
--- whether a text is skipped, if there is one: it is empty or begins with `#`
-abbrev pub skips : Option (List ℕ) → Bool
-skips None = false
-skips (Some text) = is_skipped text
-
--- whether a line is skipped
-abbrev pub is_skipped_line : Line → Bool
-is_skipped_line line = skips (text_in line)
-
+-- ---- what a line takes
 -- whether a line takes a word of chance: it begins with `note` or `answer`
 abbrev pub takes_word : Line → Bool
 takes_word (Whole bytes) = starts_with ◌==◌ bytes (codes "note") || starts_with ◌==◌ bytes (codes "answer")
 takes_word TooLong = false
 takes_word PastInput = false
 
--- why a line without a text is refused
-abbrev pub textless : Line → List ℕ
-textless (Whole bytes) = codes "not text"
-textless TooLong = codes "long line"
-textless PastInput = codes "long input"
-
--- ---- what a line takes
 -- the word of chance that a line is given: the next one to come if it takes one, and else 0
 abbrev pub GivesWord : Bool → Option (List ℕ) → Option (List ℕ) → ℕ → Type 0
 GivesWord true old new word = GivesNext old new word
@@ -71,11 +39,6 @@ pub record TakesTurn (line : Line) (s t : RunState) (turn : Turn) : Type 0 where
   pub done : turn.done ≡ s.work.done
 
 -- ---- what a line does
--- how many answers were accepted once a line of the desk ended so, if it was that many before
-abbrev pub done_after : Result DeskAnswer LineRefusal → ℕ → ℕ
-done_after (Ok answer) done = counted answer done
-done_after (Err refusal) done = done
-
 -- this line of the desk ended so there
 pub record EndsAtDesk (said : AnyLine) (turn : Turn) (s t : LineState) (result : Result DeskAnswer LineRefusal) : Type 0 where
   pub ends : EndsAnyLine said turn (state_in s) (state_in t) result
@@ -88,10 +51,6 @@ AtDesk line turn s t result =
     (text : List ℕ) × (said : AnyLine) × (text_in line ≡ Some text) × SaysAnyLine text said
     × EndsAtDesk said turn s t result
 
--- the text says no line of the desk, and this is why
-abbrev pub SaysNoLine : List ℕ → List ℕ → Type 0
-SaysNoLine text why = (fault : LineFault) × RefusesAnyLine text fault × (line_fault_text fault ≡ Some why)
-
 -- the line has no text, or it says no line of the desk, and this is why
 abbrev pub SaysNothing : Line → List ℕ → Type 0
 SaysNothing line why =
@@ -99,9 +58,8 @@ SaysNothing line why =
 
 -- what a line that is not skipped comes to in its turn. What says nothing leaves all as it was
 abbrev pub ComesTo : Line → Turn → LineState → LineState → Outcome → Type 0
-ComesTo line turn s t Skipped = ⊥
-ComesTo line turn s t (Accepted text) =
-    (answer : DeskAnswer) × AtDesk line turn s t (Ok answer) × (text ≡ answer_text answer)
+ComesTo line turn s t (Accepted printed) =
+    (answer : DeskAnswer) × AtDesk line turn s t (Ok answer) × (printed ≡ answer_text answer ∷ [])
 ComesTo line turn s t (Refused why) =
     (t ≡ s) × SaysNothing line why
     ⊎ (refusal : LineRefusal) × AtDesk line turn s t (Err refusal) × (refusal_text refusal ≡ Some why)
@@ -110,8 +68,19 @@ ComesTo line turn s t Failed = AtDesk line turn s t (Err (refusals.Desk desks.Fa
 ComesTo line turn s t OutOfMemory =
     (t ≡ s) ⊎ (refusal : LineRefusal) × (refusal ≢ refusals.Desk desks.Failed) × AtDesk line turn s t (Err refusal)
 
--- how a line ends: one that is skipped changes nothing, and any other has its turn
-abbrev pub EndsAs : Line → RunState → RunState → Outcome → Type 0
-EndsAs line s t Skipped = (is_skipped_line line ≡ true) × (t ≡ s)
-EndsAs line s t outcome =
+-- a line is skipped: it changes nothing and prints nothing
+abbrev pub IsSkipped : Line → RunState → RunState → Outcome → Type 0
+IsSkipped line s t outcome = (is_skipped_line line ≡ true) × (t ≡ s) × (outcome ≡ Accepted [])
+
+-- a line that is not skipped has its turn, and comes to this in it
+abbrev pub HasTurn : Line → RunState → RunState → Outcome → Type 0
+HasTurn line s t outcome =
     (is_skipped_line line ≡ false) × (turn : Turn) × TakesTurn line s t turn × ComesTo line turn s.work t.work outcome
+
+-- how a line ends
+abbrev pub EndsAs : Line → RunState → RunState → Outcome → Type 0
+EndsAs line s t outcome = IsSkipped line s t outcome ⊎ HasTurn line s t outcome
+
+-- the same of a line of a number, whatever that is
+abbrev pub DeskEnds : RunKind RunState
+DeskEnds number line s t outcome = EndsAs line s t outcome

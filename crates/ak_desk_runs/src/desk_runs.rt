@@ -1,26 +1,23 @@
 ghost use Rattle.std.specs.Prelude.{◌≡◌, ◌≢◌, ◌+◌, ◌<◌, ◌≤◌, map, true, false, Ok, Err};
 ghost use Rattle.std.specs.Io.KnownBytes.{IsAtEnd};
 ghost use Rattle.ak_desk.specs.Desks.{IsIdle};
-ghost use Rattle.ak_desk_runs.specs.CommandEnds.{IsOutputCaused, IsInputCaused, IsKeeperCaused};
-ghost use Rattle.ak_desk_runs.specs.DeskRuns.{EndsDesk, IsDeskRun, input_lines};
-ghost use Rattle.ak_desk_runs.specs.RunLines.{IsPrinted, IsRefusalPrinted, StepCause, Steps};
+ghost use Rattle.ak_desk_runs.specs.DeskRuns.{EndsDesk, IsDeskRun};
+ghost use Rattle.ak_desk_runs.specs.LineOutcomes.{DeskEnds};
 ghost use Rattle.ak_desk_runs.specs.RunStates.{outside_of, state_with};
-ghost use Rattle.ak_desk_runs.specs.declared.command_ends.CommandEnd.TheVariants as ends;
-ghost use Rattle.ak_desk_texts.specs.AnswerTexts.{answer_text};
-ghost use Rattle.ak_faults.specs.Causes.{HasCauseOf};
 ghost use Rattle.ak_io.specs.Lines.{lines_left};
 ghost use Rattle.ak_keep.specs.Keepers.{is_marked};
+ghost use Rattle.ak_line_runs.specs.CommandEnds.{IsInputCaused, IsKeeperCaused, IsOutputCaused};
+ghost use Rattle.ak_line_runs.specs.LineRuns.{input_lines};
+ghost use Rattle.ak_line_runs.specs.RunSteps.{StepCause, Steps};
+ghost use Rattle.ak_line_runs.specs.declared.command_ends.CommandEnd.TheVariants as ends;
 
-use crate::answer_pieces::print_answer_line;
-use crate::command_ends::{CommandEnd, refuse_command};
-use crate::line_stops::LineStop;
 use crate::obeyed_lines::obey_line;
 use crate::progress::Progress;
-use ak_base::{Memory, Text};
-use ak_desk_texts::DeskAnswer;
+use ak_base::Memory;
 use ak_filters::FieldFilter;
-use ak_io::{Chance, Clock, Failed, LineReader, ReadFault, ScriptEnd, Sink, Source, print_refusal};
+use ak_io::{Chance, Clock, LineReader, ReadFault, Sink, Source};
 use ak_keep::Keeper;
+use ak_line_runs::{CommandEnd, print_came, refuse_command};
 use ak_undo::UndoList;
 use std::alloc::Global;
 
@@ -125,7 +122,7 @@ fn run_line<K: Keeper, C: Clock, R: Chance, I: Source, O: Sink>(
 ) -> Result<bool, CommandEnd>
     requires idle { IsIdle (K.keeping keeper.old) }
     requires number { reader.old.number ≤ 1_073_741_824 }
-    ensures steps { Steps (lines_left reader.old (I.left input.old)) (lines_left reader.new (I.left input.new))
+    ensures steps { Steps DeskEnds (lines_left reader.old (I.left input.old)) (lines_left reader.new (I.left input.new))
         (reader.old.number + 1)
         (state_with (outside_of (K.keeping keeper.old) (map (λ b. meaning b) filters.old.items)
         (C.to_come clock.old) (R.to_come chance.old)) progress.old)
@@ -146,43 +143,7 @@ fn run_line<K: Keeper, C: Clock, R: Chance, I: Source, O: Sink>(
         Err(ReadFault::Failed) => return Err(CommandEnd::ReadFailed),
         Err(ReadFault::Memory) => return Err(CommandEnd::Memory),
     };
-    match obey_line(progress, &line, keeper, clock, chance, filters) {
-        Ok(None) => Ok(true),
-        Ok(Some(answer)) => {
-            print_answer(progress.alloc, &answer, out)?;
-            Ok(true)
-        }
-        Err(LineStop::Refused(why)) => Err(print_refused(
-            progress.alloc,
-            reader.number(),
-            &why,
-            out,
-        )),
-        Err(LineStop::Failed) => Err(CommandEnd::KeeperFailed),
-        Err(LineStop::Memory) => Err(CommandEnd::Memory),
-    }
-}
-
-/// Prints an answer. Memory that is out for its text is no reason to end.
-fn print_answer<O: Sink>(alloc: Global, answer: &DeskAnswer, out: &mut O) -> Result<(), CommandEnd>
-    ensures printed { IsPrinted (answer_text answer.now) result (O.written out.old) (O.written out.new) }
-    ensures cause { HasCauseOf ends.WriteFailed (O.health out.old) (O.health out.new) result }
-{
-    match print_answer_line(alloc, answer, out) {
-        Ok(()) => Ok(()),
-        Err(Failed) => Err(CommandEnd::WriteFailed),
-    }
-}
-
-/// Prints why the line of this number is refused: the last line of a run that is refused.
-fn print_refused<O: Sink>(alloc: Global, number: u64, why: &Text, out: &mut O) -> CommandEnd
-    ensures printed { IsRefusalPrinted number why.now result (O.written out.old) (O.written out.new) }
-    ensures cause { IsOutputCaused (O.health out.old) (O.health out.new) result }
-{
-    match print_refusal(alloc, number, why, out) {
-        ScriptEnd::Refused => CommandEnd::Refused,
-        ScriptEnd::WriteFailed => CommandEnd::WriteFailed,
-        // A refusal that is not printed: for the text of a refused line there are no other ends.
-        ScriptEnd::Done | ScriptEnd::ReadFailed | ScriptEnd::Memory => CommandEnd::Memory,
-    }
+    let number = reader.number();
+    let came = obey_line(progress, &line, keeper, clock, chance, filters);
+    print_came(progress.alloc, number, &came, out)
 }

@@ -1,12 +1,12 @@
 ghost use Rattle.std.specs.Prelude.{◌≡◌, ℤ, false, OnErr, OnOk};
-ghost use Rattle.ak_desk_runs.specs.CommandEnds.{IsOutputCaused, IsKeeperCaused};
 ghost use Rattle.ak_desk_runs.specs.Inits.{EndsInit, IsOpened};
 ghost use Rattle.ak_io.specs.Arrivals.{GivesNext, IsClockMoment};
 ghost use Rattle.ak_keep.specs.Keepers.{KeepCause, is_marked};
+ghost use Rattle.ak_line_runs.specs.CommandEnds.{IsKeeperCaused, IsOutputCaused};
 
-use crate::command_ends::{CommandEnd, refuse_command};
 use ak_io::{Clock, Sink};
 use ak_keep::{KeepFault, Keeper, keep_or_back};
+use ak_line_runs::{CommandEnd, refuse_command};
 use ak_openings::opening;
 use std::alloc::Global;
 

@@ -3,15 +3,18 @@ ghost use Rattle.ak_any_lines.specs.AnyEnds.{AppliesToAny, EndsAnyLine};
 ghost use Rattle.ak_any_lines.specs.LineResults.{RefusalCause};
 ghost use Rattle.ak_desk.specs.Desks.{IsIdle};
 ghost use Rattle.ak_desk_language.specs.AnyLines.{IsAnyInRange};
-ghost use Rattle.ak_desk_runs.specs.LineStops.{ComesOut, SaidComesOut, StopCause, TextComesOut};
+ghost use Rattle.ak_desk_runs.specs.LineOutcomes.{EndsAs};
 ghost use Rattle.ak_desk_runs.specs.RunStates.{line_state_of, outside_of, state_with};
+ghost use Rattle.ak_desk_runs.specs.TextStops.{SaidComesOut, TextComesOut};
+ghost use Rattle.ak_line_runs.specs.LinePrints.{printed_by};
+ghost use Rattle.ak_line_runs.specs.LineRuns.{came_to};
+ghost use Rattle.ak_line_runs.specs.LineStops.{StopCause};
 ghost use Rattle.ak_study.specs.DayStarts.{IsInDay};
 
-use crate::line_stops::{LineStop, line_stop, refusal_stop, stop_by};
-use crate::line_texts::{is_skipped_line, text_of};
 use crate::progress::Progress;
 use crate::turn_takings::take_turn;
 use ak_any_lines::obey_any;
+use ak_base::List;
 use ak_desk::Desk;
 use ak_desk_language::{AnyLine, read_line};
 use ak_desk_lines::{Turn, counted};
@@ -19,9 +22,12 @@ use ak_desk_texts::{DeskAnswer, LineRefusal};
 use ak_filters::FieldFilter;
 use ak_io::{Chance, Clock, Line};
 use ak_keep::Keeper;
+use ak_line_runs::{
+    LinePrint, LineStop, is_skipped_line, line_stop, refusal_stop, stop_by, text_of,
+};
 use ak_undo::UndoList;
 
-/// Does what a line of the input says, and gives its answer; none if the line is skipped.
+/// Does what a line of the input says, and gives what it prints: its answer, or nothing if the line is skipped.
 pub(crate) fn obey_line<K: Keeper, C: Clock, R: Chance>(
     progress: &mut Progress,
     line: &Line,
@@ -29,18 +35,18 @@ pub(crate) fn obey_line<K: Keeper, C: Clock, R: Chance>(
     clock: &mut C,
     chance: &mut R,
     filters: &mut Vec<Box<dyn FieldFilter>>,
-) -> Result<Option<DeskAnswer>, LineStop>
+) -> Result<LinePrint, LineStop>
     requires idle { IsIdle (K.keeping keeper.old) }
-    ensures ends { ComesOut line.now
+    ensures ends { EndsAs line.now
         (state_with (outside_of (K.keeping keeper.old) (map (λ b. meaning b) filters.old.items)
         (C.to_come clock.old) (R.to_come chance.old)) progress.old)
         (state_with (outside_of (K.keeping keeper.new) (map (λ b. meaning b) filters.new.items)
-        (C.to_come clock.new) (R.to_come chance.new)) progress.new) result }
+        (C.to_come clock.new) (R.to_come chance.new)) progress.new) (came_to (printed_by result)) }
     ensures stays { (K.keeping keeper.new).headed ≡ (K.keeping keeper.old).headed }
     ensures cause { StopCause (K.health keeper.old) (K.health keeper.new) result }
 {
     if is_skipped_line(line) {
-        return Ok(None);
+        return Ok(LinePrint::Lines(List::new(progress.alloc)));
     }
     let turn = take_turn(line, progress.done, clock, chance);
     let text = match text_of(line) {
@@ -48,7 +54,7 @@ pub(crate) fn obey_line<K: Keeper, C: Clock, R: Chance>(
         Err(why) => return Err(stop_by(progress.alloc, why)),
     };
     let answer = obey_text(progress, text, turn, keeper, filters)?;
-    Ok(Some(answer))
+    Ok(LinePrint::Answer(answer))
 }
 
 /// Does what a text says, in its turn.

@@ -10,10 +10,7 @@ use Rattle.ak_lab_devices.proofs.InTime.{place_in_time, unshifted_in_time}
 use Rattle.ak_lab_devices.proofs.Placing.{read_there}
 use Rattle.ak_lab.specs.LabDesks.{EndsDo, EndsReview, IsObeyed, desk_of, turn_of}
 use Rattle.ak_lab.specs.LabStates.{IsReady, LabState}
-use Rattle.ak_lab.specs.LabStops.{IsLineStop}
 use Rattle.ak_lab.specs.LineStops.{CameOut}
-use Rattle.ak_lab.specs.declared.lab_stops.LabStop.{LabStop}
-use Rattle.ak_lab.specs.declared.lab_stops.LabStop.TheVariants as stops
 use Rattle.ak_lab_devices.specs.Devices.{IsPlaceOf, are_in_time, device_of, keeping_of, with_device}
 use Rattle.ak_lab_devices.specs.declared.devices.Device.{Device}
 use Rattle.ak_lab_lines.specs.declared.lab_lines.LabLine.TheVariants as lines
@@ -24,6 +21,9 @@ use Rattle.ak_desk_language.specs.declared.any_lines.AnyLine.{AnyLine}
 use Rattle.ak_desk_language.specs.declared.line_faults.LineFault.{LineFault}
 use Rattle.ak_desk_texts.specs.declared.answers.DeskAnswer.{DeskAnswer}
 use Rattle.ak_desk_texts.specs.declared.line_refusals.LineRefusal.{LineRefusal}
+use Rattle.ak_line_runs.specs.LineStops.{IsLineStop}
+use Rattle.ak_line_runs.specs.declared.line_stops.LineStop.{LineStop}
+use Rattle.ak_line_runs.specs.declared.line_stops.LineStop.TheVariants as stops
 
 -- the lab with another device at a place
 abbrev pub put_at : ℕ → Device → LabState → LabState
@@ -102,8 +102,9 @@ do_there name text s place read d made at said result is first second moment say
     }
 
 -- a text that says no line of the desk
-pub unsaid : (name text : List ℕ) (s : LabState) (d : Device) (fault : LineFault) (stop : LabStop) → IsLineStop fault stop → device_of name s.devices ≡ Some d
+pub unsaid : (name text : List ℕ) (s : LabState) (d : Device) (fault : LineFault) (stop : LineStop) → IsLineStop fault stop → device_of name s.devices ≡ Some d
     → RefusesAnyLine text fault → CameOut (lines.Do name text) s s (Err stop)
 unsaid name text s d fault (stops.Refused why) told found refuses =
     inr (inl (record { d = d; found = found; none = (fault, refuses, told); left = refl }))
+unsaid name text s d fault stops.Failed told found refuses = absurd told
 unsaid name text s d fault stops.Memory told found refuses = short (lines.Do name text) s

@@ -6,7 +6,5 @@ mod Numbers
 pub mod Openings
 mod Planned
 mod Preparing
-mod Printing
 mod Shifting
-mod Stopping
 mod Syncing

@@ -6,10 +6,8 @@ use Rattle.ak_lab.proofs.Desks.{put_at, put_there}
 use Rattle.ak_io.specs.Arrivals.{IsClockMoment}
 use Rattle.ak_lab.specs.LabPlans.{AnswersEach, AnswersOne, Plans, with_act}
 use Rattle.ak_lab.specs.LabStates.{IsReady, LabState}
-use Rattle.ak_lab.specs.LabStops.{IsStopBy, LacksStop}
+use Rattle.ak_lab.specs.LabStops.{LacksStop}
 use Rattle.ak_lab.specs.LineStops.{CameOut}
-use Rattle.ak_lab.specs.declared.lab_stops.LabStop.{LabStop}
-use Rattle.ak_lab.specs.declared.lab_stops.LabStop.TheVariants as stops
 use Rattle.ak_lab_devices.proofs.Placing.{read_there}
 use Rattle.ak_lab_devices.specs.Devices.{IsPlaceOf, device_of}
 use Rattle.ak_lab_devices.specs.declared.devices.Device.{Device}
@@ -21,6 +19,9 @@ use Rattle.ak_lab_wires.proofs.Kept.{all_served_calm}
 use Rattle.ak_lab_wires.proofs.Named.{from_place}
 use Rattle.ak_lab_wires.proofs.Serving.{served_short}
 use Rattle.ak_lab_wires.specs.Servings.{AreServed, HasRequests, ServesFront, named_from, requests_in}
+use Rattle.ak_line_runs.specs.LineStops.{IsStopBy}
+use Rattle.ak_line_runs.specs.declared.line_stops.LineStop.{LineStop}
+use Rattle.ak_line_runs.specs.declared.line_stops.LineStop.TheVariants as stops
 use Rattle.ak_sync_in_memory.specs.Betweens.{ActEnd}
 use Rattle.ak_sync_in_memory.specs.Entries.{LoggedState}
 use Rattle.ak_sync_in_memory.specs.LoggedServers.{IsServed}
@@ -40,13 +41,15 @@ plans_there name change s place d made is read same change_is =
 
 -- ---- requests that are sent again
 -- a line that names one that the log lacks
-pub lacking_stopped : (from count : ℕ) (s : LabState) (stop : LabStop) → LacksStop from count s.server stop → CameOut (lines.Resend from count) s s (Err stop)
+pub lacking_stopped : (from count : ℕ) (s : LabState) (stop : LineStop) → LacksStop from count s.server stop → CameOut (lines.Resend from count) s s (Err stop)
 lacking_stopped from count s (stops.Refused why) lacks = (refl, lacks.0, lacks.1)
+lacking_stopped from count s stops.Failed lacks = absurd lacks
 lacking_stopped from count s stops.Memory lacks = inl refl
 
-pub replay_lacking : (name : List ℕ) (call from count : ℕ) (s : LabState) (d : Device) (stop : LabStop) → device_of name s.devices ≡ Some d
+pub replay_lacking : (name : List ℕ) (call from count : ℕ) (s : LabState) (d : Device) (stop : LineStop) → device_of name s.devices ≡ Some d
     → LacksStop from count s.server stop → CameOut (lines.Replay name call from count) s s (Err stop)
 replay_lacking name call from count s d (stops.Refused why) found lacks = inr (d, found, (refl, lacks.0, lacks.1))
+replay_lacking name call from count s d stops.Failed found lacks = absurd lacks
 replay_lacking name call from count s d stops.Memory found lacks = refl
 
 -- the named requests were served and each answer is told
@@ -168,7 +171,7 @@ module _ (from count : ℕ) (server : LoggedState) (requests : List Request) (fo
             | false ↦ λ e. grind (arith, e, most)
           ] refl
 
-  pub lacks_request : (number : ℕ) (stop : LabStop) → found < count → number ≡ from + found → IsStopBy (no_request_text number) stop → LacksStop from count server stop
+  pub lacks_request : (number : ℕ) (stop : LineStop) → found < count → number ≡ from + found → IsStopBy (no_request_text number) stop → LacksStop from count server stop
   lacks_request number (stops.Refused why) few is told = (
     (λ has. absurd (fewer (length requests) count (subst (λ (n : ℕ). n < count) counted few) (ap length named ∙ has))),
     told ∙ ap no_request_text (is ∙ ap (λ (n : ℕ). from + n) (counted ∙ ap length named)),
@@ -176,6 +179,7 @@ module _ (from count : ℕ) (server : LoggedState) (requests : List Request) (fo
     where
       fewer : (a b : ℕ) → a < b → a ≡ b → ⊥
       fewer a b few same = omega (arith, few, same)
+  lacks_request number stops.Failed few is told = absurd told
   lacks_request number stops.Memory few is told = tt
 
 -- no more are taken than are named

@@ -5,11 +5,9 @@ use Rattle.ak_faults.specs.Causes.{one_more}
 use Rattle.ak_lab.proofs.Coming.{stopped_at_once}
 use Rattle.ak_lab.proofs.Shifting.{ready_after}
 use Rattle.ak_lab.specs.LabStates.{IsReady, LabState}
-use Rattle.ak_lab.specs.LabStops.{IsStopBy, PrintsOutcome}
+use Rattle.ak_lab.specs.LabStops.{PrintsOutcome}
 use Rattle.ak_lab.specs.LabSyncs.{EndsLabSession, RunsAt, mishaps_for, planned_for, server_met, session_line, with_fails, without_plan_for}
 use Rattle.ak_lab.specs.LineStops.{CameOut}
-use Rattle.ak_lab.specs.declared.lab_stops.LabStop.{LabStop}
-use Rattle.ak_lab.specs.declared.lab_stops.LabStop.TheVariants as stops
 use Rattle.ak_lab_devices.specs.Devices.{IsPlaceOf, device_of}
 use Rattle.ak_lab_devices.specs.declared.devices.Device.{Device}
 use Rattle.ak_lab_lines.specs.LabTexts.{direction_word, ending_text, no_device_text}
@@ -21,6 +19,9 @@ use Rattle.ak_lab_wires.specs.LabSessions.{IsSessionOver, fails_after}
 use Rattle.ak_lab_wires.specs.declared.crossed_syncs.Crossings.{Crossings}
 use Rattle.ak_lab_wires.specs.declared.lab_sessions.SessionKind.{SessionKind}
 use Rattle.ak_lab_wires.specs.declared.lab_sessions.SessionKind.TheVariants as kinds
+use Rattle.ak_line_runs.specs.LineStops.{IsStopBy}
+use Rattle.ak_line_runs.specs.declared.line_stops.LineStop.{LineStop}
+use Rattle.ak_line_runs.specs.declared.line_stops.LineStop.TheVariants as stops
 use Rattle.ak_sync_in_memory.specs.Entries.{LoggedState}
 use Rattle.ak_sync_in_memory.specs.declared.mishaps.Mishap.{Mishap}
 
@@ -101,7 +102,7 @@ uncrossed direction name s t crossed outcome ends =
     ((lab_stays (kinds.Transfer direction) _ _ _ _ _ runs.made runs.was runs.became _ _ outcome runs.session runs.begins.acts).1 ∙ runs.begins.lab)
 
 -- the outcome is printed, if memory suffices for it
-pub session_printed : (kind : SessionKind) (name : List ℕ) (s t : LabState) (crossed : List (List ℕ)) (outcome : Outcome) (result : Result (List (List ℕ)) LabStop)
+pub session_printed : (kind : SessionKind) (name : List ℕ) (s t : LabState) (crossed : List (List ℕ)) (outcome : Outcome) (result : Result (List (List ℕ)) LineStop)
     → PrintsOutcome kind name crossed outcome result → EndsLabSession kind name s t crossed outcome → CameOut (session_line kind name) s t result
 session_printed kinds.Sync name s t crossed outcome (Ok printed) (text, is, said) ends = (outcome, text, crossed, ends, is, said)
 session_printed (kinds.Transfer direction) name s t crossed outcome (Ok printed) (text, is, said) ends =
@@ -113,7 +114,7 @@ session_printed (kinds.Transfer direction) name s t crossed outcome (Ok printed)
       said ∙ ap (λ (l : List (List ℕ)). l ++ ending_text (direction_word direction) name text ∷ []) none,
     )
 session_printed kind name s t crossed outcome (Err stop) out ends =
-    subst (λ (stop : LabStop). CameOut (session_line kind name) s t (Err stop)) (sym out) (short_of kind ends)
+    subst (λ (stop : LineStop). CameOut (session_line kind name) s t (Err stop)) (sym out) (short_of kind ends)
   where
     short_of : (it : SessionKind) → EndsLabSession it name s t crossed outcome → CameOut (session_line it name) s t (Err stops.Memory)
     short_of kinds.Sync ended = inr (crossed, outcome, ended)
@@ -126,7 +127,7 @@ session_unbegun kinds.Sync name s t same = inl same
 session_unbegun (kinds.Transfer direction) name s t same = inl same
 
 -- it names no device
-pub session_unnamed : (kind : SessionKind) (name : List ℕ) (s : LabState) (stop : LabStop) → IsStopBy (no_device_text name) stop
+pub session_unnamed : (kind : SessionKind) (name : List ℕ) (s : LabState) (stop : LineStop) → IsStopBy (no_device_text name) stop
     → device_of name s.devices ≡ None → CameOut (session_line kind name) s s (Err stop)
 session_unnamed kinds.Sync name s stop is none = stopped_at_once (lines.Sync name) s (no_device_text name) stop is (refl, none, refl)
 session_unnamed (kinds.Transfer direction) name s stop is none =

@@ -3,7 +3,6 @@ use Rattle.std.specs.Prelude.{◌≡◌, ℕ, ℤ, ◌+ℤ◌, List, [], Some, R
 use Rattle.ak_any_lines.specs.AnyEnds.{AppliesToAny, EndsAnyLine}
 use Rattle.ak_desk_lines.specs.DeskStates.{DeskState}
 use Rattle.ak_desk_lines.specs.declared.turns.Turn.{Turn}
-use Rattle.ak_desk_runs.specs.LineOutcomes.{done_after}
 use Rattle.ak_edit.specs.declared.desk_faults.DeskFault.{DeskFault}
 use Rattle.ak_filters.specs.Meanings.{Meaning}
 use Rattle.ak_lab_devices.specs.Devices.{device_of, keeping_of}
@@ -15,6 +14,7 @@ use Rattle.ak_desk_texts.specs.declared.answers.DeskAnswer.{DeskAnswer}
 use Rattle.ak_desk_texts.specs.declared.line_refusals.LineRefusal.{LineRefusal}
 use Rattle.ak_lab_devices.specs.NewReviews.{EndsReviews}
 use Rattle.ak_lab_devices.specs.declared.new_reviews.ReviewPlan.{ReviewPlan}
+use Rattle.ak_line_runs.specs.AcceptedAnswers.{done_after}
 
 -- the desk of a device: its keeper and its undo list
 abbrev pub desk_of : Device → DeskState

@@ -1,7 +1,6 @@
 -- What the lines of a lab's script do, each by its form.
 use Rattle.std.specs.Prelude.{◌≡◌, ◌⊎◌, ℕ, ℤ, ◌+ℤ◌, true, false, ◌<◌, ◌≤◌, List, [], ◌∷◌, ◌++◌, length, Some, None, Ok, Err, codes}
 use Rattle.ak_client.specs.declared.outcomes.Outcome.{Outcome}
-use Rattle.ak_desk_runs.specs.LineOutcomes.{SaysNoLine}
 use Rattle.ak_edit.specs.declared.desk_faults.DeskFault.{DeskFault}
 use Rattle.ak_keep.specs.Collections.{Collection}
 use Rattle.ak_lab_devices.specs.Devices.{are_in_time, device_of, is_clock_moment, new_device}
@@ -20,6 +19,7 @@ use Rattle.ak_lab_lines.specs.declared.lab_lines.LabLine.TheVariants as lines
 use Rattle.ak_lab_lines.specs.declared.lab_lines.Side.{Side}
 use Rattle.ak_lab_lines.specs.declared.lab_lines.Side.TheVariants as sides
 use Rattle.ak_lab_devices.specs.declared.new_reviews.ReviewPlan.{ReviewPlan}
+use Rattle.ak_line_runs.specs.LineTexts.{SaysNoLine}
 use Rattle.ak_outcomes.specs.OutcomeTexts.{outcome_text}
 use Rattle.ak_sync_in_memory.specs.Entries.{health_in}
 use Rattle.ak_server_copies.specs.Copies.{IsViewed, committed_in}

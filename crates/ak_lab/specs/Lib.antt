@@ -1,6 +1,5 @@
 pub mod LabStates
 pub mod LabPlans
-pub mod LabPrints
 pub mod LabSyncs
 pub mod LabDesks
 pub mod LabSteps
@@ -8,4 +7,3 @@ pub mod LineOutcomes
 pub mod LineStops
 pub mod LabRuns
 pub mod LabStops
-pub mod RunLines

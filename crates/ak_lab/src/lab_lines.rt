@@ -9,10 +9,8 @@ ghost use Rattle.ak_io.specs.Arrivals.{IsClockMoment};
 ghost use Rattle.ak_keep.specs.Collections.{Collection, IsId};
 ghost use Rattle.ak_lab_devices.specs.Devices.{keeping_of, new_device};
 ghost use Rattle.ak_lab.specs.LabDesks.{IsObeyed, desk_of, turn_of};
-ghost use Rattle.ak_lab.specs.LabPrints.{printed_by};
 ghost use Rattle.ak_lab.specs.LabStates.{IsReady, state_of};
 ghost use Rattle.ak_lab.specs.LineStops.{CameOut};
-ghost use Rattle.ak_lab.specs.declared.lab_stops.LabStop.TheVariants as stops;
 ghost use Rattle.ak_lab_devices.specs.RestingKeepers.{Holds};
 ghost use Rattle.ak_lab_devices.specs.Shows.{shown_lines};
 ghost use Rattle.ak_lab_lines.specs.LabTexts.{counts_text};
@@ -21,14 +19,15 @@ ghost use Rattle.ak_lab_lines.specs.declared.lab_lines.LabLine.TheVariants as li
 ghost use Rattle.ak_lab_lines.specs.declared.lab_lines.Side.TheVariants as sides;
 ghost use Rattle.ak_lab_devices.specs.NewReviews.{EndsReviews};
 ghost use Rattle.ak_desk_language.specs.AnyLines.{IsAnyInRange};
+ghost use Rattle.ak_line_runs.specs.LinePrints.{printed_by};
+ghost use Rattle.ak_line_runs.specs.declared.line_stops.LineStop.TheVariants as stops;
 ghost use Rattle.ak_sync_in_memory.specs.Entries.{health_in};
 ghost use Rattle.ak_server_copies.specs.Copies.{IsViewed, committed_in};
 ghost use Rattle.ak_session.specs.Answers.{counts_of};
 ghost use Rattle.ak_desk_texts.specs.declared.line_refusals.LineRefusal.TheVariants as refusals;
 
 use crate::lab_plans::Again;
-use crate::lab_prints::{LabPrint, as_lines};
-use crate::lab_stops::{LabStop, desk_stop, line_stop, no_device, refusal_stop, stop_by};
+use crate::lab_stops::{desk_stop, no_device};
 use crate::lab_syncs::run_session;
 use crate::labs::Lab;
 use crate::server_copies::{copy_for_device, counted_of_server, shown_of_server};
@@ -40,6 +39,7 @@ use ak_edit::DeskFault;
 use ak_lab_devices::{Device, ReviewPlan, are_in_time, is_shifted_in_time, place_of};
 use ak_lab_lines::{LabLine, Shown, Side, write_counts, write_requests};
 use ak_lab_wires::SessionKind;
+use ak_line_runs::{LinePrint, LineStop, as_lines, line_stop, refusal_stop, stop_by};
 use ak_sync_in_memory::{LoggedServer, Mishap};
 use ak_undo::UndoList;
 use std::alloc::Global;
@@ -48,7 +48,7 @@ use std::alloc::Global;
 const DEVICE_LIMIT: usize = 16;
 
 /// Does what a line says, and gives what it prints.
-pub(crate) fn obey(lab: Lab, said: LabLine) -> (Lab, Result<LabPrint, LabStop>)
+pub(crate) fn obey(lab: Lab, said: LabLine) -> (Lab, Result<LinePrint, LineStop>)
     requires ready { IsReady (state_of lab) }
     requires line { IsLabLine said }
     ensures ends { CameOut said (state_of lab) (state_of result.0) (printed_by result.1) }
@@ -135,7 +135,7 @@ pub(crate) fn obey(lab: Lab, said: LabLine) -> (Lab, Result<LabPrint, LabStop>)
 
 impl Lab {
     /// `clock <ms>`
-    fn set_clock(&mut self, at: i64) -> Result<List<Text>, LabStop>
+    fn set_clock(&mut self, at: i64) -> Result<List<Text>, LineStop>
         requires ready { IsReady (state_of self.old) }
         ensures ends { CameOut (lines.Clock at) (state_of self.old) (state_of self.new) result }
         ensures ready { IsReady (state_of self.new) }
@@ -148,7 +148,7 @@ impl Lab {
     }
 
     /// `device <name>`
-    fn add_device(&mut self, name: Text) -> Result<List<Text>, LabStop>
+    fn add_device(&mut self, name: Text) -> Result<List<Text>, LineStop>
         requires ready { IsReady (state_of self.old) }
         ensures ends { CameOut (lines.Device name) (state_of self.old) (state_of self.new) result }
         ensures ready { IsReady (state_of self.new) }
@@ -166,7 +166,7 @@ impl Lab {
     }
 
     /// `shift <device> <ms>`
-    fn shift(&mut self, name: &Text, by: i64) -> Result<List<Text>, LabStop>
+    fn shift(&mut self, name: &Text, by: i64) -> Result<List<Text>, LineStop>
         requires ready { IsReady (state_of self.old) }
         ensures ends { CameOut (lines.Shift name.now by) (state_of self.old) (state_of self.new) result }
         ensures ready { IsReady (state_of self.new) }
@@ -182,7 +182,7 @@ impl Lab {
     }
 
     /// `review <device> <card> <ease> <count>`
-    fn review(&mut self, name: &Text, plan: ReviewPlan) -> Result<List<Text>, LabStop>
+    fn review(&mut self, name: &Text, plan: ReviewPlan) -> Result<List<Text>, LineStop>
         requires ready { IsReady (state_of self.old) }
         requires range { AreReviews plan.card plan.ease plan.count }
         ensures ends { CameOut (lines.Review name.now plan.card plan.ease plan.count)
@@ -200,7 +200,7 @@ impl Lab {
     }
 
     /// `do <device> <line>`
-    fn do_line(&mut self, name: &Text, text: &Text) -> Result<LabPrint, LabStop>
+    fn do_line(&mut self, name: &Text, text: &Text) -> Result<LinePrint, LineStop>
         requires ready { IsReady (state_of self.old) }
         ensures ends { CameOut (lines.Do name.now text.now) (state_of self.old) (state_of self.new)
             (printed_by result) }
@@ -215,13 +215,13 @@ impl Lab {
             Err(fault) => return Err(line_stop(self.alloc, &fault)),
         };
         match obey_on(&mut self.devices[place], said, at) {
-            Ok(answer) => Ok(LabPrint::Answer(answer)),
+            Ok(answer) => Ok(LinePrint::Answer(answer)),
             Err(refusal) => Err(refusal_stop(self.alloc, &refusal)),
         }
     }
 
     /// `show <side> <table>`
-    fn show(&mut self, side: &Side, what: Shown) -> Result<List<Text>, LabStop>
+    fn show(&mut self, side: &Side, what: Shown) -> Result<List<Text>, LineStop>
         requires ready { IsReady (state_of self.old) }
         ensures ends { CameOut (lines.Show side.now what) (state_of self.old) (state_of self.new) result }
         ensures ready { IsReady (state_of self.new) }
@@ -233,19 +233,19 @@ impl Lab {
     }
 
     /// `show server <table>`
-    fn show_server(&mut self, what: Shown) -> Result<List<Text>, LabStop>
+    fn show_server(&mut self, what: Shown) -> Result<List<Text>, LineStop>
         requires ready { IsReady (state_of self.old) }
         ensures ends { CameOut (lines.Show sides.Server what) (state_of self.old) (state_of self.new) result }
         ensures ready { IsReady (state_of self.new) }
     {
         match shown_of_server(self.alloc, &mut self.server, what) {
             Ok(texts) => Ok(texts),
-            Err(Memory) => Err(LabStop::Memory),
+            Err(Memory) => Err(LineStop::Memory),
         }
     }
 
     /// `show <device> <table>`
-    fn show_device(&mut self, name: &Text, what: Shown) -> Result<List<Text>, LabStop>
+    fn show_device(&mut self, name: &Text, what: Shown) -> Result<List<Text>, LineStop>
         requires ready { IsReady (state_of self.old) }
         ensures ends { CameOut (lines.Show (sides.Device name.now) what)
             (state_of self.old) (state_of self.new) result }
@@ -256,12 +256,12 @@ impl Lab {
         };
         match shown_on(self.alloc, &mut self.devices[place], what) {
             Ok(texts) => Ok(texts),
-            Err(Memory) => Err(LabStop::Memory),
+            Err(Memory) => Err(LineStop::Memory),
         }
     }
 
     /// `count <side>`
-    fn count(&mut self, side: &Side) -> Result<List<Text>, LabStop>
+    fn count(&mut self, side: &Side) -> Result<List<Text>, LineStop>
         requires ready { IsReady (state_of self.old) }
         ensures ends { CameOut (lines.Count side.now) (state_of self.old) (state_of self.new) result }
         ensures ready { IsReady (state_of self.new) }
@@ -273,19 +273,19 @@ impl Lab {
     }
 
     /// `count server`
-    fn count_server(&mut self) -> Result<List<Text>, LabStop>
+    fn count_server(&mut self) -> Result<List<Text>, LineStop>
         requires ready { IsReady (state_of self.old) }
         ensures ends { CameOut (lines.Count sides.Server) (state_of self.old) (state_of self.new) result }
         ensures ready { IsReady (state_of self.new) }
     {
         match counted_of_server(self.alloc, &mut self.server) {
             Ok(text) => one_line(self.alloc, text),
-            Err(Memory) => Err(LabStop::Memory),
+            Err(Memory) => Err(LineStop::Memory),
         }
     }
 
     /// `count <device>`
-    fn count_device(&mut self, name: &Text) -> Result<List<Text>, LabStop>
+    fn count_device(&mut self, name: &Text) -> Result<List<Text>, LineStop>
         requires ready { IsReady (state_of self.old) }
         ensures ends { CameOut (lines.Count (sides.Device name.now)) (state_of self.old) (state_of self.new) result }
         ensures ready { IsReady (state_of self.new) }
@@ -295,12 +295,12 @@ impl Lab {
         };
         match counted_on(self.alloc, &mut self.devices[place]) {
             Ok(text) => one_line(self.alloc, text),
-            Err(Memory) => Err(LabStop::Memory),
+            Err(Memory) => Err(LineStop::Memory),
         }
     }
 
     /// `requests <device>`
-    fn requests(&mut self, name: &Text) -> Result<List<Text>, LabStop>
+    fn requests(&mut self, name: &Text) -> Result<List<Text>, LineStop>
         requires ready { IsReady (state_of self.old) }
         ensures ends { CameOut (lines.Requests name.now) (state_of self.old) (state_of self.new) result }
         ensures ready { IsReady (state_of self.new) }
@@ -310,13 +310,13 @@ impl Lab {
         };
         match write_requests(self.alloc, name.as_str(), self.devices[place].calls) {
             Ok(text) => one_line(self.alloc, text),
-            Err(Memory) => Err(LabStop::Memory),
+            Err(Memory) => Err(LineStop::Memory),
         }
     }
 }
 
 /// This line alone.
-pub(crate) fn one_line(alloc: Global, text: Text) -> Result<List<Text>, LabStop>
+pub(crate) fn one_line(alloc: Global, text: Text) -> Result<List<Text>, LineStop>
     ensures ok { IfOk result (λ printed. printed ≡ text ∷ []) }
     ensures err { IfErr result (λ stop. stop ≡ stops.Memory) }
 {

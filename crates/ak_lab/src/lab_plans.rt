@@ -12,12 +12,13 @@ ghost use Rattle.ak_lab.specs.LabStops.{LacksStop};
 ghost use Rattle.ak_lab_wires.specs.Servings.{HasRequests, ServesFront, named_from, requests_in};
 ghost use Rattle.ak_sync_in_memory.specs.Betweens.{ActEnd};
 
-use crate::lab_stops::{LabStop, no_device, no_request};
+use crate::lab_stops::{no_device, no_request};
 use crate::labs::Lab;
 use ak_base::{List, Memory, Text};
 use ak_lab_devices::{Act, Device, Planned, place_of};
 use ak_lab_lines::{Side, write_status};
 use ak_lab_wires::requests_named;
+use ak_line_runs::LineStop;
 use ak_messages::{Reply, Request};
 use ak_sync_in_memory::{LoggedServer, Mishap};
 use std::alloc::Global;
@@ -31,7 +32,11 @@ pub(crate) struct Again {
 
 impl Lab {
     /// `lose <device> <call> request`, `lose <device> <call> reply` and `repeat <device> <call>`
-    pub(crate) fn plan_mishap(&mut self, name: &Text, mishap: Mishap) -> Result<List<Text>, LabStop>
+    pub(crate) fn plan_mishap(
+        &mut self,
+        name: &Text,
+        mishap: Mishap,
+    ) -> Result<List<Text>, LineStop>
         requires ready { IsReady (state_of self.old) }
         ensures ends { CameOut (lines.Disturb name.now mishap.call mishap.what)
             (state_of self.old) (state_of self.new) result }
@@ -42,7 +47,7 @@ impl Lab {
         };
         match add_mishap(&mut self.devices[place], mishap) {
             Ok(()) => Ok(List::new(self.alloc)),
-            Err(Memory) => Err(LabStop::Memory),
+            Err(Memory) => Err(LineStop::Memory),
         }
     }
 
@@ -52,7 +57,7 @@ impl Lab {
         name: &Text,
         call: u64,
         other: Text,
-    ) -> Result<List<Text>, LabStop>
+    ) -> Result<List<Text>, LineStop>
         requires ready { IsReady (state_of self.old) }
         ensures ends { CameOut (lines.Cross name.now call other) (state_of self.old) (state_of self.new) result }
         ensures ready { IsReady (state_of self.new) }
@@ -71,7 +76,7 @@ impl Lab {
         };
         match add_act(&mut self.devices[place], planned) {
             Ok(()) => Ok(List::new(self.alloc)),
-            Err(Memory) => Err(LabStop::Memory),
+            Err(Memory) => Err(LineStop::Memory),
         }
     }
 
@@ -81,7 +86,7 @@ impl Lab {
         name: &Text,
         call: u64,
         again: Again,
-    ) -> Result<List<Text>, LabStop>
+    ) -> Result<List<Text>, LineStop>
         requires ready { IsReady (state_of self.old) }
         requires from { IsLabNumber again.from }
         requires count { IsLabNumber again.count }
@@ -103,12 +108,12 @@ impl Lab {
         };
         match add_act(&mut self.devices[place], planned) {
             Ok(()) => Ok(List::new(self.alloc)),
-            Err(Memory) => Err(LabStop::Memory),
+            Err(Memory) => Err(LineStop::Memory),
         }
     }
 
     /// `break <side>`
-    pub(crate) fn plan_break(&mut self, side: &Side) -> Result<List<Text>, LabStop>
+    pub(crate) fn plan_break(&mut self, side: &Side) -> Result<List<Text>, LineStop>
         requires ready { IsReady (state_of self.old) }
         ensures ends { CameOut (lines.Break side.now) (state_of self.old) (state_of self.new) result }
         ensures ready { IsReady (state_of self.new) }
@@ -120,7 +125,7 @@ impl Lab {
     }
 
     /// `break server`
-    fn break_server(&mut self) -> Result<List<Text>, LabStop>
+    fn break_server(&mut self) -> Result<List<Text>, LineStop>
         requires ready { IsReady (state_of self.old) }
         ensures ends { CameOut (lines.Break sides.Server) (state_of self.old) (state_of self.new) result }
         ensures ready { IsReady (state_of self.new) }
@@ -130,12 +135,12 @@ impl Lab {
                 self.fails = fails;
                 Ok(List::new(self.alloc))
             }
-            Err(Memory) => Err(LabStop::Memory),
+            Err(Memory) => Err(LineStop::Memory),
         }
     }
 
     /// `break <device>`
-    fn break_device(&mut self, name: &Text) -> Result<List<Text>, LabStop>
+    fn break_device(&mut self, name: &Text) -> Result<List<Text>, LineStop>
         requires ready { IsReady (state_of self.old) }
         ensures ends { CameOut (lines.Break (sides.Device name.now)) (state_of self.old) (state_of self.new) result }
         ensures ready { IsReady (state_of self.new) }
@@ -145,12 +150,12 @@ impl Lab {
         };
         match set_break(self.alloc, &mut self.devices[place]) {
             Ok(()) => Ok(List::new(self.alloc)),
-            Err(Memory) => Err(LabStop::Memory),
+            Err(Memory) => Err(LineStop::Memory),
         }
     }
 
     /// `resend <from> <count>`
-    pub(crate) fn resend(&mut self, again: Again) -> Result<List<Text>, LabStop>
+    pub(crate) fn resend(&mut self, again: Again) -> Result<List<Text>, LineStop>
         requires ready { IsReady (state_of self.old) }
         requires from { IsLabNumber again.from }
         requires count { IsLabNumber again.count }
@@ -165,7 +170,7 @@ impl Lab {
             self.clock,
         ) {
             Ok(printed) => Ok(printed),
-            Err(Memory) => Err(LabStop::Memory),
+            Err(Memory) => Err(LineStop::Memory),
         }
     }
 }
@@ -205,7 +210,11 @@ fn first_call(alloc: Global) -> Result<List<u64>, Memory>
 }
 
 /// Copies of requests of the server's log. It is refused if the log lacks one of them.
-fn requests_of(alloc: Global, server: &LoggedServer, again: Again) -> Result<List<Request>, LabStop>
+fn requests_of(
+    alloc: Global,
+    server: &LoggedServer,
+    again: Again,
+) -> Result<List<Request>, LineStop>
     requires from { IsLabNumber again.from }
     requires count { IsLabNumber again.count }
     ensures ok { IfOk result (λ requests. (requests ≡ named_from again.from again.count (requests_in server.now.entries))

@@ -8,7 +8,7 @@ ghost use Rattle.ak_lab.specs.LineStops.{CameOut};
 ghost use Rattle.ak_lab_devices.specs.Devices.{IsPlaceOf};
 ghost use Rattle.ak_lab_wires.specs.LabSessions.{fails_after, fails_in};
 
-use crate::lab_stops::{LabStop, no_device};
+use crate::lab_stops::no_device;
 use crate::labs::Lab;
 use ak_base::{List, Memory, Text};
 use ak_client::Outcome;
@@ -18,6 +18,7 @@ use ak_lab_lines::{direction_word, write_ending};
 use ak_lab_wires::{
     CrossedLab, Crossings, SessionKind, SessionTurn, run_over, stand_in, still_clock, take_plan,
 };
+use ak_line_runs::LineStop;
 use ak_outcomes::outcome_text;
 use ak_sync_in_memory::{LoopWire, Mishap};
 use std::alloc::Global;
@@ -28,7 +29,7 @@ pub(crate) fn run_session(
     lab: Lab,
     kind: SessionKind,
     name: &Text,
-) -> (Lab, Result<List<Text>, LabStop>)
+) -> (Lab, Result<List<Text>, LineStop>)
     requires ready { IsReady (state_of lab) }
     ensures ends { CameOut (session_line kind name.now) (state_of lab) (state_of result.0) result.1 }
     ensures ready { IfOk result.1 (λ printed. IsReady (state_of result.0)) }
@@ -44,7 +45,7 @@ pub(crate) fn run_session(
             let came = print_outcome(alloc, kind, name, ran);
             (lab, came)
         }
-        Err(Memory) => (lab, Err(LabStop::Memory)),
+        Err(Memory) => (lab, Err(LineStop::Memory)),
     }
 }
 
@@ -186,7 +187,7 @@ fn print_outcome(
     kind: SessionKind,
     name: &Text,
     ran: Ran,
-) -> Result<List<Text>, LabStop>
+) -> Result<List<Text>, LineStop>
     ensures { PrintsOutcome kind name.now ran.crossed ran.outcome result }
 {
     let Ran { outcome, crossed } = ran;

@@ -3,7 +3,6 @@
 
 mod lab_lines;
 mod lab_plans;
-mod lab_prints;
 mod lab_runs;
 mod lab_stops;
 mod lab_syncs;

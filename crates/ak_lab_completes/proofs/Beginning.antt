@@ -19,7 +19,7 @@ use Rattle.ak_lab.specs.LabRuns.{IsLabOpening}
 use Rattle.ak_lab.specs.LabStates.{LabState, at_line}
 use Rattle.ak_lab.specs.LabSteps.{Accepts, AddsDevice}
 use Rattle.ak_lab.specs.LabSyncs.{EndsSync}
-use Rattle.ak_lab.specs.LineOutcomes.{Accepted, EndsAs, Says}
+use Rattle.ak_lab.specs.LineOutcomes.{EndsAs, Says}
 use Rattle.ak_lab_completes.proofs.Healing.{OthersKeep, committed_is, holds_still, sides}
 use Rattle.ak_lab_completes.specs.LabCompleting.{BeginsLeftAlone, BeginsUnhindered, EndedUnfinished, GoesLeftAlone, HasNearClock, LabEndsWith}
 use Rattle.ak_lab_devices.specs.Devices.{as_downloaded, device_of, new_device, same_name}
@@ -30,6 +30,7 @@ use Rattle.ak_lab_lines.specs.LabLines.{lab_line_of}
 use Rattle.ak_lab_lines.specs.declared.lab_lines.LabLine.{LabLine}
 use Rattle.ak_lab_lines.specs.declared.lab_lines.LabLine.TheVariants as lines
 use Rattle.ak_lab_wires.specs.declared.lab_sessions.SessionKind.TheVariants as kinds
+use Rattle.ak_line_runs.specs.LineRuns.{Accepted}
 use Rattle.ak_merge.specs.Commits.{IsCommitted, IsCopyOf}
 use Rattle.ak_merge.specs.Edits.{second_of}
 use Rattle.ak_openings.specs.declared.whole_collections.Opening.{Opening}

@@ -9,7 +9,7 @@ use Rattle.ak_keep.specs.Collections.{Collection, IsWellFormed}
 use Rattle.ak_keep.specs.declared.keepers.Wanted.TheVariants.{From}
 use Rattle.ak_lab.specs.LabStates.{LabState}
 use Rattle.ak_lab.specs.LabSyncs.{EndsSync}
-use Rattle.ak_lab.specs.LineOutcomes.{Accepted, EndsAs, Says}
+use Rattle.ak_lab.specs.LineOutcomes.{EndsAs, Says}
 use Rattle.ak_lab_devices.specs.Devices.{device_of}
 use Rattle.ak_lab_devices.specs.declared.devices.Device.{Device}
 use Rattle.ak_lab_joins.specs.LabBreaks.{HasNoBreak, StandsSo}
@@ -17,6 +17,7 @@ use Rattle.ak_lab_joins.specs.LabJoins.{DeviceHolds, Finishes, HasSession, IsLin
 use Rattle.ak_lab_joins.specs.LabMishaps.{LosesNothing}
 use Rattle.ak_lab_lines.specs.LabTexts.{sync_text}
 use Rattle.ak_lab_lines.specs.declared.lab_lines.LabLine.TheVariants as lines
+use Rattle.ak_line_runs.specs.LineRuns.{Accepted}
 use Rattle.ak_merge.specs.Edits.{second_of}
 use Rattle.ak_merge.specs.Holdings.{SameContent, content_of}
 use Rattle.ak_merge.specs.Joins.{join}

@@ -8,7 +8,7 @@ ghost use Rattle.ak_keep.specs.Collections.{Collection, IsWellFormed};
 ghost use Rattle.ak_lab.specs.LabRuns.{IsLabOpening};
 ghost use Rattle.ak_lab.specs.LabStates.{LabState, at_line};
 ghost use Rattle.ak_lab.specs.LabSyncs.{EndsSync};
-ghost use Rattle.ak_lab.specs.LineOutcomes.{Accepted, EndsAs, Says};
+ghost use Rattle.ak_lab.specs.LineOutcomes.{EndsAs, Says};
 ghost use Rattle.ak_lab_completes.specs.LabCompleting.{
   AcceptsSync,
   BeginsLeftAlone,
@@ -28,6 +28,7 @@ ghost use Rattle.ak_lab_joins.specs.LabBreaks.{StandsSo};
 ghost use Rattle.ak_lab_joins.specs.LabJoins.{DeviceHolds, GoFresh, HasSession, IsLinkedLab, committed_of};
 ghost use Rattle.ak_lab_joins.specs.LabMishaps.{LosesNothing};
 ghost use Rattle.ak_lab_lines.specs.declared.lab_lines.LabLine.TheVariants as lines;
+ghost use Rattle.ak_line_runs.specs.LineRuns.{Accepted};
 ghost use Rattle.ak_merge.specs.Commits.{IsCopyOf};
 ghost use Rattle.ak_merge.specs.Exchanges.{HoldsJoin};
 ghost use Rattle.ak_openings.specs.declared.whole_collections.Opening.{Opening};

@@ -1,16 +1,19 @@
-use Rattle.std.proofs.Common.{refl, w64, SFits, rules}
+use Rattle.std.proofs.Common.{refl, sym, ◌∙◌, w64, SFits, rules}
 use Rattle.std.proofs.lemmas.Int.{to_z-of_z}
 use Rattle.ak_cli.proofs.KeptCollections.{same_keeping}
-use Rattle.ak_cli.proofs.LabEnds.{lab_ended}
+use Rattle.ak_cli.proofs.LabEnds.{keeper_status, lab_ended}
 use Rattle.ak_cli.proofs.program_runs.run_command.Goals as goal
 
 pub returns-in-Lab-clause-ends : goal.returns-in-Lab-clause-ends
 returns-in-Lab-clause-ends g c = rw c.in-Lab.is
-    (_, c.status_of.ensures, lab_ended _ _ _ _ _ _ c.run_lab.ensures.runs)
+    (_, c.command_status.ensures, lab_ended _ _ _ _ _ _ c.run_lab.ensures.runs)
+
+pub returns-in-Lab-clause-keep : goal.returns-in-Lab-clause-keep
+returns-in-Lab-clause-keep g c = λ is. absurd (c.run_lab.ensures.unkept (keeper_status _ (sym c.command_status.ensures ∙ is)))
 
 pub returns-in-Init-clause-ends : goal.returns-in-Init-clause-ends
 returns-in-Init-clause-ends g c = let e = c.init_collection.ensures.ends in
-    rw c.in-Init.is (e.0, _, e.1, e.2, e.3, c.command_status.ensures)
+    rw c.in-Init.is (e.0, _, e.1, e.2, e.3, c.command_status-in-Init.ensures)
 
 pub returns-in-Desk-clause-ends : goal.returns-in-Desk-clause-ends
 returns-in-Desk-clause-ends g c = rw c.in-Desk.is (_, c.run_desk-end.ensures.ends, c.command_status-in-Desk.ensures)

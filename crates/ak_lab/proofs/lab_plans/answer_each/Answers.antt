@@ -23,5 +23,5 @@ returns c =
 pub returns-in_err-answer_one : goal.returns-in_err-answer_one
 returns-in_err-answer_one c =
     let p = err_from_is_err_and c.from_residual.result c.from_residual.ensures.1 in
-    rw (p.1, p.2) (rw (to_z-of_z w64 c.args.at (moment_fits c.args.at c.requires.clock)) at (answered_short c.args.requests.now c.loop-request.request-index c.request-item.result _ c.args.server.now c.loop-request.server c.answer_one.new.server
+    rw p.1 (rw (to_z-of_z w64 c.args.at (moment_fits c.args.at c.requires.clock)) at (answered_short c.args.requests.now c.loop-request.request-index c.request-item.result _ c.args.server.now c.loop-request.server c.answer_one.new.server
     c.loop-request.printed c.in_err-answer_one.field-0.0 (omega arith) c.request-item.is c.loop-request.invariant c.in_err-answer_one.ensures.err))

@@ -1,4 +1,4 @@
-use Rattle.std.proofs.Common.{List, ap, refl, subst, sym}
+use Rattle.std.proofs.Common.{List, Err, ap, refl, subst, sym}
 use Rattle.ak_io.specs.Arrivals.{IsClockMoment}
 use Rattle.ak_lab.proofs.Coming.{do_stopped}
 use Rattle.ak_lab.proofs.Desks.{do_there, ready_there, there_in_time, unsaid}
@@ -48,6 +48,7 @@ returns-in-Err-obey_on-clause-ends c =
     let at = shifted c.args.self.now.clock c.index.result.now.shift (lab_in_time c.args.self.now.clock c.args.self.now.devices.items c.requires.ready.clocks)
     (there_in_time c.args.name.now s c.in-Some.place c.index.result.now is c.index.ensures c.requires.ready) in
     do_stopped c.args.name.now c.args.text.now s _ c.in-Err-obey_on.refusal c.refusal_stop.result c.refusal_stop.ensures
+    (λ is. c.in-Err-obey_on.ensures.unfailed (ap Err is))
     (do_there c.args.name.now c.args.text.now s c.in-Some.place c.index.result.now c.index_mut.result.now c.obey_on.new.device _ c.in-Ok.said _ is c.index.ensures c.index_mut.ensures.value at
     (rw c.as_str.ensures at c.in-Ok.ensures.ok) c.in-Err-obey_on.ensures.ends c.in-Err-obey_on.ensures.filters c.in-Err-obey_on.ensures.rest)
 

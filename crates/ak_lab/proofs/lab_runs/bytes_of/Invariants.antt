@@ -1,7 +1,0 @@
-use Rattle.std.proofs.Common.{◌≡◌, ◌++◌, drop}
-use Rattle.ak_io.specs.Scripts.{written_lines}
-use Rattle.ak_lab.proofs.lab_runs.bytes_of.Given as goal
-
--- the bytes so far, and those of the lines that are left, are the bytes of all
-abbrev pub invariant-loop-line : goal.invariant-loop-line
-invariant-loop-line l = written_lines l.lines ≡ l.bytes.items ++ written_lines (drop l.line-index l.lines)

@@ -1,0 +1,5 @@
+pub mod Going
+mod Pieces
+mod Printing
+pub mod Stopping
+mod Texts
