@@ -30,9 +30,14 @@ def function_at(text, place, module):
     plain = re.match(HEAD + r"fn (\w+)", lines[first])
     if plain:
         return f"{module}::{plain[1]}"
-    owner = re.match(HEAD + r"(?:impl(?:<(?:[^<>]|<[^<>]*>)*>)?|trait) (?:(.*) for )?(\w+)", lines[first])
+    owner = re.match(HEAD + r"(?:impl(<(?:[^<>]|<[^<>]*>)*>)?|trait) (?:(.*) for )?(\w+)(?:<(\w+)>)?", lines[first])
     methods = [it[1] for it in (re.match("    " + HEAD + r"fn (\w+)", line) for line in lines[first:]) if it]
-    return f"{owner[2]}{re.sub(r'[^A-Za-z0-9_]', '', owner[1] or '')}::{methods[-1]}" if owner and methods else None
+    if not owner or not methods:
+        return None
+    generic, given, name, argument = owner.groups()
+    # (the methods of a type of one argument alone, as `impl Server<MemoryKeeper>`, are told with it)
+    only = f"+{argument}" if argument and not generic and not given else ""
+    return f"{name}{only}{re.sub(r'[^A-Za-z0-9_]', '', given or '')}::{methods[-1]}"
 
 
 def functions_of(crate, edit):

@@ -159,6 +159,28 @@ class Rounds(unittest.TestCase):
         self.assertEqual(crate.asked, [["spike::high"], "the crate"])
 
 
+class Functions(unittest.TestCase):
+    def function(self, head):
+        text = f"use x;\n\n{head} {{\n    pub fn first(&self) {{}}\n\n    pub fn second(&self) {{\n        here();\n    }}\n}}\n"
+        return edit_rounds.function_at(text, text.index("here"), "spike::stores")
+
+    def test_a_method_is_named_as_a_check_tells_it(self):
+        heads = {
+            "impl<K: Keeper> Store<K>": "Store::second",
+            "impl Store": "Store::second",
+            "impl Store<Shelf>": "Store+Shelf::second",
+            "impl<'a> Store<'a>": "Store::second",
+            "impl<K: Keeper> Source for Store<K>": "StoreSource::second",
+            "impl From<Shelf> for Store": "StoreFromShelf::second",
+            "pub trait Stores": "Stores::second",
+        }
+        self.assertEqual({head: self.function(head) for head in heads}, heads)
+
+    def test_a_function_of_a_module_has_its_module(self):
+        text = "pub(crate) fn low() {\n    here();\n}\n"
+        self.assertEqual(edit_rounds.function_at(text, text.index("here"), "spike::stores"), "spike::stores::low")
+
+
 class Listed(unittest.TestCase):
     def test_each_wrong_body_that_edits_readme_lists_stands(self):
         with open(f"{TOP}/edits/README.md", encoding="utf-8") as file:

@@ -14,7 +14,7 @@ from tools.tests.support import TOP, Case, run
 
 # The crates that print, with the files that make what is printed.
 PRINTS = (
-    "ak_desk_texts/src/*.rt", "ak_outcomes/src/*.rt", "ak_desk_runs/src/*.rt", "ak_lab/src/*.rt", "ak_lab_lines/src/lab_texts.rt", "ak_lab_devices/src/*.rt",
+    "ak_desk_texts/src/*.rt", "ak_outcomes/src/*.rt", "ak_desk_runs/src/*.rt", "ak_line_runs/src/*.rt", "ak_lab/src/*.rt", "ak_lab_lines/src/lab_texts.rt", "ak_lab_devices/src/*.rt",
     "ak_cli/src/program_runs.rt", "ak_csv_runs/src/*.rt", "ak_sync_runs/src/*.rt", "ak_transfer_runs/src/*.rt", "ak_makes/src/makes.rt", "ak_io/src/endings.rt", "ak_wire/src/words.rt", "ankid/src/*.rt",
     "anki/src/*.rt",
 )
