@@ -24,7 +24,7 @@ pub record Service (K : Type 0) : Type 0 where
   pub moments : Option (List ℤ)
 
 -- ---- one account
--- the opening collection of a moment was put in place of what was held: all update sequence numbers of its rows are 0, and that of
+-- the opening collection of a moment was put in place of what was held: all usns of its rows are 0, and that of
 -- its head is 1
 pub record IsOpenedAt (now : ℤ) (old new : Keeping) : Type 0 where
   pub opening : Opening

@@ -1,4 +1,4 @@
--- To be equal but for the update sequence number, and for the stamp too, are equivalences of rows.
+-- To be equal but for the usn, and for the stamp too, are equivalences of rows.
 use Rattle.std.specs.Cmp.{IsEquivalence, and_equiv, on_equiv, nat_eq_equiv, int_eq_equiv}
 use Rattle.std.specs.Cmp.Lexicographic.{lists_equiv, nat_list_eq_equiv}
 use Rattle.ak_base.specs.Contents.{same_content, same_but_stamp_and_usn, same_field, same_template, kind_of, numbers_of, texts_of, fields_of, templates_of}

@@ -1,4 +1,4 @@
--- Facts on single rows: what stays with another update sequence number or stamp, and what it is to be equal but for these.
+-- Facts on single rows: what stays with another usn or stamp, and what it is to be equal but for these.
 use Rattle.std.specs.Prelude.{◌≡◌, ℤ, IsTrue}
 use Rattle.std.proofs.Common.{refl, ◌∙◌}
 use Rattle.std.specs.Cmp.{second_so}
@@ -9,7 +9,7 @@ use Rattle.ak_base.specs.Rows.{name_of, stamp_of, usn_of, with_usn, with_stamp}
 use Rattle.ak_base.specs.declared.rows.Row.{Row}
 use Rattle.ak_base.specs.declared.rows.Row.TheVariants as rows
 
--- ---- a row with another update sequence number
+-- ---- a row with another usn
 pub usn_of-with_usn : (x : Row) (u : ℤ) → usn_of (with_usn x u) ≡ u
 usn_of-with_usn (rows.Note n) u = refl
 usn_of-with_usn (rows.Card c) u = refl
@@ -57,7 +57,7 @@ same-turned x y same = same_content_equiv.symm y x ∙ same
 pub same-through : (x y z : Row) → IsTrue (same_content x y) → IsTrue (same_content y z) → IsTrue (same_content x z)
 same-through x y z one other = same_content_equiv.congr x y z one ∙ other
 
--- ---- rows that are equal but for stamp and update sequence number
+-- ---- rows that are equal but for stamp and usn
 pub same_fields-itself : (x : Row) → IsTrue (same_but_stamp_and_usn x x)
 same_fields-itself = same_but_equiv.refl
 

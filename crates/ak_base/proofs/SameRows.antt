@@ -1,4 +1,4 @@
--- Rows of one content are equal but for their update sequence number, and only they are. So it is of the stamp too.
+-- Rows of one content are equal but for their usn, and only they are. So it is of the stamp too.
 use Rattle.std.specs.Prelude.{◌≡◌, ◌↔◌, ℕ, ℤ, pos, Bool, true, false, ◌&&◌, ◌||◌, ◌==◌, if◌then◌else◌, IsTrue, List, [], get_or}
 use Rattle.std.proofs.Common.{refl, sym, ap, subst, ◌∙◌}
 use Rattle.std.specs.Bool.{Decides}
@@ -86,7 +86,7 @@ template_decides a b = (
     template_itself a =
         and_from _ _ (and_from _ _ (and_from _ _ ((bytes_decides a.name a.name).1 refl) ((bytes_decides a.front a.front).1 refl)) ((bytes_decides a.back a.back).1 refl)) ((bytes_decides a.rest.text a.rest.text).1 refl)
 
--- ---- what rows share that are equal but for stamp and update sequence number
+-- ---- what rows share that are equal but for stamp and usn
 record Shared (a b : Row) : Type 0 where
   pub kind : kind_of a ≡ kind_of b
   pub numbers : numbers_of a ≡ numbers_of b
@@ -263,7 +263,7 @@ by_kind a b usn s stamps = other_kind (kind_of a) (kind_of b) s.kind refl
 pub like_stamp : (x y : Row) → IsTrue (same_content x y) → stamp_of x ≡ stamp_of y
 like_stamp x y same = (signed_Decides (stamp_of x) (stamp_of y)).0 (first_so _ (same_but_stamp_and_usn x y) same)
 
--- rows of one content are one, once their update sequence numbers are
+-- rows of one content are one, once their usns are
 pub same_is_one : (a b : Row) (usn : ℤ) → same_content a b ≡ true → with_usn a usn ≡ with_usn b usn
 same_is_one a b usn same = by_kind a b usn (shared a b (second_so (int_eq (stamp_of a) (stamp_of b)) _ same)) (like_stamp a b same)
 
@@ -271,11 +271,11 @@ one_is_same : (a b : Row) (usn : ℤ) → with_usn a usn ≡ with_usn b usn → 
 one_is_same a b usn one =
     sym (same_content_equiv.congr (with_usn a usn) a b (same-with_usn a usn)) ∙ ap (λ x. same_content x b) one ∙ same-with_usn b usn
 
--- rows have one content exactly if they are one, once their update sequence numbers are
+-- rows have one content exactly if they are one, once their usns are
 pub same_exactly : (a b : Row) (usn : ℤ) → IsTrue (same_content a b) ↔ (with_usn a usn ≡ with_usn b usn)
 same_exactly a b usn = (same_is_one a b usn, one_is_same a b usn)
 
--- ---- all but stamp and update sequence number
+-- ---- all but stamp and usn
 -- the stamp that a row of a kind has, once it is given one
 stamp_given : ℕ → ℤ → ℤ
 stamp_given kind stamp = if kind == 2 || kind == 6 then pos 0 else stamp

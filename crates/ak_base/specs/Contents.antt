@@ -1,4 +1,4 @@
--- What a row says besides its stamp and its update sequence number: rows that are equal but for these.
+-- What a row says besides its stamp and its usn: rows that are equal but for these.
 use Rattle.std.specs.Prelude.{ℕ, ℤ, pos, Bool, ◌&&◌, ◌==◌, if◌then◌else◌, List, [], ◌∷◌}
 use Rattle.std.specs.Cmp.Lexicographic.{pointwise}
 use Rattle.std.specs.Ordering.{int_eq}
@@ -27,7 +27,7 @@ same_texts = pointwise (pointwise ◌==◌)
 abbrev pub truth : Bool → ℤ
 truth b = if b then pos 1 else pos 0
 
--- ---- the numbers of a row but for its stamp and its update sequence number
+-- ---- the numbers of a row but for its stamp and its usn
 -- of a note
 abbrev pub note_numbers : Note → List ℤ
 note_numbers n = n.id ∷ n.mid ∷ n.csum ∷ n.flags ∷ []
@@ -130,12 +130,12 @@ templates_of (rows.Deck d) = []
 templates_of (rows.Options o) = []
 templates_of (rows.Grave g) = []
 
--- equal but for the stamp and the update sequence number
+-- equal but for the stamp and the usn
 abbrev pub same_but_stamp_and_usn : Row → Row → Bool
 same_but_stamp_and_usn a b =
     (kind_of a == kind_of b && pointwise same_numbers (numbers_of a) (numbers_of b)) && (same_texts (texts_of a) (texts_of b)
     && (pointwise same_field (fields_of a) (fields_of b) && pointwise same_template (templates_of a) (templates_of b)))
 
--- equal but for the update sequence number
+-- equal but for the usn
 abbrev pub same_content : Row → Row → Bool
 same_content a b = int_eq (stamp_of a) (stamp_of b) && same_but_stamp_and_usn a b

@@ -57,14 +57,14 @@ pub record IsHeadInRange (h : Head) : Type 0 where
   pub tags : All IsTagInRange h.tags
   pub ascending : IsStrictlySortedBy (slice_cmp nat_cmp) (tag_names h.tags)
 
--- the moments and the update sequence number of a head are in their ranges
+-- the moments and the usn of a head are in their ranges
 pub record AreMomentsInRange (m : ℤ) (s : ℤ) (u : ℤ) (l : ℤ) : Type 0 where
   pub moment : IsMoment m
   pub schema : IsMoment s
   pub usn : IsWithin (pos 0) last_head_usn u
   pub last_sync : IsMoment l
 
--- the second of a head's creation, its moments and its update sequence number are in their ranges
+-- the second of a head's creation, its moments and its usn are in their ranges
 pub record AreHeadNumbersInRange (h : Head) : Type 0 where
   pub crt : IsWithin (pos 0) last_stamp h.crt
   pub moments : AreMomentsInRange h.moment h.schema h.usn h.last_sync

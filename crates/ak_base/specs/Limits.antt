@@ -5,11 +5,11 @@ use Rattle.std.specs.Prelude.{ℤ, pos}
 abbrev pub last_id : ℤ
 last_id = pos 9_007_199_254_740_991
 
--- the last update sequence number of a row or a tag. The first is -1, which says that it was not sent yet
+-- the last usn of a row or a tag. The first is -1, which says that it was not sent yet
 abbrev pub last_usn : ℤ
 last_usn = pos 2_147_483_647
 
--- the last update sequence number of a head, below the last one of a row. The first is 0
+-- the last usn of a head, below the last one of a row. The first is 0
 abbrev pub last_head_usn : ℤ
 last_head_usn = pos 2_147_483_646
 

@@ -34,7 +34,7 @@ stamp_of (rows.Deck d) = d.stamp
 stamp_of (rows.Options o) = o.stamp
 stamp_of (rows.Grave g) = pos 0
 
--- its update sequence number
+-- its usn
 abbrev pub usn_of : Row → ℤ
 usn_of (rows.Note n) = n.usn
 usn_of (rows.Card c) = c.usn
@@ -44,7 +44,7 @@ usn_of (rows.Deck d) = d.usn
 usn_of (rows.Options o) = o.usn
 usn_of (rows.Grave g) = g.usn
 
--- the row with another update sequence number
+-- the row with another usn
 abbrev pub with_usn : Row → ℤ → Row
 with_usn (rows.Note n) usn = rows.Note (record n { usn = usn })
 with_usn (rows.Card c) usn = rows.Card (record c { usn = usn })
@@ -64,7 +64,7 @@ with_stamp (rows.Deck d) stamp = rows.Deck (record d { stamp = stamp })
 with_stamp (rows.Options o) stamp = rows.Options (record o { stamp = stamp })
 with_stamp (rows.Grave g) stamp = rows.Grave g
 
--- the row with another stamp and another update sequence number
+-- the row with another stamp and another usn
 abbrev pub with_stamp_and_usn : Row → ℤ → ℤ → Row
 with_stamp_and_usn row stamp usn = with_usn (with_stamp row stamp) usn
 

@@ -18,7 +18,7 @@ pub struct Card {
     pub ord: i64,
     /// When the row was changed last, in seconds: the column `mod`.
     pub stamp: i64,
-    /// The update sequence number, -1 for a row that was not sent yet.
+    /// The update sequence number (usn), -1 for a row that was not sent yet.
     pub usn: i64,
     /// 0 new, 1 learning, 2 review, 3 relearning: the column `type`.
     pub kind: i64,

@@ -1,4 +1,4 @@
-// Whether two rows are equal but for their update sequence numbers, or for their stamps too.
+// Whether two rows are equal but for their usns, or for their stamps too.
 ghost use Rattle.std.specs.Prelude.{◌≡◌, ◌&&◌};
 ghost use Rattle.std.specs.Cmp.Lexicographic.{pointwise};
 ghost use Rattle.ak_base.specs.Contents.{truth, same_content, same_but_stamp_and_usn, same_field, same_template};
@@ -8,14 +8,14 @@ ghost use Rattle.ak_base.specs.declared.rows.Row.TheVariants as rows;
 use crate::{Card, Deck, Grave, Note, NoteType, Options, Review, Row};
 
 impl Row {
-    /// Whether the two are equal but for the update sequence number. It takes no memory.
+    /// Whether the two are equal but for the usn. It takes no memory.
     pub fn same_content(&self, other: &Row) -> bool
         ensures { result ≡ same_content self.now other.now }
     {
         self.stamp() == other.stamp() && self.same_but_stamp_and_usn(other)
     }
 
-    /// Whether the two are equal but for the stamp and the update sequence number. It takes no memory.
+    /// Whether the two are equal but for the stamp and the usn. It takes no memory.
     pub fn same_but_stamp_and_usn(&self, other: &Row) -> bool
         ensures { result ≡ same_but_stamp_and_usn self.now other.now }
     {
@@ -52,7 +52,7 @@ impl Row {
     }
 }
 
-/// Whether the two are equal but for stamp and update sequence number.
+/// Whether the two are equal but for stamp and usn.
 fn same_notes(a: &Note, b: &Note) -> bool
     ensures { result ≡ same_but_stamp_and_usn (rows.Note a.now) (rows.Note b.now) }
 {
@@ -64,21 +64,21 @@ fn same_notes(a: &Note, b: &Note) -> bool
         && a.extra == b.extra
 }
 
-/// The numbers of a note but for stamp and update sequence number.
+/// The numbers of a note but for stamp and usn.
 fn note_numbers(n: &Note) -> [i64; 4]
     ensures { result ≡ note_numbers n.now }
 {
     [n.id, n.mid, n.csum, n.flags]
 }
 
-/// Whether the two are equal but for stamp and update sequence number.
+/// Whether the two are equal but for stamp and usn.
 fn same_cards(a: &Card, b: &Card) -> bool
     ensures { result ≡ same_but_stamp_and_usn (rows.Card a.now) (rows.Card b.now) }
 {
     card_numbers(a) == card_numbers(b) && a.extra == b.extra
 }
 
-/// The numbers of a card but for stamp and update sequence number.
+/// The numbers of a card but for stamp and usn.
 fn card_numbers(c: &Card) -> [i64; 15]
     ensures { result ≡ card_numbers c.now }
 {
@@ -88,7 +88,7 @@ fn card_numbers(c: &Card) -> [i64; 15]
     ]
 }
 
-/// Whether the two are equal but for the update sequence number.
+/// Whether the two are equal but for the usn.
 fn same_reviews(a: &Review, b: &Review) -> bool
     ensures { result ≡ same_but_stamp_and_usn (rows.Review a.now) (rows.Review b.now) }
 {
@@ -99,7 +99,7 @@ fn same_reviews(a: &Review, b: &Review) -> bool
     ]
 }
 
-/// Whether the two are equal but for stamp and update sequence number.
+/// Whether the two are equal but for stamp and usn.
 fn same_note_types(a: &NoteType, b: &NoteType) -> bool
     ensures { result ≡ same_but_stamp_and_usn (rows.NoteType a.now) (rows.NoteType b.now) }
 {
@@ -109,7 +109,7 @@ fn same_note_types(a: &NoteType, b: &NoteType) -> bool
         && same_lists(a, b)
 }
 
-/// The numbers of a note type but for stamp and update sequence number.
+/// The numbers of a note type but for stamp and usn.
 fn note_type_numbers(t: &NoteType) -> [i64; 3]
     ensures { result ≡ note_type_numbers t.now }
 {
@@ -123,14 +123,14 @@ fn same_lists(a: &NoteType, b: &NoteType) -> bool
     a.fields == b.fields && a.templates == b.templates
 }
 
-/// Whether the two are equal but for stamp and update sequence number.
+/// Whether the two are equal but for stamp and usn.
 fn same_decks(a: &Deck, b: &Deck) -> bool
     ensures { result ≡ same_but_stamp_and_usn (rows.Deck a.now) (rows.Deck b.now) }
 {
     deck_numbers(a) == deck_numbers(b) && a.name == b.name && a.rest == b.rest
 }
 
-/// The numbers of a deck but for stamp and update sequence number.
+/// The numbers of a deck but for stamp and usn.
 fn deck_numbers(d: &Deck) -> [i64; 7]
     ensures { result ≡ deck_numbers d.now }
 {
@@ -145,7 +145,7 @@ fn deck_numbers(d: &Deck) -> [i64; 7]
     ]
 }
 
-/// Whether the two are equal but for stamp and update sequence number.
+/// Whether the two are equal but for stamp and usn.
 fn same_options(a: &Options, b: &Options) -> bool
     ensures { result ≡ same_but_stamp_and_usn (rows.Options a.now) (rows.Options b.now) }
 {
@@ -158,7 +158,7 @@ fn same_options(a: &Options, b: &Options) -> bool
         && a.rest == b.rest
 }
 
-/// The numbers of an option group but for stamp and update sequence number: of every card, and of new cards.
+/// The numbers of an option group but for stamp and usn: of every card, and of new cards.
 fn general_numbers(o: &Options) -> [i64; 7]
     ensures { result ≡ general_numbers o.now }
 {
@@ -194,7 +194,7 @@ fn lapse_numbers(o: &Options) -> [i64; 4]
     [o.mult, o.min_int, o.leech_fails, o.leech_action]
 }
 
-/// Whether the two are equal but for the update sequence number.
+/// Whether the two are equal but for the usn.
 fn same_graves(a: &Grave, b: &Grave) -> bool
     ensures { result ≡ same_but_stamp_and_usn (rows.Grave a.now) (rows.Grave b.now) }
 {

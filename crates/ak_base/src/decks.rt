@@ -21,7 +21,7 @@ pub struct Deck {
     pub id: i64,
     /// When it was changed last, in seconds: the key `mod`.
     pub stamp: i64,
-    /// The update sequence number, -1 for a deck that was not sent yet.
+    /// The update sequence number (usn), -1 for a deck that was not sent yet.
     pub usn: i64,
     /// The names of the deck and of those above it, joined by `::`.
     pub name: Text,

@@ -8,7 +8,7 @@ use crate::{LAST_USN, Name, RowFault, Table};
 /// That a row was deleted, as schema 11's `graves` keeps it.
 #[derive(Clone, Copy, Debug, PartialEq, Eq)]
 pub struct Grave {
-    /// The update sequence number, -1 for a grave that was not sent yet.
+    /// The update sequence number (usn), -1 for a grave that was not sent yet.
     pub usn: i64,
     /// The id of the row that was deleted.
     pub oid: i64,

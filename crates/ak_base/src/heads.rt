@@ -28,7 +28,7 @@ pub struct Conf {
 pub struct Tag {
     /// 1 to 512 bytes.
     pub name: Text,
-    /// The update sequence number, -1 for a tag that was not sent yet.
+    /// The update sequence number (usn), -1 for a tag that was not sent yet.
     pub usn: i64,
 }
 
@@ -41,7 +41,7 @@ pub struct Head {
     pub moment: i64,
     /// When its schema was changed last, in milliseconds: the column `scm`.
     pub schema: i64,
-    /// The update sequence number that the next sync gives.
+    /// The usn that the next sync gives.
     pub usn: i64,
     /// When it was synced last, in milliseconds, or 0: the column `ls`.
     pub last_sync: i64,
@@ -61,7 +61,7 @@ impl Head {
             & are_tags_in_range(self.tags.as_slice())
     }
 
-    /// Whether the second of the creation, the moments and the update sequence number are in their ranges.
+    /// Whether the second of the creation, the moments and the usn are in their ranges.
     fn has_numbers_in_range(&self) -> bool
         ensures { Decides result (AreHeadNumbersInRange self.now) }
     {
@@ -122,7 +122,7 @@ impl Conf {
 }
 
 impl Tag {
-    /// Whether the name and the update sequence number are in their ranges. It takes no memory.
+    /// Whether the name and the usn are in their ranges. It takes no memory.
     pub fn is_in_range(&self) -> bool
         ensures { Decides result (IsTagInRange self.now) }
     {

@@ -16,12 +16,12 @@ ghost use Rattle.ak_base.specs.declared.names.Table.{Table};
 ghost use Rattle.ak_base.specs.declared.option_groups.Options.{Options};
 ghost use Rattle.ak_base.specs.declared.rows.Row.{Row};
 
-/// Rows have the same content exactly if they are equal once their update sequence numbers are.
+/// Rows have the same content exactly if they are equal once their usns are.
 pub fn same_content_is_equality()
     ensures { (a b : Row) (usn : ℤ) → IsTrue (same_content a b) ↔ (with_usn a usn ≡ with_usn b usn) }
 {}
 
-/// Rows are equal but for stamp and update sequence number exactly if they are equal once both are.
+/// Rows are equal but for stamp and usn exactly if they are equal once both are.
 pub fn same_but_stamp_and_usn_is_equality()
     ensures { (a b : Row) (s u : ℤ) → IsTrue (same_but_stamp_and_usn a b) ↔ (with_stamp_and_usn a s u ≡ with_stamp_and_usn b s u) }
 {}

@@ -3,10 +3,10 @@
 /// The last id of a row: the last whole number that a double holds exactly. The first is 1.
 pub const LAST_ID: i64 = 9_007_199_254_740_991;
 
-/// The last update sequence number of a row or a tag. -1 says that it was not sent yet.
+/// The last usn of a row or a tag. -1 says that it was not sent yet.
 pub const LAST_USN: i64 = 2_147_483_647;
 
-/// The last update sequence number of a head. The first is 0.
+/// The last usn of a head. The first is 0.
 pub const LAST_HEAD_USN: i64 = 2_147_483_646;
 
 /// The last time of change of a row, in seconds. The first is 0.

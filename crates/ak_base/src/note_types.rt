@@ -32,7 +32,7 @@ pub struct NoteType {
     pub id: i64,
     /// When it was changed last, in seconds: the key `mod`.
     pub stamp: i64,
-    /// The update sequence number, -1 for a type that was not sent yet.
+    /// The update sequence number (usn), -1 for a type that was not sent yet.
     pub usn: i64,
     pub name: Text,
     /// Whether cards are made of the clozes in a text, not one of each template: the key `type`.

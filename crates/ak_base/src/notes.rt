@@ -19,7 +19,7 @@ pub struct Note {
     pub mid: i64,
     /// When the row was changed last, in seconds: the column `mod`.
     pub stamp: i64,
-    /// The update sequence number, -1 for a row that was not sent yet.
+    /// The update sequence number (usn), -1 for a row that was not sent yet.
     pub usn: i64,
     /// Empty, or a space, the tags by bytes with one space between, and a space.
     pub tags: Text,

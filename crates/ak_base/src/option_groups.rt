@@ -13,7 +13,7 @@ pub struct Options {
     pub id: i64,
     /// When it was changed last, in seconds.
     pub stamp: i64,
-    /// The update sequence number, -1 for a group that was not sent yet.
+    /// The update sequence number (usn), -1 for a group that was not sent yet.
     pub usn: i64,
     pub name: Text,
     /// The longest time of an answer that counts, in seconds.

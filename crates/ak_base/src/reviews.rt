@@ -12,7 +12,7 @@ pub struct Review {
     pub id: i64,
     /// The card that was answered.
     pub cid: i64,
-    /// The update sequence number, -1 for a row that was not sent yet.
+    /// The update sequence number (usn), -1 for a row that was not sent yet.
     pub usn: i64,
     /// The button, 1 to 4, or 0 for a manual change.
     pub ease: i64,

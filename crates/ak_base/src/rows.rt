@@ -45,7 +45,7 @@ impl Row {
         }
     }
 
-    /// The update sequence number, -1 for a row that was not sent yet.
+    /// The update sequence number (usn), -1 for a row that was not sent yet.
     pub fn usn(&self) -> i64
         ensures { result ≡ usn_of self.now }
     {
@@ -60,7 +60,7 @@ impl Row {
         }
     }
 
-    /// Puts another update sequence number into the row. It takes no memory.
+    /// Puts another usn into the row. It takes no memory.
     pub fn set_usn(&mut self, usn: i64)
         ensures { self.new ≡ with_usn self.old usn }
     {

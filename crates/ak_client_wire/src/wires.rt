@@ -71,6 +71,6 @@ pub struct MetaSaid {
     pub moment: i64,
     /// Its schema moment, in milliseconds.
     pub scm: i64,
-    /// The update sequence number that the next sync gives.
+    /// The usn that the next sync gives.
     pub usn: i64,
 }

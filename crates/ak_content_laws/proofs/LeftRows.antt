@@ -1,4 +1,4 @@
--- What an edit leaves of a row that it asks for: the row, but for its stamp and its update sequence number.
+-- What an edit leaves of a row that it asks for: the row, but for its stamp and its usn.
 use Rattle.std.specs.Prelude.{◌≡◌, ℤ, pos, negsuc, Bool, true, false, cond, Option, Some, None}
 use Rattle.std.proofs.Common.{refl, sym, ap, ◌∙◌}
 use Rattle.std.proofs.lemmas.Option.{same_Some}

@@ -12,7 +12,7 @@ ghost use Rattle.ak_merge.specs.Holdings.{row_under};
 ghost use Rattle.ak_merge.specs.Soundness.{IsSound, first_fault};
 ghost use Rattle.ak_undo.specs.declared.steps.Step.{Step};
 
-/// What an edit leaves is sound exactly if the rows that it asks for are: stamps, update sequence numbers and graves make no difference.
+/// What an edit leaves is sound exactly if the rows that it asks for are: stamps, usns and graves make no difference.
 pub fn edits_leave_what_they_ask_for()
     ensures { (at : ℤ) (c after : Collection) (edit : Edit) → IsEdited at c edit after → IsSound edit.rows ↔ IsSound (row_under after) }
 {}

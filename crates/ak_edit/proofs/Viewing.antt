@@ -317,7 +317,7 @@ card_edited note stamp (rows.Deck d) = refl
 card_edited note stamp (rows.Options o) = refl
 card_edited note stamp (rows.Grave g) = refl
 
--- a row that differs in stamp and update sequence number alone is a card of the note, if the other is
+-- a row that differs in stamp and usn alone is a card of the note, if the other is
 card_same : (note : ℤ) (made before : Row) → same_but_stamp_and_usn made before ≡ true → is_card_of note before ≡ is_card_of note made
 card_same note made before same =
     sym (card_edited note (pos 0) before) ∙ ap (is_card_of note) (sym ((fields_exactly made before (pos 0) (negsuc 0)).0 same)) ∙ card_edited note (pos 0) made

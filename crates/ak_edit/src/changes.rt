@@ -62,7 +62,7 @@ impl Change {
         }
     }
 
-    /// A copy of the row of this name as the edit has it so far, with the stamp and update sequence number that it had.
+    /// A copy of the row of this name as the edit has it so far, with the stamp and usn that it had.
     pub fn get<R: Lookup>(&self, from: &mut R, name: Name) -> Result<Option<Row>, KeepFault>
         ensures reads { ReadsBy R.Lookup from.old from.new result (IsRowOver self.now name) }
         ensures named { IfOk result (λ row. IfSome row (λ row. name_of row ≡ name)) }

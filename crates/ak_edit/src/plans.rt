@@ -109,7 +109,7 @@ fn goes(before: &Option<Row>, made: &Option<Row>) -> bool
     before.is_some() && made.is_none()
 }
 
-/// Whether the edit changes the row: its fields, stamp and update sequence number aside.
+/// Whether the edit changes the row: its fields, stamp and usn aside.
 fn changes_row(before: &Option<Row>, made: &Option<Row>) -> bool
     ensures { result ≡ changes_row before.now made.now }
 {

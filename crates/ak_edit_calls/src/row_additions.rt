@@ -13,7 +13,7 @@ use ak_edit::DeskFault;
 use ak_keep::Keeper;
 use ak_undo::UndoList;
 
-/// Puts a row that has a new id, no grave, at a moment in milliseconds, and gives the id. Its stamp and its update sequence number are
+/// Puts a row that has a new id, no grave, at a moment in milliseconds, and gives the id. Its stamp and its usn are
 /// replaced. It is refused for a stamp or a moment that can't rise.
 pub fn add_row<K: Keeper>(
     keeper: &mut K,

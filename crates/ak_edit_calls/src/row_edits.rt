@@ -12,7 +12,7 @@ use ak_edit::{Change, DeskFault};
 use ak_keep::Keeper;
 use ak_undo::UndoList;
 
-/// Puts a row, no grave, under its name, at a moment in milliseconds. Its stamp and its update sequence number are replaced. A row that
+/// Puts a row, no grave, under its name, at a moment in milliseconds. Its stamp and its usn are replaced. A row that
 /// is held with the same fields is left alone. It is refused for a stamp or a moment that can't rise.
 pub fn edit_row<K: Keeper>(
     keeper: &mut K,

@@ -1,4 +1,4 @@
--- A deck that is built and then emptied: every row is as it was, but for stamps and update sequence numbers.
+-- A deck that is built and then emptied: every row is as it was, but for stamps and usns.
 use Rattle.std.specs.Prelude.{◌≡◌, ℕ, ℤ, pos, negsuc, Bool, true, false, ◌&&◌, ◌||◌, cond, int_lt, ◌++◌, T, IsTrue, if◌then◌else◌, is_some, List, Option, Some, None, option_and_then}
 use Rattle.std.proofs.Common.{refl, sym, ap, subst, ◌∙◌, arith}
 use Rattle.std.proofs.lemmas.Int.{ints}

@@ -1,4 +1,4 @@
--- Changes of cards: each keeps its name, and what it makes does not depend on stamps and update sequence numbers.
+-- Changes of cards: each keeps its name, and what it makes does not depend on stamps and usns.
 use Rattle.std.specs.Prelude.{◌≡◌, ℤ, pos, negsuc, Bool, true, false, if◌then◌else◌, is_some, Option, Some, None}
 use Rattle.std.proofs.Common.{refl, sym, ap, ◌∙◌}
 use Rattle.std.specs.Option.{option_map_or}

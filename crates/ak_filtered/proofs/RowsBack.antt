@@ -1,4 +1,4 @@
--- Rows that are the same but for stamp and update sequence number, and what edits that change rows one by one leave of them.
+-- Rows that are the same but for stamp and usn, and what edits that change rows one by one leave of them.
 use Rattle.std.specs.Prelude.{◌≡◌, ℤ, pos, negsuc, Bool, true, false, IsTrue, if◌then◌else◌, List, Option, Some, None}
 use Rattle.std.proofs.Common.{refl, sym, ap, subst, ◌∙◌}
 use Rattle.std.specs.Option.{option_map, option_map_or}

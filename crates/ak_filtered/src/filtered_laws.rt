@@ -18,7 +18,7 @@ ghost use Rattle.ak_merge.specs.Holdings.{AreChecked, AreNamed, row_under};
 ghost use Rattle.ak_merge.specs.Undoing.{IsBack, KeepsAll};
 ghost use Rattle.ak_undo.specs.declared.steps.Step.{Step};
 
-/// A deck that is built and then emptied leaves every row as it was, but for stamps and update sequence numbers, and the tags and the
+/// A deck that is built and then emptied leaves every row as it was, but for stamps and usns, and the tags and the
 /// settings too, if before it every card lay in a deck that is held and noted no other deck and no other day.
 pub fn what_is_built_and_emptied_is_back()
     // What the calls leave.

@@ -48,7 +48,7 @@ abbrev pub edit_of_record : ℤ → Record → NoteEdit
 edit_of_record id r = record { note = id; fields = r.fields; tags = r.tags }
 
 -- ---- an import under way
--- the collection as the records so far have it, where no stamp, no update sequence number and no moment has risen yet; the tags that
+-- the collection as the records so far have it, where no stamp, no usn and no moment has risen yet; the tags that
 -- came with them; and how many of them there were of each outcome
 pub record Progress : Type 0 where
   pub collection : Collection

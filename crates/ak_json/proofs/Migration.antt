@@ -194,7 +194,7 @@ usn_of_stored : (d : Data) (stored : Row) → IsRow tables.Options d stored → 
 usn_of_stored d (rows.Options o) is = same_usn (version_of d) o ∙ is.1.usn
 usn_of_stored d row is = absurd is.0
 
--- its stamp and its update sequence number are those of the object
+-- its stamp and its usn are those of the object
 pub stamp_migrates : (d : Data) (o : Options) → ReadsRow tables.Options d (rows.Options o) → o.stamp ≡ integer_at options_form 1 d
 stamp_migrates d o read = ap (number_in (λ o. o.stamp)) read.kept ∙ stamp_of_stored d read.stored read.is
 

@@ -42,7 +42,7 @@ pub fn what_is_read_is_in_range()
 {}
 
 /// An option group that is read, in either version, is written in version 2, and read from that as the same row. So
-/// nothing is lost where a document of version 1 is read and written; its stamp and its update sequence number stay.
+/// nothing is lost where a document of version 1 is read and written; its stamp and its usn stay.
 pub fn option_groups_migrate()
     ensures again { (d : Data) (o : Options) → ReadsRow Table.Options d (rows.Options o) → ReadsRow Table.Options (row_json (rows.Options o)) (rows.Options o) }
     ensures stamp { (d : Data) (o : Options) → ReadsRow Table.Options d (rows.Options o) → o.stamp ≡ integer_at options_form 1 d }

@@ -50,11 +50,11 @@ AscendsPast table past (row ∷ rows) = IsTrue (is_past table past (name_of row)
 abbrev pub is_pending : Row → Bool
 is_pending row = int_eq (usn_of row) (negsuc 0)
 
--- a row that a sync gave its update sequence number
+-- a row that a sync gave its usn
 abbrev pub is_settled : Row → Bool
 is_settled row = not (is_pending row)
 
--- a row that was not sent yet, or one whose update sequence number is at least this number
+-- a row that was not sent yet, or one whose usn is at least this number
 abbrev pub is_wanted : Wanted → Row → Bool
 is_wanted Unsent row = is_pending row
 is_wanted (From usn) row = not (int_lt (usn_of row) usn)
@@ -133,7 +133,7 @@ without name h = record h { rows = remove h.rows name }
 abbrev pub with_head : Head → Holding → Holding
 with_head head h = record h { head = Some head }
 
--- with these moments and update sequence numbers in the head that is held
+-- with these moments and usns in the head that is held
 abbrev pub with_moments : ℤ → ℤ → ℤ → ℤ → Holding → Holding
 with_moments moment schema usn last_sync h =
     record h { head = option_map (λ (head : Head). record head { moment = moment; schema = schema; usn = usn; last_sync = last_sync }) h.head }

@@ -65,7 +65,7 @@ removed name = changed (without name)
 abbrev pub head_set : Head → Keeping → Keeping
 head_set head = headed (with_head head)
 
--- the moments and the update sequence number of the head were set
+-- the moments and the usn of the head were set
 abbrev pub moments_set : ℤ → ℤ → ℤ → ℤ → Keeping → Keeping
 moments_set moment schema usn last_sync = changed (with_moments moment schema usn last_sync)
 

@@ -12,7 +12,7 @@ pub struct Numbers {
     pub moment: i64,
     /// When its schema was changed last, in milliseconds.
     pub schema: i64,
-    /// The update sequence number that the next sync gives.
+    /// The usn that the next sync gives.
     pub usn: i64,
     /// When it was synced last, in milliseconds, or 0.
     pub last_sync: i64,

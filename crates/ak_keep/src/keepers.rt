@@ -161,9 +161,9 @@ impl From<Memory> for KeepFault {
 /// Which rows a sync asks for.
 #[derive(Clone, Copy, Debug, PartialEq, Eq)]
 pub enum Wanted {
-    /// Those that were not sent yet: with update sequence number -1.
+    /// Those that were not sent yet: with usn -1.
     Unsent,
-    /// Those with at least this update sequence number.
+    /// Those with at least this usn.
     From(i64),
 }
 

@@ -17,7 +17,7 @@ use Rattle.ak_lab_lines.specs.declared.lab_lines.Shown.{Shown}
 use Rattle.ak_lab_lines.specs.declared.lab_lines.Shown.TheVariants as shown
 
 -- ---- rows
--- a row as it is shown: its JSON text, with the update sequence number 0
+-- a row as it is shown: its JSON text, with the usn 0
 abbrev pub row_text : Row → List ℕ
 row_text row = compact_text (row_json (with_usn row (pos 0)))
 

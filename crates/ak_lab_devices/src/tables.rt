@@ -7,7 +7,7 @@ use ak_json::{whole_numbers_are_written, write_row, write_text};
 use ak_keep::{KeepFault, Readable, Walk};
 use std::alloc::Global;
 
-/// The rows of a table, each as its JSON text with the update sequence number 0, by ascending id.
+/// The rows of a table, each as its JSON text with the usn 0, by ascending id.
 pub fn row_texts<R: Readable>(
     alloc: Global,
     from: &mut R,
@@ -59,7 +59,7 @@ fn add_rows(texts: &mut List<Text>, alloc: Global, rows: &[Row]) -> Result<(), M
     Ok(())
 }
 
-/// A row as it is shown: its JSON text, with the update sequence number 0.
+/// A row as it is shown: its JSON text, with the usn 0.
 fn row_text(alloc: Global, row: &Row) -> Result<Text, Memory>
     ensures { IfOk result (λ text. text ≡ row_text row.now) }
 {

@@ -6,7 +6,7 @@ use Rattle.ak_memory.specs.declared.heads.Moments.{Moments}
 use Rattle.ak_memory.specs.declared.heads.HeadBefore.{HeadBefore}
 use Rattle.ak_memory.specs.declared.heads.HeadBefore.TheVariants as before
 
--- a head with these moments and update sequence number, if there is one
+-- a head with these moments and usn, if there is one
 abbrev pub with_moments : Moments → Option Head → Option Head
 with_moments m held = option_map (λ (head : Head). record head { moment = m.moment; schema = m.schema; usn = m.usn; last_sync = m.last_sync }) held
 

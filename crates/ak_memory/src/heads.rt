@@ -29,7 +29,7 @@ pub(crate) enum HeadBefore {
     Other(Option<Head>),
 }
 
-/// The moments and the update sequence number of a head.
+/// The moments and the usn of a head.
 #[derive(Clone, Copy, Debug)]
 pub(crate) struct Moments {
     pub moment: i64,
@@ -138,7 +138,7 @@ impl MarkedHead {
     }
 }
 
-/// The moments and the update sequence number of the head.
+/// The moments and the usn of the head.
 fn moments_of(head: &Head) -> Moments
     ensures { with_moments result (Some head.now) ≡ Some head.now }
 {

@@ -52,7 +52,7 @@ impl HeldRow {
         }
     }
 
-    /// The update sequence number of the row.
+    /// The usn of the row.
     pub(crate) fn usn(&self) -> i64
         ensures { result ≡ usn_of (held_row self.now) }
     {

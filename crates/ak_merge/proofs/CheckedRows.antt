@@ -1,4 +1,4 @@
--- A row in its ranges stays in them under another update sequence number that is in range.
+-- A row in its ranges stays in them under another usn that is in range.
 use Rattle.ak_base.specs.Limits.{last_usn}
 use Rattle.ak_base.specs.Rows.{IsChecked, with_usn}
 use Rattle.std.specs.Prelude.{◌≡◌, ℕ, ℤ, pos, negsuc, ◌≤ℤ◌, false, int_lt, List, [], ◌∷◌, ◌++◌, Option, Some, None, Ok}

@@ -111,7 +111,7 @@ pub least_advanced : (least now old : ℤ) → least <ℤ now → least <ℤ adv
 least_advanced least now old below = omega (arith, ints, advanced_least now old)
 
 -- ---- linked, over what stands under the names and the tags of a device
--- the first five parts, where these rows and tags stand with this update sequence number on the device
+-- the first five parts, where these rows and tags stand with this usn on the device
 pub record LinkedParts (u : ℤ) (at : RowsByName) (number_of : List ℕ → Option ℤ) (s : Collection) : Type 0 where
   pub usn : u ≤ℤ s.head.usn
   pub given : AreNumbered IsGiven s

@@ -1,4 +1,4 @@
--- A grave is what its id, its table and an update sequence number make.
+-- A grave is what its id, its table and a usn make.
 use Rattle.ak_base.proofs.Burials.{codes_exactly, graves_exactly, graves_of-buried_table}
 use Rattle.ak_base.specs.Columns.{code_fault}
 use Rattle.ak_base.specs.Graves.{buried_table, grave_faults, grave_table}
@@ -47,7 +47,7 @@ kind_of g kind table checked leaves code =
     same_Some table (buried_table g.kind) (sym ((graves_exactly table (grave_table g.kind)).0 leaves) ∙ (graves_exactly (buried_table g.kind) (grave_table g.kind)).0 (graves_of-buried_table g.kind)) in
     same_Some g.kind kind (sym own ∙ ap grave_code (sym same) ∙ code)
 
--- a row in a table of graves is the grave that its id, that table and an update sequence number make
+-- a row in a table of graves is the grave that its id, that table and a usn make
 pub graves_are_made_anew : (row : Row) (usn kind : ℤ) (table : Table) → IsChecked row → graves_of table ≡ Some (name_of row).table → grave_code table ≡ Some kind
     → with_usn row usn ≡ rows.Grave (record { usn = usn; oid = (name_of row).id; kind = kind })
 graves_are_made_anew (rows.Note n) usn kind table checked leaves code = absurd (no_table table tables.Note tables.Note leaves refl refl)

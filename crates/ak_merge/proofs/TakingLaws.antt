@@ -31,7 +31,7 @@ use Rattle.ak_merge.specs.declared.sides.Side.{Side}
 use Rattle.ak_merge.specs.declared.sides.Side.TheVariants.{Device, Server}
 
 -- ---- what stands under a name after taking
--- the row that came where it is newer or none was held, with this update sequence number; else the one that is held
+-- the row that came where it is newer or none was held, with this usn; else the one that is held
 abbrev pub received : Side → ℤ → Option Row → Option Row → Option Row
 received side usn None None = None
 received side usn None (Some came) = Some (with_usn came usn)

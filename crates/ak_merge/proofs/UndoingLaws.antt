@@ -204,7 +204,7 @@ module _ (now later : ℤ) (c : Collection) (edit : Edit) where
   both_at tables.CardGrave id = grave_both (name_in tables.CardGrave id) (name_in tables.Card id)
   both_at tables.DeckGrave id = grave_both (name_in tables.DeckGrave id) (name_in tables.Deck id)
 
--- the undo of an edit gives the collection before it, stamps and update sequence numbers aside
+-- the undo of an edit gives the collection before it, stamps and usns aside
 pub undos_give_back : (at later : ℤ) (c after back : Collection) (edit : Edit) → IsEdited at c edit after → IsUndone later after (reversal_of c edit) back → IsBack c back
 undos_give_back at later c after back edit is_edited undone = record {
   rows = λ name. subst (λ (o : Option Row). IsTrue (same_fields (row_under c name) o))

@@ -18,7 +18,7 @@ use Rattle.ak_keep.specs.declared.keepers.KeepFault.{KeepFault}
 use Rattle.ak_keep.specs.declared.keepers.KeepFault.TheVariants.{Failed}
 use Rattle.ak_keep.specs.Graves.{RowsByName}
 
--- the other side holds a row of this name with an equal stamp that is not equal, update sequence numbers aside
+-- the other side holds a row of this name with an equal stamp that is not equal, usns aside
 abbrev pub conflicts : Row → Option Row → Bool
 conflicts row other = option_map_or (λ (held : Row). int_eq (stamp_of row) (stamp_of held) && not (same_content row held)) other false
 
@@ -39,7 +39,7 @@ first_conflict_of (table ∷ more) a b = option_or (first_conflict_in table a b)
 abbrev pub first_conflict : Rows → Rows → Option Name
 first_conflict = first_conflict_of all_tables
 
--- both hold a row under the name, with equal stamps, and the two are not equal, update sequence numbers aside
+-- both hold a row under the name, with equal stamps, and the two are not equal, usns aside
 abbrev pub ConflictAt : RowsByName → RowsByName → Name → Type 0
 ConflictAt a b name = (x : Row) × (y : Row) × (a name ≡ Some x) × (b name ≡ Some y) × (stamp_of x ≡ stamp_of y) × IsFalse (same_content x y)
 

@@ -1,4 +1,4 @@
--- What an edit leaves: stamps, update sequence numbers, graves, tags and moments, and the step that its undo puts back.
+-- What an edit leaves: stamps, usns, graves, tags and moments, and the step that its undo puts back.
 use Rattle.ak_base.specs.Rows.{with_stamp, with_usn, stamp_of}
 use Rattle.ak_base.specs.Contents.{same_but_stamp_and_usn}
 use Rattle.ak_base.specs.Tables.{grave_code, buried_name}

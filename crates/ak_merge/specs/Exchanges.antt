@@ -77,23 +77,23 @@ abbrev pub settings_given : Head → Head → Option Settings
 settings_given device server = if int_lt server.moment device.moment then None else Some (settings_of server)
 
 -- ---- what is settled
--- with this update sequence number if it was not sent yet
+-- with this usn if it was not sent yet
 abbrev pub settled : ℤ → Row → Row
 settled usn row = if is_pending row then with_usn row usn else row
 
--- any of what stood there and was not sent yet has this update sequence number already, and the rest is as it was
+-- any of what stood there and was not sent yet has this usn already, and the rest is as it was
 abbrev pub IsPartSettled : ℤ → RowsByName → RowsByName → Type 0
 IsPartSettled usn at early = (name : Name) → (early name ≡ at name) ⊎ (early name ≡ option_map (settled usn) (at name))
 
--- this update sequence number for that of what was not sent yet
+-- this usn for that of what was not sent yet
 abbrev pub settled_number : ℤ → ℤ → ℤ
 settled_number usn number = if int_eq number (negsuc 0) then usn else number
 
--- a tag with this update sequence number if it was not sent yet
+-- a tag with this usn if it was not sent yet
 abbrev pub settled_tag : ℤ → Tag → Tag
 settled_tag usn tag = record { name = tag.name; usn = settled_number usn tag.usn }
 
--- the tags, those that were not sent yet with this update sequence number
+-- the tags, those that were not sent yet with this usn
 abbrev pub settled_tags : ℤ → List Tag → List Tag
 settled_tags usn tags = map (settled_tag usn) tags
 

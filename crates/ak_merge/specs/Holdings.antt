@@ -34,7 +34,7 @@ abbrev pub IsSingle : RowsByName → Type 0
 IsSingle at = (name : Name) → is_dead at name ≡ true → at name ≡ None
 
 -- ---- tags
--- the update sequence number of the tag of this name
+-- the usn of the tag of this name
 abbrev pub tag_usn : List Tag → List ℕ → Option ℤ
 tag_usn tags name = option_map (λ (tag : Tag). tag.usn) (find (λ (tag : Tag). pointwise ◌==◌ tag.name name) tags)
 
@@ -44,7 +44,7 @@ has_tag tags name = is_some (tag_usn tags name)
 
 -- ---- content
 -- what stands under each name, the tags by name, the settings and the moment of creation. Two contents are compared
--- without regard to update sequence numbers; moments are no part of them
+-- without regard to usns; moments are no part of them
 pub record Content : Type 0 where
   pub rows : RowsByName
   pub tags : List ℕ → Bool
@@ -55,14 +55,14 @@ pub record Content : Type 0 where
 abbrev pub content_of : Collection → Content
 content_of c = record { rows = row_under c; tags = has_tag c.head.tags; conf = c.head.conf; crt = c.head.crt }
 
--- nothing on either side, or rows that are equal but for the update sequence number
+-- nothing on either side, or rows that are equal but for the usn
 abbrev pub same_held : Option Row → Option Row → Bool
 same_held None None = true
 same_held None (Some y) = false
 same_held (Some x) None = false
 same_held (Some x) (Some y) = same_content x y
 
--- equal contents, update sequence numbers aside
+-- equal contents, usns aside
 pub record SameContent (one other : Content) : Type 0 where
   pub rows : (name : Name) → IsTrue (same_held (one.rows name) (other.rows name))
   pub tags : (name : List ℕ) → one.tags name ≡ other.tags name

@@ -9,7 +9,7 @@ use Rattle.ak_base.specs.declared.rows.Row.{Row}
 use Rattle.ak_keep.specs.Graves.{RowsByName, is_dead}
 use Rattle.ak_merge.specs.Holdings.{row_under, has_tag, Content}
 
--- two rows of one name with equal stamps are equal, update sequence numbers aside. Reviews and graves have one stamp
+-- two rows of one name with equal stamps are equal, usns aside. Reviews and graves have one stamp
 abbrev pub AreApart : RowsByName → RowsByName → Type 0
 AreApart a b = (name : Name) (x y : Row) → a name ≡ Some x → b name ≡ Some y → stamp_of x ≡ stamp_of y → IsTrue (same_content x y)
 

@@ -1,4 +1,4 @@
--- When a device's collection and a server's committed one are linked: what a sync by update sequence numbers rests on.
+-- When a device's collection and a server's committed one are linked: what a sync by usns rests on.
 use Rattle.ak_base.specs.Tables.{has_stamps}
 use Rattle.ak_keep.specs.Collections.{Collection, is_pending, is_settled}
 use Rattle.std.specs.Prelude.{◌≡◌, ◌≢◌, ℕ, ℤ, pos, negsuc, ◌≤ℤ◌, ◌<ℤ◌, false, IsTrue, List, Option, Some, None, IfSome, is_some, ⊤, ◌⊎◌}
@@ -10,12 +10,12 @@ use Rattle.ak_keep.specs.Graves.{grave_under}
 use Rattle.ak_merge.specs.Holdings.{row_under, IsSingle, tag_usn}
 
 -- ---- the usns
--- from 0 to below a head's update sequence number
+-- from 0 to below a head's usn
 pub record IsGiven (usn number : ℤ) : Type 0 where
   pub low : pos 0 ≤ℤ number
   pub high : number <ℤ usn
 
--- not sent yet, or from 0 to below the head's update sequence number
+-- not sent yet, or from 0 to below the head's usn
 abbrev pub IsOwn : ℤ → ℤ → Type 0
 IsOwn usn number = (number ≡ negsuc 0) ⊎ IsGiven usn number
 
@@ -29,7 +29,7 @@ abbrev pub IsAllSent : Collection → Type 0
 IsAllSent c = AreNumbered (λ usn number. number ≢ negsuc 0) c
 
 -- ---- the cells: what stands under one name, and the grave of that name
--- an equal row is there, update sequence numbers aside
+-- an equal row is there, usns aside
 abbrev pub IsHeldLike : Row → Option Row → Type 0
 IsHeldLike x None = ⊥
 IsHeldLike x (Some y) = IsTrue (same_content x y)
@@ -39,7 +39,7 @@ pub record IsNewerUnsent (y x : Row) : Type 0 where
   pub unsent : IsTrue (is_pending x)
   pub newer : stamp_of y <ℤ stamp_of x
 
--- a row is there that is newer and has at least this update sequence number
+-- a row is there that is newer and has at least this usn
 pub record IsNewerFrom (usn : ℤ) (x y : Row) : Type 0 where
   pub newer : stamp_of x <ℤ stamp_of y
   pub from : usn ≤ℤ usn_of y

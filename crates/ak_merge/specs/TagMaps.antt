@@ -1,4 +1,4 @@
--- Tags as the entries of a map from names to update sequence numbers.
+-- Tags as the entries of a map from names to usns.
 use Rattle.std.specs.Prelude.{ℕ, ℤ, Bool, true, ◌&&◌, List, [], ◌∷◌, map, String}
 use Rattle.std.specs.BTreeMap.{BTreeMap}
 use Rattle.std.specs.Cmp.Lexicographic.{slice_cmp}

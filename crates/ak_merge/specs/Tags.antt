@@ -25,7 +25,7 @@ abbrev pub tag_place : List ℕ → List Tag → ℕ
 tag_place name [] = 0
 tag_place name (other ∷ more) = if is_lt (slice_cmp nat_cmp name other.name) then 0 else tag_place name more + 1
 
--- the tags once this name came: a tag of the name that is held stays, else one with this update sequence number is put in
+-- the tags once this name came: a tag of the name that is held stays, else one with this usn is put in
 abbrev pub tag_taken : ℤ → List ℕ → List Tag → List Tag
 tag_taken usn name tags = if has_tag tags name then tags else with_tag (record { name = name; usn = usn }) tags
 

@@ -38,7 +38,7 @@ takes side at row = not (is_dead at (name_of row)) && beats_held side (at (name_
 abbrev pub buried : Row → Rows → Rows
 buried row held = option_map_or (λ (name : Name). remove held name) (buried_of row) held
 
--- what is held after a received row: a grave takes its row away, and the row stands with this update sequence number if it is taken
+-- what is held after a received row: a grave takes its row away, and the row stands with this usn if it is taken
 abbrev pub taken : Side → ℤ → Row → Rows → Rows
 taken side usn row held = if takes side (get held) row then insert (buried row held) (name_of row) (with_usn row usn) else buried row held
 

@@ -40,14 +40,14 @@ pub record IsUndone (at : ℤ) (c : Collection) (step : Reversal) (after : Colle
   pub last_sync : after.head.last_sync ≡ c.head.last_sync
   pub crt : after.head.crt ≡ c.head.crt
 
--- nothing on either side, or rows that are equal in every column but the stamp and the update sequence number
+-- nothing on either side, or rows that are equal in every column but the stamp and the usn
 abbrev pub same_fields : Option Row → Option Row → Bool
 same_fields None None = true
 same_fields None (Some y) = false
 same_fields (Some x) None = false
 same_fields (Some x) (Some y) = same_but_stamp_and_usn x y
 
--- a collection is as one was, stamps and update sequence numbers of rows aside
+-- a collection is as one was, stamps and usns of rows aside
 pub record IsBack (was back : Collection) : Type 0 where
   pub rows : (name : Name) → IsTrue (same_fields (row_under was name) (row_under back name))
   pub tags : back.head.tags ≡ was.head.tags
@@ -55,7 +55,7 @@ pub record IsBack (was back : Collection) : Type 0 where
   pub crt : back.head.crt ≡ was.head.crt
 
 -- ---- steps that fit a server's collection
--- how a step fits a server's collection of the same schema moment, u being the device's update sequence number
+-- how a step fits a server's collection of the same schema moment, u being the device's usn
 pub record StepFitsParts (u : ℤ) (step : Reversal) (s : Collection) : Type 0 where
   -- it is at most the server's
   pub usn : u ≤ℤ s.head.usn

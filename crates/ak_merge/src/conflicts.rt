@@ -9,7 +9,7 @@ use ak_base::{Name, Row, Table};
 use ak_keep::{KeepFault, Lookup, Readable, Walk};
 
 /// The first name, by table and then by id, under which the two hold rows with equal stamps that are not equal,
-/// update sequence numbers aside; None if the two are apart.
+/// usns aside; None if the two are apart.
 pub fn apart<A: Readable, B: Lookup>(a: &mut A, b: &mut B) -> Result<Option<Name>, KeepFault>
     ensures first { IfOk result (λ first. WhereTold (A.keeping a.old) (λ c. WhereTold (B.keeping b.old) (λ d. first ≡ first_conflict c.rows d.rows))) }
     ensures one_kept { A.kept a.new ≡ A.kept a.old }
@@ -69,7 +69,7 @@ fn has_conflict<L: Lookup>(from: &mut L, row: &Row) -> Result<bool, KeepFault>
     Ok(conflicts(row, &held))
 }
 
-/// Whether the other row is there, with an equal stamp, and is not equal, update sequence numbers aside.
+/// Whether the other row is there, with an equal stamp, and is not equal, usns aside.
 fn conflicts(row: &Row, other: &Option<Row>) -> bool
     ensures { result ≡ conflicts row.now other.now }
 {

@@ -70,7 +70,7 @@ pub fn undos_keep_names()
     ensures { (at : ℤ) (c after : Collection) (step : Reversal) (steps : List Reversal) → IsUndone at c step after → StepsSuit (step ∷ steps) (row_under c) c.head.tags → AreNamed (row_under c) → AreNamed (row_under after) × IsSingle (row_under after) }
 {}
 
-/// The undo of an edit gives the collection before it, but for stamps and update sequence numbers.
+/// The undo of an edit gives the collection before it, but for stamps and usns.
 pub fn undos_give_back()
     ensures { (at later : ℤ) (c after back : Collection) (edit : Edit) → IsEdited at c edit after → IsUndone later after (reversal_of c edit) back → IsBack c back }
 {}

@@ -27,7 +27,7 @@ pub fn apart_has_no_tie()
 {}
 
 /// The name that this walk answers is the least under which the two hold rows with equal stamps that
-/// are not equal, update sequence numbers aside.
+/// are not equal, usns aside.
 pub fn first_conflict_is_least()
     ensures { (a b : Rows) (name : Name) → AreNamed (get a) → AreChecked (get a) → first_conflict a b ≡ Some name → IsLeastConflict (get a) (get b) name }
 {}

@@ -19,13 +19,13 @@ ghost use Rattle.ak_merge.specs.Holdings.{AreNamed, AreChecked, IsSingle};
 ghost use Rattle.ak_merge.specs.Takings.{all_taken};
 ghost use Rattle.ak_merge.specs.declared.sides.Side.{Side};
 
-/// The update sequence numbers of rows that come make no difference: graves may travel as ids, and be made anew.
+/// The usns of rows that come make no difference: graves may travel as ids, and be made anew.
 pub fn numbers_make_no_difference()
     ensures any { (side : Side) (usn : ℤ) (number : Row → ℤ) (came : List Row) (held : Rows) → all_taken side usn (map (λ row. with_usn row (number row)) came) held ≡ all_taken side usn came held }
     ensures same { (side : Side) (usn : ℤ) (one other : List Row) (held : Rows) → map (λ row. with_usn row (pos 0)) one ≡ map (λ row. with_usn row (pos 0)) other → all_taken side usn one held ≡ all_taken side usn other held }
 {}
 
-/// A row in a table of graves is the grave that its id, that table and an update sequence number make.
+/// A row in a table of graves is the grave that its id, that table and a usn make.
 pub fn graves_are_made_anew()
     ensures { (row : Row) (usn kind : ℤ) (table : Table) → IsChecked row → graves_of table ≡ Some (name_of row).table → grave_code table ≡ Some kind → with_usn row usn ≡ rows.Grave (record { usn = usn; oid = (name_of row).id; kind = kind }) }
 {}

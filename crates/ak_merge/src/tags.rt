@@ -10,7 +10,7 @@ use ak_base::{List, Memory, Tag, Text};
 const FEW_NAMES: usize = 16;
 
 /// The tags once these names came. A tag that is held stays as it is; each other name is put in before the first
-/// that is greater by bytes, with this update sequence number.
+/// that is greater by bytes, with this usn.
 pub fn take_tags(tags: List<Tag>, names: &[Text], usn: i64) -> Result<List<Tag>, Memory>
     ensures { IfOk result (λ made. made ≡ tags_taken usn names.now tags) }
 {
@@ -31,7 +31,7 @@ fn take_each(tags: List<Tag>, names: &[Text], usn: i64) -> Result<List<Tag>, Mem
     Ok(List::of(held))
 }
 
-/// The tags, each that was not sent yet with this update sequence number. It takes no memory.
+/// The tags, each that was not sent yet with this usn. It takes no memory.
 pub fn settle_tags(tags: List<Tag>, usn: i64) -> List<Tag>
     ensures { result ≡ settled_tags usn tags }
 {
@@ -40,7 +40,7 @@ pub fn settle_tags(tags: List<Tag>, usn: i64) -> List<Tag>
     List::of(held)
 }
 
-/// Gives each tag that was not sent yet this update sequence number.
+/// Gives each tag that was not sent yet this usn.
 fn settle_each(tags: &mut [Tag], usn: i64)
     ensures { tags.new ≡ settled_tags usn tags.old }
 {
@@ -49,7 +49,7 @@ fn settle_each(tags: &mut [Tag], usn: i64)
     }
 }
 
-/// Gives the tag this update sequence number if it was not sent yet, which the number -1 says.
+/// Gives the tag this usn if it was not sent yet, which the number -1 says.
 fn settle_tag(tag: &mut Tag, usn: i64)
     ensures { tag.new ≡ settled_tag usn tag.old }
 {

@@ -18,7 +18,7 @@ pub fn newer(held: &Row, came: &Row) -> bool
     held.name() == came.name() && held.stamp() < came.stamp()
 }
 
-/// Takes a row that came from the other side, with this update sequence number, by the rule of a sync for the
+/// Takes a row that came from the other side, with this usn, by the rule of a sync for the
 /// side that takes; answers whether it is held now. A grave takes its row away in any case. If it is refused, a
 /// part may be done: the keeper stays marked, and its mark is as it was.
 pub fn take_row<K: Keeper>(
@@ -112,7 +112,7 @@ fn bury<K: Keeper>(keeper: &mut K, row: &Row) -> Result<(), KeepFault>
     }
 }
 
-/// Puts the row, with this update sequence number.
+/// Puts the row, with this usn.
 #[tactic(auto, using(crate::proofs::CheckedRows::checked_with_usn))]
 fn put_with<K: Keeper>(keeper: &mut K, row: Row, usn: i64) -> Result<(), KeepFault>
     requires marked { is_marked (K.keeping keeper.old) ≡ true }

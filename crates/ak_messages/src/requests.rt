@@ -34,7 +34,7 @@ pub struct Request {
 #[derive(Debug, PartialEq, Drop)]
 pub enum Ask {
     Meta,
-    /// The device's update sequence number, and the moment of its last change in milliseconds.
+    /// The device's usn, and the moment of its last change in milliseconds.
     Start { min_usn: i64, lmod: i64 },
     ApplyGraves(GraveIds),
     ApplyChanges(Changes),

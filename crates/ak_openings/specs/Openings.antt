@@ -14,7 +14,7 @@ use Rattle.ak_base.specs.declared.rows.Row.TheVariants as rows
 use Rattle.ak_openings.specs.declared.whole_collections.Opening.{Opening}
 
 -- ---- the numbers
--- the update sequence number of a row: -1 if it is to be sent
+-- the usn of a row: -1 if it is to be sent
 abbrev pub row_usn : Bool → ℤ
 row_usn true = negsuc 0
 row_usn false = pos 0

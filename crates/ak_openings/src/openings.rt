@@ -13,7 +13,7 @@ use ak_base::{Conf, Count, Deck, Head, List, Memory, Options, Rest, Row, Text};
 use std::alloc::Global;
 
 /// The collection that is made at a moment in milliseconds: deck 1, options 1 and the note types 1 to 3. Its rows are to be
-/// sent, as a learner's are, or they are a server's own, which has the update sequence number 1 then.
+/// sent, as a learner's are, or they are a server's own, which has the usn 1 then.
 pub fn opening(alloc: Global, ms: i64, unsent: bool) -> Result<Opening, Memory>
     requires moment { IsClockMoment ms }
     ensures is { IfOk result (IsOpening ms unsent) }
@@ -30,14 +30,14 @@ pub fn opening(alloc: Global, ms: i64, unsent: bool) -> Result<Opening, Memory>
     Ok(Opening { rows, head })
 }
 
-/// The update sequence number of a row.
+/// The usn of a row.
 fn row_usn(unsent: bool) -> i64
     ensures { result ≡ row_usn unsent }
 {
     if unsent { -1 } else { 0 }
 }
 
-/// The rows, stamped with this second, with this update sequence number.
+/// The rows, stamped with this second, with this usn.
 fn opening_rows(alloc: Global, second: i64, usn: i64) -> Result<List<Row>, Memory>
     ensures { IfOk result (AreOpeningRows second usn) }
 {

@@ -17,7 +17,7 @@ use Rattle.ak_keep.specs.Collections.{Collection}
 use Rattle.ak_merge.specs.Edits.{Edit}
 use Rattle.ak_merge.specs.Holdings.{name_in, row_under}
 
--- a group as a call takes it: its stamp and its update sequence number are not looked at, since the edit gives it others
+-- a group as a call takes it: its stamp and its usn are not looked at, since the edit gives it others
 abbrev pub as_given : Options → Options
 as_given options = record options { stamp = pos 0; usn = negsuc 0 }
 

@@ -14,7 +14,7 @@ use ak_edit_calls::{add_row, edit_row, held_row, new_name};
 use ak_keep::Keeper;
 use ak_undo::UndoList;
 
-/// Puts a group of options in place of the one of its id, at a moment in milliseconds. Its stamp and its update sequence number
+/// Puts a group of options in place of the one of its id, at a moment in milliseconds. Its stamp and its usn
 /// are replaced. A group that is held with the same fields is left alone. It is refused if no group of this id is held, then if
 /// the given one is out of its ranges, and then for a stamp or a moment that can't rise.
 pub fn set_options<K: Keeper>(
@@ -42,7 +42,7 @@ pub fn set_options<K: Keeper>(
 }
 
 /// Adds a group of options, at a moment in milliseconds, and gives its id: the least free one from the moment on. The given id,
-/// stamp and update sequence number are replaced. It is refused if the given group is out of its ranges, then if no id is
+/// stamp and usn are replaced. It is refused if the given group is out of its ranges, then if no id is
 /// free, and then for a stamp or a moment that can't rise.
 pub fn add_options<K: Keeper>(
     keeper: &mut K,
@@ -84,7 +84,7 @@ fn add_group<K: Keeper>(
     add_row(keeper, steps, Row::Options(with_id(group, name.id)), at)
 }
 
-/// The group as a call takes it: its stamp and its update sequence number are not looked at.
+/// The group as a call takes it: its stamp and its usn are not looked at.
 fn as_given(options: Options) -> Options
     ensures { result ≡ as_given options }
 {

@@ -17,7 +17,7 @@ use Rattle.ak_server_steps.specs.Answers.{held_with}
 use Rattle.ak_merge.specs.declared.sides.Side.TheVariants.{Server}
 
 -- ---- rows
--- the update sequence number of these numbers
+-- the usn of these numbers
 abbrev usn_or : ℤ → Option Numbers → ℤ
 usn_or usn None = usn
 usn_or usn (Some numbers) = numbers.usn

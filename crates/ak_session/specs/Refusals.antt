@@ -38,7 +38,7 @@ is_id = is_between (pos 1) last_id
 abbrev pub is_checked : Row → Bool
 is_checked row = is_ok (check_of row)
 
--- a tag with a name and an update sequence number in their ranges
+-- a tag with a name and a usn in their ranges
 abbrev pub is_tag_in_range : Tag → Bool
 is_tag_in_range tag = is_tag_name tag.name && is_between (negsuc 0) last_usn tag.usn
 

@@ -55,7 +55,7 @@ fn conf_at(alloc: Global, row: &SqlRow) -> Result<Conf, FileFault> {
     Ok(conf)
 }
 
-/// The tags, in column 12: an object from names to update sequence numbers.
+/// The tags, in column 12: an object from names to usns.
 fn tags_at(alloc: Global, row: &SqlRow) -> Result<List<Tag>, FileFault> {
     let text = text_at(row, 12)?;
     let members = read_object(alloc, &text)?;
@@ -123,7 +123,7 @@ fn conf_text(alloc: Global, conf: &Conf) -> Result<Text, FileFault> {
     Ok(text)
 }
 
-/// The text of the object of these tags, each with its update sequence number.
+/// The text of the object of these tags, each with its usn.
 fn tags_text(alloc: Global, tags: &[Tag]) -> Result<Text, FileFault> {
     let mut members = Map::new(alloc);
     for tag in tags {

@@ -16,7 +16,7 @@ use Rattle.ak_merge.specs.declared.sides.Side.{Side}
 use Rattle.ak_messages.specs.declared.requests.Changes.{Changes}
 use Rattle.ak_session.specs.Messages.{change_rows, settings_in}
 
--- a keeper once it took these rows with this update sequence number, one after the other
+-- a keeper once it took these rows with this usn, one after the other
 abbrev pub rows_taken : Side → ℤ → List Row → Keeping → Keeping
 rows_taken side usn [] k = k
 rows_taken side usn (row ∷ more) k = rows_taken side usn more (changed (with_taken side usn row) k)
@@ -25,7 +25,7 @@ rows_taken side usn (row ∷ more) k = rows_taken side usn more (changed (with_t
 abbrev pub with_all_taken : Side → ℤ → List Row → Holding → Holding
 with_all_taken side usn came h = record h { rows = all_taken side usn came h.rows }
 
--- a head once this came: each tag that was not held has this update sequence number, and settings that came stand
+-- a head once this came: each tag that was not held has this usn, and settings that came stand
 abbrev pub head_with : ℤ → Received → Head → Head
 head_with usn came head =
     let settings = unwrap_or came.settings (settings_of head) in

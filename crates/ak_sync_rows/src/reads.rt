@@ -84,7 +84,7 @@ pub fn wanted_tags(alloc: Global, tags: &[Tag], want: &Wanted) -> Result<List<Te
     Ok(names)
 }
 
-/// Whether an update sequence number is wanted. That it takes a reference is for the proof alone.
+/// Whether a usn is wanted. That it takes a reference is for the proof alone.
 fn is_wanted_number(want: &Wanted, number: &i64) -> bool
     ensures { result ≡ is_wanted_number want.now number.now }
 {

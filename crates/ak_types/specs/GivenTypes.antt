@@ -19,7 +19,7 @@ use Rattle.ak_template.specs.Grammar.{first_fault}
 use Rattle.ak_template.specs.declared.faults.TemplateFault.{TemplateFault}
 
 -- ---- the type
--- a type as a call takes it: its stamp and its update sequence number are not looked at, since the edit gives it others
+-- a type as a call takes it: its stamp and its usn are not looked at, since the edit gives it others
 abbrev pub as_given : NoteType → NoteType
 as_given note_type = record note_type { stamp = pos 0; usn = negsuc 0 }
 

@@ -9,7 +9,7 @@ use ak_edit::DeskFault;
 use ak_template::{TemplateFault, parse};
 use std::alloc::Global;
 
-/// The type as a call takes it: its stamp and its update sequence number are not looked at.
+/// The type as a call takes it: its stamp and its usn are not looked at.
 pub(crate) fn as_given(note_type: NoteType) -> NoteType
     ensures { result ≡ as_given note_type }
 {

@@ -16,7 +16,7 @@ use ak_keep::Keeper;
 use ak_undo::UndoList;
 
 /// Adds a note type, at a moment in milliseconds, and gives its id: the least free one from the moment on. The given id, stamp
-/// and update sequence number are replaced. It is refused if the given type is out of its ranges, then if no id is free, then if
+/// and usn are replaced. It is refused if the given type is out of its ranges, then if no id is free, then if
 /// a side of a template can't be read, and then for a stamp or a moment that can't rise.
 pub fn add_note_type<K: Keeper>(
     keeper: &mut K,

@@ -19,7 +19,7 @@ use ak_undo::UndoList;
 /// A note type that takes the place of the one of its id, and which of its fields and templates that one has.
 #[derive(Debug, Drop)]
 pub struct TypeEdit {
-    /// Its stamp and its update sequence number are replaced.
+    /// Its stamp and its usn are replaced.
     pub note_type: NoteType,
     /// For each of its fields the place of the old one that it is, from 0, None if it is new.
     pub from_fields: List<Option<u16>>,

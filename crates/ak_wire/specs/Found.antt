@@ -60,7 +60,7 @@ pub record ReadsCounts (d : Data) (c : SanityCounts) : Type 0 where
   pub decks : CountAt 6 d c.decks
   pub options : CountAt 7 d c.options
 
--- each member is a tag: its key the name, its value the update sequence number
+-- each member is a tag: its key the name, its value the usn
 abbrev pub ReadsMembers : Members → List Tag → Type 0
 ReadsMembers no_members [] = Unit {0}
 ReadsMembers no_members (tag ∷ tags) = ⊥

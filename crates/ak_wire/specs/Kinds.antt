@@ -80,7 +80,7 @@ abbrev pub are_two_lists : Data → Bool
 are_two_lists d =
     is_list 0 d && (is_list 1 d && not (is_some (at 2 d)))
 
--- each key is the name of a tag, and its value an update sequence number
+-- each key is the name of a tag, and its value a usn
 abbrev pub are_tags : Members → Bool
 are_tags no_members = true
 are_tags (member k d ms) = is_tag_name k && (is_within (negsuc 0) (pos 2_147_483_647) (integer_of d) && are_tags ms)

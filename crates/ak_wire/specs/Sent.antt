@@ -138,12 +138,12 @@ pub record IsWholeSent (columns : List (Table × Key)) (w : Whole) : Type 0 wher
   pub schema : IsMoment w.schema
   pub tags : TagsAscend w.tags
 
--- a collection that a client brings has no graves and the update sequence number 0
+-- a collection that a client brings has no graves and the usn 0
 pub record IsUploadSent (w : Whole) : Type 0 where
   pub whole : IsWholeSent upload_tables w
   pub usn : w.usn ≡ pos 0
 
--- a collection that a server gives has its graves and its update sequence number
+-- a collection that a server gives has its graves and its usn
 pub record IsDownloadSent (w : Whole) : Type 0 where
   pub whole : IsWholeSent download_tables w
   pub usn : IsWithin (pos 0) (pos 2_147_483_646) w.usn

@@ -102,7 +102,7 @@ counts_of d = record {
 abbrev pub counts_under : List ℕ → Data → SanityCounts
 counts_under key d = counts_of (value_under key d)
 
--- the tags of an object, each with its update sequence number, by the bytes of their names
+-- the tags of an object, each with its usn, by the bytes of their names
 abbrev pub tags_of : Members → List Tag
 tags_of no_members = []
 tags_of (member k d ms) = record { name = k; usn = unwrap_or (integer_of d) (pos 0) } ∷ tags_of ms

@@ -133,13 +133,13 @@ abbrev pub PartsFault : List (Table × Key) → Data → WireFault → Type 0
 PartsFault columns d =
     Then {A = Conf} (OfJson (Tells (conf_fault (value_under (codes "conf") d)))) (ReadsConf (value_under (codes "conf") d)) (TablesFault columns d)
 
--- a collection that a client brings has the update sequence number 0
+-- a collection that a client brings has the usn 0
 pub record ReadsUpload (d : Data) (w : Whole) : Type 0 where
   pub form : object_fault upload_form d ≡ None
   pub parts : ReadsParts upload_tables d w
   pub usn : w.usn ≡ pos 0
 
--- a collection that a server gives has its update sequence number
+-- a collection that a server gives has its usn
 pub record ReadsDownload (d : Data) (w : Whole) : Type 0 where
   pub form : object_fault download_form d ≡ None
   pub parts : ReadsParts download_tables d w

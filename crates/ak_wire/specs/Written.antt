@@ -96,12 +96,12 @@ is_under key row = false
 abbrev pub rows_under : Key → List Row → Data
 rows_under key rs = array_of (map row_json (filter (is_under key) rs))
 
--- the name of each tag with its update sequence number
+-- the name of each tag with its usn
 abbrev pub tag_pairs : List Tag → List (List ℕ × Data)
 tag_pairs [] = []
 tag_pairs (tag ∷ tags) = (tag.name, integer tag.usn) ∷ tag_pairs tags
 
--- the object of tags, each with its update sequence number
+-- the object of tags, each with its usn
 abbrev pub tags_json : List Tag → Data
 tags_json tags = object_of (tag_pairs tags)
 
@@ -117,7 +117,7 @@ whole_pairs w =
 abbrev pub upload_json : Whole → Data
 upload_json w = object_of (whole_pairs w)
 
--- a whole collection that a server gives, with its graves and its update sequence number
+-- a whole collection that a server gives, with its graves and its usn
 abbrev pub download_json : Whole → Data
 download_json w = object_of (whole_pairs w ++ (codes "graves", rows_under keys.Graves w.rows) ∷ (codes "usn", integer w.usn) ∷ [])
 

@@ -38,7 +38,7 @@ pub(crate) enum Kind {
     TagNames,
     /// A list of two lists.
     TwoLists,
-    /// An object of tags and their update sequence numbers.
+    /// An object of tags and their usns.
     Tags,
 }
 
@@ -214,7 +214,7 @@ fn are_tag_names(values: &[Value]) -> bool
     true
 }
 
-/// Whether each key is the name of a tag, and its value an update sequence number of a row.
+/// Whether each key is the name of a tag, and its value a usn of a row.
 fn are_tags(members: &Map<String, Value>) -> bool
     ensures { result ≡ are_tags (members_view members.now.entries) }
 {

@@ -81,7 +81,7 @@ fn read_empty(alloc: Global, value: &Value, ask: Ask) -> Result<Ask, WireFault>
     Ok(ask)
 }
 
-/// What a start asks with: the device's update sequence number, and the moment of its last change.
+/// What a start asks with: the device's usn, and the moment of its last change.
 #[tactic(auto, using(crate::proofs::ReadForms::start_read))]
 fn read_start(alloc: Global, value: &Value) -> Result<Ask, WireFault>
     ensures ok { IfOk result (ReadsAsk methods.Start (view value.now)) }

@@ -60,7 +60,7 @@ pub(crate) fn read_download(alloc: Global, value: &Value) -> Result<Whole, WireF
     Ok(whole)
 }
 
-/// The collection of an object of its form, with the rows of these tables and the update sequence number 0.
+/// The collection of an object of its form, with the rows of these tables and the usn 0.
 #[tactic(auto, using(crate::proofs::Refusals::then_first, crate::proofs::Refusals::then_later, crate::proofs::Tables::all_rows))]
 fn read_whole(alloc: Global, tables: &[(Table, Key)], value: &Value) -> Result<Whole, WireFault>
     ensures ok { IfOk result (TakesParts tables.now (view value.now)) }
@@ -284,7 +284,7 @@ fn is_under(key: Key, row: &Row) -> bool
     }
 }
 
-/// The object of these tags, each with its update sequence number.
+/// The object of these tags, each with its usn.
 fn write_tags(alloc: Global, tags: &[Tag]) -> Result<Value, Memory>
     ensures { IfOk result (λ value. view value ≡ tags_json tags.now) }
 {

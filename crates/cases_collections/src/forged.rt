@@ -112,7 +112,7 @@ fn put_row(alloc: Global, whole: &mut Whole, part: &Value) -> Result<(), Unread>
     Ok(whole.rows.push(row)?)
 }
 
-/// `[TABLE,JSON,USN]`: the row with this update sequence number, which may be out of its range.
+/// `[TABLE,JSON,USN]`: the row with this usn, which may be out of its range.
 fn row_in(alloc: Global, part: &Value) -> Result<Row, Unread> {
     let usn = number_at(part, 2)?;
     let mut row = row_at(alloc, part, 1, table_of(text_at(part, 0)?)?)?;

@@ -72,7 +72,7 @@ pub fn spread_by(
     )
 }
 
-/// The group at the second place, with the id, stamp, update sequence number and longest time that follow it: a group that is
+/// The group at the second place, with the id, stamp, usn and longest time that follow it: a group that is
 /// read is in its ranges, and these four may be out of them.
 fn group_at(alloc: Global, arguments: &Value) -> Result<Options, Unread> {
     let [id, stamp, usn, taken] = numbers_behind(arguments)?;

@@ -67,7 +67,7 @@ pub fn delete_by(
     )
 }
 
-/// The type at the second place, with the id, stamp, update sequence number and place of the sort field that follow it: a type
+/// The type at the second place, with the id, stamp, usn and place of the sort field that follow it: a type
 /// that is read is in its ranges, and these four may be out of them.
 fn type_at(alloc: Global, arguments: &Value) -> Result<NoteType, Unread> {
     let [id, stamp, usn, sortf] = numbers_behind(arguments)?;

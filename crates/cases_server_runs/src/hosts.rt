@@ -17,7 +17,7 @@ pub fn faults_text(
     }
 }
 
-/// `head KEY`: the moment, the schema moment and the update sequence number of the account, or `none`.
+/// `head KEY`: the moment, the schema moment and the usn of the account, or `none`.
 pub fn head_text(
     alloc: Global,
     server: &mut Server<MemoryKeeper>,
