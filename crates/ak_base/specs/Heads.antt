@@ -1,5 +1,5 @@
 -- The ranges of a collection's head.
-use Rattle.std.specs.Prelude.{◌≡◌, ℕ, ℤ, pos, negsuc, ◌≤ℤ◌, ◌≤◌, ◌&&◌, Bool, nat_le, List, [], ◌∷◌, map, length, ⊤}
+use Rattle.std.specs.Prelude.{◌≡◌, ℕ, ℤ, pos, negsuc, ◌≤ℤ◌, ◌≤◌, ◌&&◌, Bool, nat_le, int_le, List, [], ◌∷◌, map, length, ⊤}
 use Rattle.std.specs.List.{All}
 use Rattle.std.specs.List.Sorted.{IsStrictlySortedBy}
 use Rattle.std.specs.Cmp.Lexicographic.{slice_cmp}
@@ -14,6 +14,10 @@ use Rattle.ak_base.specs.declared.heads.Head.{Head}
 pub record IsWithin (least : ℤ) (most : ℤ) (number : ℤ) : Type 0 where
   pub low : least ≤ℤ number
   pub high : number ≤ℤ most
+
+-- whether a whole number is one from the least to the most
+abbrev pub is_within : ℤ → ℤ → ℤ → Bool
+is_within least most number = int_le least number && int_le number most
 
 -- the numbers of the settings are in their ranges: this holds of settings as they are read
 pub record AreConfNumbersInRange (c : Conf) : Type 0 where

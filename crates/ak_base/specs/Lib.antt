@@ -19,4 +19,5 @@ pub mod Heads
 pub mod Keys
 pub mod Days
 pub mod Rows
+pub mod RowsOfOneKind
 pub mod Contents

@@ -1,10 +1,10 @@
 ghost use Rattle.std.specs.Prelude.{◌≡◌, IfOk};
 ghost use Rattle.std.specs.Bool.{Decides};
-ghost use Rattle.ak_base.specs.Heads.{AreConfNumbersInRange, AreHeadNumbersInRange, AreTagsInRange, IsBeforeFirst, IsConfInRange, IsHeadInRange, IsTagInRange, IsWithin};
+ghost use Rattle.ak_base.specs.Heads.{AreConfNumbersInRange, AreHeadNumbersInRange, AreTagsInRange, IsBeforeFirst, IsConfInRange, IsHeadInRange, IsTagInRange, IsWithin, is_within};
 
 use crate::{
-    FIRST_DAY, LAST_COUNT, LAST_DAY, LAST_HEAD_USN, LAST_MOMENT, LAST_STAMP, LAST_USN, List,
-    Memory, NAME_BYTES, OfConf, REST_BYTES, Rest, Text, copy_each,
+    DAY_SECONDS, FIRST_DAY, LAST_COUNT, LAST_DAY, LAST_HEAD_USN, LAST_MOMENT, LAST_STAMP, LAST_USN,
+    List, Memory, NAME_BYTES, OfConf, REST_BYTES, Rest, Text, copy_each,
 };
 
 /// The settings of a collection: the column `conf` of schema 11's `col`.
@@ -101,7 +101,7 @@ impl Conf {
         ensures { Decides result (AreConfNumbersInRange self.now) }
     {
         is_within(self.new_spread, 0, 2)
-            & is_within(self.collapse, 0, 86_400)
+            & is_within(self.collapse, 0, DAY_SECONDS)
             & is_within(self.next_pos, 0, LAST_COUNT)
             & is_within(self.last_unburied, FIRST_DAY, LAST_DAY)
     }
@@ -166,8 +166,9 @@ fn is_before_first(tag: &Tag, others: &[Tag]) -> bool
 }
 
 /// Whether a number is one from the least to the most.
-fn is_within(number: i64, least: i64, most: i64) -> bool
-    ensures { Decides result (IsWithin least most number) }
+pub fn is_within(number: i64, least: i64, most: i64) -> bool
+    ensures test { result ≡ is_within least most number }
+    ensures decides { Decides result (IsWithin least most number) }
 {
     least <= number && number <= most
 }

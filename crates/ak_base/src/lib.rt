@@ -32,7 +32,7 @@ pub use decimals::{is_decimal, read_number};
 pub use decks::{Count, Deck};
 pub use errors::{Memory, RowFault};
 pub use graves::Grave;
-pub use heads::{Conf, Head, Tag};
+pub use heads::{Conf, Head, Tag, is_within};
 pub use keys::{HostKey, SessionKey, are_lower_hex};
 pub use laws::{
     a_decimal_is_read, codes_of_graves, graves_and_rows, name_and_grave, opening_options_pass,

@@ -2,7 +2,8 @@ ghost use Rattle.std.specs.Prelude.{◌≡◌, IfOk};
 
 use crate::columns::{code_fault, first_fault, id_fault, long_fault, stamp_fault};
 use crate::{
-    LAST_USN, LONGEST_STEP, List, Memory, NAME_BYTES, OfOptions, REST_BYTES, Rest, RowFault, Text,
+    DAY_SECONDS, LAST_USN, LONGEST_STEP, List, Memory, NAME_BYTES, OfOptions, REST_BYTES, Rest,
+    RowFault, Text,
 };
 use std::alloc::Global;
 
@@ -119,7 +120,7 @@ impl Options {
             stamp_fault(self.stamp),
             code_fault(2, self.usn, -1, LAST_USN),
             long_fault(3, self.name.as_str().len() as u64, NAME_BYTES),
-            code_fault(4, self.max_taken, 0, 86_400),
+            code_fault(4, self.max_taken, 0, DAY_SECONDS),
         ])
     }
 

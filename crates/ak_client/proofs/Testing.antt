@@ -4,7 +4,7 @@ use Rattle.std.specs.Prelude.{◌≡◌, ◌≢◌, ◌==◌, ℤ, pos, ◌<ℤ�
 use Rattle.std.proofs.Common.{refl, sym, ap, subst, ◌∙◌, inl, inr, arith}
 use Rattle.std.proofs.lemmas.Int.{ints}
 use Rattle.std.proofs.lemmas.Option.{none-some, same_Some}
-use Rattle.ak_base.specs.Heads.{IsWithin}
+use Rattle.ak_base.specs.Heads.{IsWithin, is_within}
 use Rattle.ak_base.specs.Limits.{last_head_usn}
 use Rattle.ak_base.specs.declared.heads.Head.{Head}
 use Rattle.ak_client.specs.Greetings.{EndsAtDevice, Finds, FindsTold, IsGreeting, IsReady, are_far_apart, clock_stop, head_stop, is_unchanged, meta_of}
@@ -36,7 +36,6 @@ use Rattle.ak_messages.specs.declared.replies.Give.TheVariants as gives
 use Rattle.ak_messages.specs.declared.replies.Reply.{Reply}
 use Rattle.ak_messages.specs.declared.requests.Request.{Request}
 use Rattle.ak_session.proofs.Ranges.{within}
-use Rattle.ak_session.specs.Refusals.{is_between}
 
 -- a test that lets a sync go on found no reason to stop
 pub passed : (o : Option Outcome) → end_or_go o ≡ Ok tt → o ≡ None
@@ -121,7 +120,7 @@ usn_given (gives.Meta meta) = by (is_meta_in_range meta) refl
     by false is = tt
     by true is =
         within (pos 0) last_head_usn meta.usn
-        (third (is_moment meta.scm) (is_moment meta.moment) (is_between (pos 0) last_head_usn meta.usn) is)
+        (third (is_moment meta.scm) (is_moment meta.moment) (is_within (pos 0) last_head_usn meta.usn) is)
 usn_given gives.Nothing = tt
 usn_given (gives.Graves ids) = tt
 usn_given (gives.Changes changes) = tt

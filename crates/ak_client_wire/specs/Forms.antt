@@ -2,6 +2,7 @@
 use Rattle.std.specs.Prelude.{ℤ, pos, ◌&&◌, ◌||◌, Bool, true, not, is_some, nat_le, nat_lt, if◌then◌else◌, ◌++◌, Option, Some, None, option_and_then}
 use Rattle.std.specs.List.{list_all}
 use Rattle.std.specs.Option.{option_map_or}
+use Rattle.ak_base.specs.Heads.{is_within}
 use Rattle.ak_base.specs.Limits.{last_head_usn, last_moment}
 use Rattle.ak_client_wire.specs.declared.wires.MetaSaid.{MetaSaid}
 use Rattle.ak_merge.specs.Soundness.{fault_id}
@@ -15,16 +16,16 @@ use Rattle.ak_messages.specs.declared.requests.Chunk.{Chunk}
 use Rattle.ak_messages.specs.declared.requests.GraveIds.{GraveIds}
 use Rattle.ak_session.specs.Answers.{same_counts}
 use Rattle.ak_session.specs.Messages.{chunk_rows}
-use Rattle.ak_session.specs.Refusals.{is_between, is_checked, is_id, are_changes_in_range}
+use Rattle.ak_session.specs.Refusals.{is_checked, is_id, are_changes_in_range}
 
 -- a moment in milliseconds
 abbrev pub is_moment : ℤ → Bool
-is_moment = is_between (pos 0) last_moment
+is_moment = is_within (pos 0) last_moment
 
 -- ---- a meta
 -- both moments and the usn of a meta are in the ranges of a head
 abbrev pub is_meta_in_range : MetaReply → Bool
-is_meta_in_range meta = is_moment meta.scm && is_moment meta.moment && is_between (pos 0) last_head_usn meta.usn
+is_meta_in_range meta = is_moment meta.scm && is_moment meta.moment && is_within (pos 0) last_head_usn meta.usn
 
 -- what a meta says of the server
 abbrev pub meta_told : MetaReply → MetaSaid

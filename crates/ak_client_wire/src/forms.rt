@@ -8,11 +8,11 @@ ghost use Rattle.ak_messages.specs.declared.replies.Give.{Give as Given};
 ghost use Rattle.ak_session.specs.Refusals.{are_changes_in_range, is_id};
 
 use crate::wires::MetaSaid;
-use ak_base::{LAST_HEAD_USN, LAST_MOMENT};
+use ak_base::{LAST_HEAD_USN, LAST_MOMENT, is_within};
 use ak_merge::CheckFault;
 use ak_messages::{Changes, Chunk, Give, GraveIds, MOST_ENTRIES, MetaReply, SanityReply};
 use ak_sync_rows::{
-    are_changes_in_range, are_graves_in_range, are_rows_checked, is_between, is_id, same_counts,
+    are_changes_in_range, are_graves_in_range, are_rows_checked, is_id, same_counts,
 };
 
 /// What is given, read by the form that the method of a request has.
@@ -121,7 +121,7 @@ pub(crate) fn meta_in(give: &Give) -> Option<MetaSaid>
 fn is_meta_in_range(meta: &MetaReply) -> bool
     ensures { result ≡ is_meta_in_range meta.now }
 {
-    is_moment(meta.scm) && is_moment(meta.moment) && is_between(meta.usn, 0, LAST_HEAD_USN)
+    is_moment(meta.scm) && is_moment(meta.moment) && is_within(meta.usn, 0, LAST_HEAD_USN)
 }
 
 /// What a meta says of the server.
@@ -219,5 +219,5 @@ fn shows_cause(reply: &SanityReply) -> bool
 pub fn is_moment(moment: i64) -> bool
     ensures { result ≡ is_moment moment }
 {
-    is_between(moment, 0, LAST_MOMENT)
+    is_within(moment, 0, LAST_MOMENT)
 }

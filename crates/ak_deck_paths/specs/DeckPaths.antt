@@ -6,7 +6,7 @@ use Rattle.std.specs.Option.{option_map}
 use Rattle.ak_base.specs.Paths.{ancestors, is_in_subtree}
 use Rattle.ak_base.specs.declared.decks.Deck.{Deck}
 use Rattle.ak_base.specs.declared.rows.Row.{Row}
-use Rattle.ak_edit_calls.specs.RowsOfOneKind.{on_deck}
+use Rattle.ak_base.specs.RowsOfOneKind.{on_deck}
 use Rattle.ak_keep.specs.Collections.{Rows}
 
 -- ---- the decks that are held

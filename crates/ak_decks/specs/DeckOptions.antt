@@ -12,7 +12,7 @@ use Rattle.ak_edit.specs.declared.desk_faults.DeskFault.{DeskFault}
 use Rattle.ak_edit.specs.declared.desk_faults.DeskFault.TheVariants as faults
 use Rattle.ak_edit_calls.specs.Calls.{IsMissingFault, RefusesAbsent}
 use Rattle.ak_edit_calls.specs.RowEdits.{row_change, row_edit}
-use Rattle.ak_edit_calls.specs.RowsOfOneKind.{on_deck}
+use Rattle.ak_base.specs.RowsOfOneKind.{on_deck}
 use Rattle.ak_keep.specs.Collections.{Collection}
 use Rattle.ak_merge.specs.Edits.{Edit, edited}
 use Rattle.ak_merge.specs.Holdings.{name_in, row_under}

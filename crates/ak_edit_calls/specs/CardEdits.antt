@@ -7,7 +7,7 @@ use Rattle.ak_base.specs.declared.names.Name.{Name}
 use Rattle.ak_base.specs.declared.names.Table.TheVariants as tables
 use Rattle.ak_base.specs.declared.rows.Row.{Row}
 use Rattle.ak_edit_calls.specs.Calls.{RefusesMissing, has_id}
-use Rattle.ak_edit_calls.specs.RowsOfOneKind.{on_card}
+use Rattle.ak_base.specs.RowsOfOneKind.{on_card}
 use Rattle.ak_edit.specs.Ends.{RefusesStamp}
 use Rattle.ak_edit.specs.Overlays.{Overlay, put_over}
 use Rattle.ak_edit.specs.Refusals.{OrElse, Refusal}

@@ -1,4 +1,3 @@
-pub mod RowsOfOneKind
 pub mod Calls
 pub mod CardEdits
 pub mod DeckPaths

@@ -13,7 +13,7 @@ use Rattle.ak_json.specs.Confs.{ReadsConf, conf_fault}
 use Rattle.ak_json.specs.Faults.{told}
 use Rattle.ak_json.specs.FormFaults.{found_form_fault, plain_form_fault, form_fault_within, first_form_fault}
 use Rattle.ak_json.specs.Keys.{find}
-use Rattle.ak_json.specs.Kinds.{integer_of, is_within}
+use Rattle.ak_json.specs.Kinds.{integer_of, is_number_within}
 use Rattle.ak_json.specs.Objects.{object_form_fault}
 use Rattle.ak_json.specs.Rests.{deep_key}
 use Rattle.ak_json.specs.declared.form_faults.FormFault.{FormFault}
@@ -28,7 +28,7 @@ low_number : (a b : ℤ) → int_le a b ≡ true → a ≤ℤ b
 low_number a b h = grind (arith, ints)
 
 -- a number that passes the test is within
-number_within : (least most : ℤ) (o : Option ℤ) → is_within least most o ≡ true → IsWithin least most (unwrap_or o (pos 0))
+number_within : (least most : ℤ) (o : Option ℤ) → is_number_within least most o ≡ true → IsWithin least most (unwrap_or o (pos 0))
 number_within least most None h = cc
 number_within least most (Some z) h =
     record { low = low_number least z (first_so _ _ h); high = low_number z most (second_so (int_le least z) _ h) }

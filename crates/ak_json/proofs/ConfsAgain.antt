@@ -12,7 +12,7 @@ use Rattle.ak_base.specs.declared.heads.Conf.{Conf}
 use Rattle.ak_json.specs.Cells.{cell_at, bool_at}
 use Rattle.ak_json.specs.Confs.{ReadsConf, conf_cells, conf_json}
 use Rattle.ak_json.specs.Faults.{told}
-use Rattle.ak_json.specs.Kinds.{is_within, holds}
+use Rattle.ak_json.specs.Kinds.{is_number_within, holds}
 use Rattle.ak_json.specs.Members.{Form}
 use Rattle.ak_json.specs.Rests.{deep_key}
 use Rattle.ak_json.specs.Written.{integer}
@@ -27,15 +27,15 @@ least_test : (a b : ℤ) → a ≤ℤ b → int_le a b ≡ true
 least_test a b h = grind (arith, ints)
 
 -- a number that is within passes the test
-within_test : (least most z : ℤ) → IsWithin least most z → is_within least most (Some z) ≡ true
+within_test : (least most z : ℤ) → IsWithin least most z → is_number_within least most (Some z) ≡ true
 within_test least most z h = and_from _ _ (least_test least z h.low) (least_test z most h.high)
 
-within_again : (m : ℕ) (least z : ℤ) → m < 2 ^ 63 → is_within least (pos m) (Some z) ≡ true → IsReadAgain z
+within_again : (m : ℕ) (least z : ℤ) → m < 2 ^ 63 → is_number_within least (pos m) (Some z) ≡ true → IsReadAgain z
 within_again m least (pos n) h w = let k : n ≤ m = nat_most n m (second_so (int_le least (pos n)) _ w) in small_again n (omega arith)
 within_again m least (negsuc n) h w = refl
 
-holds_within : (least most z : ℤ) → IsReadAgain z → is_within least most (Some z) ≡ true → holds (kinds.Within least most) (integer z) ≡ true
-holds_within least most z r w = ap (is_within least most) r ∙ w
+holds_within : (least most z : ℤ) → IsReadAgain z → is_number_within least most (Some z) ≡ true → holds (kinds.Within least most) (integer z) ≡ true
+holds_within least most z r w = ap (is_number_within least most) r ∙ w
 
 pub truth_found : (form : Form) (n : ℕ) (d : Data) (b : Bool) → cell_at form n d ≡ Some (boolean b) → b ≡ bool_at form n d
 truth_found form n d b e = sym (ap (λ (o : Option Data). unwrap_or (option_and_then as_bool o) false) e)

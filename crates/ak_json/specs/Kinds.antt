@@ -22,9 +22,9 @@ abbrev pub permille_of : Data → Option ℤ
 permille_of d = option_or (integer_of d) (decimal_in d)
 
 -- there is a number from the least to the most
-abbrev pub is_within : ℤ → ℤ → Option ℤ → Bool
-is_within least most None = false
-is_within least most (Some z) = int_le least z && int_le z most
+abbrev pub is_number_within : ℤ → ℤ → Option ℤ → Bool
+is_number_within least most None = false
+is_number_within least most (Some z) = int_le least z && int_le z most
 
 -- all of a list are whole numbers
 abbrev pub are_integers : Items → Bool
@@ -38,7 +38,7 @@ is_part place d = is_some (option_and_then integer_of (at place d))
 -- the value is of the kind
 abbrev pub holds : Kind → Data → Bool
 holds kinds.Integer d = is_some (integer_of d)
-holds (kinds.Within least most) d = is_within least most (integer_of d)
+holds (kinds.Within least most) d = is_number_within least most (integer_of d)
 holds kinds.Text d = is_some (as_str d)
 holds kinds.Bool d = is_some (as_bool d)
 holds kinds.Decimal d = is_some (decimal_in d)

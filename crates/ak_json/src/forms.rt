@@ -1,5 +1,6 @@
 use crate::keys::{Key, Place};
 use crate::kinds::Kind;
+use ak_base::{DAY_SECONDS, FIRST_DAY, LAST_COUNT, LAST_DAY};
 
 /// A note: `[id,guid,mid,mod,usn,tags,flds,sfld,csum,flags,data]`.
 pub(crate) const NOTE: [(Place, Kind); 11] = [
@@ -73,12 +74,12 @@ pub(crate) const DECK: [(Place, Kind); 8] = [
 /// The settings of a collection, each number in its range.
 pub(crate) const CONF: [(Place, Kind); 5] = [
     (Place::Key(Key::NewSpread), Kind::Within(0, 2)),
-    (Place::Key(Key::CollapseTime), Kind::Within(0, 86_400)),
+    (Place::Key(Key::CollapseTime), Kind::Within(0, DAY_SECONDS)),
     (Place::Key(Key::DayLearnFirst), Kind::Bool),
-    (Place::Key(Key::NextPos), Kind::Within(0, 2_147_483_647)),
+    (Place::Key(Key::NextPos), Kind::Within(0, LAST_COUNT)),
     (
         Place::Key(Key::LastUnburied),
-        Kind::Within(-10_000_000, 100_000_000),
+        Kind::Within(FIRST_DAY, LAST_DAY),
     ),
 ];
 

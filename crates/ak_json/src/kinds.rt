@@ -1,6 +1,6 @@
 ghost use Rattle.std.specs.Prelude.{◌≡◌};
 ghost use Rattle.serde_json.specs.View.{view, items_view};
-ghost use Rattle.ak_json.specs.Kinds.{holds, may_lack, is_within, are_integers, is_part, decimal_in, permille_of};
+ghost use Rattle.ak_json.specs.Kinds.{holds, may_lack, is_number_within, are_integers, is_part, decimal_in, permille_of};
 
 use crate::decimals::read_decimal;
 use crate::depths::is_shallow;
@@ -56,7 +56,7 @@ impl Kind {
     {
         match self {
             Kind::Integer => value.as_i64().is_some(),
-            Kind::Within(least, most) => is_within(least, most, value.as_i64()),
+            Kind::Within(least, most) => is_number_within(least, most, value.as_i64()),
             Kind::Text => value.as_str().is_some(),
             Kind::Bool => value.as_bool().is_some(),
             Kind::Decimal => decimal_in(value).is_some(),
@@ -74,8 +74,8 @@ impl Kind {
 }
 
 /// Whether there is a whole number from the least to the most.
-pub fn is_within(least: i64, most: i64, number: Option<i64>) -> bool
-    ensures { result ≡ is_within least most number }
+pub fn is_number_within(least: i64, most: i64, number: Option<i64>) -> bool
+    ensures { result ≡ is_number_within least most number }
 {
     match number {
         Some(number) => least <= number && number <= most,

@@ -27,7 +27,7 @@ pub use cells::integers;
 pub use confs::{read_conf, write_conf};
 pub use decimals::{read_decimal, write_decimal};
 pub use faults::JsonFault;
-pub use kinds::is_within;
+pub use kinds::is_number_within;
 pub use laws::{
     confs_are_read_again, decimals_are_written, each_value_is_read_or_refused, one_conf_is_read,
     one_fault_is_told, one_row_is_read, option_groups_migrate, rows_are_read_again,

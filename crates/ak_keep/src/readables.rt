@@ -2,9 +2,10 @@ ghost use Rattle.std.specs.Prelude.{◌≡◌, ◌<◌, ◌≤◌, ◌≤ℤ◌,
 ghost use Rattle.std.specs.FinMap as finite;
 ghost use Rattle.std.specs.List.{All};
 ghost use Rattle.std.specs.List.Sorted.{IsStrictlySortedBy};
+ghost use Rattle.std.specs.Option.{option_map};
 ghost use Rattle.std.specs.Ordering.{int_cmp};
 ghost use Rattle.ak_base.specs.Heads.{IsHeadInRange};
-ghost use Rattle.ak_base.specs.Rows.{IsChecked, name_of};
+ghost use Rattle.ak_base.specs.Rows.{IsChecked, name_of, stamp_of};
 ghost use Rattle.ak_faults.specs.Causes.{Health};
 ghost use Rattle.ak_keep.specs.Collections.{AscendsPast, IsId, IsPageOf, rows_past, row_count, cards_of};
 ghost use Rattle.ak_keep.specs.FreeNames.{IsFirstFree, IsFoundFrom, is_used};
@@ -50,6 +51,10 @@ pub trait Lookup {
         ensures reads { Reads (kept self.old) (kept self.new) (keeping self.old) (keeping self.new) (health self.old) (health self.new) result (λ h row. row ≡ finite.get h.rows name) }
         ensures named { IfOk result (λ row. IfSome row (λ row. name_of row ≡ name)) }
         ensures checked { checks ≡ true → IfOk result (λ row. IfSome row IsChecked) };
+
+    /// The stamp of the row of this name, None if it is not held: a review's and a grave's are 0. No row is copied.
+    fn stamp_of(&mut self, name: Name) -> Result<Option<i64>, KeepFault>
+        ensures reads { Reads (kept self.old) (kept self.new) (keeping self.old) (keeping self.new) (health self.old) (health self.new) result (λ h stamp. stamp ≡ option_map stamp_of (finite.get h.rows name)) };
 
     /// The ids of the cards of a note, in ascending order, in logarithmic time and a step for each card.
     fn cards_of(&mut self, note: i64) -> Result<List<i64>, KeepFault>

@@ -5,7 +5,7 @@ ghost use Rattle.ak_lab_lines.specs.Written.{IsLabLine};
 
 use crate::LabLineFault;
 use crate::words::{another_word, is_device_name, next_word, signed_number, word_of};
-use ak_base::{Memory, Table, Text, cut};
+use ak_base::{LAST_ID, Memory, Table, Text, cut};
 use ak_desk_language::{next_number, number_in};
 use ak_sync_in_memory::What;
 use std::alloc::Global;
@@ -213,7 +213,7 @@ fn read_reviews(alloc: Global, device: &str, text: &str) -> Result<LabLine, LabL
     ensures line { IfOk result (Reads (reviews_of device.now text.now)) }
     ensures bad { IfErr result (Refuses (reviews_of device.now text.now)) }
 {
-    let Some((card, rest)) = next_number(1, 9_007_199_254_740_991, text) else {
+    let Some((card, rest)) = next_number(1, LAST_ID as u64, text) else {
         return Err(LabLineFault::BadLine);
     };
     let Some((ease, rest)) = next_number(1, 4, rest) else {

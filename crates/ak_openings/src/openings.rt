@@ -9,7 +9,7 @@ ghost use Rattle.ak_openings.specs.Openings.{AreDefaultOptions, AreOpeningRows, 
 
 use crate::Opening;
 use crate::opening_types::{basic, cloze, reversed};
-use ak_base::{Conf, Count, Deck, Head, List, Memory, Options, Rest, Row, Text};
+use ak_base::{Conf, Count, DAY_SECONDS, Deck, Head, List, Memory, Options, Rest, Row, Text};
 use std::alloc::Global;
 
 /// The collection that is made at a moment in milliseconds: deck 1, options 1 and the note types 1 to 3. Its rows are to be
@@ -88,7 +88,7 @@ fn opening_head(alloc: Global, ms: i64, unsent: bool) -> Result<Head, Memory>
     ensures { IfOk result (IsOpeningHead ms unsent) }
 {
     Ok(Head {
-        crt: ms / 86_400_000 * 86_400,
+        crt: ms / (DAY_SECONDS * 1000) * DAY_SECONDS,
         moment: ms,
         schema: ms,
         usn: if unsent { 0 } else { 1 },

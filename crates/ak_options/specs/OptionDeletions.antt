@@ -5,7 +5,7 @@ use Rattle.ak_base.specs.declared.names.Table.TheVariants as tables
 use Rattle.ak_base.specs.declared.decks.Deck.{Deck}
 use Rattle.ak_base.specs.declared.rows.Row.{Row}
 use Rattle.ak_base.specs.declared.rows.Row.TheVariants as rows
-use Rattle.ak_edit_calls.specs.RowsOfOneKind.{on_deck}
+use Rattle.ak_base.specs.RowsOfOneKind.{on_deck}
 use Rattle.ak_edit.specs.Ends.{RefusesStamp}
 use Rattle.ak_edit.specs.Overlays.{Overlay, put_over}
 use Rattle.ak_edit.specs.Refusals.{IsEndFault, OrElse, Refusal}

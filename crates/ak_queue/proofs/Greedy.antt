@@ -1,7 +1,7 @@
 -- The first lawful choice is as large as any: a card of another choice can be given up for each that is taken.
 use Rattle.std.proofs.Common.{◌≡◌, ◌≤◌, ◌+◌, ◌⊎◌, inl, inr, ⊎_elim, Bool, true, false, ◌&&◌, cond, suc, List, [], ◌∷◌, ◌++◌, length, filter, refl, sym, ap, subst, ◌∙◌, true≢false, arith, append_assoc, append-nil, length-append, leb-true, le-leb}
 use Rattle.ak_base.specs.Paths.{are_first_parts}
-use Rattle.ak_queue.specs.Choices.{count_under, is_within, is_lawful_choice, chosen_after, first_choice}
+use Rattle.ak_queue.specs.Choices.{count_under, keeps_limit, is_lawful_choice, chosen_after, first_choice}
 use Rattle.ak_queue.specs.Homes.{Parts}
 use Rattle.ak_queue.specs.Orders.{NewKey}
 use Rattle.ak_queue.specs.declared.limits.DeckLimits.{DeckLimits}
@@ -17,8 +17,8 @@ count-append p (x ∷ xs) ys =
     ] refl
 
 -- ---- lawful sets
--- what each deck is_within of some sets, it is_within of another
-all_keep : (A B C : List NewKey) (limits : List DeckLimits) → ((l : DeckLimits) → is_within A l ≡ true → is_within B l ≡ true → is_within C l ≡ true)
+-- where some sets keep each deck's limit, another does
+all_keep : (A B C : List NewKey) (limits : List DeckLimits) → ((l : DeckLimits) → keeps_limit A l ≡ true → keeps_limit B l ≡ true → keeps_limit C l ≡ true)
     → is_lawful_choice limits A ≡ true → is_lawful_choice limits B ≡ true → is_lawful_choice limits C ≡ true
 all_keep A B C [] each h g = refl
 all_keep A B C (l ∷ ls) each h g =
@@ -46,9 +46,9 @@ front_lawful limits xs ys h =
     h h
 
 -- ---- one card for another
--- a deck is_within the set in which the nearest card was given up for x
-keeps_exchanged : (taken rest : List NewKey) (x : NewKey) (n : Nearest x.0 rest) (l : DeckLimits) → is_within (taken ++ x ∷ []) l ≡ true → is_within (taken ++ rest) l ≡ true
-    → is_within ((taken ++ x ∷ []) ++ (n.front ++ n.back)) l ≡ true
+-- the set in which the nearest card was given up for x keeps a deck's limit
+keeps_exchanged : (taken rest : List NewKey) (x : NewKey) (n : Nearest x.0 rest) (l : DeckLimits) → keeps_limit (taken ++ x ∷ []) l ≡ true → keeps_limit (taken ++ rest) l ≡ true
+    → keeps_limit ((taken ++ x ∷ []) ++ (n.front ++ n.back)) l ≡ true
 keeps_exchanged taken rest x n l with_x with_rest =
     let p = l.parts in
     let one = leb-true (count_under p (taken ++ x ∷ [])) l.new_cards with_x in

@@ -2,7 +2,7 @@
 use Rattle.std.proofs.Common.{◌≡◌, ◌≤◌, ◌+◌, ◌-◌, ◌==◌, Bool, true, false, not, ◌&&◌, cond, ℕ, ℤ, nat_le, List, [], ◌∷◌, ◌++◌, map, refl, sym, ap, ap₂, ◌∙◌, true≢false, arith, leb-true, le-leb}
 use Rattle.std.proofs.lemmas.Bool.Decides.{nat_tests}
 use Rattle.ak_base.specs.Paths.{are_first_parts}
-use Rattle.ak_queue.specs.Choices.{count_under, is_within, is_lawful_choice, chosen_after, first_choice}
+use Rattle.ak_queue.specs.Choices.{count_under, keeps_limit, is_lawful_choice, chosen_after, first_choice}
 use Rattle.ak_queue.specs.Orders.{NewKey}
 use Rattle.ak_queue.specs.Rooms.{rooms_of, has_room, room_after, less_one}
 use Rattle.ak_queue.specs.declared.limits.DeckLimits.{DeckLimits}
@@ -25,12 +25,12 @@ test_not_led n t more fits is =
     ]
 
 -- a deck has room for a card exactly if it takes it
-one_has_room : (l : DeckLimits) (taken : List NewKey) (card : NewKey) → is_within taken l ≡ true
-    → not (((l.new_cards - count_under l.parts taken) == 0) && are_first_parts l.parts card.0) ≡ is_within (taken ++ card ∷ []) l
+one_has_room : (l : DeckLimits) (taken : List NewKey) (card : NewKey) → keeps_limit taken l ≡ true
+    → not (((l.new_cards - count_under l.parts taken) == 0) && are_first_parts l.parts card.0) ≡ keeps_limit (taken ++ card ∷ []) l
 one_has_room l taken card within =
     let fits = leb-true (count_under l.parts taken) l.new_cards within in
     let both = count-append l.parts taken (card ∷ []) in
-    elim (are_first_parts l.parts card.0) as (λ v. are_first_parts l.parts card.0 ≡ v → not (((l.new_cards - count_under l.parts taken) == 0) && v) ≡ is_within (taken ++ card ∷ []) l) [
+    elim (are_first_parts l.parts card.0) as (λ v. are_first_parts l.parts card.0 ≡ v → not (((l.new_cards - count_under l.parts taken) == 0) && v) ≡ keeps_limit (taken ++ card ∷ []) l) [
       | true ↦ λ led. let one = counted l.parts card [] led in test_led l.new_cards (count_under l.parts taken) (count_under l.parts (taken ++ card ∷ [])) fits (omega (arith, both, one))
       | false ↦ λ led. let none = passed_over l.parts card [] led in test_not_led l.new_cards (count_under l.parts taken) (count_under l.parts (taken ++ card ∷ [])) fits (omega (arith, both, none))
     ] refl

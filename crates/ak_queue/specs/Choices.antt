@@ -11,12 +11,12 @@ abbrev pub count_under : Parts → List NewKey → ℕ
 count_under parts cards = length (filter (λ (card : NewKey). are_first_parts parts card.0) cards)
 
 -- whether a deck takes as many as these of its subtree
-abbrev pub is_within : List NewKey → DeckLimits → Bool
-is_within cards l = nat_le (count_under l.parts cards) l.new_cards
+abbrev pub keeps_limit : List NewKey → DeckLimits → Bool
+keeps_limit cards l = nat_le (count_under l.parts cards) l.new_cards
 
 -- whether a set of new cards is lawful: each deck has at most as many of them in its subtree as it takes
 abbrev pub is_lawful_choice : List DeckLimits → List NewKey → Bool
-is_lawful_choice limits cards = list_all (is_within cards) limits
+is_lawful_choice limits cards = list_all (keeps_limit cards) limits
 
 -- with those of the cards that leave the set lawful, each tested in its turn
 abbrev pub chosen_after : List DeckLimits → List NewKey → List NewKey → List NewKey

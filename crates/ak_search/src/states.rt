@@ -6,7 +6,7 @@ ghost use Rattle.ak_search.specs.Holds.{held_and, is_either, is_due, in_state, p
 ghost use Rattle.ak_search.specs.CardFacts.{is_since};
 
 use crate::{Comparison, Property, State};
-use ak_base::{Card, Day};
+use ak_base::{Card, DAY_SECONDS, Day};
 
 /// Whether the card is in the state, on that day.
 pub(crate) fn is_in_state(day: Day, state: State, card: &Card) -> bool
@@ -115,14 +115,14 @@ pub(crate) fn has_flag(card: &Card, number: &i64) -> bool
 pub(crate) fn second_back(day: Day, days: &i64) -> i128
     ensures { result ≡ second_back day days.now }
 {
-    day.cutoff as i128 - 86_400 * (*days as i128)
+    day.cutoff as i128 - DAY_SECONDS as i128 * (*days as i128)
 }
 
 /// The id of a row that was made at that second.
 pub(crate) fn id_back(day: Day, days: &i64) -> i128
     ensures { result ≡ id_back day days.now }
 {
-    (day.cutoff as i128 - 86_400 * (*days as i128)) * 1000
+    (day.cutoff as i128 - DAY_SECONDS as i128 * (*days as i128)) * 1000
 }
 
 /// Whether the number is at least that.

@@ -15,12 +15,13 @@ ghost use Rattle.ak_session.specs.Refusals.{first_objection, start_tests, grave_
 ghost use Rattle.ak_session.specs.Requests.{same_method};
 
 use crate::sessions::Session;
-use ak_base::{LAST_HEAD_USN, LAST_MOMENT, LAST_STAMP, LAST_USN, Memory, Name, Row, Tag};
+use ak_base::{
+    LAST_HEAD_USN, LAST_MOMENT, LAST_STAMP, LAST_USN, Memory, Name, Row, Tag, is_within,
+};
 use ak_keep::Numbers;
 use ak_messages::{Changes, Chunk, GraveIds, MOST_ENTRIES, Method, Whole};
 use ak_sync_rows::{
-    are_changes_in_range, are_graves_in_range, are_rows_checked, is_between, is_conf_in_range,
-    is_tag_name,
+    are_changes_in_range, are_graves_in_range, are_rows_checked, is_conf_in_range, is_tag_name,
 };
 use std::alloc::Global;
 use std::collections::BTreeSet;
@@ -76,7 +77,7 @@ pub fn objection_to_start(held: &Numbers, min_usn: &i64, lmod: &i64) -> Option<C
     ensures { (c : Collection) → option_map objection_in result
         ≡ first_objection (start_tests (numbered held.now c) min_usn.now lmod.now) }
 {
-    if !is_between(*min_usn, 0, held.usn) {
+    if !is_within(*min_usn, 0, held.usn) {
         return Some(Cause::Usn);
     }
     if has_no_number(held, *lmod) {
@@ -168,7 +169,7 @@ fn is_whole_in_range(whole: &Whole) -> bool
     are_checked(whole.rows.as_slice())
         && are_tags_in_range(whole.tags.as_slice())
         && is_conf_in_range(&whole.conf)
-        && is_between(whole.crt, 0, LAST_STAMP)
+        && is_within(whole.crt, 0, LAST_STAMP)
 }
 
 /// Whether each of these rows passes its check.
@@ -182,7 +183,7 @@ pub fn are_checked(rows: &[Row]) -> bool
 fn are_tags_in_range(tags: &[Tag]) -> bool
     ensures { result ≡ list_all is_tag_in_range tags.now }
 {
-    tags.iter().all(|tag| is_tag_name(&tag.name) && is_between(tag.usn, -1, LAST_USN))
+    tags.iter().all(|tag| is_tag_name(&tag.name) && is_within(tag.usn, -1, LAST_USN))
 }
 
 /// Whether two of these rows share a name.

@@ -36,8 +36,8 @@ use Rattle.ak_session.specs.Messages.{grave_ids, graves_from, chunk_of, chunk_ro
 use Rattle.ak_session.specs.NextMethods.{methods_after, last_asked, was_done, may_come}
 use Rattle.ak_session.specs.Objections.{MayNotCome, WrongUsn, NoNumber, TooManyRows, WrongRow, WrongNewer}
 use Rattle.ak_session.specs.Plans.{device_rows, device_changes, graves_to_send, chunks_to_ask, rows_to_send, planned_start, planned_graves, planned_changes, planned_chunks, planned_pushes, planned_check, planned, Asker, plan}
-use Rattle.ak_session.specs.Refusals.{Test, test, first_objection, is_id, is_checked, is_newer_in_range, is_between, has_no_next, are_changes_in_range, wrong_newer, grave_tests, chunk_tests, tests_of, objection_to}
-use Rattle.ak_base.specs.Heads.{is_tag_name}
+use Rattle.ak_session.specs.Refusals.{Test, test, first_objection, is_id, is_checked, is_newer_in_range, has_no_next, are_changes_in_range, wrong_newer, grave_tests, chunk_tests, tests_of, objection_to}
+use Rattle.ak_base.specs.Heads.{is_tag_name, is_within}
 use Rattle.ak_session.specs.Requests.{asked_method, same_method}
 use Rattle.ak_session.specs.Sessions.{MaySync, HaveRoom}
 use Rattle.ak_session.specs.Slices.{wanted_graves, wanted_in_chunks, slice, filled_slices, slices_until_short}
@@ -156,7 +156,7 @@ module _ (c s : Collection) (may : MaySync c s) (room : HaveRoom c s) where
   start_meets =
       let passes = start_passes s.head.usn c.head.usn s.head.moment c.head.moment may.head.usn.low may.linked.usn room.usn room.their_moment room.moment in (
         no_objection s [] (asks.Start c.head.usn c.head.moment) refl
-            (both_pass (not (is_between (pos 0) s.head.usn c.head.usn)) WrongUsn (int_eq s.head.usn last_head_usn || has_no_next s.head.moment || has_no_next c.head.moment) NoNumber passes.0 passes.1),
+            (both_pass (not (is_within (pos 0) s.head.usn c.head.usn)) WrongUsn (int_eq s.head.usn last_head_usn || has_no_next s.head.moment || has_no_next c.head.moment) NoNumber passes.0 passes.1),
         tt,
       )
 

@@ -11,7 +11,7 @@ use Rattle.std.proofs.lemmas.List.{length-append, length-map, length-take}
 use Rattle.std.proofs.lemmas.List.Folds.{list_all-append}
 use Rattle.ak_base.specs.Columns.{id_fault}
 use Rattle.ak_base.specs.Graves.{grave_faults}
-use Rattle.ak_base.specs.Heads.{IsWithin, IsConfInRange, IsHeadInRange, IsTagInRange, is_tag_name}
+use Rattle.ak_base.specs.Heads.{IsWithin, IsConfInRange, IsHeadInRange, IsTagInRange, is_tag_name, is_within}
 use Rattle.ak_base.specs.Limits.{last_id, last_usn, last_head_usn, last_stamp, last_moment}
 use Rattle.ak_base.specs.Rows.{IsChecked}
 use Rattle.ak_base.specs.declared.errors.RowFault.TheVariants.{IdRange}
@@ -28,7 +28,7 @@ use Rattle.ak_messages.specs.MessageForms.{chunk_entries, grave_entries}
 use Rattle.ak_messages.specs.declared.requests.GraveIds.{GraveIds}
 use Rattle.ak_session.specs.Messages.{grave_ids, grave_with, graves_from, chunk_of, chunk_rows, newer_of}
 use Rattle.ak_session.specs.Objections.{Objection}
-use Rattle.ak_session.specs.Refusals.{is_between, is_id, is_checked, is_conf_in_range, is_newer_in_range, is_tag_in_range, has_no_next, test, first_objection}
+use Rattle.ak_session.specs.Refusals.{is_id, is_checked, is_conf_in_range, is_newer_in_range, is_tag_in_range, has_no_next, test, first_objection}
 use Rattle.ak_session.specs.Slices.{slice}
 use Rattle.ak_session.proofs.Ranges.{all_front, all_rest, within, passed, tag_named, settings_fit}
 
@@ -37,7 +37,7 @@ pub both_pass : (a : Bool) (why : Objection) (b : Bool) (other : Objection) → 
 both_pass a why b other one two = rw (one, two) refl
 
 -- ---- ranges
-pub between : (least most number : ℤ) → IsWithin least most number → is_between least most number ≡ true
+pub between : (least most number : ℤ) → IsWithin least most number → is_within least most number ≡ true
 between least most number own =
     let low : int_le least number ≡ true = grind (arith, ints, own.low) in
     let high : int_le number most ≡ true = grind (arith, ints, own.high) in
@@ -129,13 +129,13 @@ pub has_next : (moment : ℤ) → moment <ℤ last_moment → has_no_next moment
 has_next moment below = grind (arith, ints, below)
 
 pub start_passes : (usn min_usn moment lmod : ℤ) → pos 0 ≤ℤ min_usn → min_usn ≤ℤ usn → usn <ℤ last_head_usn → moment <ℤ last_moment → lmod <ℤ last_moment
-    → (not (is_between (pos 0) usn min_usn) ≡ false) × ((int_eq usn last_head_usn || has_no_next moment || has_no_next lmod) ≡ false)
+    → (not (is_within (pos 0) usn min_usn) ≡ false) × ((int_eq usn last_head_usn || has_no_next moment || has_no_next lmod) ≡ false)
 start_passes usn min_usn moment lmod low high room one two =
     let differ : int_eq usn last_head_usn ≡ false = grind (arith, ints, room) in
     (ap not (between (pos 0) usn min_usn (record { low = low; high = high })), rw (differ, has_next moment one, has_next lmod two) refl)
 
 -- ---- each test finds exactly what is in its range
-pub number_decides : (least most number : ℤ) → Decides (is_between least most number) (IsWithin least most number)
+pub number_decides : (least most number : ℤ) → Decides (is_within least most number) (IsWithin least most number)
 number_decides least most number = (within least most number, between least most number)
 
 pub row_decides : (row : Row) → Decides (is_checked row) (IsChecked row)
@@ -150,7 +150,7 @@ name_decides name = (tag_named name, named_tag name)
 pub tag_decides : (tag : Tag) → Decides (is_tag_in_range tag) (IsTagInRange tag)
 tag_decides tag = (
   (λ is.
-      let named : IsTagName tag.name = tag_named tag.name (first_so (is_tag_name tag.name) (is_between (negsuc 0) last_usn tag.usn) is) in
-      record { some = named.some; short = named.short; usn = within (negsuc 0) last_usn tag.usn (second_so (is_tag_name tag.name) (is_between (negsuc 0) last_usn tag.usn) is) }),
+      let named : IsTagName tag.name = tag_named tag.name (first_so (is_tag_name tag.name) (is_within (negsuc 0) last_usn tag.usn) is) in
+      record { some = named.some; short = named.short; usn = within (negsuc 0) last_usn tag.usn (second_so (is_tag_name tag.name) (is_within (negsuc 0) last_usn tag.usn) is) }),
   (λ own. rw (named_tag tag.name (record { some = own.some; short = own.short }), between (negsuc 0) last_usn tag.usn own.usn) refl),
 )

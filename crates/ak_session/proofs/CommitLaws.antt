@@ -7,7 +7,7 @@ use Rattle.std.specs.Cmp.{first_so, second_so}
 use Rattle.std.proofs.Common.{refl, sym, ap, subst, ◌∙◌, arith}
 use Rattle.std.proofs.lemmas.Int.{ints}
 use Rattle.std.proofs.lemmas.List.Elements.{All-from_recursion}
-use Rattle.ak_base.specs.Heads.{IsMoment, IsConfInRange, IsHeadInRange, IsWithin, tag_names, is_tag_name}
+use Rattle.ak_base.specs.Heads.{IsMoment, IsConfInRange, IsHeadInRange, IsWithin, tag_names, is_tag_name, is_within}
 use Rattle.ak_base.specs.Limits.{last_stamp, last_head_usn}
 use Rattle.ak_base.specs.Rows.{IsChecked}
 use Rattle.ak_base.specs.declared.heads.Tag.{Tag}
@@ -22,7 +22,7 @@ use Rattle.ak_session.specs.Asks.{asks_of, all_brought, device_moment, fold_of}
 use Rattle.ak_session.specs.Closings.{moment_past, of_finish, of_upload, closed_by, whole_brought}
 use Rattle.ak_session.specs.Contents.{refusal, closed}
 use Rattle.ak_session.specs.Objections.{WrongUsn, NoNumber, WrongRow}
-use Rattle.ak_session.specs.Refusals.{test, has_twins, same_names, same_tags, has_last_moment, is_whole_in_range, has_no_next, is_tag_in_range, is_between, is_checked, is_conf_in_range, is_crt_in_range, first_objection, start_tests, upload_tests, objection_to}
+use Rattle.ak_session.specs.Refusals.{test, has_twins, same_names, same_tags, has_last_moment, is_whole_in_range, has_no_next, is_tag_in_range, is_checked, is_conf_in_range, is_crt_in_range, first_objection, start_tests, upload_tests, objection_to}
 use Rattle.ak_session.specs.Sessions.{AreAllowed}
 use Rattle.ak_session.proofs.Folds.{fold_takes_all}
 use Rattle.ak_session.proofs.Ranges.{not_both, none_of_two, untrue, all_pass, within, passed, tag_named, settings_fit, past_first, past_second, moment_fits, SettingsFit, Fits}
@@ -74,7 +74,7 @@ pub start_numbers : (c : Collection) (min_usn lmod : ℤ) → first_objection (s
     → (int_eq c.head.usn last_head_usn ≡ false) × (has_no_next c.head.moment ≡ false) × (has_no_next lmod ≡ false)
 start_numbers c min_usn lmod none =
     let all : (int_eq c.head.usn last_head_usn || has_no_next c.head.moment || has_no_next lmod) ≡ false =
-    (none_of_two (not (is_between (pos 0) c.head.usn min_usn)) WrongUsn (int_eq c.head.usn last_head_usn || has_no_next c.head.moment || has_no_next lmod) NoNumber [] none).1 in
+    (none_of_two (not (is_within (pos 0) c.head.usn min_usn)) WrongUsn (int_eq c.head.usn last_head_usn || has_no_next c.head.moment || has_no_next lmod) NoNumber [] none).1 in
     let two = neither (int_eq c.head.usn last_head_usn || has_no_next c.head.moment) (has_no_next lmod) all in
     let one = neither (int_eq c.head.usn last_head_usn) (has_no_next c.head.moment) two.0 in
     (one.0, one.1, two.1)

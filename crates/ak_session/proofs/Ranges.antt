@@ -7,7 +7,7 @@ use Rattle.std.proofs.Common.{refl, sym, subst, ◌∙◌, arith}
 use Rattle.std.proofs.lemmas.Int.{ints, int_max_is}
 use Rattle.std.proofs.lemmas.Option.{none-some}
 use Rattle.std.specs.Cmp.{first_so, second_so}
-use Rattle.ak_base.specs.Heads.{IsWithin, IsMoment, IsConfInRange, is_tag_name}
+use Rattle.ak_base.specs.Heads.{IsWithin, IsMoment, IsConfInRange, is_tag_name, is_within}
 use Rattle.ak_base.specs.Limits.{last_stamp, last_id, last_moment}
 use Rattle.ak_base.specs.Columns.{id_fault, code_fault}
 use Rattle.ak_base.specs.Rows.{IsChecked, check_of}
@@ -28,7 +28,7 @@ use Rattle.ak_session.specs.Messages.{grave_with, graves_from, chunk_rows, chang
 use Rattle.ak_session.specs.Answers.{is_device_newer}
 use Rattle.ak_session.specs.Objections.{Objection, TooManyRows, WrongRow, WrongNewer}
 use Rattle.ak_messages.specs.MessageForms.{chunk_entries, grave_entries}
-use Rattle.ak_session.specs.Refusals.{is_between, is_id, is_checked, is_conf_in_range, is_crt_in_range, is_newer_in_range, has_no_next, Test, test, are_changes_in_range, wrong_newer, first_objection, tests_of}
+use Rattle.ak_session.specs.Refusals.{is_id, is_checked, is_conf_in_range, is_crt_in_range, is_newer_in_range, has_no_next, Test, test, are_changes_in_range, wrong_newer, first_objection, tests_of}
 
 -- ---- tests
 pub not_both : {b : Bool} → b ≡ true → b ≡ false → ⊥
@@ -76,7 +76,7 @@ all_rest P [] ys all = all
 all_rest P (x ∷ xs) ys all = all_rest P xs ys all.1
 
 -- ---- ranges
-pub within : (least most number : ℤ) → is_between least most number ≡ true → IsWithin least most number
+pub within : (least most number : ℤ) → is_within least most number ≡ true → IsWithin least most number
 within least most number is =
     let low : int_le least number ≡ true = first_so _ _ is in
     let high : int_le number most ≡ true = second_so _ _ is in
@@ -97,10 +97,10 @@ tag_named name is =
 
 pub settings_fit : (conf : Conf) → is_conf_in_range conf ≡ true → IsConfInRange conf
 settings_fit conf is =
-    let spread : Bool = is_between (pos 0) (pos 2) conf.new_spread in
-    let collapse : Bool = is_between (pos 0) (pos 86_400) conf.collapse in
-    let next : Bool = is_between (pos 0) (pos 2_147_483_647) conf.next_pos in
-    let unburied : Bool = is_between (negsuc 9_999_999) (pos 100_000_000) conf.last_unburied in
+    let spread : Bool = is_within (pos 0) (pos 2) conf.new_spread in
+    let collapse : Bool = is_within (pos 0) (pos 86_400) conf.collapse in
+    let next : Bool = is_within (pos 0) (pos 2_147_483_647) conf.next_pos in
+    let unburied : Bool = is_within (negsuc 9_999_999) (pos 100_000_000) conf.last_unburied in
     let rest : Bool = nat_le (length conf.rest.text) 262_144 in
     let four : (spread && collapse && next && unburied) ≡ true = first_so (spread && collapse && next && unburied) rest is in
     let three : (spread && collapse && next) ≡ true = first_so (spread && collapse && next) unburied four in

@@ -1,10 +1,10 @@
 -- Which requests a session refuses: the first test that finds fault with one, in this order.
-use Rattle.std.specs.Prelude.{ℕ, ℤ, pos, negsuc, ◌+ℤ◌, ◌&&◌, ◌||◌, ◌==◌, Bool, true, false, not, is_some, is_ok, int_lt, int_le, nat_lt, nat_le, List, [], ◌∷◌, ◌++◌, length, find, if◌then◌else◌, Option}
+use Rattle.std.specs.Prelude.{ℕ, ℤ, pos, negsuc, ◌+ℤ◌, ◌&&◌, ◌||◌, ◌==◌, Bool, true, false, not, is_some, is_ok, int_lt, nat_lt, nat_le, List, [], ◌∷◌, ◌++◌, length, find, if◌then◌else◌, Option}
 use Rattle.std.specs.Cmp.Lexicographic.{pointwise}
 use Rattle.std.specs.List.{list_any, list_all}
 use Rattle.std.specs.Option.{option_map, option_map_or}
 use Rattle.std.specs.Ordering.{int_eq, eq_by_cmp}
-use Rattle.ak_base.specs.Heads.{is_tag_name}
+use Rattle.ak_base.specs.Heads.{is_tag_name, is_within}
 use Rattle.ak_base.specs.Limits.{last_id, last_usn, last_head_usn, last_stamp, last_moment}
 use Rattle.ak_base.specs.Names.{name_cmp}
 use Rattle.ak_base.specs.Rows.{check_of, name_of}
@@ -26,13 +26,9 @@ use Rattle.ak_session.specs.NextMethods.{may_come}
 use Rattle.ak_session.specs.Objections.{Objection, MayNotCome, WrongUsn, NoNumber, TooManyRows, WrongRow, WrongNewer}
 
 -- ---- ranges
--- a whole number from the least to the most
-abbrev pub is_between : ℤ → ℤ → ℤ → Bool
-is_between least most number = int_le least number && int_le number most
-
 -- an id of a row
 abbrev pub is_id : ℤ → Bool
-is_id = is_between (pos 1) last_id
+is_id = is_within (pos 1) last_id
 
 -- a row passes its check: each column is in its range
 abbrev pub is_checked : Row → Bool
@@ -40,20 +36,20 @@ is_checked row = is_ok (check_of row)
 
 -- a tag with a name and a usn in their ranges
 abbrev pub is_tag_in_range : Tag → Bool
-is_tag_in_range tag = is_tag_name tag.name && is_between (negsuc 0) last_usn tag.usn
+is_tag_in_range tag = is_tag_name tag.name && is_within (negsuc 0) last_usn tag.usn
 
 -- settings whose numbers are in their ranges, and whose other keys have at most 262,144 bytes
 abbrev pub is_conf_in_range : Conf → Bool
 is_conf_in_range conf =
-    is_between (pos 0) (pos 2) conf.new_spread
-    && is_between (pos 0) (pos 86_400) conf.collapse
-    && is_between (pos 0) (pos 2_147_483_647) conf.next_pos
-    && is_between (negsuc 9_999_999) (pos 100_000_000) conf.last_unburied
+    is_within (pos 0) (pos 2) conf.new_spread
+    && is_within (pos 0) (pos 86_400) conf.collapse
+    && is_within (pos 0) (pos 2_147_483_647) conf.next_pos
+    && is_within (negsuc 9_999_999) (pos 100_000_000) conf.last_unburied
     && nat_le (length conf.rest.text) 262_144
 
 -- a second of a collection's creation
 abbrev pub is_crt_in_range : ℤ → Bool
-is_crt_in_range = is_between (pos 0) last_stamp
+is_crt_in_range = is_within (pos 0) last_stamp
 
 -- the moment after this one is past the last one, in milliseconds
 abbrev pub has_no_next : ℤ → Bool
@@ -86,7 +82,7 @@ test finds why = record { finds = finds; why = why }
 -- a start: its usn is from 0 to the server's. The server's usn is not the last one, and neither side's moment is
 abbrev pub start_tests : Collection → ℤ → ℤ → List Test
 start_tests committed min_usn lmod =
-    test (not (is_between (pos 0) committed.head.usn min_usn)) WrongUsn
+    test (not (is_within (pos 0) committed.head.usn min_usn)) WrongUsn
     ∷ test (int_eq committed.head.usn last_head_usn || has_no_next committed.head.moment || has_no_next lmod) NoNumber
     ∷ []
 

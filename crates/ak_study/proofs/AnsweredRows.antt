@@ -24,7 +24,7 @@ use Rattle.ak_base.specs.declared.notes.Note.{Note}
 use Rattle.ak_base.specs.declared.rows.Row.{Row}
 use Rattle.ak_base.specs.declared.rows.Row.TheVariants as rows
 use Rattle.ak_edit_calls.proofs.Overlaying.{put_under, rest_of}
-use Rattle.ak_edit_calls.specs.RowsOfOneKind.{on_card}
+use Rattle.ak_base.specs.RowsOfOneKind.{on_card}
 use Rattle.ak_edit.specs.Overlays.{Overlay, edit_of, put_over, row_over, tag_over, unchanged}
 use Rattle.ak_keep.proofs.RowsByName.{same_of_tied}
 use Rattle.ak_keep.specs.Collections.{Collection, Rows, rows_past}

@@ -12,7 +12,7 @@ use Rattle.ak_base.specs.declared.rows.Row.TheVariants as rows
 use Rattle.ak_edit.specs.Ends.{IsFinished, RefusesStamp}
 use Rattle.ak_edit.specs.Overlays.{Overlay, conf_over}
 use Rattle.ak_edit.specs.Refusals.{Refusal}
-use Rattle.ak_edit_calls.specs.RowsOfOneKind.{on_card}
+use Rattle.ak_base.specs.RowsOfOneKind.{on_card}
 use Rattle.ak_keep.specs.Collections.{Collection, Holding, Rows, rows_past}
 use Rattle.ak_keep.specs.Keepers.{Keeping, WhereHeld}
 use Rattle.ak_merge.specs.EditBuilding.{unedited, with_conf, with_rows_mapped}

@@ -22,8 +22,8 @@ pub use lists::append_page;
 pub use methods::asked_method;
 pub use parts::{changes_of, chunk_of, grave_ids};
 pub use ranges::{
-    are_changes_in_range, are_graves_in_range, are_rows_checked, is_between, is_conf_in_range,
-    is_id, is_tag_name,
+    are_changes_in_range, are_graves_in_range, are_rows_checked, is_conf_in_range, is_id,
+    is_tag_name,
 };
 pub use reads::{wanted_changes, wanted_graves, wanted_in_chunks, wanted_tags};
 pub use takings::{take_changes, take_chunk_rows, take_given_graves};

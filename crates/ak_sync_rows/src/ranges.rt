@@ -4,12 +4,12 @@ ghost use Rattle.std.specs.List.{list_all};
 ghost use Rattle.std.specs.Option.{option_map_or};
 ghost use Rattle.ak_base.specs.declared.rows.Row.TheVariants as rows;
 ghost use Rattle.ak_session.specs.Messages.{chunk_rows, change_rows};
-ghost use Rattle.ak_session.specs.Refusals.{is_between, is_checked, is_conf_in_range, is_id, is_newer_in_range, are_changes_in_range};
-ghost use Rattle.ak_base.specs.Heads.{is_tag_name};
+ghost use Rattle.ak_session.specs.Refusals.{is_checked, is_conf_in_range, is_id, is_newer_in_range, are_changes_in_range};
+ghost use Rattle.ak_base.specs.Heads.{is_tag_name, is_within};
 
 use ak_base::{
-    Card, Conf, Deck, FIRST_DAY, LAST_COUNT, LAST_DAY, LAST_ID, LAST_STAMP, NAME_BYTES, Note,
-    NoteType, Options, REST_BYTES, Review, Text,
+    Card, Conf, DAY_SECONDS, Deck, FIRST_DAY, LAST_COUNT, LAST_DAY, LAST_ID, LAST_STAMP,
+    NAME_BYTES, Note, NoteType, Options, REST_BYTES, Review, Text, is_within,
 };
 use ak_messages::{Changes, Chunk, GraveIds, Newer};
 
@@ -118,7 +118,7 @@ fn is_newer_in_range(newer: &Option<Newer>) -> bool
     ensures { result ≡ option_map_or is_newer_in_range newer.now true }
 {
     match newer {
-        Some(newer) => is_conf_in_range(&newer.conf) && is_between(newer.crt, 0, LAST_STAMP),
+        Some(newer) => is_conf_in_range(&newer.conf) && is_within(newer.crt, 0, LAST_STAMP),
         None => true,
     }
 }
@@ -132,26 +132,19 @@ pub fn is_conf_in_range(conf: &Conf) -> bool
 
 /// Whether the numbers of the settings are in their ranges.
 fn are_conf_numbers_in_range(conf: &Conf) -> bool
-    ensures { result ≡ (is_between (pos 0) (pos 2) conf.now.new_spread && is_between (pos 0) (pos 86_400) conf.now.collapse
-        && is_between (pos 0) (pos 2_147_483_647) conf.now.next_pos
-        && is_between (negsuc 9_999_999) (pos 100_000_000) conf.now.last_unburied) }
+    ensures { result ≡ (is_within (pos 0) (pos 2) conf.now.new_spread && is_within (pos 0) (pos 86_400) conf.now.collapse
+        && is_within (pos 0) (pos 2_147_483_647) conf.now.next_pos
+        && is_within (negsuc 9_999_999) (pos 100_000_000) conf.now.last_unburied) }
 {
-    is_between(conf.new_spread, 0, 2)
-        && is_between(conf.collapse, 0, 86_400)
-        && is_between(conf.next_pos, 0, LAST_COUNT)
-        && is_between(conf.last_unburied, FIRST_DAY, LAST_DAY)
-}
-
-/// Whether a number is one from the least to the most.
-pub fn is_between(number: i64, least: i64, most: i64) -> bool
-    ensures { result ≡ is_between least most number }
-{
-    least <= number && number <= most
+    is_within(conf.new_spread, 0, 2)
+        && is_within(conf.collapse, 0, DAY_SECONDS)
+        && is_within(conf.next_pos, 0, LAST_COUNT)
+        && is_within(conf.last_unburied, FIRST_DAY, LAST_DAY)
 }
 
 /// Whether a number is an id of a row.
 pub fn is_id(id: i64) -> bool
     ensures { result ≡ is_id id }
 {
-    is_between(id, 1, LAST_ID)
+    is_within(id, 1, LAST_ID)
 }

@@ -6,7 +6,7 @@ use Rattle.std.specs.Cmp.Lexicographic.{pointwise}
 use Rattle.std.specs.Option.{is_some, option_map_or, option_or}
 use Rattle.serde_json.specs.Data.{Data, null, boolean, number, unsigned, negative, float, Num, string, array, object, Items, Members}
 use Rattle.serde_json.specs.Find.{get, at, as_null, as_str, as_array, as_number, as_u64, as_i64}
-use Rattle.ak_json.specs.Kinds.{integer_of, is_within}
+use Rattle.ak_json.specs.Kinds.{integer_of, is_number_within}
 use Rattle.ak_merge.specs.declared.checks.CheckFault.{CheckFault}
 use Rattle.ak_merge.specs.declared.checks.CheckFault.TheVariants as checks
 use Rattle.ak_messages.specs.declared.requests.SanityCounts.{SanityCounts}
@@ -61,16 +61,16 @@ code_reads (pos (suc (suc (suc (suc zero))))) id d h first second = (first, seco
 code_reads (pos (suc (suc (suc (suc (suc n)))))) id d h first second = absurd (past_four n (second_so (int_le (pos 1) (pos (suc (suc (suc (suc (suc n))))))) _ h))
 code_reads (negsuc n) id d h first second = cc
 
-within_is : (least most : ℤ) (o : Option ℤ) (other : ℤ) → is_within least most o ≡ true → (o ≡ Some (unwrap_or o other)) × ((int_le least (unwrap_or o other) && int_le (unwrap_or o other) most) ≡ true)
+within_is : (least most : ℤ) (o : Option ℤ) (other : ℤ) → is_number_within least most o ≡ true → (o ≡ Some (unwrap_or o other)) × ((int_le least (unwrap_or o other) && int_le (unwrap_or o other) most) ≡ true)
 within_is least most None other h = cc
 within_is least most (Some z) other h = (refl, h)
 
 list_reads : (ds : Items) → is_fault_row (array ds) ≡ true → ReadsFault (array ds) (check_in (array ds))
 list_reads ds h =
     let d : Data = array ds in
-    let first = within_is (pos 1) (pos 4) (number_at 0 d) (pos 0) (first_so (is_within (pos 1) (pos 4) (number_at 0 d)) _ h) in
-    let rest = second_so (is_within (pos 1) (pos 4) (number_at 0 d)) _ h in
-    let second = within_is (pos 1) (pos 9_007_199_254_740_991) (number_at 1 d) (pos 0) (first_so (is_within (pos 1) (pos 9_007_199_254_740_991) (number_at 1 d)) _ rest) in
+    let first = within_is (pos 1) (pos 4) (number_at 0 d) (pos 0) (first_so (is_number_within (pos 1) (pos 4) (number_at 0 d)) _ h) in
+    let rest = second_so (is_number_within (pos 1) (pos 4) (number_at 0 d)) _ h in
+    let second = within_is (pos 1) (pos 9_007_199_254_740_991) (number_at 1 d) (pos 0) (first_so (is_number_within (pos 1) (pos 9_007_199_254_740_991) (number_at 1 d)) _ rest) in
     code_reads (unwrap_or (number_at 0 d) (pos 0)) (unwrap_or (number_at 1 d) (pos 0)) d first.1 first.0 second.0
 
 fault_reads : (d : Data) → is_fault d ≡ true → ReadsFault d (check_in d)

@@ -6,7 +6,7 @@ use Rattle.serde_json.specs.Data.{Data, null, boolean, number, string, array, ob
 use Rattle.serde_json.specs.Find.{get, at, as_bool, as_str, as_array, as_object, as_number, as_u64}
 use Rattle.ak_base.specs.declared.heads.Tag.{Tag}
 use Rattle.ak_json.specs.Cells.{integers}
-use Rattle.ak_json.specs.Kinds.{integer_of, is_within}
+use Rattle.ak_json.specs.Kinds.{integer_of, is_number_within}
 use Rattle.ak_wire.specs.Faults.{ReadsEach}
 use Rattle.ak_wire.specs.Forms.{Form}
 use Rattle.ak_wire.specs.Found.{HasInteger, HasBool, HasText, HasWord, Under, AtPlace, ReadsList, IsInteger, IsText, ReadsMembers, ReadsTags}
@@ -79,7 +79,7 @@ form_held form d h = keys_held form d (chosen_none (is_some (as_object d)) (firs
 
 -- ---- what is taken of a value is what it holds
 
-within_some : (least most : ℤ) (o : Option ℤ) → is_within least most o ≡ true → is_some o ≡ true
+within_some : (least most : ℤ) (o : Option ℤ) → is_number_within least most o ≡ true → is_some o ≡ true
 within_some least most None h = cc
 within_some least most (Some z) h = refl
 
@@ -202,8 +202,8 @@ each_tag : (ms : Members) → are_tags ms ≡ true → ReadsMembers ms (tags_of 
 each_tag no_members h = tt
 each_tag (member k d ms) h =
     let rest = second_so (is_tag_name k) _ h in
-    let within = first_so (is_within (negsuc 0) (pos 2_147_483_647) (integer_of d)) _ rest in
-    (refl, some_is (integer_of d) (pos 0) (within_some (negsuc 0) (pos 2_147_483_647) (integer_of d) within), each_tag ms (second_so (is_within (negsuc 0) (pos 2_147_483_647) (integer_of d)) _ rest))
+    let within = first_so (is_number_within (negsuc 0) (pos 2_147_483_647) (integer_of d)) _ rest in
+    (refl, some_is (integer_of d) (pos 0) (within_some (negsuc 0) (pos 2_147_483_647) (integer_of d) within), each_tag ms (second_so (is_number_within (negsuc 0) (pos 2_147_483_647) (integer_of d)) _ rest))
 
 pub tags_held : (key : List ℕ) (d : Data) → IsHeldAs key d kinds.Tags → Under key ReadsTags d (tags_under key d)
 tags_held key d h =

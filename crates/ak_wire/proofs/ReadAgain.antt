@@ -20,7 +20,7 @@ use Rattle.ak_json.proofs.ConfsAgain.{conf_again}
 use Rattle.ak_json.proofs.ObjectForms.{nat_most}
 use Rattle.ak_json.proofs.RowsAgain.{own_again}
 use Rattle.ak_json.specs.Confs.{conf_json, ReadsConf}
-use Rattle.ak_json.specs.Kinds.{integer_of, is_within}
+use Rattle.ak_json.specs.Kinds.{integer_of, is_number_within}
 use Rattle.ak_json.specs.Rows.{row_json, ReadsRow}
 use Rattle.ak_json.specs.Written.{integer}
 use Rattle.ak_merge.specs.declared.checks.CheckFault.{CheckFault}
@@ -89,7 +89,7 @@ neither (Some x) others h k = cc
 least_test : (a b : ℤ) → a ≤ℤ b → int_le a b ≡ true
 least_test a b h = grind (arith, ints)
 
-within_test : (least most z : ℤ) → IsWithin least most z → is_within least most (Some z) ≡ true
+within_test : (least most z : ℤ) → IsWithin least most z → is_number_within least most (Some z) ≡ true
 within_test least most z h = and_from _ _ (least_test least z h.low) (least_test z most h.high)
 
 pub word_again : (z : ℤ) → FitsWord z → IsReadAgain z
@@ -101,7 +101,7 @@ low_again most least (pos n) room h = let k : n ≤ most = nat_most n most (leas
 low_again most least (negsuc n) room h = refl
 
 pub within_again : (most : ℕ) (least z : ℤ) → most < 2 ^ 63 → IsWithin least (pos most) z → holds (kinds.Within least (pos most)) (integer z) ≡ true
-within_again most least z room h = ap (is_within least (pos most)) (low_again most least z room h) ∙ within_test least (pos most) z h
+within_again most least z room h = ap (is_number_within least (pos most)) (low_again most least z room h) ∙ within_test least (pos most) z h
 
 integer_holds : (z : ℤ) → IsReadAgain z → holds kinds.Integer (integer z) ≡ true
 integer_holds z h = ap (λ (o : Option ℤ). is_some o) h

@@ -5,7 +5,7 @@ use Rattle.std.specs.Cmp.Lexicographic.{pointwise}
 use Rattle.ak_base.specs.Heads.{is_tag_name}
 use Rattle.serde_json.specs.Data.{Data, Items, no_items, item, Members, no_members, member}
 use Rattle.serde_json.specs.Find.{at, as_null, as_number, as_u64, as_str, as_bool, as_array, as_object}
-use Rattle.ak_json.specs.Kinds.{integer_of, is_within}
+use Rattle.ak_json.specs.Kinds.{integer_of, is_number_within}
 use Rattle.ak_wire.specs.Words.{word_of}
 use Rattle.ak_wire.specs.declared.kinds.Kind.{Kind}
 use Rattle.ak_wire.specs.declared.kinds.Kind.TheVariants as kinds
@@ -38,7 +38,7 @@ is_count place d = option_map_or (λ n. nat_le n 9_223_372_036_854_775_807) (uns
 
 -- the number 0 stands at a place
 abbrev pub is_zero : ℕ → Data → Bool
-is_zero place d = is_within (pos 0) (pos 0) (number_at place d)
+is_zero place d = is_number_within (pos 0) (pos 0) (number_at place d)
 
 -- a list stands at a place
 abbrev pub is_list : ℕ → Data → Bool
@@ -60,7 +60,7 @@ are_counts d = option_map_or is_nothing_due (at 0 d) false && (are_seven_counts 
 -- a list of the number of a fault of a collection, from 1 to 4, and the id of a row
 abbrev pub is_fault_row : Data → Bool
 is_fault_row d =
-    is_within (pos 1) (pos 4) (number_at 0 d) && (is_within (pos 1) (pos 9_007_199_254_740_991) (number_at 1 d) && not (is_some (at 2 d)))
+    is_number_within (pos 1) (pos 4) (number_at 0 d) && (is_number_within (pos 1) (pos 9_007_199_254_740_991) (number_at 1 d) && not (is_some (at 2 d)))
 
 -- nothing, or the fault of a collection
 abbrev pub is_fault : Data → Bool
@@ -83,12 +83,12 @@ are_two_lists d =
 -- each key is the name of a tag, and its value a usn
 abbrev pub are_tags : Members → Bool
 are_tags no_members = true
-are_tags (member k d ms) = is_tag_name k && (is_within (negsuc 0) (pos 2_147_483_647) (integer_of d) && are_tags ms)
+are_tags (member k d ms) = is_tag_name k && (is_number_within (negsuc 0) (pos 2_147_483_647) (integer_of d) && are_tags ms)
 
 -- the value is of the kind
 abbrev pub holds : Kind → Data → Bool
 holds kinds.Integer d = is_some (integer_of d)
-holds (kinds.Within least most) d = is_within least most (integer_of d)
+holds (kinds.Within least most) d = is_number_within least most (integer_of d)
 holds kinds.Text d = is_some (as_str d)
 holds kinds.Bool d = is_some (as_bool d)
 holds kinds.Values d = is_some (as_array d)

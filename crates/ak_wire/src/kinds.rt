@@ -5,7 +5,7 @@ ghost use Rattle.ak_base.specs.Heads.{is_tag_name};
 
 use crate::words::word_of;
 use ak_base::{LAST_ID, LAST_USN, NAME_BYTES};
-use ak_json::is_within;
+use ak_json::is_number_within;
 use serde_json::{Map, Value};
 
 /// The last count: counts are kept with a sign.
@@ -49,7 +49,7 @@ impl Kind {
     {
         match self {
             Kind::Integer => value.as_i64().is_some(),
-            Kind::Within(least, most) => is_within(least, most, value.as_i64()),
+            Kind::Within(least, most) => is_number_within(least, most, value.as_i64()),
             Kind::Text => value.as_str().is_some(),
             Kind::Bool => value.as_bool().is_some(),
             Kind::Values => value.as_array().is_some(),
@@ -145,9 +145,9 @@ fn are_counts(value: &Value) -> bool
 fn is_nothing_due(value: &Value) -> bool
     ensures { result ≡ is_nothing_due (view value.now) }
 {
-    is_within(0, 0, number_at(0, value))
-        && is_within(0, 0, number_at(1, value))
-        && is_within(0, 0, number_at(2, value))
+    is_number_within(0, 0, number_at(0, value))
+        && is_number_within(0, 0, number_at(1, value))
+        && is_number_within(0, 0, number_at(2, value))
         && value.get(3).is_none()
 }
 
@@ -184,8 +184,8 @@ fn is_fault(value: &Value) -> bool
     if value.is_null() {
         return true;
     }
-    is_within(1, 4, number_at(0, value))
-        && is_within(1, LAST_ID, number_at(1, value))
+    is_number_within(1, 4, number_at(0, value))
+        && is_number_within(1, LAST_ID, number_at(1, value))
         && value.get(2).is_none()
 }
 
@@ -219,7 +219,7 @@ fn are_tags(members: &Map<String, Value>) -> bool
     ensures { result ≡ are_tags (members_view members.now.entries) }
 {
     for (name, value) in members {
-        if !is_tag_name(name.as_str()) || !is_within(-1, LAST_USN, value.as_i64()) {
+        if !is_tag_name(name.as_str()) || !is_number_within(-1, LAST_USN, value.as_i64()) {
             return false;
         }
     }
