@@ -14,7 +14,7 @@ use Rattle.std.proofs.lemmas.List.Elements.{filter-append}
 use Rattle.ak_base.proofs.NameOrder.{names_exact}
 use Rattle.ak_base.proofs.RowFacts.{usn_of-with_usn}
 use Rattle.ak_base.specs.Names.{name_cmp, names_total, table_place}
-use Rattle.ak_base.specs.Rows.{name_of, with_usn}
+use Rattle.ak_base.specs.Rows.{name_of, stamp_of, with_usn}
 use Rattle.ak_base.specs.Tables.{graves_of}
 use Rattle.ak_base.specs.declared.names.Name.{Name}
 use Rattle.ak_base.specs.declared.names.Table.{Table}
@@ -101,8 +101,8 @@ settled_append usn [] two held = refl
 settled_append usn (name ∷ more) two held = settled_append usn more two (settled_at usn name held)
 
 -- ---- before or after rows came
-beats_settled : (side : Side) (usn : ℤ) (x y : Row) → beats side (settled usn x) y ≡ beats side x y
-beats_settled side usn x y = elim (is_pending x) as (λ b. beats side (if b then with_usn x usn else x) y ≡ beats side x y) [ true ↦ beats_numberless side x y usn | false ↦ refl ]
+beats_settled : (side : Side) (usn : ℤ) (x y : Row) → beats side (stamp_of (settled usn x)) y ≡ beats side (stamp_of x) y
+beats_settled side usn x y = elim (is_pending x) as (λ b. beats side (stamp_of (if b then with_usn x usn else x)) y ≡ beats side (stamp_of x) y) [ true ↦ beats_numberless side x y usn | false ↦ refl ]
 
 received_settled : (side : Side) (usn : ℤ) (x y : Option Row) → received side usn (option_map (settled usn) x) y ≡ option_map (settled usn) (received side usn x y)
 received_settled side usn None None = refl
@@ -110,7 +110,7 @@ received_settled side usn None (Some y) = ap (λ (r : Row). Some r) (sym (settle
 received_settled side usn (Some x) None = refl
 received_settled side usn (Some x) (Some y) =
     ap (λ (b : Bool). if b then Some (with_usn y usn) else Some (settled usn x)) (beats_settled side usn x y)
-    ∙ by (beats side x y)
+    ∙ by (beats side (stamp_of x) y)
   where
     by : (b : Bool) → (if b then Some (with_usn y usn) else Some (settled usn x)) ≡ option_map (settled usn) (if b then Some (with_usn y usn) else Some x)
     by true = ap (λ (r : Row). Some r) (sym (settled_own usn y))

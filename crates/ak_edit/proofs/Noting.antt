@@ -3,8 +3,9 @@ use Rattle.std.proofs.Common.{◌≡◌, true, false, cond, List, [], IfSome, If
 use Rattle.std.proofs.lemmas.Option.{none-some, same_Some}
 use Rattle.std.specs.BTreeMap.{is_at}
 use Rattle.std.specs.FinMap.{from_entries}
+use Rattle.std.specs.Option.{option_map, unwrap_or}
 use Rattle.ak_base.specs.Names.{name_cmp}
-use Rattle.ak_base.specs.Rows.{name_of}
+use Rattle.ak_base.specs.Rows.{name_of, stamp_of}
 use Rattle.ak_base.specs.declared.names.Name.{Name}
 use Rattle.ak_base.specs.declared.rows.Row.{Row}
 use Rattle.ak_keep.proofs.RowsByName.{same_of_tied}
@@ -29,6 +30,11 @@ pub found_bears : (es : List (Name × Option Row)) (name : Name) (o : Option (Op
 found_bears es name None bears is = tt
 found_bears es name (Some None) bears is = tt
 found_bears es name (Some (Some row)) bears is = bears name row (get-entry_at es name ∙ sym is)
+
+-- the stamp of what was noted, or of what is held
+pub stamp_over : (noted : Option (Option Row)) (held : Option Row) → unwrap_or (option_map (option_map stamp_of) noted) (option_map stamp_of held) ≡ option_map stamp_of (unwrap_or noted held)
+stamp_over None held = refl
+stamp_over (Some made) held = refl
 
 pub if_ok_map : {T E : Type 0} (r : Result T E) (P Q : T → Type 0) → ((x : T) → P x → Q x) → IfOk r P → IfOk r Q
 if_ok_map (Ok x) P Q step is = step x is

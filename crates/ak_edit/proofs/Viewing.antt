@@ -295,6 +295,14 @@ row_read k o name result there =
     (λ row is. told_over k o (λ h. row ≡ get h.rows name)
     (where_told-map k (λ h. row ≡ row_over o (get h.rows) name) (λ h. row ≡ get (rows_over o h.rows) name) (λ h same. same ∙ sym (get-rows_over o h.rows name)) is)) there
 
+pub stamp_read : (k : Keeping) (o : Overlay) (name : Name) (result : Result (Option ℤ) KeepFault) → IfOk result (λ stamp. WhereTold k (λ h. stamp ≡ option_map stamp_of (row_over o (get h.rows) name)))
+    → IfOk result (λ stamp. WhereTold (changed (overlaid o) k) (λ h. stamp ≡ option_map stamp_of (get h.rows name)))
+stamp_read k o name result there =
+    if_ok_map result (λ stamp. WhereTold k (λ h. stamp ≡ option_map stamp_of (row_over o (get h.rows) name))) (λ stamp. WhereTold (changed (overlaid o) k) (λ h. stamp ≡ option_map stamp_of (get h.rows name)))
+    (λ stamp is. told_over k o (λ h. stamp ≡ option_map stamp_of (get h.rows name))
+    (where_told-map k (λ h. stamp ≡ option_map stamp_of (row_over o (get h.rows) name)) (λ h. stamp ≡ option_map stamp_of (get (rows_over o h.rows) name))
+    (λ h same. same ∙ ap (option_map stamp_of) (sym (get-rows_over o h.rows name))) is)) there
+
 pub cards_read : (k : Keeping) (o : Overlay) (note : ℤ) (result : Result (List ℤ) KeepFault) → IfOk result (λ ids. WhereTold k (λ h. ids ≡ cards_of note (rows_over o h.rows)))
     → IfOk result (λ ids. WhereTold (changed (overlaid o) k) (λ h. ids ≡ cards_of note h.rows))
 cards_read k o note result there =

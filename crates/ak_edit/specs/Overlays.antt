@@ -1,14 +1,14 @@
 -- The changes of an edit under way, and the edit that they ask for.
-use Rattle.std.specs.Prelude.{◌≡◌, cond, ℕ, refl, Bool, false, true, List, [], ◌∷◌, ◌++◌, IfSome, Option, Some, None}
+use Rattle.std.specs.Prelude.{◌≡◌, cond, ℕ, ℤ, refl, Bool, false, true, List, [], ◌∷◌, ◌++◌, IfSome, Option, Some, None}
 use Rattle.std.specs.List.{All}
 use Rattle.std.specs.BTreeMap.{is_at}
 use Rattle.std.specs.Map.{lookup}
 use Rattle.std.specs.Coded.{Coded, code_by, coded×, coded_option, coded_list, coded_ℕ, coded_bool}
 use Rattle.std.specs.FinMap.{FinMap, get, insert, empty}
-use Rattle.std.specs.Option.{unwrap_or}
+use Rattle.std.specs.Option.{option_map, unwrap_or}
 use Rattle.ak_base.specs.Heads.{IsConfInRange}
 use Rattle.ak_base.specs.Names.{name_cmp}
-use Rattle.ak_base.specs.Rows.{name_of}
+use Rattle.ak_base.specs.Rows.{name_of, stamp_of}
 use Rattle.ak_base.specs.declared.heads.Conf.{Conf}
 use Rattle.ak_base.specs.declared.names.Name.{Name}
 use Rattle.ak_base.specs.declared.rows.Row.{Row}
@@ -66,6 +66,10 @@ row_over o at name = unwrap_or (get o.rows name) (at name)
 -- the row of a name in what is held, with the changes over it
 abbrev pub IsRowOver : Overlay → Name → Holding → Option Row → Type 0
 IsRowOver o name h row = row ≡ row_over o (get h.rows) name
+
+-- the stamp of the row of a name in what is held, with the changes over it
+abbrev pub IsStampOver : Overlay → Name → Holding → Option ℤ → Type 0
+IsStampOver o name h stamp = stamp ≡ option_map stamp_of (row_over o (get h.rows) name)
 
 -- the settings in what is held, with the changes over them
 abbrev pub IsConfOver : Overlay → Holding → Conf → Type 0

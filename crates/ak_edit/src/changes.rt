@@ -1,11 +1,11 @@
 ghost use Rattle.std.specs.Prelude.{◌≡◌, ◌++◌, [], ◌∷◌, true, is_some, None, Some, OnOk, OnErr, IfOk, IfSome};
-ghost use Rattle.std.specs.Option.{unwrap_or};
+ghost use Rattle.std.specs.Option.{option_map, unwrap_or};
 ghost use Rattle.ak_base.specs.Heads.{IsConfInRange};
 ghost use Rattle.std.specs.FinMap as map;
-ghost use Rattle.ak_base.specs.Rows.{IsChecked, name_of};
+ghost use Rattle.ak_base.specs.Rows.{IsChecked, name_of, stamp_of};
 ghost use Rattle.ak_keep.specs.Readings.{ReadsBy};
 ghost use Rattle.ak_merge.specs.Tags.{IsTagName};
-ghost use Rattle.ak_edit.specs.Overlays.{IsConfOver, IsFitting, IsRowOver, IsSet, conf_over, entry_at, put_over, removed_over, schema_over, tag_over, unchanged};
+ghost use Rattle.ak_edit.specs.Overlays.{IsConfOver, IsFitting, IsRowOver, IsSet, IsStampOver, conf_over, entry_at, put_over, removed_over, schema_over, tag_over, unchanged};
 
 use ak_base::{Conf, Memory, Name, Row, Text};
 use ak_keep::{KeepFault, Lookup};
@@ -74,6 +74,28 @@ impl Change {
             Some(row) => Ok(row),
             None => from.get(name),
         }
+    }
+
+    /// The stamp of the row of this name as the edit has it so far: the one that it had.
+    #[tactic(auto, using(crate::proofs::Noting::stamp_over))]
+    pub(crate) fn stamp_of<R: Lookup>(
+        &self,
+        from: &mut R,
+        name: Name,
+    ) -> Result<Option<i64>, KeepFault>
+        ensures reads { ReadsBy R.Lookup from.old from.new result (IsStampOver self.now name) }
+    {
+        match self.changed_stamp(&name) {
+            Some(stamp) => Ok(stamp),
+            None => from.stamp_of(name),
+        }
+    }
+
+    /// The stamp of what stands anew under a name, None if the edit has not changed it.
+    fn changed_stamp(&self, name: &Name) -> Option<Option<i64>>
+        ensures { result ≡ option_map (option_map stamp_of) (map.get self.now.rows name.now) }
+    {
+        stamp_in(&self.rows, name)
     }
 
     /// What stands anew under a name, None if the edit has not changed it.
@@ -176,6 +198,26 @@ fn changed_in(
             Ok(Some(copy))
         }
         None => Ok(None),
+    }
+}
+
+/// The stamp of what stands under the name.
+fn stamp_in(rows: &BTreeMap<Name, Option<Row>>, name: &Name) -> Option<Option<i64>>
+    ensures { result ≡ option_map (option_map stamp_of) (entry_at rows.now.entries name.now) }
+{
+    match rows.get(name) {
+        Some(row) => Some(row_stamp(row)),
+        None => None,
+    }
+}
+
+/// The stamp of the row, if there is one.
+fn row_stamp(row: &Option<Row>) -> Option<i64>
+    ensures { result ≡ option_map stamp_of row.now }
+{
+    match row {
+        Some(row) => Some(row.stamp()),
+        None => None,
     }
 }
 

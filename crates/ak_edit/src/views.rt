@@ -55,6 +55,10 @@ impl<'a, R: Lookup> Lookup for ChangedView<'a, R> {
         self.change.get(self.from, name)
     }
 
+    fn stamp_of(&mut self, name: Name) -> Result<Option<i64>, KeepFault> {
+        self.change.stamp_of(self.from, name)
+    }
+
     fn cards_of(&mut self, note: i64) -> Result<List<i64>, KeepFault> {
         self.change.cards_over(self.from, note)
     }

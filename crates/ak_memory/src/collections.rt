@@ -5,7 +5,7 @@ ghost use Rattle.std.specs.List.Sorted.{IsStrictlySortedBy};
 ghost use Rattle.std.specs.Option.{option_map};
 ghost use Rattle.std.specs.Ordering.{int_cmp};
 ghost use Rattle.ak_base.specs.Heads.{AreMomentsInRange, IsHeadInRange};
-ghost use Rattle.ak_base.specs.Rows.{IsChecked, name_of};
+ghost use Rattle.ak_base.specs.Rows.{IsChecked, name_of, stamp_of};
 ghost use Rattle.ak_keep.specs.Collections.{AscendsPast, IsId, IsPageOf, IsWellFormed, Rows, with_row, without, with_head, with_moments, made_of, rows_past, wanted_past, is_wanted, cards_of, row_count};
 ghost use Rattle.ak_keep.specs.FreeNames.{IsFirstFree, IsFoundFrom, is_used};
 ghost use Rattle.ak_keep.specs.HeadNumbers.{AreNumbersInRange, numbers_of};
@@ -96,6 +96,13 @@ impl MarkedCollection {
     {
         let row = self.rows.get(name)?;
         Ok(row)
+    }
+
+    /// The stamp of the row of this name. It takes no memory.
+    pub(crate) fn stamp_of(&self, name: Name) -> Option<i64>
+        ensures { result ≡ option_map stamp_of (finite.get self.now.current.rows name) }
+    {
+        self.rows.stamp_of(name)
     }
 
     /// Puts the row under its name, in place of the row that is held there.

@@ -1,6 +1,6 @@
 // Rows in boxes. A `Row` has the size of the largest kind, over three times that of a review.
 ghost use Rattle.std.specs.Prelude.{◌≡◌, None, IfOk};
-ghost use Rattle.ak_base.specs.Rows.{usn_of};
+ghost use Rattle.ak_base.specs.Rows.{stamp_of, usn_of};
 ghost use Rattle.ak_base.specs.declared.rows.Row.TheVariants as rows;
 ghost use Rattle.ak_memory.specs.NoteKeys.{note_of_card};
 ghost use Rattle.ak_memory.specs.HeldRows.{held_row};
@@ -49,6 +49,20 @@ impl HeldRow {
             HeldRow::Deck(deck) => copy_deck(deck),
             HeldRow::Options(options) => copy_options(options),
             HeldRow::Grave(grave) => Ok(Row::Grave(**grave)),
+        }
+    }
+
+    /// The stamp of the row: a review's and a grave's are 0.
+    pub(crate) fn stamp(&self) -> i64
+        ensures { result ≡ stamp_of (held_row self.now) }
+    {
+        match self {
+            HeldRow::Note(note) => note.stamp,
+            HeldRow::Card(card) => card.stamp,
+            HeldRow::NoteType(note_type) => note_type.stamp,
+            HeldRow::Deck(deck) => deck.stamp,
+            HeldRow::Options(options) => options.stamp,
+            HeldRow::Review(_) | HeldRow::Grave(_) => 0,
         }
     }
 

@@ -7,7 +7,7 @@ ghost use Rattle.std.specs.Ordering.{eq_by_cmp, int_cmp};
 ghost use Rattle.std.specs.Result.{IsErrOf};
 ghost use Rattle.ak_base.specs.Heads.{AreMomentsInRange, IsHeadInRange};
 ghost use Rattle.ak_base.specs.Names.{name_cmp};
-ghost use Rattle.ak_base.specs.Rows.{IsChecked, name_of};
+ghost use Rattle.ak_base.specs.Rows.{IsChecked, name_of, stamp_of};
 ghost use Rattle.ak_keep.specs.Collections.{AscendsPast, IsId, IsPageOf, IsWellFormed, with_row, without, with_head, with_moments, made_of, rows_past, wanted_past, row_count, cards_of, is_wanted};
 ghost use Rattle.ak_keep.specs.FreeNames.{IsFirstFree, IsFoundFrom, is_used};
 ghost use Rattle.ak_keep.specs.HeadNumbers.{AreNumbersInRange, numbers_of};
@@ -112,6 +112,15 @@ impl Lookup for MemoryKeeper {
         next_call(&mut self.calls)?;
         let row = self.memory.get(name)?;
         Ok(row)
+    }
+
+    fn stamp_of(&mut self, name: Name) -> Result<Option<i64>, KeepFault>
+        ensures state { self.new ≡ called self.old }
+        ensures answer { result ≡ answer_of (is_to_fail self.old) (option_map stamp_of (finite.get self.old.kept.current.rows name)) }
+        ensures cause { KeepCause (health_of self.old) (health_of self.new) result }
+    {
+        next_call(&mut self.calls)?;
+        Ok(self.memory.stamp_of(name))
     }
 
     fn cards_of(&mut self, note: i64) -> Result<List<i64>, KeepFault>

@@ -2,9 +2,9 @@ ghost use Rattle.std.specs.Prelude.{◌≡◌, true, [], ◌∷◌, is_some, ◌
 ghost use Rattle.std.specs.FinMap as map;
 ghost use Rattle.std.specs.List.{All};
 ghost use Rattle.std.specs.List.Sorted.{IsStrictlySortedBy};
-ghost use Rattle.std.specs.Option.{option_or};
+ghost use Rattle.std.specs.Option.{option_map, option_or};
 ghost use Rattle.std.specs.Ordering.{int_cmp};
-ghost use Rattle.ak_base.specs.Rows.{name_of};
+ghost use Rattle.ak_base.specs.Rows.{name_of, stamp_of};
 ghost use Rattle.ak_base.specs.declared.names.Name.{Name as RowName};
 ghost use Rattle.ak_keep.specs.Collections.{AscendsPast, IsPageOf, rows_of, rows_past, wanted_past, is_wanted, cards_of, row_count};
 ghost use Rattle.ak_keep.specs.Entries.{row_at};
@@ -101,6 +101,16 @@ impl MarkedRows {
                 return Ok(Some(copy));
             }
             None => return Ok(None),
+        }
+    }
+
+    /// The stamp of the row that is held under this name. It takes no memory.
+    pub(crate) fn stamp_of(&self, name: Name) -> Option<i64>
+        ensures { result ≡ option_map stamp_of (map.get self.now.current name) }
+    {
+        match self.indexed.get(&name) {
+            Some(row) => Some(row.stamp()),
+            None => None,
         }
     }
 

@@ -50,7 +50,7 @@ each_received : (P : Row → Type 0) (side : Side) (usn : ℤ) (x y : Option Row
 each_received P side usn None None one other = tt
 each_received P side usn None (Some y) one other = other
 each_received P side usn (Some x) None one other = one
-each_received P side usn (Some x) (Some y) one other = elim (beats side x y) as (λ s. IfSome (if s then Some (with_usn y usn) else Some x) P) [ true ↦ other | false ↦ one ]
+each_received P side usn (Some x) (Some y) one other = elim (beats side (stamp_of x) y) as (λ s. IfSome (if s then Some (with_usn y usn) else Some x) P) [ true ↦ other | false ↦ one ]
 
 pub each_by : (P : Row → Type 0) (side : Side) (usn : ℤ) (x g y h : Option Row) → IfSome x P → IfSome y (λ (row : Row). P (with_usn row usn)) → IfSome (received_by side usn x g y h) P
 each_by P side usn x g y (Some h) one other = tt
@@ -281,14 +281,14 @@ grave_stamp (rows.Deck d) grave = grind (arith, grave)
 grave_stamp (rows.Options o) grave = grind (arith, grave)
 grave_stamp (rows.Grave g) grave = refl
 
-no_grave_beats : (side : Side) (y r : Row) → is_some (buried_of y) ≡ true → is_some (buried_of r) ≡ true → beats side y r ≡ false
+no_grave_beats : (side : Side) (y r : Row) → is_some (buried_of y) ≡ true → is_some (buried_of r) ≡ true → beats side (stamp_of y) r ≡ false
 no_grave_beats Server y r one other = let mine = grave_stamp y one in let theirs = grave_stamp r other in grind (arith, ints, mine, theirs)
 no_grave_beats Device y r one other = rw other refl
 
 -- of graves what is held stays on either side
 pub grave_stays : (side : Side) (usn : ℤ) (y : Row) (r : Option Row) → is_some (buried_of y) ≡ true → IfSome r (λ (row : Row). name_of row ≡ name_of y) → received side usn (Some y) r ≡ Some y
 grave_stays side usn y None grave same = refl
-grave_stays side usn y (Some r) grave same = let no : beats side y r ≡ false = no_grave_beats side y r grave (graves_alike r y same ∙ grave) in rw no refl
+grave_stays side usn y (Some r) grave same = let no : beats side (stamp_of y) r ≡ false = no_grave_beats side y r grave (graves_alike r y same ∙ grave) in rw no refl
 
 shared_kept : (least usn : ℤ) (x y r : Option Row) → least ≤ℤ usn → IfSome y (λ (row : Row). stamp_of row ≡ pos 0) → IfSome r (λ (row : Row). stamp_of row ≡ pos 0)
     → IsShared least x y → IsShared least x (received Server usn y r)

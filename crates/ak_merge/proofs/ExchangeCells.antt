@@ -143,12 +143,12 @@ like_sent : (usn : ℤ) (x r : Row) → x ≡ r → IsTrue (same_content (with_u
 like_sent usn x r is = subst (λ (z : Row). IsTrue (same_content (with_usn r usn) z)) (sym is) (same-with_usn r usn)
 
 -- a row that takes no place leaves what is held
-unbeaten : (side : Side) (usn : ℤ) (x y : Row) (w : Option Row) → beats side x y ≡ false → IfSome w (λ row. y ≡ row) → received side usn (Some x) w ≡ Some x
+unbeaten : (side : Side) (usn : ℤ) (x y : Row) (w : Option Row) → beats side (stamp_of x) y ≡ false → IfSome w (λ row. y ≡ row) → received side usn (Some x) w ≡ Some x
 unbeaten side usn x y None stays is = refl
-unbeaten side usn x y (Some w) stays is = let same : beats side x w ≡ false = ap (beats side x) (sym is) ∙ stays in rw same refl
+unbeaten side usn x y (Some w) stays is = let same : beats side (stamp_of x) w ≡ false = ap (beats side (stamp_of x)) (sym is) ∙ stays in rw same refl
 
 -- an older one takes no place on a device
-older_stays_out : (x y : Row) → int_lt (stamp_of y) (stamp_of x) ≡ true → beats Device x y ≡ false
+older_stays_out : (x y : Row) → int_lt (stamp_of y) (stamp_of x) ≡ true → beats Device (stamp_of x) y ≡ false
 older_stays_out x y older = elim (is_some (buried_of y)) as (λ b. (not b && not (int_lt (stamp_of y) (stamp_of x))) ≡ false) [ true ↦ refl | false ↦ ap not older ]
 
 came_is : (want : Wanted) (y : Row) (w : Option Row) → IfSome w (λ row. only_wanted want (Some y) ≡ Some row) → IfSome w (λ row. y ≡ row)

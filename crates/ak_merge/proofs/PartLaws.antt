@@ -7,7 +7,7 @@ use Rattle.std.proofs.lemmas.Option.{none-some, same_Some}
 use Rattle.std.specs.Cmp.{first_so, signed_Decides, unsigned_Decides}
 use Rattle.std.specs.FinMap.{get, insert, remove, entries}
 use Rattle.std.specs.List.{AllByRecursion, Contains}
-use Rattle.std.specs.Option.{option_map_or}
+use Rattle.std.specs.Option.{option_map, option_map_or}
 use Rattle.ak_base.proofs.RowFacts.{name_of-with_usn, stamp_of-with_usn, usn_of-with_usn}
 use Rattle.ak_base.specs.Names.{table_place}
 use Rattle.ak_base.specs.Rows.{buried_of, name_of, stamp_of, usn_of, with_usn, IsChecked}
@@ -41,17 +41,17 @@ buried_of-with_usn (rows.Deck d) other = refl
 buried_of-with_usn (rows.Options o) other = refl
 buried_of-with_usn (rows.Grave g) other = refl
 
-newer_numberless : (side : Side) (o : Option Row) (row : Row) (other : ℤ) → beats_held side o (with_usn row other) ≡ beats_held side o row
+newer_numberless : (side : Side) (held : Option ℤ) (row : Row) (other : ℤ) → beats_held side held (with_usn row other) ≡ beats_held side held row
 newer_numberless side None row other = refl
-newer_numberless Server (Some held) row other = ap (int_lt (stamp_of held)) (stamp_of-with_usn row other)
-newer_numberless Device (Some held) row other =
-    ap (λ (n : Option Name). not (is_some n) && not (int_lt (stamp_of (with_usn row other)) (stamp_of held))) (buried_of-with_usn row other)
-    ∙ ap (λ s. not (is_some (buried_of row)) && not (int_lt s (stamp_of held))) (stamp_of-with_usn row other)
+newer_numberless Server (Some stamp) row other = ap (int_lt stamp) (stamp_of-with_usn row other)
+newer_numberless Device (Some stamp) row other =
+    ap (λ (n : Option Name). not (is_some n) && not (int_lt (stamp_of (with_usn row other)) stamp)) (buried_of-with_usn row other)
+    ∙ ap (λ s. not (is_some (buried_of row)) && not (int_lt s stamp)) (stamp_of-with_usn row other)
 
 takes_numberless : (side : Side) (at : RowsByName) (row : Row) (other : ℤ) → takes side at (with_usn row other) ≡ takes side at row
 takes_numberless side at row other =
-    ap (λ (n : Name). not (is_dead at n) && beats_held side (at n) (with_usn row other)) (name_of-with_usn row other)
-    ∙ ap (λ b. not (is_dead at (name_of row)) && b) (newer_numberless side (at (name_of row)) row other)
+    ap (λ (n : Name). not (is_dead at n) && beats_held side (option_map stamp_of (at n)) (with_usn row other)) (name_of-with_usn row other)
+    ∙ ap (λ b. not (is_dead at (name_of row)) && b) (newer_numberless side (option_map stamp_of (at (name_of row))) row other)
 
 buried_numberless : (row : Row) (other : ℤ) (held : Rows) → buried (with_usn row other) held ≡ buried row held
 buried_numberless row other held = ap (λ (n : Option Name). option_map_or (λ (name : Name). remove held name) n held) (buried_of-with_usn row other)

@@ -2,7 +2,7 @@
 use Rattle.ak_base.proofs.RowFacts.{usn_of-with_usn}
 use Rattle.ak_base.specs.Heads.{IsWithin}
 use Rattle.ak_base.specs.Limits.{last_usn}
-use Rattle.ak_base.specs.Rows.{IsChecked, usn_of, with_usn}
+use Rattle.ak_base.specs.Rows.{IsChecked, stamp_of, usn_of, with_usn}
 use Rattle.ak_base.specs.declared.names.Name.{Name}
 use Rattle.ak_base.specs.declared.names.Table.{Table}
 use Rattle.ak_base.specs.declared.rows.Row.{Row}
@@ -49,8 +49,8 @@ settled_twice usn row =
       | false ↦ λ is. ap (λ b. if b then with_usn row usn else row) is
     ] refl
 
-beats_settled : (side : Side) (usn : ℤ) (x y : Row) → beats side (settled usn x) y ≡ beats side x y
-beats_settled side usn x y = elim (is_pending x) as (λ b. beats side (if b then with_usn x usn else x) y ≡ beats side x y) [ true ↦ beats_numberless side x y usn | false ↦ refl ]
+beats_settled : (side : Side) (usn : ℤ) (x y : Row) → beats side (stamp_of (settled usn x)) y ≡ beats side (stamp_of x) y
+beats_settled side usn x y = elim (is_pending x) as (λ b. beats side (stamp_of (if b then with_usn x usn else x)) y ≡ beats side (stamp_of x) y) [ true ↦ beats_numberless side x y usn | false ↦ refl ]
 
 again : (usn : ℤ) (x : Option Row) → option_map (settled usn) (option_map (settled usn) x) ≡ option_map (settled usn) x
 again usn None = refl
@@ -61,7 +61,7 @@ received_settled side usn None y = refl
 received_settled side usn (Some x) None = again usn (Some x)
 received_settled side usn (Some x) (Some y) =
     ap (λ s. option_map (settled usn) (if s then Some (with_usn y usn) else Some (settled usn x))) (beats_settled side usn x y)
-    ∙ elim (beats side x y) as (λ s. option_map (settled usn) (if s then Some (with_usn y usn) else Some (settled usn x)) ≡ option_map (settled usn) (if s then Some (with_usn y usn) else Some x)) [
+    ∙ elim (beats side (stamp_of x) y) as (λ s. option_map (settled usn) (if s then Some (with_usn y usn) else Some (settled usn x)) ≡ option_map (settled usn) (if s then Some (with_usn y usn) else Some x)) [
       | true ↦ refl
       | false ↦ again usn (Some x)
     ]

@@ -2,7 +2,7 @@
 use Rattle.ak_keep.specs.Marks as marks
 use Rattle.ak_keep.specs.Marks.{WithMark}
 use Rattle.ak_base.specs.Tables.{graves_of, grave_name}
-use Rattle.ak_base.specs.Rows.{buried_of, name_of, with_usn}
+use Rattle.ak_base.specs.Rows.{buried_of, name_of, stamp_of, with_usn}
 use Rattle.std.specs.Prelude.{◌≡◌, ℤ, true, false, cond, Option, Some, None, IfSome, is_some}
 use Rattle.std.proofs.Common.{refl, ap, ◌∙◌}
 use Rattle.std.specs.FinMap.{get, insert, remove}
@@ -23,6 +23,11 @@ dead_in at (Some graves) name = refl
 
 pub dead_by_name : (at : RowsByName) (name : Name) → option_map_or (λ (n : Name). is_some (at n)) (grave_name name) false ≡ is_dead at name
 dead_by_name at name = dead_in at (graves_of name.table) name
+
+-- a row is held where its stamp is told
+pub stamped_if_held : (row : Option Row) → is_some (option_map stamp_of row) ≡ is_some row
+stamped_if_held None = refl
+stamped_if_held (Some row) = refl
 
 -- a keeper changed in what it tells
 told_anew : (k : Keeping) (one other : Holding → Holding) → option_map (marks.changed one) k.told ≡ option_map (marks.changed other) k.told → changed one k ≡ changed other k

@@ -12,7 +12,7 @@ use Rattle.std.proofs.lemmas.List.Elements.{recursion_from_All}
 use Rattle.std.specs.Cmp.{eq_by_cmp_equiv}
 use Rattle.std.specs.FinMap.{get, insert, remove, get-insert, get-remove}
 use Rattle.std.specs.List.{AllByRecursion, Contains, slice_index_or}
-use Rattle.std.specs.Option.{option_and_then, option_map_or}
+use Rattle.std.specs.Option.{option_and_then, option_map, option_map_or}
 use Rattle.std.specs.Ordering.{eq_by_cmp}
 use Rattle.ak_base.specs.Names.{name_cmp, names_total}
 use Rattle.ak_base.specs.declared.graves.Grave.{Grave}
@@ -36,7 +36,7 @@ abbrev pub received : Side → ℤ → Option Row → Option Row → Option Row
 received side usn None None = None
 received side usn None (Some came) = Some (with_usn came usn)
 received side usn (Some held) None = Some held
-received side usn (Some held) (Some came) = if beats side held came then Some (with_usn came usn) else Some held
+received side usn (Some held) (Some came) = if beats side (stamp_of held) came then Some (with_usn came usn) else Some held
 
 -- the same under a name whose grave may be held or come: a grave that came leaves nothing, and one that is held lets nothing in
 abbrev pub received_by : Side → ℤ → Option Row → Option Row → Option Row → Option Row → Option Row
@@ -56,7 +56,7 @@ is_name = eq_by_cmp name_cmp
 abbrev pub stronger : Side → Option Row → Option Row → Option Row
 stronger side None y = y
 stronger side (Some x) None = Some x
-stronger side (Some x) (Some y) = if beats side x y then Some y else Some x
+stronger side (Some x) (Some y) = if beats side (stamp_of x) y then Some y else Some x
 
 -- what stands under each name, behind this row
 abbrev pub led_by : Side → Row → RowsByName → RowsByName
@@ -250,7 +250,7 @@ own_grave_led side row from =
 either_stronger : (side : Side) (P : Row → Type 0) (x y : Option Row) → IfSome x P → IfSome y P → IfSome (stronger side x y) P
 either_stronger side P None y one other = other
 either_stronger side P (Some x) None one other = one
-either_stronger side P (Some x) (Some y) one other = elim (beats side x y) as (λ s. IfSome (if s then Some y else Some x) P) [ true ↦ other | false ↦ one ]
+either_stronger side P (Some x) (Some y) one other = elim (beats side (stamp_of x) y) as (λ s. IfSome (if s then Some y else Some x) P) [ true ↦ other | false ↦ one ]
 
 led_first : (P : Row → Type 0) (name : Name) (row : Row) → P row → IfSome (if is_name name (name_of row) then Some row else None) (λ (r : Row). P r × (name_of r ≡ name))
 led_first P name row holds =
@@ -292,12 +292,11 @@ pub graves_alike : (one other : Row) → name_of one ≡ name_of other → is_so
 graves_alike one other same = grave_by_table one ∙ ap (λ (n : Name). is_some (buried_in n.table)) same ∙ sym (grave_by_table other)
 
 -- the number of a row makes no difference
-pub beats_numberless : (side : Side) (x y : Row) (other : ℤ) → beats side (with_usn x other) y ≡ beats side x y
-beats_numberless Server x y other = ap (λ s. int_lt s (stamp_of y)) (stamp_of-with_usn x other)
-beats_numberless Device x y other = ap (λ s. not (is_some (buried_of y)) && not (int_lt (stamp_of y) s)) (stamp_of-with_usn x other)
+pub beats_numberless : (side : Side) (x y : Row) (other : ℤ) → beats side (stamp_of (with_usn x other)) y ≡ beats side (stamp_of x) y
+beats_numberless side x y other = ap (λ s. beats side s y) (stamp_of-with_usn x other)
 
 -- what takes the place of a row that took another's takes that place too
-beats_through : (side : Side) (x r y : Row) → beats side x r ≡ true → beats side r y ≡ true → beats side x y ≡ true
+beats_through : (side : Side) (x r y : Row) → beats side (stamp_of x) r ≡ true → beats side (stamp_of r) y ≡ true → beats side (stamp_of x) y ≡ true
 beats_through Server x r y one two = grind (arith, ints, one, two)
 beats_through Device x r y one two = through (is_some (buried_of r)) (is_some (buried_of y)) one two
   where
@@ -307,7 +306,7 @@ beats_through Device x r y one two = through (is_some (buried_of r)) (is_some (b
     through false false one two = grind (arith, ints, one, two)
 
 -- and what does not, of two of one name, does not
-unbeaten_through : (side : Side) (x r y : Row) → name_of r ≡ name_of y → beats side x r ≡ false → beats side r y ≡ false → beats side x y ≡ false
+unbeaten_through : (side : Side) (x r y : Row) → name_of r ≡ name_of y → beats side (stamp_of x) r ≡ false → beats side (stamp_of r) y ≡ false → beats side (stamp_of x) y ≡ false
 unbeaten_through Server x r y same one two = grind (arith, ints, one, two)
 unbeaten_through Device x r y same one two = through (is_some (buried_of r)) (is_some (buried_of y)) (graves_alike r y same) one two
   where
@@ -318,32 +317,32 @@ unbeaten_through Device x r y same one two = through (is_some (buried_of r)) (is
 
 -- ---- one row, at a name and its grave
 received_first : (side : Side) (usn : ℤ) (row : Row) (x y : Option Row) → IfSome y (λ other. name_of other ≡ name_of row)
-    → received side usn (if beats_held side x row then Some (with_usn row usn) else x) y ≡ received side usn x (stronger side (Some row) y)
+    → received side usn (if beats_held side (option_map stamp_of x) row then Some (with_usn row usn) else x) y ≡ received side usn x (stronger side (Some row) y)
 received_first side usn row None None named = refl
 received_first side usn row None (Some y) named =
     ap (λ b. if b then Some (with_usn y usn) else Some (with_usn row usn)) (beats_numberless side row y usn)
-    ∙ elim (beats side row y) as (λ s. (if s then Some (with_usn y usn) else Some (with_usn row usn)) ≡ received side usn None (if s then Some y else Some row)) [ true ↦ refl | false ↦ refl ]
+    ∙ elim (beats side (stamp_of row) y) as (λ s. (if s then Some (with_usn y usn) else Some (with_usn row usn)) ≡ received side usn None (if s then Some y else Some row)) [ true ↦ refl | false ↦ refl ]
 received_first side usn row (Some x) None named =
-    elim (beats side x row) as (λ s. received side usn (if s then Some (with_usn row usn) else Some x) None ≡ (if s then Some (with_usn row usn) else Some x)) [ true ↦ refl | false ↦ refl ]
+    elim (beats side (stamp_of x) row) as (λ s. received side usn (if s then Some (with_usn row usn) else Some x) None ≡ (if s then Some (with_usn row usn) else Some x)) [ true ↦ refl | false ↦ refl ]
 received_first side usn row (Some x) (Some y) named =
-    elim (beats side x row) as (λ s. beats side x row ≡ s
+    elim (beats side (stamp_of x) row) as (λ s. beats side (stamp_of x) row ≡ s
     → received side usn (if s then Some (with_usn row usn) else Some x) (Some y) ≡ received side usn (Some x) (stronger side (Some row) (Some y))) [
       | true ↦ λ is.
           ap (λ b. if b then Some (with_usn y usn) else Some (with_usn row usn)) (beats_numberless side row y usn)
-          ∙ elim (beats side row y) as (λ t. beats side row y ≡ t
+          ∙ elim (beats side (stamp_of row) y) as (λ t. beats side (stamp_of row) y ≡ t
           → (if t then Some (with_usn y usn) else Some (with_usn row usn)) ≡ received side usn (Some x) (if t then Some y else Some row)) [
-            | true ↦ λ more. let through : beats side x y ≡ true = beats_through side x row y is more in rw through refl
+            | true ↦ λ more. let through : beats side (stamp_of x) y ≡ true = beats_through side x row y is more in rw through refl
             | false ↦ λ more. rw is refl
           ] refl
       | false ↦ λ is.
-          elim (beats side row y) as (λ t. beats side row y ≡ t → received side usn (Some x) (Some y) ≡ received side usn (Some x) (if t then Some y else Some row)) [
+          elim (beats side (stamp_of row) y) as (λ t. beats side (stamp_of row) y ≡ t → received side usn (Some x) (Some y) ≡ received side usn (Some x) (if t then Some y else Some row)) [
             | true ↦ λ more. refl
-            | false ↦ λ more. let through : beats side x y ≡ false = unbeaten_through side x row y (sym named) is more in rw (through, is) refl
+            | false ↦ λ more. let through : beats side (stamp_of x) y ≡ false = unbeaten_through side x row y (sym named) is more in rw (through, is) refl
           ] refl
     ] refl
 
 own_cell : (side : Side) (usn : ℤ) (row : Row) (x g y h : Option Row) → IfSome y (λ other. name_of other ≡ name_of row)
-    → received_by side usn (if not (is_some g) && beats_held side x row then Some (with_usn row usn) else x) g y h ≡ received_by side usn x g (stronger side (Some row) y) h
+    → received_by side usn (if not (is_some g) && beats_held side (option_map stamp_of x) row then Some (with_usn row usn) else x) g y h ≡ received_by side usn x g (stronger side (Some row) y) h
 own_cell side usn row x g y (Some h) named = refl
 own_cell side usn row x (Some g) y None named = refl
 own_cell side usn row x None y None named = received_first side usn row x y named
@@ -359,20 +358,20 @@ own_step side usn row at from named =
 
 -- where the grave came, nothing stays
 grave_cell : (side : Side) (usn : ℤ) (row : Row) (x g y h : Option Row)
-    → received_by side usn None (if beats_held side g row then Some (with_usn row usn) else g) y h ≡ received_by side usn x g y (stronger side (Some row) h)
+    → received_by side usn None (if beats_held side (option_map stamp_of g) row then Some (with_usn row usn) else g) y h ≡ received_by side usn x g y (stronger side (Some row) h)
 grave_cell side usn row x g y None = nothing g
   where
-    nothing : (g : Option Row) → received_by side usn None (if beats_held side g row then Some (with_usn row usn) else g) y None ≡ None
+    nothing : (g : Option Row) → received_by side usn None (if beats_held side (option_map stamp_of g) row then Some (with_usn row usn) else g) y None ≡ None
     nothing None = refl
-    nothing (Some g) = elim (beats side g row) as (λ s. received_by side usn None (if s then Some (with_usn row usn) else Some g) y None ≡ None) [ true ↦ refl | false ↦ refl ]
-grave_cell side usn row x g y (Some h) = elim (beats side row h) as (λ s. None ≡ received_by side usn x g y (if s then Some h else Some row)) [ true ↦ refl | false ↦ refl ]
+    nothing (Some g) = elim (beats side (stamp_of g) row) as (λ s. received_by side usn None (if s then Some (with_usn row usn) else Some g) y None ≡ None) [ true ↦ refl | false ↦ refl ]
+grave_cell side usn row x g y (Some h) = elim (beats side (stamp_of row) h) as (λ s. None ≡ received_by side usn x g y (if s then Some h else Some row)) [ true ↦ refl | false ↦ refl ]
 
 -- a grave is taken where none is held
 takes_grave : (side : Side) (at : RowsByName) (row : Row) (name : Name) (graves : Table) → graves_of name.table ≡ Some graves → record { table = graves; id = name.id } ≡ name_of row
-    → takes side at row ≡ beats_held side (at (record { table = graves; id = name.id })) row
+    → takes side at row ≡ beats_held side (option_map stamp_of (at (record { table = graves; id = name.id }))) row
 takes_grave side at row name graves is same =
     let undead : is_dead at (record { table = graves; id = name.id }) ≡ false = ap (λ o. is_some (option_and_then (λ (table : Table). at (record { table = table; id = name.id })) o)) (no_graves name.table graves is) in
-    ap (λ n. not (is_dead at n) && beats_held side (at n) row) (sym same) ∙ ap (λ b. not b && beats_held side (at (record { table = graves; id = name.id })) row) undead
+    ap (λ n. not (is_dead at n) && beats_held side (option_map stamp_of (at n)) row) (sym same) ∙ ap (λ b. not b && beats_held side (option_map stamp_of (at (record { table = graves; id = name.id }))) row) undead
 
 grave_step : (side : Side) (usn : ℤ) (row : Row) (at from : RowsByName) (name : Name) (graves : Table) → is_name name (name_of row) ≡ false → graves_of name.table ≡ Some graves
     → record { table = graves; id = name.id } ≡ name_of row
@@ -381,7 +380,7 @@ grave_step : (side : Side) (usn : ℤ) (row : Row) (at from : RowsByName) (name 
 grave_step side usn row at from name graves apart is same =
     let grave : Name = record { table = graves; id = name.id } in
     let gone : stepped side usn row at name ≡ None = stepped_other side usn row at name apart ∙ ap (λ b. if b then None else at name) (its_grave row name graves is same) in
-    let stands : stepped side usn row at grave ≡ (if beats_held side (at grave) row then Some (with_usn row usn) else at grave) =
+    let stands : stepped side usn row at grave ≡ (if beats_held side (option_map stamp_of (at grave)) row then Some (with_usn row usn) else at grave) =
     ap (stepped side usn row at) same ∙ stepped_own side usn row at ∙ ap (λ n. if takes side at row then Some (with_usn row usn) else at n) (sym same)
     ∙ ap (λ b. if b then Some (with_usn row usn) else at grave) (takes_grave side at row name graves is same) in
     let led : led_by side row from grave ≡ stronger side (Some row) (from grave) = ap (led_by side row from) same ∙ led_own side row from ∙ ap (λ n. stronger side (Some row) (from n)) (sym same) in
@@ -438,7 +437,7 @@ all_taken_at side usn (row ∷ more) held name =
 some_stronger : (side : Side) (x y : Option Row) → is_some y ≡ true → is_some (stronger side x y) ≡ true
 some_stronger side None y some = ap is_some (stronger_none side y) ∙ some
 some_stronger side (Some x) None some = refl
-some_stronger side (Some x) (Some y) some = elim (beats side x y) as (λ s. is_some (if s then Some y else Some x) ≡ true) [ true ↦ refl | false ↦ refl ]
+some_stronger side (Some x) (Some y) some = elim (beats side (stamp_of x) y) as (λ s. is_some (if s then Some y else Some x) ≡ true) [ true ↦ refl | false ↦ refl ]
 
 first_stronger : (side : Side) (row : Row) (y : Option Row) → is_some (stronger side (Some row) y) ≡ true
 first_stronger side row None = refl

@@ -4,7 +4,7 @@ use Rattle.ak_keep.specs.Collections.{Holding, Rows}
 use Rattle.std.specs.Prelude.{◌≡◌, ℤ, Bool, true, not, ◌&&◌, if◌then◌else◌, int_lt, List, [], ◌∷◌, Option, Some, None, is_some}
 use Rattle.std.specs.FinMap.{get, insert, remove}
 use Rattle.std.specs.List.{All, Contains}
-use Rattle.std.specs.Option.{option_map_or}
+use Rattle.std.specs.Option.{option_map, option_map_or}
 use Rattle.std.specs.Ordering.{eq_by_cmp}
 use Rattle.ak_base.specs.Names.{name_cmp}
 use Rattle.ak_base.specs.declared.names.Name.{Name}
@@ -18,21 +18,21 @@ pub record IsListOf (rows : List Row) (at : RowsByName) : Type 0 where
   pub each : All (λ row. at (name_of row) ≡ Some row) rows
   pub whole : (name : Name) (row : Row) → at name ≡ Some row → Contains rows row
 
--- whether a row that came takes the place of the one that is held under its name. What a server holds gives way only to a newer row. What
--- a device holds gives way to one that is not older, so that the server's stands at a tie. A grave gives way on neither side: with equal
--- graves on both, one that was not sent yet is still sent
-abbrev pub beats : Side → Row → Row → Bool
-beats Server held came = int_lt (stamp_of held) (stamp_of came)
-beats Device held came = not (is_some (buried_of came)) && not (int_lt (stamp_of came) (stamp_of held))
+-- whether a row that came takes the place of one with this stamp that is held under its name. What a server holds gives way only to a
+-- newer row. What a device holds gives way to one that is not older, so that the server's stands at a tie. A grave gives way on neither
+-- side: with equal graves on both, one that was not sent yet is still sent
+abbrev pub beats : Side → ℤ → Row → Bool
+beats Server held came = int_lt held (stamp_of came)
+beats Device held came = not (is_some (buried_of came)) && not (int_lt (stamp_of came) held)
 
--- the same of the one that is held, if any is
-abbrev pub beats_held : Side → Option Row → Row → Bool
+-- the same of the stamp of the one that is held, if any is
+abbrev pub beats_held : Side → Option ℤ → Row → Bool
 beats_held side None came = true
 beats_held side (Some held) came = beats side held came
 
 -- a row is taken if its grave is not held, and no row of its name is, or one that it takes the place of
 abbrev pub takes : Side → RowsByName → Row → Bool
-takes side at row = not (is_dead at (name_of row)) && beats_held side (at (name_of row)) row
+takes side at row = not (is_dead at (name_of row)) && beats_held side (option_map stamp_of (at (name_of row))) row
 
 -- without the row whose grave this is
 abbrev pub buried : Row → Rows → Rows

@@ -11,6 +11,7 @@ ghost use Rattle.ak_base.specs.declared.names.Table.TheVariants as tables;
 ghost use Rattle.ak_base.specs.declared.names.Name.{Name as RowName};
 
 use crate::check_links::{Link, Links, read_links};
+use crate::takes::is_held;
 use ak_base::{Name, Note, Row, Table};
 use ak_keep::{KeepFault, Lookup, Readable};
 
@@ -105,8 +106,8 @@ fn ask<L: Lookup>(from: &mut L, part: Part, link: &Link) -> Result<bool, KeepFau
 fn lacks<L: Lookup>(from: &mut L, table: Table, id: &i64) -> Result<bool, KeepFault>
     ensures reads { ReadsBy L.Lookup from.old from.new result (λ h lacks. lacks ≡ not (is_some (get h.rows (name_in table id.now)))) }
 {
-    let row = from.get(Name { table, id: *id })?;
-    Ok(row.is_none())
+    let held = is_held(from, Name { table, id: *id })?;
+    Ok(!held)
 }
 
 /// Whether the note of this id has no card.

@@ -53,28 +53,28 @@ fn takes<L: Lookup>(from: &mut L, row: &Row, side: Side) -> Result<bool, KeepFau
     if is_dead(from, name)? {
         return Ok(false);
     }
-    let held = from.get(name)?;
+    let held = from.stamp_of(name)?;
     Ok(beats_held(&held, row, side))
 }
 
-/// Whether no row is held, or one that `came` takes the place of.
-fn beats_held(held: &Option<Row>, came: &Row, side: Side) -> bool
+/// Whether no row is held, or one with a stamp that lets `came` take its place.
+fn beats_held(held: &Option<i64>, came: &Row, side: Side) -> bool
     ensures { result ≡ beats_held side held.now came.now }
 {
     match held {
-        Some(held) => beats(held, came, side),
+        Some(stamp) => beats(stamp, came, side),
         None => true,
     }
 }
 
-/// Whether `came` takes the place of a row of its name that this side holds.
-fn beats(held: &Row, came: &Row, side: Side) -> bool
+/// Whether `came` takes the place of a row of its name that this side holds with this stamp.
+fn beats(held: &i64, came: &Row, side: Side) -> bool
     ensures { result ≡ beats side held.now came.now }
 {
     match side {
-        Side::Server => held.stamp() < came.stamp(),
+        Side::Server => *held < came.stamp(),
         // A grave that is held keeps its usn: if it was not sent yet it still has to be.
-        Side::Device => came.buried().is_none() && held.stamp() <= came.stamp(),
+        Side::Device => came.buried().is_none() && *held <= came.stamp(),
     }
 }
 
@@ -90,11 +90,12 @@ fn is_dead<L: Lookup>(from: &mut L, name: Name) -> Result<bool, KeepFault>
 }
 
 /// Whether a row of this name is held.
-fn is_held<L: Lookup>(from: &mut L, name: Name) -> Result<bool, KeepFault>
+#[tactic(auto, using(crate::proofs::Taking::stamped_if_held))]
+pub(crate) fn is_held<L: Lookup>(from: &mut L, name: Name) -> Result<bool, KeepFault>
     ensures reads { ReadsBy L.Lookup from.old from.new result (λ h held. held ≡ is_some (get h.rows name)) }
 {
-    let row = from.get(name)?;
-    Ok(row.is_some())
+    let stamp = from.stamp_of(name)?;
+    Ok(stamp.is_some())
 }
 
 /// Takes out the row whose grave this is.

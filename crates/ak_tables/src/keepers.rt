@@ -6,7 +6,7 @@ ghost use Rattle.std.specs.Ordering.{eq_by_cmp, int_cmp};
 ghost use Rattle.std.specs.Result.{IsErrOf};
 ghost use Rattle.ak_base.specs.Heads.{AreMomentsInRange, IsHeadInRange};
 ghost use Rattle.ak_base.specs.Names.{name_cmp};
-ghost use Rattle.ak_base.specs.Rows.{IsChecked, name_of};
+ghost use Rattle.ak_base.specs.Rows.{IsChecked, name_of, stamp_of};
 ghost use Rattle.ak_keep.specs.Collections.{AscendsPast, Holding, IsId, IsPageOf, with_row, without, with_head, with_moments, made_of, rows_past, wanted_past, row_count, cards_of, is_wanted};
 ghost use Rattle.ak_keep.specs.FreeNames.{IsFirstFree, IsFoundFrom, is_used};
 ghost use Rattle.ak_keep.specs.HeadNumbers.{AreNumbersInRange, numbers_of};
@@ -157,6 +157,15 @@ impl<T: Tables> Lookup for TableKeeper<T> {
         ensures cause { KeepCause (T.health self.old.tables) (T.health self.new.tables) result }
     {
         self.memory.get(name)
+    }
+
+    fn stamp_of(&mut self, name: Name) -> Result<Option<i64>, KeepFault>
+        ensures stamp { IfOk result (λ stamp. stamp ≡ option_map stamp_of (finite.get self.old.kept.current.rows name)) }
+        ensures state { self.new ≡ self.old }
+        ensures unfailing { IsErrOf result Failed → ⊥ }
+        ensures cause { KeepCause (T.health self.old.tables) (T.health self.new.tables) result }
+    {
+        self.memory.stamp_of(name)
     }
 
     fn cards_of(&mut self, note: i64) -> Result<List<i64>, KeepFault>
