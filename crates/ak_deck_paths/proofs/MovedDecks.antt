@@ -6,6 +6,7 @@ use Rattle.std.specs.FinMap.{get}
 use Rattle.std.specs.List.{filter_map}
 use Rattle.std.specs.Option.{option_map}
 use Rattle.ak_base.specs.Rows.{IsChecked, name_of}
+use Rattle.ak_base.specs.RowsOfOneKind.{on_deck}
 use Rattle.ak_base.specs.declared.decks.Deck.{Deck}
 use Rattle.ak_base.specs.declared.names.Name.{Name}
 use Rattle.ak_base.specs.declared.names.Table.TheVariants as tables
@@ -37,13 +38,7 @@ moves old (rows.Grave grave) = false
 
 -- the row with its new path, if it is a deck
 abbrev moved : List ℕ → List ℕ → Row → Row
-moved old new (rows.Deck deck) = rows.Deck (moved_deck old new deck)
-moved old new (rows.Note note) = rows.Note note
-moved old new (rows.Card card) = rows.Card card
-moved old new (rows.Review review) = rows.Review review
-moved old new (rows.NoteType note_type) = rows.NoteType note_type
-moved old new (rows.Options options) = rows.Options options
-moved old new (rows.Grave grave) = rows.Grave grave
+moved old new = on_deck (moved_deck old new)
 
 moved_named : (old new : List ℕ) (row : Row) → name_of (moved old new row) ≡ name_of row
 moved_named old new (rows.Deck deck) = refl

@@ -10,6 +10,7 @@ use Rattle.std.specs.Option.{option_and_then, option_map, option_or}
 use Rattle.std.specs.Ordering.{eq_by_cmp, int_cmp, int_eq}
 use Rattle.ak_base.specs.Names.{name_cmp}
 use Rattle.ak_base.specs.Rows.{name_of}
+use Rattle.ak_base.specs.RowsOfOneKind.{on_card}
 use Rattle.ak_base.specs.declared.cards.Card.{Card}
 use Rattle.ak_base.specs.declared.days.Day.{Day}
 use Rattle.ak_base.specs.declared.names.Name.{Name}
@@ -144,13 +145,7 @@ listed seen was options day card named there =
 
 -- a row after the answer of a card, as its sibling
 abbrev pub row_aside : Card → Options → Day → Row → Row
-row_aside was options day (rows.Card card) = rows.Card (sibling_after was options day card)
-row_aside was options day (rows.Note note) = rows.Note note
-row_aside was options day (rows.Review review) = rows.Review review
-row_aside was options day (rows.NoteType note_type) = rows.NoteType note_type
-row_aside was options day (rows.Deck deck) = rows.Deck deck
-row_aside was options day (rows.Options group) = rows.Options group
-row_aside was options day (rows.Grave grave) = rows.Grave grave
+row_aside was options day = on_card (sibling_after was options day)
 
 either_same : (b : Bool) (x : Option Row) → cond b x x ≡ x
 either_same true x = refl

@@ -4,6 +4,7 @@ use Rattle.std.specs.Option.{option_map_or}
 use Rattle.std.specs.Ordering.{int_eq}
 use Rattle.ak_base.specs.Days.{IsDayOf}
 use Rattle.ak_base.specs.OptionGroups.{AreOpeningOptions}
+use Rattle.ak_base.specs.RowsOfOneKind.{on_card, on_deck, on_note}
 use Rattle.ak_base.specs.declared.cards.Card.{Card}
 use Rattle.ak_base.specs.declared.days.Day.{Day}
 use Rattle.ak_base.specs.declared.decks.Deck.{Deck}
@@ -78,13 +79,8 @@ note_answered a note = if a.answered.leech && int_eq note.id a.was.nid then leec
 -- a row after the answer, by the rows that were held: the card's deck and those above it count the answer by the queue that the card was
 -- in
 abbrev pub row_answered : Day → Answering → Rows → Row → Row
-row_answered day a held (rows.Card card) = rows.Card (card_answered day a card)
-row_answered day a held (rows.Deck d) = rows.Deck (deck_answered day a.was.queue (deck_of_card held a.was) d)
-row_answered day a held (rows.Note note) = rows.Note (note_answered a note)
-row_answered day a held (rows.Review review) = rows.Review review
-row_answered day a held (rows.NoteType note_type) = rows.NoteType note_type
-row_answered day a held (rows.Options options) = rows.Options options
-row_answered day a held (rows.Grave grave) = rows.Grave grave
+row_answered day a held row =
+    on_card (card_answered day a) (on_note (note_answered a) (on_deck (deck_answered day a.was.queue (deck_of_card held a.was)) row))
 
 -- the tags that come: that of a leech whose note is held
 abbrev pub tags_answered : Answering → Rows → List (List ℕ)

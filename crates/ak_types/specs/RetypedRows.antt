@@ -4,6 +4,7 @@ use Rattle.std.specs.List.{flat_map, slice_index_or}
 use Rattle.std.specs.Option.{option_map_or, unwrap_or}
 use Rattle.std.specs.Ordering.{int_eq}
 use Rattle.ak_base.specs.NoteTexts.{fields_in}
+use Rattle.ak_base.specs.RowsOfOneKind.{on_card, on_note}
 use Rattle.ak_base.specs.declared.cards.Card.{Card}
 use Rattle.ak_base.specs.declared.note_types.NoteType.{NoteType}
 use Rattle.ak_base.specs.declared.notes.Note.{Note}
@@ -63,15 +64,9 @@ has_type note_type held note = option_map_or (λ (note : Note). int_eq note.mid 
 
 -- the row after the edit, if it stays: the notes of the type have their fields by the map, and the cards of these notes their ords
 abbrev pub retyped : TypeEdit → NoteType → Rows → Row → Row
-retyped given old held (rows.Note note) =
-    rows.Note (if int_eq note.mid given.note_type.id then retyped_note given note else note)
-retyped given old held (rows.Card card) =
-    rows.Card (if has_type given.note_type.id held card.nid then with_ord card (unwrap_or (ord_after given old card.ord) card.ord) else card)
-retyped given old held (rows.Review review) = rows.Review review
-retyped given old held (rows.NoteType note_type) = rows.NoteType note_type
-retyped given old held (rows.Deck deck) = rows.Deck deck
-retyped given old held (rows.Options options) = rows.Options options
-retyped given old held (rows.Grave grave) = rows.Grave grave
+retyped given old held row =
+    on_note (λ (note : Note). if int_eq note.mid given.note_type.id then retyped_note given note else note)
+    (on_card (λ (card : Card). if has_type given.note_type.id held card.nid then with_ord card (unwrap_or (ord_after given old card.ord) card.ord) else card) row)
 
 -- whether a row goes: it is a card of a note of the type, and its template went
 abbrev pub is_dropped : TypeEdit → NoteType → Rows → Row → Bool
