@@ -39,12 +39,12 @@ use Rattle.ak_notes.specs.NoteEdits.{IsNoteEdited}
 use Rattle.ak_notes.specs.declared.additions.Added.{Added}
 use Rattle.ak_notes.specs.declared.additions.NewNote.{NewNote}
 use Rattle.ak_notes.specs.declared.note_edits.NoteEdit.{NoteEdit}
-use Rattle.ak_options.specs.OptionGroups.{RefusesAddition, options_addition}
+use Rattle.ak_options.specs.OptionGroups.{given_group, options_addition}
 use Rattle.ak_study.specs.Answers.{IsAnswered, answer_edit}
 use Rattle.ak_study.specs.DayStarts.{HasStarted, day_start}
 use Rattle.ak_study.specs.declared.answers.CardAnswer.{CardAnswer}
 use Rattle.ak_types.specs.GivenTypes.{RefusesGiven, RefusesUsed, RefusesSchema, as_given, has_notes, with_id}
-use Rattle.ak_types.specs.TypeAdditions.{RefusesNewType, RefusesTypeAddition, given_addition}
+use Rattle.ak_types.specs.TypeAdditions.{RefusesNewType, RefusesTypeAddition, given_addition, given_type}
 use Rattle.ak_types.specs.TypeDeletions.{RefusesDeletion, RefusesKept, type_deletion}
 use Rattle.ak_types.specs.TypeEdits.{DoesEditType, IsTypeEdited, RefusesTypeEdit, retyping}
 use Rattle.ak_types.specs.declared.type_edits.TypeEdit.{TypeEdit}
@@ -212,14 +212,14 @@ undo_ended at before now steps left result ends held =
     (λ _ _ done held. undone_keeps at before now steps left held (where_told before held.c (λ c. IsLatestUndone at c before now steps left) held.told done)) held
 
 pub options_added : (at : ℤ) (options : Options) (before now : Keeping) (steps left : List Step) (result : Result ℤ DeskFault)
-    → EndsAddition at tables.Options (options_addition options) (RefusesAddition at options) before now steps left result → HoldsSound before steps → HoldsSound now left
+    → EndsAddition (given_group at options) before now steps left result → HoldsSound before steps → HoldsSound now left
 options_added at options before now steps left (Ok id) ends held =
     alike_keeps at (options_addition options id held.c) before now steps left held (group_alike _ held.c)
     (where_told before held.c (λ c. IsFinished at c (options_addition options id c) before now steps left) held.told ends.done)
 options_added at options before now steps left (Err fault) ends held = same_keeps before now steps left ends.same ends.kept held
 
 pub types_added : (at : ℤ) (note_type : NoteType) (before now : Keeping) (steps left : List Step) (result : Result ℤ DeskFault)
-    → EndsAddition at tables.NoteType (given_addition note_type) (RefusesTypeAddition at note_type) before now steps left result → HoldsSound before steps → HoldsSound now left
+    → EndsAddition (given_type at note_type) before now steps left result → HoldsSound before steps → HoldsSound now left
 types_added at note_type before now steps left (Ok id) ends held =
     let answers : AnswersBy {T = ℤ} (RefusesTypeAddition at note_type held.c) (Ok id) = where_told before held.c (λ c. AnswersBy {T = ℤ} (RefusesTypeAddition at note_type c) (Ok id)) held.told ends.answers in
     type_added at note_type id before now steps left held answers.accepted (where_told before held.c (IsNewRow at tables.NoteType id) held.told ends.id)

@@ -1,6 +1,5 @@
 // What the calls on options keep.
 ghost use Rattle.std.specs.Prelude.{Result, ℤ, Bool, List};
-ghost use Rattle.ak_base.specs.declared.names.Table.TheVariants as tables;
 ghost use Rattle.ak_base.specs.declared.option_groups.Options.{Options};
 ghost use Rattle.ak_content_laws.specs.SoundCalls.{HoldsSound};
 ghost use Rattle.ak_edit.specs.declared.desk_faults.DeskFault.{DeskFault};
@@ -8,14 +7,14 @@ ghost use Rattle.ak_edit_calls.specs.Additions.{EndsAddition};
 ghost use Rattle.ak_edit_calls.specs.Calls.{EndsEdit};
 ghost use Rattle.ak_keep.specs.Keepers.{Keeping};
 ghost use Rattle.ak_options.specs.OptionDeletions.{RefusesDeletion, options_deletion};
-ghost use Rattle.ak_options.specs.OptionGroups.{RefusesAddition, RefusesChange, options_addition, options_change};
+ghost use Rattle.ak_options.specs.OptionGroups.{RefusesChange, given_group, options_change};
 ghost use Rattle.ak_options.specs.Spreads.{RefusesSpread, spreading};
 ghost use Rattle.ak_undo.specs.declared.steps.Step.{Step};
 
 /// A call that adds a group of options, accepted or refused, keeps what is held sound, and each undo.
 pub fn added_options_keep_sound()
     ensures { (at : ℤ) (options : Options) (before now : Keeping) (steps left : List Step) (result : Result ℤ DeskFault)
-        → EndsAddition at tables.Options (options_addition options) (RefusesAddition at options) before now steps left result
+        → EndsAddition (given_group at options) before now steps left result
         → HoldsSound before steps → HoldsSound now left }
 {}
 

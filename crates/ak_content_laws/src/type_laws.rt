@@ -1,7 +1,6 @@
 // What the calls on note types keep.
 ghost use Rattle.std.specs.Prelude.{◌≡◌, ◌≢◌, Result, Some, ℤ, Bool, List};
 ghost use Rattle.ak_base.specs.declared.cards.Card.{Card};
-ghost use Rattle.ak_base.specs.declared.names.Table.TheVariants as tables;
 ghost use Rattle.ak_base.specs.declared.note_types.NoteType.{NoteType};
 ghost use Rattle.ak_content_laws.specs.KeptContents.{MovesFields};
 ghost use Rattle.ak_content_laws.specs.SoundCalls.{EndsOrStays, HoldsSound, IsSoundInRange};
@@ -13,7 +12,7 @@ ghost use Rattle.ak_keep.specs.Collections.{Collection};
 ghost use Rattle.ak_keep.specs.Keepers.{Keeping, WhereHeld};
 ghost use Rattle.ak_keep.specs.Lookups.{card_at};
 ghost use Rattle.ak_merge.specs.Holdings.{row_under};
-ghost use Rattle.ak_types.specs.TypeAdditions.{RefusesTypeAddition, given_addition};
+ghost use Rattle.ak_types.specs.TypeAdditions.{given_type};
 ghost use Rattle.ak_types.specs.TypeDeletions.{RefusesDeletion, type_deletion};
 ghost use Rattle.ak_types.specs.TypeEdits.{DoesEditType, IsTypeEdited, RefusesTypeEdit};
 ghost use Rattle.ak_types.specs.declared.type_edits.TypeEdit.{TypeEdit};
@@ -22,7 +21,7 @@ ghost use Rattle.ak_undo.specs.declared.steps.Step.{Step};
 /// A call that adds a note type, accepted or refused, keeps what is held sound, and each undo.
 pub fn added_types_keep_sound()
     ensures { (at : ℤ) (note_type : NoteType) (before now : Keeping) (steps left : List Step) (result : Result ℤ DeskFault)
-        → EndsAddition at tables.NoteType (given_addition note_type) (RefusesTypeAddition at note_type) before now steps left result
+        → EndsAddition (given_type at note_type) before now steps left result
         → HoldsSound before steps → HoldsSound now left }
 {}
 

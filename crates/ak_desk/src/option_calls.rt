@@ -1,12 +1,11 @@
 ghost use Rattle.std.specs.Prelude.{◌≡◌, pos, IfErr, IfOk};
 ghost use Rattle.ak_base.specs.Heads.{IsWithin};
-ghost use Rattle.ak_base.specs.declared.names.Table.TheVariants as tables;
 ghost use Rattle.ak_desk.specs.Desks.{EditsAt, IsIdle};
 ghost use Rattle.ak_edit.specs.Refusals.{DeskCause, IsEndFault};
 ghost use Rattle.ak_edit_calls.specs.Additions.{AddsBy};
 ghost use Rattle.ak_keep.specs.Collections.{IsId};
 ghost use Rattle.ak_options.specs.OptionDeletions.{IsDeletionFault, RefusesDeletion, options_deletion};
-ghost use Rattle.ak_options.specs.OptionGroups.{IsAdditionFault, IsChangeFault, RefusesAddition, RefusesChange, options_addition, options_change};
+ghost use Rattle.ak_options.specs.OptionGroups.{IsAdditionFault, IsChangeFault, RefusesChange, given_group, options_change};
 ghost use Rattle.ak_options.specs.Spreads.{RefusesSpread, spreading};
 
 use crate::desks::Desk;
@@ -20,9 +19,8 @@ impl<'a, K: Keeper> Desk<'a, K> {
     /// `ak_options::add_options` is.
     pub fn add_options(&mut self, options: Options, at: i64) -> Result<i64, DeskFault>
         requires idle { IsIdle (K.keeping self.old.keeper.now) }
-        ensures adds { AddsBy K.Lookup self.old.keeper.now self.new.keeper.now
-            self.old.undo.now self.new.undo.now result at tables.Options
-            (options_addition options) (RefusesAddition at options) }
+        ensures adds { AddsBy K.Lookup self.old.keeper.now self.new.keeper.now self.old.undo.now self.new.undo.now
+            result (given_group at options) }
         ensures range { IfOk result IsId }
         ensures listed { IfErr result IsAdditionFault }
         ensures cause { DeskCause (K.health self.old.keeper.now) (K.health self.new.keeper.now) result }

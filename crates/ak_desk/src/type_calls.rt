@@ -1,11 +1,10 @@
 ghost use Rattle.std.specs.Prelude.{◌≡◌, IfErr, IfOk, OnErr, OnOk};
-ghost use Rattle.ak_base.specs.declared.names.Table.TheVariants as tables;
 ghost use Rattle.ak_desk.specs.Desks.{EditsAt, IsIdle};
 ghost use Rattle.ak_edit.specs.Refusals.{AnswersBy, DeskCause};
 ghost use Rattle.ak_edit_calls.specs.Additions.{AddsBy};
 ghost use Rattle.ak_keep.specs.Collections.{IsId};
 ghost use Rattle.ak_keep.specs.Keepers.{WhereHeld};
-ghost use Rattle.ak_types.specs.TypeAdditions.{IsAdditionFault, RefusesTypeAddition, given_addition};
+ghost use Rattle.ak_types.specs.TypeAdditions.{IsAdditionFault, given_type};
 ghost use Rattle.ak_types.specs.TypeDeletions.{IsDeletionFault, RefusesDeletion, type_deletion};
 ghost use Rattle.ak_types.specs.TypeEdits.{DoesEditType, IsTypeEditFault, RefusesTypeEdit};
 
@@ -20,7 +19,7 @@ impl<'a, K: Keeper> Desk<'a, K> {
     pub fn add_note_type(&mut self, note_type: NoteType, at: i64) -> Result<i64, DeskFault>
         requires idle { IsIdle (K.keeping self.old.keeper.now) }
         ensures adds { AddsBy K.Lookup self.old.keeper.now self.new.keeper.now self.old.undo.now self.new.undo.now
-            result at tables.NoteType (given_addition note_type) (RefusesTypeAddition at note_type) }
+            result (given_type at note_type) }
         ensures range { IfOk result IsId }
         ensures listed { IfErr result IsAdditionFault }
         ensures cause { DeskCause (K.health self.old.keeper.now) (K.health self.new.keeper.now) result }

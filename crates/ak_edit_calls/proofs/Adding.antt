@@ -12,7 +12,7 @@ use Rattle.ak_edit.specs.declared.desk_faults.DeskFault.{DeskFault}
 use Rattle.ak_edit_calls.proofs.FreeIds.{one_new}
 use Rattle.ak_edit_calls.proofs.Taking.{err_too, ok_too}
 use Rattle.ak_edit_calls.proofs.Telling.{where_held-both, where_held-map, where_rows_held, where_told-both}
-use Rattle.ak_edit_calls.specs.Additions.{EndsAddition, IsNewRow, RefusesNewStamp}
+use Rattle.ak_edit_calls.specs.Additions.{Addition, EndsAddition, IsNewRow, RefusesNewStamp}
 use Rattle.ak_edit_calls.specs.Calls.{EndsEdit}
 use Rattle.ak_edit_calls.specs.NewNames.{IsNewName, RefusesId}
 use Rattle.ak_edit_calls.specs.RowEdits.{RefusesRowEdit, row_edit}
@@ -45,9 +45,9 @@ put_err k now at row fault steps left ends = record {
 
 -- ---- the new id
 -- a refusal before the end leaves all as it was
-pub kept_as_is : (k now : Keeping) (at : ℤ) (table : Table) (rule : ℤ → Collection → Edit) (tests : Collection → (DeskFault → Type 0)) (fault : DeskFault) (steps : List Step) → now ≡ k
-    → WhereHeld k (λ c. AnswersBy {T = ℤ} (tests c) (Err fault)) → EndsAddition at table rule tests k now steps steps (Err fault)
-kept_as_is k now at table rule tests fault steps same answers =
+pub kept_as_is : (k now : Keeping) (added : Addition) (fault : DeskFault) (steps : List Step) → now ≡ k
+    → WhereHeld k (λ c. AnswersBy {T = ℤ} (added.tests c) (Err fault)) → EndsAddition added k now steps steps (Err fault)
+kept_as_is k now added fault steps same answers =
     record { done = tt; id = tt; same = same; kept = refl; stays = ap (λ (k : Keeping). k.headed) same; answers = answers }
 
 -- the test of the stamp is that of the one id that is new
@@ -77,33 +77,33 @@ found_in k at table name is new passes =
 
 -- ---- the row was put under its new id, or its end was refused
 -- what the end answers, and what all tests then answer, of which it is the last
-pub row_added : (k now : Keeping) (at : ℤ) (table : Table) (rule : ℤ → Collection → Edit) (tests : Collection → (DeskFault → Type 0)) (name : Name) (steps left : List Step) (result : Result ℤ DeskFault)
-    → ((c : Collection) (given : Result ℤ DeskFault) → IsFound at table name c.rows → AnswersBy (RefusesNewStamp at table rule c) given → AnswersBy (tests c) given)
-    → name.table ≡ table → WhereTold k (λ h. IsNewName at table (get h.rows) name)
-    → WhereTold k (λ h. AnswersBy {T = Name} (RefusesId at table (get h.rows)) (Ok name)) → IfOk result (λ id. id ≡ name.id)
-    → EndsEdit at (rule name.id) (λ c. RefusesStamp at c (rule name.id c)) k now steps left result
-    → EndsAddition at table rule tests k now steps left result
-row_added k now at table rule tests name steps left (Ok id) last is_in new passes is ends =
-    let found : WhereHeld k (λ c. IsFound at table name c.rows) = found_in k at table name is_in new passes in
-    subst (λ (i : ℤ). EndsAddition at table rule tests k now steps left (Ok i)) (sym is)
+pub row_added : (k now : Keeping) (added : Addition) (name : Name) (steps left : List Step) (result : Result ℤ DeskFault)
+    → ((c : Collection) (given : Result ℤ DeskFault) → IsFound added.at added.table name c.rows → AnswersBy (RefusesNewStamp added.at added.table added.rule c) given → AnswersBy (added.tests c) given)
+    → name.table ≡ added.table → WhereTold k (λ h. IsNewName added.at added.table (get h.rows) name)
+    → WhereTold k (λ h. AnswersBy {T = Name} (RefusesId added.at added.table (get h.rows)) (Ok name)) → IfOk result (λ id. id ≡ name.id)
+    → EndsEdit added.at (added.rule name.id) (λ c. RefusesStamp added.at c (added.rule name.id c)) k now steps left result
+    → EndsAddition added k now steps left result
+row_added k now added name steps left (Ok id) last is_in new passes is ends =
+    let found : WhereHeld k (λ c. IsFound added.at added.table name c.rows) = found_in k added.at added.table name is_in new passes in
+    subst (λ (i : ℤ). EndsAddition added k now steps left (Ok i)) (sym is)
     (record {
       done = ends.done;
-      id = where_held-map k (λ c. IsFound at table name c.rows) (IsNewRow at table name.id) (λ c one. one.new) found;
+      id = where_held-map k (λ c. IsFound added.at added.table name c.rows) (IsNewRow added.at added.table name.id) (λ c one. one.new) found;
       same = tt;
       kept = tt;
       stays = ends.stays;
-      answers = where_held-both k (λ c. IsFound at table name c.rows) (λ c. AnswersBy {T = ℤ} (RefusesStamp at c (rule name.id c)) (Ok id)) (λ c. AnswersBy {T = ℤ} (tests c) (Ok name.id))
-          (λ c one was. last c (Ok name.id) one (new_stamp at table rule c name.id (Ok name.id) one.new (ok_too (RefusesStamp at c (rule name.id c)) id name.id was))) found ends.answers;
+      answers = where_held-both k (λ c. IsFound added.at added.table name c.rows) (λ c. AnswersBy {T = ℤ} (RefusesStamp added.at c (added.rule name.id c)) (Ok id)) (λ c. AnswersBy {T = ℤ} (added.tests c) (Ok name.id))
+          (λ c one was. last c (Ok name.id) one (new_stamp added.at added.table added.rule c name.id (Ok name.id) one.new (ok_too (RefusesStamp added.at c (added.rule name.id c)) id name.id was))) found ends.answers;
     })
-row_added k now at table rule tests name steps left (Err fault) last is_in new passes is ends = record {
+row_added k now added name steps left (Err fault) last is_in new passes is ends = record {
   done = tt;
   id = tt;
   same = ends.same;
   kept = ends.kept;
   stays = ends.stays;
-  answers = where_held-both k (λ c. IsFound at table name c.rows) (λ c. AnswersBy {T = ℤ} (RefusesStamp at c (rule name.id c)) (Err fault)) (λ c. AnswersBy {T = ℤ} (tests c) (Err fault))
-      (λ c one was. last c (let r : Result ℤ DeskFault = Err fault in r) one (new_stamp at table rule c name.id (let r : Result ℤ DeskFault = Err fault in r) one.new was))
-      (found_in k at table name is_in new passes) ends.answers;
+  answers = where_held-both k (λ c. IsFound added.at added.table name c.rows) (λ c. AnswersBy {T = ℤ} (RefusesStamp added.at c (added.rule name.id c)) (Err fault)) (λ c. AnswersBy {T = ℤ} (added.tests c) (Err fault))
+      (λ c one was. last c (let r : Result ℤ DeskFault = Err fault in r) one (new_stamp added.at added.table added.rule c name.id (let r : Result ℤ DeskFault = Err fault in r) one.new was))
+      (found_in k added.at added.table name is_in new passes) ends.answers;
 }
 
 -- ---- the id

@@ -17,20 +17,27 @@ use Rattle.ak_undo.specs.declared.steps.Step.{Step}
 abbrev pub IsNewRow : ℤ → Table → ℤ → Collection → Type 0
 IsNewRow at table id c = IsNewName at table (row_under c) (name_in table id)
 
--- how a call ended that adds a row to the table at this moment by the edit of its new id, if none of its tests refuses it, of what the
--- keeper held before and holds now and of the undo list before and now: it gives the id, and if it was refused, all is as it was
-pub record EndsAddition (at : ℤ) (table : Table) (rule : ℤ → Collection → Edit) (tests : Collection → Refusal) (before now : Keeping) (steps left : List Step) (result : Result ℤ DeskFault) : Type 0 where
-  pub done : IfOk result (λ id. DoesEdit at (rule id) before now steps left)
-  pub id : IfOk result (λ id. WhereHeld before (IsNewRow at table id))
+-- what a call adds: a row of this table at this moment, by the edit of its new id, if none of these tests refuses it
+pub record Addition : Type 1 where
+  pub at : ℤ
+  pub table : Table
+  pub rule : ℤ → Collection → Edit
+  pub tests : Collection → Refusal
+
+-- how a call ended that adds this, of what the keeper held before and holds now and of the undo list before and now: it gives the id, and
+-- if it was refused, all is as it was
+pub record EndsAddition (added : Addition) (before now : Keeping) (steps left : List Step) (result : Result ℤ DeskFault) : Type 0 where
+  pub done : IfOk result (λ id. DoesEdit added.at (added.rule id) before now steps left)
+  pub id : IfOk result (λ id. WhereHeld before (IsNewRow added.at added.table id))
   pub same : OnErr result (now ≡ before)
   pub kept : OnErr result (left ≡ steps)
   -- whether a head is held stays, told or not
   pub stays : now.headed ≡ before.headed
-  pub answers : WhereHeld before (λ c. AnswersBy (tests c) result)
+  pub answers : WhereHeld before (λ c. AnswersBy (added.tests c) result)
 
 -- the same of a keeper as it was and as it is
-abbrev pub AddsBy : {Self : Type 0} → Ghosts Self → Self → Self → List Step → List Step → Result ℤ DeskFault → ℤ → Table → (ℤ → Collection → Edit) → (Collection → Refusal) → Type 0
-AddsBy K was now steps left result at table rule tests = EndsAddition at table rule tests (K.keeping was) (K.keeping now) steps left result
+abbrev pub AddsBy : {Self : Type 0} → Ghosts Self → Self → Self → List Step → List Step → Result ℤ DeskFault → Addition → Type 0
+AddsBy K was now steps left result added = EndsAddition added (K.keeping was) (K.keeping now) steps left result
 
 -- the stamp of the row that is added, or the moment ends
 abbrev pub RefusesNewStamp : ℤ → Table → (ℤ → Collection → Edit) → Collection → Refusal

@@ -27,15 +27,15 @@ use Rattle.ak_keep.specs.Keepers.{Keeping, WhereTold}
 use Rattle.ak_merge.proofs.CheckedRows.{faultless_of}
 use Rattle.ak_merge.specs.Holdings.{row_under}
 use Rattle.ak_options.proofs.Changing.{given_answers}
-use Rattle.ak_options.specs.OptionGroups.{IsAdditionFault, RefusesAddition, RefusesGiven, RefusesNewGroup, as_given, group_addition, options_addition, with_id}
+use Rattle.ak_options.specs.OptionGroups.{IsAdditionFault, RefusesAddition, RefusesGiven, RefusesNewGroup, as_given, given_group, group_addition, new_group, with_id}
 use Rattle.ak_undo.specs.declared.steps.Step.{Step}
 
 -- ---- a group that is in its ranges
 -- no id is free
 pub group_full : (k now : Keeping) (at : ℤ) (group : Options) (fault : DeskFault) (steps : List Step) → now ≡ k → WhereTold k (λ h. AnswersBy {T = Name} (RefusesId at tables.Options (get h.rows)) (Err fault))
-    → EndsAddition at tables.Options (group_addition group) (RefusesNewGroup at group) k now steps steps (Err fault)
+    → EndsAddition (new_group at group) k now steps steps (Err fault)
 group_full k now at group fault steps same refuses =
-    kept_as_is k now at tables.Options (group_addition group) (RefusesNewGroup at group) fault steps same
+    kept_as_is k now (new_group at group) fault steps same
     (where_held-map k (λ c. AnswersBy {T = Name} (RefusesId at tables.Options (row_under c)) (Err fault)) (λ c. AnswersBy {T = ℤ} (RefusesNewGroup at group c) (Err fault))
     (λ c is. refused_first (RefusesId at tables.Options (row_under c)) (RefusesNewStamp at tables.Options (group_addition group) c) fault is)
     (where_rows_held k (λ held. AnswersBy {T = Name} (RefusesId at tables.Options (get held)) (Err fault)) refuses))
@@ -44,24 +44,24 @@ group_full k now at group fault steps same refuses =
 pub group_ended : (k now : Keeping) (at : ℤ) (group : Options) (name : Name) (steps left : List Step) (result : Result ℤ DeskFault) → name.table ≡ tables.Options → WhereTold k (λ h. IsNewName at tables.Options (get h.rows) name)
     → WhereTold k (λ h. AnswersBy {T = Name} (RefusesId at tables.Options (get h.rows)) (Ok name)) → IfOk result (λ id. id ≡ name.id)
     → EndsEdit at (row_edit (rows.Options (with_id name.id group))) (RefusesRowEdit at (rows.Options (with_id name.id group))) k now steps left result
-    → EndsAddition at tables.Options (group_addition group) (RefusesNewGroup at group) k now steps left result
+    → EndsAddition (new_group at group) k now steps left result
 group_ended k now at group name steps left result =
-    row_added k now at tables.Options (group_addition group) (RefusesNewGroup at group) name steps left result
+    row_added k now (new_group at group) name steps left result
     (λ c given found answers. passed_first (RefusesId at tables.Options (row_under c)) (RefusesNewStamp at tables.Options (group_addition group) c) name given found.passes answers)
 
 -- ---- a group that was given
 -- it is out of its ranges
 pub addition_given : (k : Keeping) (at : ℤ) (options : Options) (fault : DeskFault) (steps : List Step) → RefusesGiven (with_id (pos 1) (as_given options)) fault
-    → EndsAddition at tables.Options (options_addition options) (RefusesAddition at options) k k steps steps (Err fault)
+    → EndsAddition (given_group at options) k k steps steps (Err fault)
 addition_given k at options fault steps is =
     let given : Options = with_id (pos 1) (as_given options) in
-    kept_as_is k k at tables.Options (options_addition options) (RefusesAddition at options) fault steps refl
+    kept_as_is k k (given_group at options) fault steps refl
     (where_held-all k (λ c. AnswersBy {T = ℤ} (RefusesAddition at options c) (Err fault))
     (λ c. refused_first {T = ℤ} (RefusesGiven given) (RefusesNewGroup at (as_given options) c) fault (given_answers given fault is)))
 
 -- it is in its ranges
 pub addition_ended : (k now : Keeping) (at : ℤ) (options : Options) (value : Unit {0}) (steps left : List Step) (result : Result ℤ DeskFault) → AnswersBy {T = Unit {0}} (RefusesGiven (with_id (pos 1) (as_given options))) (Ok value)
-    → EndsAddition at tables.Options (options_addition options) (RefusesNewGroup at (as_given options)) k now steps left result → EndsAddition at tables.Options (options_addition options) (RefusesAddition at options) k now steps left result
+    → EndsAddition (new_group at (as_given options)) k now steps left result → EndsAddition (given_group at options) k now steps left result
 addition_ended k now at options value steps left result passes ends = record {
   done = ends.done;
   id = ends.id;

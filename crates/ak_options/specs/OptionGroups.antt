@@ -9,7 +9,7 @@ use Rattle.ak_edit.specs.Ends.{RefusesStamp}
 use Rattle.ak_edit.specs.Refusals.{IsEndFault, OrElse, Refusal}
 use Rattle.ak_edit.specs.declared.desk_faults.DeskFault.{DeskFault}
 use Rattle.ak_edit.specs.declared.desk_faults.DeskFault.TheVariants as faults
-use Rattle.ak_edit_calls.specs.Additions.{RefusesNewStamp}
+use Rattle.ak_edit_calls.specs.Additions.{Addition, RefusesNewStamp}
 use Rattle.ak_edit_calls.specs.Calls.{RefusesAbsent}
 use Rattle.ak_edit_calls.specs.NewNames.{RefusesId}
 use Rattle.ak_edit_calls.specs.RowEdits.{row_edit}
@@ -64,6 +64,14 @@ RefusesNewGroup at group c = OrElse (RefusesId at tables.Options (row_under c)) 
 -- the tests of that edit: the given group is out of its ranges, whatever its id is, or those of one that is in them
 abbrev pub RefusesAddition : ℤ → Options → Collection → Refusal
 RefusesAddition at options c = OrElse (RefusesGiven (with_id (pos 1) (as_given options))) (RefusesNewGroup at (as_given options) c)
+
+-- what is added of a group that is in its ranges, at this moment
+abbrev pub new_group : ℤ → Options → Addition
+new_group at group = record { at = at; table = tables.Options; rule = group_addition group; tests = RefusesNewGroup at group }
+
+-- the same of a group that was given
+abbrev pub given_group : ℤ → Options → Addition
+given_group at options = record { at = at; table = tables.Options; rule = options_addition options; tests = RefusesAddition at options }
 
 -- what it may answer
 abbrev pub IsAdditionFault : DeskFault → Type 0

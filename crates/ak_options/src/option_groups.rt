@@ -1,12 +1,11 @@
 ghost use Rattle.std.specs.Prelude.{◌≡◌, true, false, IfErr, IfOk, OnOk};
 ghost use Rattle.ak_base.specs.OptionGroups.{IsCheckedOptions};
-ghost use Rattle.ak_base.specs.declared.names.Table.TheVariants as tables;
 ghost use Rattle.ak_edit.specs.Refusals.{AnswersBy, DeskCause};
 ghost use Rattle.ak_edit_calls.specs.Additions.{AddsBy};
 ghost use Rattle.ak_edit_calls.specs.Calls.{EditsBy};
 ghost use Rattle.ak_keep.specs.Collections.{IsId};
 ghost use Rattle.ak_keep.specs.Keepers.{is_marked};
-ghost use Rattle.ak_options.specs.OptionGroups.{IsAdditionFault, IsChangeFault, RefusesAddition, RefusesChange, RefusesGiven, RefusesNewGroup, as_given, group_addition, options_addition, options_change, with_id};
+ghost use Rattle.ak_options.specs.OptionGroups.{IsAdditionFault, IsChangeFault, RefusesChange, RefusesGiven, as_given, given_group, new_group, options_change, with_id};
 
 use ak_base::{Name, Options, Row, Table};
 use ak_edit::DeskFault;
@@ -52,8 +51,7 @@ pub fn add_options<K: Keeper>(
 ) -> Result<i64, DeskFault>
     requires unmarked { is_marked (K.keeping keeper.old) ≡ false }
     requires held { (K.keeping keeper.old).headed.current ≡ true }
-    ensures adds { AddsBy K.Lookup keeper.old keeper.new steps.old steps.new result at tables.Options
-        (options_addition options) (RefusesAddition at options) }
+    ensures adds { AddsBy K.Lookup keeper.old keeper.new steps.old steps.new result (given_group at options) }
     ensures range { IfOk result IsId }
     ensures listed { IfErr result IsAdditionFault }
     ensures cause { DeskCause (K.health keeper.old) (K.health keeper.new) result }
@@ -74,8 +72,7 @@ fn add_group<K: Keeper>(
     requires unmarked { is_marked (K.keeping keeper.old) ≡ false }
     requires held { (K.keeping keeper.old).headed.current ≡ true }
     requires checked { IsCheckedOptions (as_given group) }
-    ensures adds { AddsBy K.Lookup keeper.old keeper.new steps.old steps.new result at tables.Options
-        (group_addition group) (RefusesNewGroup at group) }
+    ensures adds { AddsBy K.Lookup keeper.old keeper.new steps.old steps.new result (new_group at group) }
     ensures range { IfOk result IsId }
     ensures listed { IfErr result IsAdditionFault }
     ensures cause { DeskCause (K.health keeper.old) (K.health keeper.new) result }

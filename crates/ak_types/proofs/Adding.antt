@@ -32,15 +32,15 @@ use Rattle.ak_merge.specs.Edits.{Edit}
 use Rattle.ak_merge.specs.Holdings.{name_in, row_under}
 use Rattle.ak_template.specs.declared.faults.TemplateFault.{TemplateFault}
 use Rattle.ak_types.specs.GivenTypes.{IsSideFault, RefusesGiven, RefusesSides, as_given, with_id}
-use Rattle.ak_types.specs.TypeAdditions.{IsAdditionFault, RefusesNamed, RefusesNewType, RefusesTypeAddition, given_addition, type_addition}
+use Rattle.ak_types.specs.TypeAdditions.{IsAdditionFault, RefusesNamed, RefusesNewType, RefusesTypeAddition, given_type, new_type, type_addition}
 use Rattle.ak_undo.specs.declared.steps.Step.{Step}
 
 -- ---- a type that is in its ranges
 -- no id is free
 pub type_full : (k now : Keeping) (at : ℤ) (note_type : NoteType) (fault : DeskFault) (steps : List Step) → now ≡ k → WhereTold k (λ h. AnswersBy {T = Name} (RefusesId at tables.NoteType (get h.rows)) (Err fault))
-    → EndsAddition at tables.NoteType (type_addition note_type) (RefusesNewType at note_type) k now steps steps (Err fault)
+    → EndsAddition (new_type at note_type) k now steps steps (Err fault)
 type_full k now at note_type fault steps same refuses =
-    kept_as_is k now at tables.NoteType (type_addition note_type) (RefusesNewType at note_type) fault steps same
+    kept_as_is k now (new_type at note_type) fault steps same
     (where_held-map k (λ c. AnswersBy {T = Name} (RefusesId at tables.NoteType (row_under c)) (Err fault)) (λ c. AnswersBy {T = ℤ} (RefusesNewType at note_type c) (Err fault))
     (λ c is. refused_first (RefusesId at tables.NoteType (row_under c)) (RefusesNamed at note_type c) fault is)
     (where_rows_held k (λ held. AnswersBy {T = Name} (RefusesId at tables.NoteType (get held)) (Err fault)) refuses))
@@ -48,9 +48,9 @@ type_full k now at note_type fault steps same refuses =
 -- a side can't be read
 pub type_unread : (k now : Keeping) (at : ℤ) (note_type : NoteType) (name : Name) (fault : DeskFault) (steps : List Step) → now ≡ k → name.table ≡ tables.NoteType → WhereTold k (λ h. IsNewName at tables.NoteType (get h.rows) name)
     → WhereTold k (λ h. AnswersBy {T = Name} (RefusesId at tables.NoteType (get h.rows)) (Ok name)) → AnswersBy {T = Unit {0}} (RefusesSides note_type) (Err fault)
-    → EndsAddition at tables.NoteType (type_addition note_type) (RefusesNewType at note_type) k now steps steps (Err fault)
+    → EndsAddition (new_type at note_type) k now steps steps (Err fault)
 type_unread k now at note_type name fault steps same table new passes sides =
-    kept_as_is k now at tables.NoteType (type_addition note_type) (RefusesNewType at note_type) fault steps same
+    kept_as_is k now (new_type at note_type) fault steps same
     (where_held-map k (λ c. IsFound at tables.NoteType name c.rows) (λ c. AnswersBy {T = ℤ} (RefusesNewType at note_type c) (Err fault))
     (λ c found. passed_first (RefusesId at tables.NoteType (row_under c)) (RefusesNamed at note_type c) name (let r : Result ℤ DeskFault = Err fault in r) found.passes
     (refused_first {T = Unit {0}} (RefusesSides note_type) (RefusesNewStamp at tables.NoteType (type_addition note_type) c) fault sides)) (found_in k at tables.NoteType name table new passes))
@@ -59,25 +59,25 @@ type_unread k now at note_type name fault steps same table new passes sides =
 pub type_ended : (k now : Keeping) (at : ℤ) (note_type : NoteType) (name : Name) (value : Unit {0}) (steps left : List Step) (result : Result ℤ DeskFault) → AnswersBy {T = Unit {0}} (RefusesSides note_type) (Ok value) → name.table ≡ tables.NoteType → WhereTold k (λ h. IsNewName at tables.NoteType (get h.rows) name)
     → WhereTold k (λ h. AnswersBy {T = Name} (RefusesId at tables.NoteType (get h.rows)) (Ok name)) → IfOk result (λ id. id ≡ name.id)
     → EndsEdit at (row_edit (rows.NoteType (with_id name.id note_type))) (RefusesRowEdit at (rows.NoteType (with_id name.id note_type))) k now steps left result
-    → EndsAddition at tables.NoteType (type_addition note_type) (RefusesNewType at note_type) k now steps left result
+    → EndsAddition (new_type at note_type) k now steps left result
 type_ended k now at note_type name value steps left result sides =
-    row_added k now at tables.NoteType (type_addition note_type) (RefusesNewType at note_type) name steps left result
+    row_added k now (new_type at note_type) name steps left result
     (λ c given found answers. passed_first (RefusesId at tables.NoteType (row_under c)) (RefusesNamed at note_type c) name given found.passes
     (passed_first (RefusesSides note_type) (RefusesNewStamp at tables.NoteType (type_addition note_type) c) value given sides answers))
 
 -- ---- a type that was given
 -- it is out of its ranges
 pub addition_given : (k : Keeping) (at : ℤ) (note_type : NoteType) (fault : DeskFault) (steps : List Step) → RefusesGiven (with_id (pos 1) (as_given note_type)) fault
-    → EndsAddition at tables.NoteType (given_addition note_type) (RefusesTypeAddition at note_type) k k steps steps (Err fault)
+    → EndsAddition (given_type at note_type) k k steps steps (Err fault)
 addition_given k at note_type fault steps is =
     let given : NoteType = with_id (pos 1) (as_given note_type) in
-    kept_as_is k k at tables.NoteType (given_addition note_type) (RefusesTypeAddition at note_type) fault steps refl
+    kept_as_is k k (given_type at note_type) fault steps refl
     (where_held-all k (λ c. AnswersBy {T = ℤ} (RefusesTypeAddition at note_type c) (Err fault))
     (λ c. refused_first {T = ℤ} (RefusesGiven given) (RefusesNewType at (as_given note_type) c) fault (record { accepted = tt; refused = inr is })))
 
 -- it is in its ranges
 pub addition_ended : (k now : Keeping) (at : ℤ) (note_type : NoteType) (value : Unit {0}) (steps left : List Step) (result : Result ℤ DeskFault) → AnswersBy {T = Unit {0}} (RefusesGiven (with_id (pos 1) (as_given note_type))) (Ok value)
-    → EndsAddition at tables.NoteType (given_addition note_type) (RefusesNewType at (as_given note_type)) k now steps left result → EndsAddition at tables.NoteType (given_addition note_type) (RefusesTypeAddition at note_type) k now steps left result
+    → EndsAddition (new_type at (as_given note_type)) k now steps left result → EndsAddition (given_type at note_type) k now steps left result
 addition_ended k now at note_type value steps left result passes ends = record {
   done = ends.done;
   id = ends.id;

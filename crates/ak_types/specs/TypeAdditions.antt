@@ -6,7 +6,7 @@ use Rattle.ak_base.specs.declared.rows.Row.TheVariants as rows
 use Rattle.ak_edit.specs.Refusals.{IsEndFault, OrElse, Refusal}
 use Rattle.ak_edit.specs.declared.desk_faults.DeskFault.{DeskFault}
 use Rattle.ak_edit.specs.declared.desk_faults.DeskFault.TheVariants as faults
-use Rattle.ak_edit_calls.specs.Additions.{RefusesNewStamp}
+use Rattle.ak_edit_calls.specs.Additions.{Addition, RefusesNewStamp}
 use Rattle.ak_edit_calls.specs.NewNames.{RefusesId}
 use Rattle.ak_edit_calls.specs.RowEdits.{row_edit}
 use Rattle.ak_keep.specs.Collections.{Collection}
@@ -39,7 +39,17 @@ abbrev pub RefusesTypeAddition : ℤ → NoteType → Collection → Refusal
 RefusesTypeAddition at note_type c =
     OrElse (RefusesGiven (with_id (pos 1) (as_given note_type))) (RefusesNewType at (as_given note_type) c)
 
--- what it may answer
+-- ---- what is added
+-- a type that is in its ranges, at this moment
+abbrev pub new_type : ℤ → NoteType → Addition
+new_type at note_type = record { at = at; table = tables.NoteType; rule = type_addition note_type; tests = RefusesNewType at note_type }
+
+-- a type that was given, at this moment
+abbrev pub given_type : ℤ → NoteType → Addition
+given_type at note_type = record { at = at; table = tables.NoteType; rule = given_addition note_type; tests = RefusesTypeAddition at note_type }
+
+-- ---- what it may answer
+-- no id is free, a side of a template can't be read, or a fault of the end of an edit
 abbrev pub IsAdditionFault : DeskFault → Type 0
 IsAdditionFault fault =
     (fault ≡ faults.IdEnd) ⊎ ((side : TemplateFault) × (fault ≡ faults.Template side)) ⊎ IsEndFault fault

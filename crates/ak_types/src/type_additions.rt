@@ -1,12 +1,11 @@
 ghost use Rattle.std.specs.Prelude.{◌≡◌, true, false, IfErr, IfOk};
 ghost use Rattle.ak_base.specs.NoteTypes.{IsCheckedNoteType};
-ghost use Rattle.ak_base.specs.declared.names.Table.TheVariants as tables;
 ghost use Rattle.ak_edit.specs.Refusals.{DeskCause};
 ghost use Rattle.ak_edit_calls.specs.Additions.{AddsBy};
 ghost use Rattle.ak_keep.specs.Collections.{IsId};
 ghost use Rattle.ak_keep.specs.Keepers.{is_marked};
 ghost use Rattle.ak_types.specs.GivenTypes.{as_given};
-ghost use Rattle.ak_types.specs.TypeAdditions.{IsAdditionFault, RefusesNewType, RefusesTypeAddition, given_addition, type_addition};
+ghost use Rattle.ak_types.specs.TypeAdditions.{IsAdditionFault, given_type, new_type};
 
 use crate::given_types::{as_given, check_given, check_sides, with_id};
 use ak_base::{NoteType, Row, Table};
@@ -26,8 +25,7 @@ pub fn add_note_type<K: Keeper>(
 ) -> Result<i64, DeskFault>
     requires unmarked { is_marked (K.keeping keeper.old) ≡ false }
     requires held { (K.keeping keeper.old).headed.current ≡ true }
-    ensures adds { AddsBy K.Lookup keeper.old keeper.new steps.old steps.new result at tables.NoteType
-        (given_addition note_type) (RefusesTypeAddition at note_type) }
+    ensures adds { AddsBy K.Lookup keeper.old keeper.new steps.old steps.new result (given_type at note_type) }
     ensures range { IfOk result IsId }
     ensures listed { IfErr result IsAdditionFault }
     ensures cause { DeskCause (K.health keeper.old) (K.health keeper.new) result }
@@ -48,8 +46,7 @@ fn add_type<K: Keeper>(
     requires unmarked { is_marked (K.keeping keeper.old) ≡ false }
     requires held { (K.keeping keeper.old).headed.current ≡ true }
     requires checked { IsCheckedNoteType (as_given note_type) }
-    ensures adds { AddsBy K.Lookup keeper.old keeper.new steps.old steps.new result at tables.NoteType
-        (type_addition note_type) (RefusesNewType at note_type) }
+    ensures adds { AddsBy K.Lookup keeper.old keeper.new steps.old steps.new result (new_type at note_type) }
     ensures range { IfOk result IsId }
     ensures listed { IfErr result IsAdditionFault }
     ensures cause { DeskCause (K.health keeper.old) (K.health keeper.new) result }

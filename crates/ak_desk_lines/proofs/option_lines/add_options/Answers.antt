@@ -6,7 +6,7 @@ use Rattle.ak_desk_lines.specs.DeskStates.{Edits, state_of}
 use Rattle.ak_desk_language.specs.declared.desk_lines.DeskLine.TheVariants as lines
 use Rattle.ak_desk_texts.specs.declared.answers.DeskAnswer.TheVariants as answers
 use Rattle.ak_desk_lines.proofs.EndedLines.{answered_cause, both_done, call_line}
-use Rattle.ak_options.specs.OptionGroups.{RefusesAddition, options_addition}
+use Rattle.ak_options.specs.OptionGroups.{RefusesAddition, given_group, options_addition}
 use Rattle.ak_desk_lines.proofs.option_lines.add_options.Goals as goal
 
 pub returns-clause-ends : goal.returns-clause-ends
@@ -14,7 +14,7 @@ returns-clause-ends g c =
     let at : SFits w64 c.args.turn.at = search rules in
     let was = state_of g.K.Lookup c.args.desk.now in
     let now = state_of g.K.Lookup c.add_options.new.self in
-    let ended : EndsAddition c.args.turn.at tables.Options (options_addition c.args.options) (RefusesAddition c.args.turn.at c.args.options) was.keeping now.keeping was.steps now.steps c.add_options.result =
+    let ended : EndsAddition (given_group c.args.turn.at c.args.options) was.keeping now.keeping was.steps now.steps c.add_options.result =
     rw (to_z-of_z w64 c.args.turn.at at) at c.add_options.ensures.adds in
     rw (c.added_options.ensures)
     (call_line _ (lines.AddOptions c.args.options) c.args.turn was now c.add_options.result answers.PutOptions

@@ -7,7 +7,7 @@ use Rattle.ak_desk_lines.specs.DeskStates.{Edits}
 use Rattle.ak_desk_lines.specs.DeskStates.{state_of}
 use Rattle.ak_desk_language.specs.declared.desk_lines.DeskLine.TheVariants as lines
 use Rattle.ak_desk_texts.specs.declared.answers.DeskAnswer.TheVariants as answers
-use Rattle.ak_types.specs.TypeAdditions.{RefusesTypeAddition, given_addition}
+use Rattle.ak_types.specs.TypeAdditions.{RefusesTypeAddition, given_addition, given_type}
 use Rattle.ak_desk_lines.proofs.type_lines.add_type.Goals as goal
 
 pub returns-clause-ends : goal.returns-clause-ends
@@ -15,7 +15,7 @@ returns-clause-ends g c =
     let at : SFits w64 c.args.turn.at = search rules in
     let was = state_of g.K.Lookup c.args.desk.now in
     let now = state_of g.K.Lookup c.add_note_type.new.self in
-    let ended : EndsAddition c.args.turn.at tables.NoteType (given_addition c.args.note_type) (RefusesTypeAddition c.args.turn.at c.args.note_type) was.keeping now.keeping was.steps now.steps c.add_note_type.result =
+    let ended : EndsAddition (given_type c.args.turn.at c.args.note_type) was.keeping now.keeping was.steps now.steps c.add_note_type.result =
     rw (to_z-of_z w64 c.args.turn.at at) at c.add_note_type.ensures.adds in
     rw (c.added_type.ensures)
     (call_line _ (lines.AddType c.args.note_type) c.args.turn was now c.add_note_type.result answers.AddedType
