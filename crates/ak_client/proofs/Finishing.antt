@@ -14,7 +14,7 @@ use Rattle.ak_merge.specs.Takings.{all_taken}
 use Rattle.ak_messages.specs.declared.requests.Ask.TheVariants as asks
 use Rattle.ak_session.proofs.MessageLaws.{same_rows, same_settings, same_tags}
 use Rattle.ak_session.proofs.Sums.{given_in_parts}
-use Rattle.ak_session.proofs.SyncLaws.{device_sends, server_gives, tags_given}
+use Rattle.ak_session.proofs.SyncLaws.{device_sends, may_exchange, server_gives, tags_given}
 use Rattle.ak_session.specs.Plans.{given_by_sync, planned_check, sent_by_sync}
 use Rattle.ak_session.specs.Replies.{all_replied}
 use Rattle.ak_session.specs.Sessions.{MaySync}
@@ -68,4 +68,4 @@ module _ (c s t : Collection) (may : MaySync c s) (after : Rows) (moment : ℤ) 
   pub exchanged : ((name : Name) → get after name ≡ option_map (settled s.head.usn) (get (all_taken Device s.head.usn came.rows c.rows) name))
       → HoldsJoin c s t → AreExchanged c s ended t
   exchanged each joined =
-      device_half_links given (sent_by_sync c s) c s ended t (device_half each) joined may.linked may.named may.committed.named may.checked may.committed.checked may.committed.head.usn.low
+      device_half_links given (sent_by_sync c s) c s ended t (device_half each) joined (may_exchange c s may) may.committed.head.usn.low

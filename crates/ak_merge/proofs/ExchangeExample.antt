@@ -256,7 +256,9 @@ exchange any their = record {
 -- Graves, rows and tags went both ways: the two are linked again and hold the join, each.
 an_exchange_both_ways_links : (any their : Head) → AreExchanged (device any) (server their) (device_then any) (server_then any their)
 an_exchange_both_ways_links any their =
-    exchange_links got (sent any) (device any) (server their) (device_then any) (server_then any their) (exchange any their) (linked any their) (map_named own_rows) (map_named their_rows) own_checked their_checked (omega (arith, ints))
+    exchange_links got (sent any) (device any) (server their) (device_then any) (server_then any their) (exchange any their)
+    (record { linked = linked any their; named = map_named own_rows; their_named = map_named their_rows; checked = own_checked; their_checked = their_checked })
+    (omega (arith, ints))
 
 abbrev joined : RowsByName
 joined = joined_under (standing own_rows) (standing their_rows)

@@ -18,7 +18,7 @@ use Rattle.ak_base.specs.declared.rows.Row.{Row}
 use Rattle.ak_keep.specs.declared.keepers.Wanted.{Wanted}
 use Rattle.ak_keep.specs.declared.keepers.Wanted.TheVariants.{Unsent, From}
 use Rattle.ak_merge.specs.Commits.{Settings, Received, settings_of}
-use Rattle.ak_merge.specs.Exchanges.{tags_from, wanted_under, AreOf, IsSent, is_unsent_tag, is_tag_from, settled, settled_number, settled_tags, IsServerHalf, IsDeviceHalf, HoldsJoin, IsExchange, AreExchanged}
+use Rattle.ak_merge.specs.Exchanges.{tags_from, wanted_under, AreOf, IsSent, is_unsent_tag, is_tag_from, settled, settled_number, settled_tags, MayExchange, GivesServer, GivesDevice, IsServerHalf, IsDeviceHalf, HoldsJoin, IsExchange, AreExchanged}
 use Rattle.ak_merge.specs.Tags.{tags_taken}
 use Rattle.ak_merge.specs.Takings.{IsListOf, all_taken}
 use Rattle.ak_merge.specs.declared.sides.Side.{Side}
@@ -29,7 +29,7 @@ use Rattle.ak_base.specs.declared.heads.Tag.{Tag}
 use Rattle.std.specs.FinMap.{get}
 use Rattle.std.specs.Cmp.Lexicographic.{pointwise}
 use Rattle.ak_keep.specs.Graves.{RowsByName, grave_under}
-use Rattle.ak_merge.specs.Holdings.{row_under, AreNamed, AreChecked, IsSingle, tag_usn, content_of, same_held, SameContent}
+use Rattle.ak_merge.specs.Holdings.{row_under, AreNamed, IsSingle, tag_usn, content_of, same_held, SameContent}
 use Rattle.ak_merge.specs.Joins.{joined_under, newest_head, join}
 use Rattle.ak_merge.specs.Links.{IsGiven, IsOwn, AreNumbered, IsHeldLike, HasTaken, IsKnown, IsShared, IsTagShared, AreLinkedParts}
 use Rattle.ak_base.proofs.RowFacts.{name_of-with_usn, usn_of-with_usn, same-with_usn, same-itself, same-turned, same-through}
@@ -131,42 +131,40 @@ server_meets usn got sent c s name linked named gives sends =
       graves_sent_all = all_graves Device Server Unsent usn sent (row_under c) (newest_in Device got) name (graves_of name.table) refl sends named (newest_named Device got);
     }
 
-device_meets : (usn : ℤ) (got sent : List Row) (c s : Collection) (name : Name) → AreLinkedParts c s → AreNamed (row_under c) → AreNamed (row_under s) → AreChecked (row_under c) → AreChecked (row_under s)
+device_meets : (usn : ℤ) (got sent : List Row) (c s : Collection) (name : Name) → MayExchange c s
     → AreOf (wanted_under Unsent (row_under c)) sent → IsSent got (wanted_under (From c.head.usn) (row_under s)) (received_under Server usn (row_under s) (newest_in Server sent))
     → DeviceMeets c.head.usn usn (row_under c name) (grave_under (row_under c) name) (row_under s name) (grave_under (row_under s) name)
     (newest_in Device got name) (grave_under (newest_in Device got) name) (newest_in Server sent name) (grave_under (newest_in Server sent) name)
-device_meets usn got sent c s name linked named their_named checked their_checked sends gives =
+device_meets usn got sent c s name may sends gives =
     let after : RowsByName = received_under Server usn (row_under s) (newest_in Server sent) in
     record {
-      taken = taken_each c s name linked;
-      own_single = linked.own_single name;
-      one = one_grave (row_under c) (row_under s) name named their_named checked their_checked;
-      grave_came = graves_taken c s name (graves_of name.table) refl linked;
+      taken = taken_each c s name may.linked;
+      own_single = may.linked.own_single name;
+      one = one_grave (row_under c) (row_under s) name may.named may.their_named may.checked may.their_checked;
+      grave_came = graves_taken c s name (graves_of name.table) refl may.linked;
       came = sent_each Device got (wanted_under (From c.head.usn) (row_under s)) name gives.each;
-      came_all = λ row is stays. sent_whole Device got (wanted_under (From c.head.usn) (row_under s)) after name row gives (wanted_named (From c.head.usn) (row_under s) their_named) is stays;
+      came_all = λ row is stays. sent_whole Device got (wanted_under (From c.head.usn) (row_under s)) after name row gives (wanted_named (From c.head.usn) (row_under s) may.their_named) is stays;
       sent = sent_each Server sent (wanted_under Unsent (row_under c)) name sends;
       graves_came = sent_graves Device (From c.head.usn) got (row_under s) name (graves_of name.table) gives.each;
-      graves_came_all = all_graves Server Device (From c.head.usn) usn got (row_under s) (newest_in Server sent) name (graves_of name.table) refl gives their_named (newest_named Server sent);
+      graves_came_all = all_graves Server Device (From c.head.usn) usn got (row_under s) (newest_in Server sent) name (graves_of name.table) refl gives may.their_named (newest_named Server sent);
       graves_sent = sent_graves Server Unsent sent (row_under c) name (graves_of name.table) sends;
     }
 
 -- ---- the rows of one side
 -- what the server holds under each name once it took what the device sent is the join's
-pub server_rows_join : (usn : ℤ) (got sent : List Row) (c s : Collection) → AreLinkedParts c s → AreNamed (row_under c)
-    → AreOf (wanted_under (From c.head.usn) (row_under s)) got → IsSent sent (wanted_under Unsent (row_under c)) (get (all_taken Device usn got c.rows))
+pub server_rows_join : (usn : ℤ) (got sent : List Row) (c s : Collection) → GivesServer usn got sent c s
     → (name : Name) → IsTrue (same_held (get (all_taken Server usn sent s.rows) name) (joined_under (row_under c) (row_under s) name))
-server_rows_join usn got sent c s linked named gives sends name =
+server_rows_join usn got sent c s given name =
     ap (λ o. same_held o (joined_under (row_under c) (row_under s) name)) (all_taken_at Server usn sent s.rows name)
-    ∙ server_agrees c.head.usn usn _ _ _ _ _ _ _ _ (server_meets usn got sent c s name linked named gives (subst (IsSent sent (wanted_under Unsent (row_under c))) (fun_ext (all_taken_at Device usn got c.rows)) sends))
+    ∙ server_agrees c.head.usn usn _ _ _ _ _ _ _ _ (server_meets usn got sent c s name given.linked given.named given.gives (subst (IsSent sent (wanted_under Unsent (row_under c))) (fun_ext (all_taken_at Device usn got c.rows)) given.sends))
 
 -- and so is what the device holds once it took what came
-pub device_rows_join : (usn : ℤ) (got sent : List Row) (c s : Collection) → AreLinkedParts c s → AreNamed (row_under c) → AreNamed (row_under s) → AreChecked (row_under c) → AreChecked (row_under s)
-    → AreOf (wanted_under Unsent (row_under c)) sent → IsSent got (wanted_under (From c.head.usn) (row_under s)) (get (all_taken Server usn sent s.rows))
+pub device_rows_join : (usn : ℤ) (got sent : List Row) (c s : Collection) → GivesDevice usn got sent c s
     → (name : Name) → IsTrue (same_held (get (all_taken Device usn got c.rows) name) (joined_under (row_under c) (row_under s) name))
-device_rows_join usn got sent c s linked named their_named checked their_checked sends gives name =
+device_rows_join usn got sent c s given name =
     ap (λ o. same_held o (joined_under (row_under c) (row_under s) name)) (all_taken_at Device usn got c.rows name)
     ∙ device_agrees c.head.usn usn _ _ _ _ _ _ _ _
-    (device_meets usn got sent c s name linked named their_named checked their_checked sends (subst (IsSent got (wanted_under (From c.head.usn) (row_under s))) (fun_ext (all_taken_at Server usn sent s.rows)) gives))
+    (device_meets usn got sent c s name given.may given.sends (subst (IsSent got (wanted_under (From c.head.usn) (row_under s))) (fun_ext (all_taken_at Server usn sent s.rows)) given.gives))
 
 -- ---- an exchange: the rows of both
 settled_like : (usn : ℤ) (x : Row) → IsTrue (same_content (settled usn x) x)
@@ -178,13 +176,12 @@ settled_held usn (Some x) None same = same
 settled_held usn (Some x) (Some y) same = same-through (settled usn x) x y (settled_like usn x) same
 
 -- and it still is once it is settled
-pub settled_rows_join : (usn : ℤ) (got sent : List Row) (c s : Collection) (now : RowsByName) → AreLinkedParts c s → AreNamed (row_under c) → AreNamed (row_under s) → AreChecked (row_under c) → AreChecked (row_under s)
-    → AreOf (wanted_under Unsent (row_under c)) sent → IsSent got (wanted_under (From c.head.usn) (row_under s)) (get (all_taken Server usn sent s.rows))
+pub settled_rows_join : (usn : ℤ) (got sent : List Row) (c s : Collection) (now : RowsByName) → GivesDevice usn got sent c s
     → ((name : Name) → now name ≡ option_map (settled usn) (get (all_taken Device usn got c.rows) name))
     → (name : Name) → IsTrue (same_held (now name) (joined_under (row_under c) (row_under s) name))
-settled_rows_join usn got sent c s now linked named their_named checked their_checked sends gives settles name =
+settled_rows_join usn got sent c s now given settles name =
     ap (λ o. same_held o (joined_under (row_under c) (row_under s) name)) (settles name)
-    ∙ settled_held usn (get (all_taken Device usn got c.rows) name) (joined_under (row_under c) (row_under s) name) (device_rows_join usn got sent c s linked named their_named checked their_checked sends gives name)
+    ∙ settled_held usn (get (all_taken Device usn got c.rows) name) (joined_under (row_under c) (row_under s) name) (device_rows_join usn got sent c s given name)
 
 device_under : (got sent : Received) (c s d t : Collection) (name : Name) → IsDeviceHalf got sent c s d t
     → row_under d name ≡ option_map (settled s.head.usn) (received_under Device s.head.usn (row_under c) (newest_in Device got.rows) name)
@@ -389,7 +386,7 @@ server_half_joins got sent c s t e linked named their_named low =
     record {
       content = record {
         rows = λ name. ap (λ (rows : Rows). same_held (get rows name) (joined_under (row_under c) (row_under s) name)) e.commits.rows
-            ∙ server_rows_join s.head.usn got.rows sent.rows c s linked named e.gives e.sends name;
+            ∙ server_rows_join s.head.usn got.rows sent.rows c s (record { linked = linked; named = named; gives = e.gives; sends = e.sends }) name;
         tags = λ name. server_tag c.head.usn s.head.usn (tag_usn c.head.tags name) (tag_usn s.head.tags name) (tag_usn t.head.tags name) (linked.tags name)
             (commit_tag sent s t e.commits name ∙ ap (λ b. option_or (tag_usn s.head.tags name) (if b then Some s.head.usn else None)) (e.tags name));
         conf = ap (λ (settings : Settings). settings.conf) (server_settings got sent c s t e);
@@ -404,21 +401,21 @@ server_half_joins got sent c s t e linked named their_named low =
     }
 
 -- a device that took what the server gave, and settled what it sent, has the content of the join
-pub device_half_joins : (got sent : Received) (c s d t : Collection) → IsDeviceHalf got sent c s d t → AreLinkedParts c s → AreNamed (row_under c) → AreNamed (row_under s) → AreChecked (row_under c) → AreChecked (row_under s) → SameContent (content_of d) (join c s)
-device_half_joins got sent c s d t e linked named their_named checked their_checked = record {
+pub device_half_joins : (got sent : Received) (c s d t : Collection) → IsDeviceHalf got sent c s d t → MayExchange c s → SameContent (content_of d) (join c s)
+device_half_joins got sent c s d t e may = record {
   rows = λ name. ap (λ o. same_held o (joined_under (row_under c) (row_under s) name)) (e.rows name)
       ∙ settled_held s.head.usn (get (all_taken Device s.head.usn got.rows c.rows) name) (joined_under (row_under c) (row_under s) name)
-      (device_rows_join s.head.usn got.rows sent.rows c s linked named their_named checked their_checked e.sends e.gives name);
-  tags = λ name. device_tag c.head.usn s.head.usn (tag_usn c.head.tags name) (tag_usn s.head.tags name) (tag_usn d.head.tags name) (linked.tags name) (device_tags got sent c s d t name e);
+      (device_rows_join s.head.usn got.rows sent.rows c s (record { may = may; sends = e.sends; gives = e.gives }) name);
+  tags = λ name. device_tag c.head.usn s.head.usn (tag_usn c.head.tags name) (tag_usn s.head.tags name) (tag_usn d.head.tags name) (may.linked.tags name) (device_tags got sent c s d t name e);
   conf = ap (λ (settings : Settings). settings.conf) (device_settings got sent c s d t e);
   crt = ap (λ (settings : Settings). settings.crt) (device_settings got sent c s d t e);
 }
 
 -- then it is linked with a server that holds the join
-pub device_half_links : (got sent : Received) (c s d t : Collection) → IsDeviceHalf got sent c s d t → HoldsJoin c s t → AreLinkedParts c s
-    → AreNamed (row_under c) → AreNamed (row_under s) → AreChecked (row_under c) → AreChecked (row_under s) → pos 0 ≤ℤ s.head.usn → AreExchanged c s d t
-device_half_links got sent c s d t e joined linked named their_named checked their_checked low =
-    let device = device_half_joins got sent c s d t e linked named their_named checked their_checked in
+pub device_half_links : (got sent : Received) (c s d t : Collection) → IsDeviceHalf got sent c s d t → HoldsJoin c s t → MayExchange c s
+    → pos 0 ≤ℤ s.head.usn → AreExchanged c s d t
+device_half_links got sent c s d t e joined may low =
+    let device = device_half_joins got sent c s d t e may in
     let same : SameContent (content_of d) (content_of t) = record {
       rows = λ name. held-through (row_under d name) (joined_under (row_under c) (row_under s) name) (row_under t name) (device.rows name) (held-turned (row_under t name) (joined_under (row_under c) (row_under s) name) (joined.content.rows name));
       tags = λ name. device.tags name ∙ sym (joined.content.tags name);
@@ -426,11 +423,11 @@ device_half_links got sent c s d t e joined linked named their_named checked the
       crt = device.crt ∙ sym joined.content.crt;
     } in
     record {
-      linked = linked_same d t (e.usn ∙ sym joined.usn) e.moment (device_own got sent c s d t e linked low) joined.given same joined.single;
+      linked = linked_same d t (e.usn ∙ sym joined.usn) e.moment (device_own got sent c s d t e may.linked low) joined.given same joined.single;
       same = same;
       device = device;
       server = joined.content;
-      named = device_named got sent c s d t e named;
+      named = device_named got sent c s d t e may.named;
       their_named = joined.named;
       last_sync = e.last_sync;
       past_device = joined.past_device;
@@ -438,7 +435,7 @@ device_half_links got sent c s d t e joined linked named their_named checked the
     }
 
 -- an exchange links the two again, and leaves both with the join
-pub exchange_links : (got sent : Received) (c s d t : Collection) → IsExchange got sent c s d t → AreLinkedParts c s → AreNamed (row_under c)
-    → AreNamed (row_under s) → AreChecked (row_under c) → AreChecked (row_under s) → pos 0 ≤ℤ s.head.usn → AreExchanged c s d t
-exchange_links got sent c s d t e linked named their_named checked their_checked low =
-    device_half_links got sent c s d t e.device (server_half_joins got sent c s t e.server linked named their_named low) linked named their_named checked their_checked low
+pub exchange_links : (got sent : Received) (c s d t : Collection) → IsExchange got sent c s d t → MayExchange c s
+    → pos 0 ≤ℤ s.head.usn → AreExchanged c s d t
+exchange_links got sent c s d t e may low =
+    device_half_links got sent c s d t e.device (server_half_joins got sent c s t e.server may.linked may.named may.their_named low) may low

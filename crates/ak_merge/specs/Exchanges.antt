@@ -15,7 +15,7 @@ use Rattle.ak_keep.specs.declared.keepers.Wanted.{Wanted}
 use Rattle.ak_keep.specs.declared.keepers.Wanted.TheVariants.{Unsent, From}
 use Rattle.ak_merge.specs.Commits.{Settings, Received, IsCommitOf, settings_of}
 use Rattle.ak_keep.specs.Graves.{RowsByName}
-use Rattle.ak_merge.specs.Holdings.{row_under, AreNamed, IsSingle, tag_usn, content_of, SameContent}
+use Rattle.ak_merge.specs.Holdings.{row_under, AreNamed, AreChecked, IsSingle, tag_usn, content_of, SameContent}
 use Rattle.ak_merge.specs.Joins.{join}
 use Rattle.ak_merge.specs.Links.{IsGiven, AreNumbered, AreLinkedParts}
 use Rattle.ak_merge.specs.Tags.{has_name, tags_taken}
@@ -96,6 +96,28 @@ settled_tag usn tag = record { name = tag.name; usn = settled_number usn tag.usn
 -- the tags, those that were not sent yet with this usn
 abbrev pub settled_tags : ℤ → List Tag → List Tag
 settled_tags usn tags = map (settled_tag usn) tags
+
+-- ---- the rows that go each way
+-- a device's collection c and a server's s are linked by all six parts, and each row of the two stands under its name, in its ranges
+pub record MayExchange (c s : Collection) : Type 0 where
+  pub linked : AreLinkedParts c s
+  pub named : AreNamed (row_under c)
+  pub their_named : AreNamed (row_under s)
+  pub checked : AreChecked (row_under c)
+  pub their_checked : AreChecked (row_under s)
+
+-- a linked device c sends rows to a server s, once the rows that it got came to it, which are any of what the server has for it
+pub record GivesServer (usn : ℤ) (got sent : List Row) (c s : Collection) : Type 0 where
+  pub linked : AreLinkedParts c s
+  pub named : AreNamed (row_under c)
+  pub gives : AreOf (wanted_under (From c.head.usn) (row_under s)) got
+  pub sends : IsSent sent (wanted_under Unsent (row_under c)) (get (all_taken Device usn got c.rows))
+
+-- a server s gives rows to a linked device c, once the rows that this sent came to it, which are any of what the device has for it
+pub record GivesDevice (usn : ℤ) (got sent : List Row) (c s : Collection) : Type 0 where
+  pub may : MayExchange c s
+  pub sends : AreOf (wanted_under Unsent (row_under c)) sent
+  pub gives : IsSent got (wanted_under (From c.head.usn) (row_under s)) (get (all_taken Server usn sent s.rows))
 
 -- ---- the two halves
 -- what the server's collection s is after it took what the device c sent, once rows of its own came to the device, and was committed as t

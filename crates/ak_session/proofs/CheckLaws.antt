@@ -47,7 +47,7 @@ use Rattle.ak_session.proofs.Ranges.{not_both, untrue, Fits}
 use Rattle.ak_session.proofs.Starts.{taken_allowed, all_fit, method_fits}
 use Rattle.ak_session.proofs.Steps.{last_is}
 use Rattle.ak_session.proofs.Sums.{low, fold_named, fold_checked, pushes_checked, given_check}
-use Rattle.ak_session.proofs.SyncLaws.{device_sends, server_gives, server_half}
+use Rattle.ak_session.proofs.SyncLaws.{device_sends, may_exchange, server_gives, server_half}
 use Rattle.ak_merge.specs.declared.sides.Side.TheVariants.{Device, Server}
 
 -- ---- counts
@@ -258,7 +258,7 @@ module _ (c s : Collection) (may : MaySync c s) where
   device_holds : (name : Name) → IsTrue (same_held (get (device_rows c s (planned_pushes c s)) name) (joined_under (row_under c) (row_under s) name))
   device_holds =
       subst (λ (r : Received). (name : Name) → IsTrue (same_held (get (all_taken Device s.head.usn r.rows c.rows) name) (joined_under (row_under c) (row_under s) name))) (given_check c s may)
-      (device_rows_join s.head.usn (given_by_sync c s).rows (sent_by_sync c s).rows c s may.linked may.named may.committed.named may.checked may.committed.checked (device_sends c s may).each (server_gives c s may))
+      (device_rows_join s.head.usn (given_by_sync c s).rows (sent_by_sync c s).rows c s (record { may = may_exchange c s may; sends = (device_sends c s may).each; gives = server_gives c s may }))
 
   each_count : (table : Table) → row_count table (fold_of s (planned_pushes c s)).rows ≡ row_count table (device_rows c s (planned_pushes c s))
   each_count table =

@@ -17,7 +17,7 @@ use Rattle.ak_keep.specs.declared.keepers.Wanted.TheVariants.{Unsent, From}
 use Rattle.ak_merge.proofs.TagLists.{unsent_listed, from_listed}
 use Rattle.ak_merge.proofs.CommitLaws.{of_some}
 use Rattle.ak_merge.specs.Commits.{Received}
-use Rattle.ak_merge.specs.Exchanges.{wanted_under, tags_from, unsent_tags, IsSent, IsServerHalf}
+use Rattle.ak_merge.specs.Exchanges.{wanted_under, tags_from, unsent_tags, IsSent, MayExchange, IsServerHalf}
 use Rattle.ak_merge.specs.Holdings.{row_under, AreNamed, AreChecked}
 use Rattle.ak_merge.specs.Links.{IsGiven}
 use Rattle.ak_merge.specs.Tags.{has_name}
@@ -59,6 +59,10 @@ three_of_others one two three other want held named checked first second third =
     (three_weaker (Stands one want held) (Stands two want held) (Stands three want held) (λ (row : Row). (name_of row).table ≢ other) (λ (row : Row). (name_of row).table ≢ other) (λ (row : Row). (name_of row).table ≢ other)
     (λ row own same. first (sym own.of_table ∙ same)) (λ row own same. second (sym own.of_table ∙ same)) (λ row own same. third (sym own.of_table ∙ same))
     (wanted_of one two three want held) (three_stand one two three want held named checked))
+
+-- a device that may sync may exchange
+pub may_exchange : (c s : Collection) → MaySync c s → MayExchange c s
+may_exchange c s may = record { linked = may.linked; named = may.named; their_named = may.committed.named; checked = may.checked; their_checked = may.committed.checked }
 
 module _ (c s : Collection) (may : MaySync c s) where
   -- ---- what the device sends
