@@ -29,6 +29,7 @@ use Rattle.ak_session.proofs.CheckLaws.{finishes_are_sound}
 use Rattle.ak_session.proofs.CommitLaws.{finishes_commit, finishes_in_range, uploads_replace, uploads_in_range}
 use Rattle.ak_protocol.specs.Accounts.{SessionState, AccountState}
 use Rattle.ak_protocol.specs.Commits.{EachNewer, IsMade, IsFinishOf, IsReplacedBy, CommitsWhatCame, HasFreshSchema}
+use Rattle.ak_protocol.specs.Growths.{CallGrowth, ComesFirst, GrowsFresh, world_amid, world_before}
 use Rattle.ak_protocol.specs.Lawful.{IsNext, AreAccepted, HasLawfulSession}
 use Rattle.ak_protocol.specs.LawfulServers.{IsLawfulAccount, HasOwnRequests, IsLawfulUnder, IsLawful}
 use Rattle.ak_protocol.specs.Logs.{Event, View, Asked, Commit, World, Log, IsTimely, MayCome, IsGrowth, IsReplyIn, with_growth, opened, commit_by, world_served, world_next, world_after, server_after, host_of, events_of}
@@ -439,44 +440,41 @@ grown_world : (host : List ℕ) (s : AccountState) (old : Log) (front : List Eve
 grown_world host s old front =
     ap (world_after (opened s)) (own_append host old.events front) ∙ world_append (opened s) (events_of host old.events) (events_of host front)
 
-module _ (host : List ℕ) (request : Request) (s : AccountState) (old : Log) (front rest : List Event) (grows : IsGrowth old request (front ++ rest))
-    (lawful : IsLawfulAccount (world_of host s old).state) where
-  timely_front : AllByRecursion IsTimely (events_of host front)
-  timely_front = some_of_all IsTimely host front (timely_growth old.events request front (all_front (MayCome old.events request) front rest grows))
+module _ (call : CallGrowth) (front : List Event) (first : ComesFirst front call) where
+  timely_front : AllByRecursion IsTimely (events_of call.host front)
+  timely_front =
+      some_of_all IsTimely call.host front
+      (timely_growth call.old.events call.request front
+      (all_front (MayCome call.old.events call.request) front first.0 (subst (IsGrowth call.old call.request) (sym first.1) call.may)))
 
-  pub growths_stay_lawful : IsLawfulAccount (world_of host s (with_growth old front)).state
+  pub growths_stay_lawful : IsLawfulAccount (world_amid call front).state
   growths_stay_lawful =
-      subst (λ (w : World). IsLawfulAccount w.state) (sym (grown_world host s old front))
-      (lawful_stays_lawful (world_of host s old) (events_of host front) timely_front lawful)
+      subst (λ (w : World). IsLawfulAccount w.state) (sym (grown_world call.host call.account call.old front))
+      (lawful_stays_lawful (world_before call) (events_of call.host front) timely_front call.lawful)
 
   -- the commits of the front of a growth are fresh if all are
-  fresh_front : (c : Collection) → let w = world_of host s old in
-      EachNewer (HasFreshSchema c) w (world_of host s (with_growth old (front ++ rest))) → EachNewer (HasFreshSchema c) w (world_after w (events_of host front))
+  fresh_front : (c : Collection) → let w = world_before call in GrowsFresh c call → EachNewer (HasFreshSchema c) w (world_after w (events_of call.host front))
   fresh_front c fresh =
-      let w = world_of host s old in
-      let all : world_of host s (with_growth old (front ++ rest)) ≡ world_after (world_after w (events_of host front)) (events_of host rest) =
-      grown_world host s old (front ++ rest) ∙ ap (world_after w) (own_append host front rest) ∙ world_append w (events_of host front) (events_of host rest) in
-      first_newer (HasFreshSchema c) w (world_after w (events_of host front)) (events_of host rest) (subst (EachNewer (HasFreshSchema c) w) all fresh)
+      let w = world_before call in
+      let rest : List Event = first.0 in
+      let all : world_amid call call.growth ≡ world_after (world_after w (events_of call.host front)) (events_of call.host rest) =
+      ap (λ (g : List Event). world_amid call g) (sym first.1) ∙ grown_world call.host call.account call.old (front ++ rest)
+      ∙ ap (world_after w) (own_append call.host front rest) ∙ world_append w (events_of call.host front) (events_of call.host rest) in
+      first_newer (HasFreshSchema c) w (world_after w (events_of call.host front)) (events_of call.host rest) (subst (EachNewer (HasFreshSchema c) w) all fresh)
 
-  pub growths_keep_links : (c : Collection) → EachNewer (HasFreshSchema c) (world_of host s old) (world_of host s (with_growth old (front ++ rest)))
-      → AreLinked c (world_of host s old).state.committed → AreLinked c (world_of host s (with_growth old front)).state.committed
+  pub growths_keep_links : (c : Collection) → GrowsFresh c call → AreLinked c (world_before call).state.committed → AreLinked c (world_amid call front).state.committed
   growths_keep_links c fresh linked =
-      subst (λ (v : World). AreLinked c v.state.committed) (sym (grown_world host s old front))
-      (links_stay (world_of host s old) (events_of host front) c timely_front lawful (fresh_front c fresh) linked)
+      subst (λ (v : World). AreLinked c v.state.committed) (sym (grown_world call.host call.account call.old front))
+      (links_stay (world_before call) (events_of call.host front) c timely_front call.lawful (fresh_front c fresh) linked)
 
-  pub growths_keep_fits : (c : Collection) (step : Reversal) → EachNewer (HasFreshSchema c) (world_of host s old) (world_of host s (with_growth old (front ++ rest)))
-      → StepFits c step (world_of host s old).state.committed → StepFits c step (world_of host s (with_growth old front)).state.committed
+  pub growths_keep_fits : (c : Collection) (step : Reversal) → GrowsFresh c call → StepFits c step (world_before call).state.committed
+      → StepFits c step (world_amid call front).state.committed
   growths_keep_fits c step fresh fits =
-      subst (λ (v : World). StepFits c step v.state.committed) (sym (grown_world host s old front))
-      (fits_stay (world_of host s old) (events_of host front) c step (fresh_front c fresh) fits)
+      subst (λ (v : World). StepFits c step v.state.committed) (sym (grown_world call.host call.account call.old front))
+      (fits_stay (world_before call) (events_of call.host front) c step (fresh_front c fresh) fits)
 
 -- so it is at the place of a reply
-pub places_are_linked : (host : List ℕ) (request : Request) (s : AccountState) (old : Log) (growth : List Event) (reply : Reply)
-    → (c : Collection) → IsGrowth old request growth → IsLawfulAccount (world_of host s old).state
-    → EachNewer (HasFreshSchema c) (world_of host s old) (world_of host s (with_growth old growth))
-    → AreLinked c (world_of host s old).state.committed
-    → (place : IsReplyIn old growth request reply) → AreLinked c (world_of host s (with_growth old place.before)).state.committed
-places_are_linked host request s old growth reply c grows lawful fresh linked place =
-    growths_keep_links host request s old place.before (Asked request place.now place.setback ∷ place.after)
-    (subst (IsGrowth old request) (sym place.place) grows) lawful c
-    (subst (λ (g : List Event). EachNewer (HasFreshSchema c) (world_of host s old) (world_of host s (with_growth old g))) (sym place.place) fresh) linked
+pub places_are_linked : (call : CallGrowth) (reply : Reply) (c : Collection) → GrowsFresh c call → AreLinked c (world_before call).state.committed
+    → (place : IsReplyIn call.old call.growth call.request reply) → AreLinked c (world_amid call place.before).state.committed
+places_are_linked call reply c fresh linked place =
+    growths_keep_links call place.before (Asked call.request place.now place.setback ∷ place.after, place.place) c fresh linked

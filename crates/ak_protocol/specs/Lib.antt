@@ -1,5 +1,6 @@
 pub mod Accounts
 pub mod Commits
+pub mod Growths
 pub mod Kept
 pub mod Lawful
 pub mod LawfulServers

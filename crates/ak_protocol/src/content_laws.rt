@@ -1,7 +1,7 @@
 // What holds of the contents of an account, whatever requests and views come: what it may hold, what its commits are,
 // and that devices stay linked with it.
 ghost use Rattle.std.specs.List.{AllByRecursion};
-ghost use Rattle.std.specs.Prelude.{◌≡◌, ◌≤◌, ◌≤ℤ◌, ℕ, ℤ, true, List, ◌∷◌, ◌++◌, length, None, ◌⊎◌};
+ghost use Rattle.std.specs.Prelude.{◌≡◌, ◌≤◌, ◌≤ℤ◌, ℕ, ℤ, true, List, ◌∷◌, length, None, ◌⊎◌};
 ghost use Rattle.ak_io.specs.Arrivals.{IsClockMoment};
 ghost use Rattle.ak_keep.specs.Collections.{Collection};
 ghost use Rattle.ak_merge.specs.Commits.{Whole, IsCommitOf, IsUploadOf, IsCommitted, Received};
@@ -21,24 +21,21 @@ ghost use Rattle.ak_protocol.specs.Commits.{
   HasFreshSchema,
   CommitsSync,
 };
+ghost use Rattle.ak_protocol.specs.Growths.{CallGrowth, ComesFirst, GrowsFresh, world_amid, world_before};
 ghost use Rattle.ak_protocol.specs.LawfulServers.{IsLawfulAccount, IsLawfulUnder, IsLawful};
 ghost use Rattle.ak_protocol.specs.Logs.{
   Event,
   Commit,
   World,
-  Log,
   IsTimely,
-  IsGrowth,
   IsReplyIn,
   commit_by,
-  with_growth,
   world_after,
   server_after,
 };
 ghost use Rattle.ak_protocol.specs.Servers.{ServerState};
 ghost use Rattle.ak_protocol.specs.Serving.{Setback, served};
 ghost use Rattle.ak_protocol.specs.Sessions.{AreUndisturbed};
-ghost use Rattle.ak_protocol.specs.Syncs.{world_of};
 ghost use Rattle.ak_session.specs.Plans.{Asker, plan};
 ghost use Rattle.ak_session.specs.Requests.{is_meta};
 ghost use Rattle.ak_session.specs.Sessions.{MaySync, HaveRoom};
@@ -106,26 +103,18 @@ pub fn fits_stay()
 /// before the call is linked with it; a step of its undo list that fitted before fits. So a device is linked with what is
 /// committed at the place of the reply: with the collection that its meta tells.
 pub fn growths_keep_links()
-    ensures lawful { (host : List ℕ) (request : Request) (s : AccountState) (old : Log) (front rest : List Event)
-        → IsGrowth old request (front ++ rest) → IsLawfulAccount (world_of host s old).state
-        → IsLawfulAccount (world_of host s (with_growth old front)).state }
-    ensures linked { (host : List ℕ) (request : Request) (s : AccountState) (old : Log) (front rest : List Event)
-        → (c : Collection) → IsGrowth old request (front ++ rest) → IsLawfulAccount (world_of host s old).state
-        → EachNewer (HasFreshSchema c) (world_of host s old) (world_of host s (with_growth old (front ++ rest)))
-        → AreLinked c (world_of host s old).state.committed
-        → AreLinked c (world_of host s (with_growth old front)).state.committed }
-    ensures fits { (host : List ℕ) (request : Request) (s : AccountState) (old : Log) (front rest : List Event)
-        → (c : Collection) (step : Reversal) → IsGrowth old request (front ++ rest)
-        → IsLawfulAccount (world_of host s old).state
-        → EachNewer (HasFreshSchema c) (world_of host s old) (world_of host s (with_growth old (front ++ rest)))
-        → StepFits c step (world_of host s old).state.committed
-        → StepFits c step (world_of host s (with_growth old front)).state.committed }
-    ensures told { (host : List ℕ) (request : Request) (s : AccountState) (old : Log) (growth : List Event)
-        → (reply : Reply) (c : Collection) → IsGrowth old request growth
-        → IsLawfulAccount (world_of host s old).state
-        → EachNewer (HasFreshSchema c) (world_of host s old) (world_of host s (with_growth old growth))
-        → AreLinked c (world_of host s old).state.committed → (place : IsReplyIn old growth request reply)
-        → AreLinked c (world_of host s (with_growth old place.before)).state.committed }
+    ensures lawful { (call : CallGrowth) (front : List Event) → ComesFirst front call
+        → IsLawfulAccount (world_amid call front).state }
+    ensures linked { (call : CallGrowth) (front : List Event) (c : Collection) → ComesFirst front call
+        → GrowsFresh c call → AreLinked c (world_before call).state.committed
+        → AreLinked c (world_amid call front).state.committed }
+    ensures fits { (call : CallGrowth) (front : List Event) (c : Collection) (step : Reversal) → ComesFirst front call
+        → GrowsFresh c call → StepFits c step (world_before call).state.committed
+        → StepFits c step (world_amid call front).state.committed }
+    ensures told { (call : CallGrowth) (reply : Reply) (c : Collection)
+        → GrowsFresh c call → AreLinked c (world_before call).state.committed
+        → (place : IsReplyIn call.old call.growth call.request reply)
+        → AreLinked c (world_amid call place.before).state.committed }
 {}
 
 /// If nothing comes in between of the requests of a sync, each once or several times in a row, and no setback, its finish

@@ -4,7 +4,7 @@ use Rattle.ak_protocol.proofs.content_laws.growths_keep_links.Goals as goal
 pub returns : goal.returns
 returns c = record {
   lawful = growths_stay_lawful;
-  linked = λ host request s old front rest c grows lawful. growths_keep_links host request s old front rest grows lawful c;
-  fits = λ host request s old front rest c step grows lawful. growths_keep_fits host request s old front rest grows lawful c step;
+  linked = λ call front c first. growths_keep_links call front first c;
+  fits = λ call front c step first. growths_keep_fits call front first c step;
   told = places_are_linked;
 }
