@@ -110,21 +110,21 @@ lost_last it h0 h1 w0 w1 last lost = record {
 -- ---- a sync that ended so
 module _ {kind : WireKind} (ids : Ids) (before left : Keeping) (h0 h1 : Health) (w0 w1 : WireState kind) (outcome : Outcome) (sync : IsSync ids before left h0 h1 w0 w1 outcome) where
   abbrev tries : List TriedAsk
-  tries = meta_tried sync.meta ∷ sync.tries
+  tries = meta_tried sync.asked.meta ∷ sync.asked.tries
 
   -- what was tried last
   last_of : (it : TriedAsk) → IsLast it tries → IsTriedLast it h0 h1 w0 w1
   last_of it last =
-      tried_last (meta_of ids ∷ requests_from (asker ids) sync.moment 1 (asks_in sync.tries)) tries it last.0 h0 h1 w0 w1 sync.tried sync.granted last.1
+      tried_last (meta_of ids ∷ requests_from (asker ids) sync.asked.moment 1 (asks_in sync.asked.tries)) tries it last.0 h0 h1 w0 w1 sync.asked.tried sync.ends.granted last.1
 
   is_lost : outcome ≡ outcomes.Lost → IsLost h0 h1 w0 w1
   is_lost is =
-      let ended : EndsUnanswered tries unanswered.Lost = subst (EndsAt tries w1) is sync.ends in
+      let ended : EndsUnanswered tries unanswered.Lost = subst (EndsAt tries w1) is sync.ends.why in
       lost_last ended.0 h0 h1 w0 w1 (last_of ended.0 ended.1) ended.2
 
   pub lost_cause : HasOutcomeCause outcomes.Lost h0 h1 outcome
   lost_cause = record {
-    goes = tried_goes (meta_of ids ∷ requests_from (asker ids) sync.moment 1 (asks_in sync.tries)) (sync.meta ∷ answers_in sync.tries) h0 h1 w0 w1 sync.tried;
+    goes = tried_goes (meta_of ids ∷ requests_from (asker ids) sync.asked.moment 1 (asks_in sync.asked.tries)) (sync.asked.meta ∷ answers_in sync.asked.tries) h0 h1 w0 w1 sync.asked.tried;
     failed = λ is. once h0.faults h1.faults (is_lost is).rose;
     unfailed = λ calm is. (is_lost is).never calm;
   }
@@ -142,7 +142,7 @@ module _ {kind : WireKind} (ids : Ids) (before left : Keeping) (h0 h1 : Health) 
   pub shows_refusal : ShowsRefusal w0.reading w1.reading w1.said outcome
   shows_refusal = record {
     refused = λ status word seen is.
-        let ended : EndsUnanswered tries (unanswered.Refused status word seen) = subst (EndsAt tries w1) is sync.ends in
+        let ended : EndsUnanswered tries (unanswered.Refused status word seen) = subst (EndsAt tries w1) is sync.ends.why in
         let last = last_of ended.0 ended.1 in
         let reply = ended.2.0 in (
           said_of last.request reply,
@@ -153,7 +153,7 @@ module _ {kind : WireKind} (ids : Ids) (before left : Keeping) (h0 h1 : Health) 
           λ ok. ended.2.2 (sym ended.2.3 ∙ ok),
         );
     unread = λ is.
-        let ended : EndsUnanswered tries unanswered.BadReply = subst (EndsAt tries w1) is sync.ends in
+        let ended : EndsUnanswered tries unanswered.BadReply = subst (EndsAt tries w1) is sync.ends.why in
         not_read ended.0 (last_of ended.0 ended.1) ended.2;
   }
     where

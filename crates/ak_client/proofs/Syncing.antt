@@ -109,17 +109,13 @@ pub unmet : {kind : WireKind} (ids : Ids) (outcome : Outcome) (before left : Kee
 unmet ids outcome before left h0 h1 w0 w1 old_moments new_moments it kept greets =
     let tried : AreTried (meta_of ids ∷ []) (it.heard.answer ∷ []) h0 h1 w0 w1 = asked_meta ids h0 h1 w0 w1 it.answer it.heard in
     record {
-      meta = it.heard.answer;
-      moment = pos 0;
-      tries = [];
-      tried = tried;
-      granted = tt;
-      all_granted = λ is. absurd (unchanged_unfinished outcome kept is);
-      graves = 0;
-      graves_most = no_graves before;
-      few = few_none 40_000 39_999 (5 + 0);
-      rows = tt;
-      ends = greeting_ends ids h0 h1 w0 w1 old_moments new_moments before outcome it;
+      asked = record { meta = it.heard.answer; moment = pos 0; tries = []; tried = tried };
+      bounded = record { graves = 0; graves_most = no_graves before; few = few_none 40_000 39_999 (5 + 0); rows = tt };
+      ends = record {
+        granted = tt;
+        all_granted = λ is. absurd (unchanged_unfinished outcome kept is);
+        why = greeting_ends ids h0 h1 w0 w1 old_moments new_moments before outcome it;
+      };
       told = λ old told.
           let grown = tried_grows (meta_of ids ∷ []) (it.heard.answer ∷ []) h0 h1 w0 w1 old tried told in (
             grown.now,
@@ -133,8 +129,10 @@ unmet ids outcome before left h0 h1 w0 w1 old_moments new_moments it kept greets
                 (greeting_ends ids h0 h1 w0 w1 old_moments new_moments before outcome it))
                 it.answer (subst (λ (log : Log). IfOk it.answer (IsMetBySome ids account old may.unused log)) same greeted_so.3) it.ends,
           );
-      alone = alone_stays (meta_of ids ∷ []) (it.heard.answer ∷ []) h0 h1 w0 w1 tried;
-      commits = commits_alone (asker ids) (meta_of ids ∷ []) (it.heard.answer ∷ []) h0 h1 w0 w1 tried (refl, tt);
+      wire = record {
+        alone = alone_stays (meta_of ids ∷ []) (it.heard.answer ∷ []) h0 h1 w0 w1 tried;
+        commits = commits_alone (asker ids) (meta_of ids ∷ []) (it.heard.answer ∷ []) h0 h1 w0 w1 tried (refl, tt);
+      };
     }
 
 -- and why
@@ -312,17 +310,18 @@ went_on spares ids met before kept left h0 h1 h2 w0 w1 w2 old_moments new_moment
     tried_then (meta_of ids ∷ []) list (it.heard.answer ∷ []) (answers_in ends.tries) h0 h1 h2 w0 w1 w2 first_tried ends.tried in
     let granted : IsGranted (meta_tried it.heard.answer) = meta_granted ids h0 h1 w0 w1 it.answer met.meta it.heard it.goes_on in
     record {
-      meta = it.heard.answer;
-      moment = met.meta.moment;
-      tries = ends.tries;
-      tried = all_tried;
-      granted = but_last_then (meta_tried it.heard.answer ∷ []) ends.tries (granted, tt) ends.granted;
-      all_granted = λ is. (granted, ends.ends.0 is);
-      graves = ends.graves;
-      graves_most = subst (λ (k : Keeping). AreGraveRequests k ends.graves) same ends.graves_most;
-      few = ends.few;
-      rows = ends.rows;
-      ends = ends_after (meta_tried it.heard.answer) ends.tries w2 outcome granted ends.ends.1;
+      asked = record { meta = it.heard.answer; moment = met.meta.moment; tries = ends.tries; tried = all_tried };
+      bounded = record {
+        graves = ends.graves;
+        graves_most = subst (λ (k : Keeping). AreGraveRequests k ends.graves) same ends.graves_most;
+        few = ends.few;
+        rows = ends.rows;
+      };
+      ends = record {
+        granted = but_last_then (meta_tried it.heard.answer ∷ []) ends.tries (granted, tt) ends.granted;
+        all_granted = λ is. (granted, ends.ends.0 is);
+        why = ends_after (meta_tried it.heard.answer) ends.tries w2 outcome granted ends.ends.1;
+      };
       told = λ old told.
           let first = tried_grows (meta_of ids ∷ []) (it.heard.answer ∷ []) h0 h1 w0 w1 old first_tried told in
           let then_on = tried_grows list (answers_in ends.tries) h1 h2 w1 w2 first.now ends.tried first.is in (
@@ -341,9 +340,11 @@ went_on spares ids met before kept left h0 h1 h2 w0 w1 w2 old_moments new_moment
                 (then_on.is ∙ ap (λ (log : Log). Some log) then_on.grown)
                 (ends.told c greeted.2.met.0 account both (first.now, first.is, met_over.under_way) (same ∙ holds))),
           );
-      alone = alone_stays (meta_of ids ∷ list) (it.heard.answer ∷ answers_in ends.tries) h0 h2 w0 w2 all_tried;
-      commits = commits_alone (asker ids) (meta_of ids ∷ list) (it.heard.answer ∷ answers_in ends.tries) h0 h2 w0 w2 all_tried
-          (refl, requests_are_of (asker ids) met.meta.moment 1 (asks_in ends.tries));
+      wire = record {
+        alone = alone_stays (meta_of ids ∷ list) (it.heard.answer ∷ answers_in ends.tries) h0 h2 w0 w2 all_tried;
+        commits = commits_alone (asker ids) (meta_of ids ∷ list) (it.heard.answer ∷ answers_in ends.tries) h0 h2 w0 w2 all_tried
+            (refl, requests_are_of (asker ids) met.meta.moment 1 (asks_in ends.tries));
+      };
     }
 
 -- and why it ended

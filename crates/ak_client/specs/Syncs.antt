@@ -215,9 +215,8 @@ EndsAt tries now outcomes.TooManyChunks = AreTooMany tries
 EndsAt tries now outcomes.Keep = AllGranted tries
 EndsAt tries now outcomes.Memory = EndsForMemory tries
 
--- what a sync does over any keeper and wire, whose health and state go from the one to the other
-pub record IsSync {kind : WireKind} (ids : Ids) (before left : Keeping) (health_before health_now : Health) (old now : WireState kind)
-    (outcome : Outcome) : Type 0 where
+-- what a sync asked over a wire whose health and state go from the one to the other
+pub record SyncAsked {kind : WireKind} (ids : Ids) (health_before health_now : Health) (old now : WireState kind) : Type 0 where
   -- what its meta was answered, the moment that this told, and what it asked after it
   pub meta : Result Reply WireEnd
   pub moment : ℤ
@@ -225,21 +224,36 @@ pub record IsSync {kind : WireKind} (ids : Ids) (before left : Keeping) (health_
   -- it asked its meta and these, step by step, one after the other. Each was tried at most 3 times
   pub tried : AreTried (meta_of ids ∷ requests_from (asker ids) moment 1 (asks_in tries)) (meta ∷ answers_in tries)
       health_before health_now old now
-  -- each was granted before the next was asked, and all were if it is finished. A chunk that is granted and is not the last one has a row
-  pub granted : AllGrantedButLast (meta_tried meta ∷ tries)
-  pub all_granted : outcome ≡ outcomes.Finished → AllGranted (meta_tried meta ∷ tries)
-  -- it asked for at most 40,000 chunks, and sent at most 39,999 that are not the last one, each with 250 rows. It asked at most 5 others and
-  -- those for graves: 250 go in each
+
+-- these are no more than a sync may ask after its meta: at most 40,000 chunks, at most 39,999 sent that are not the last one, each with
+-- 250 rows, at most 5 others, and those for graves: 250 go in each
+pub record AsksAtMost (before : Keeping) (asks : List Ask) : Type 0 where
   pub graves : ℕ
   pub graves_most : AreGraveRequests before graves
-  pub few : AreFew 40_000 39_999 (5 + graves) (asks_in tries)
-  pub rows : AllByRecursion SendsRows (asks_in tries)
-  pub ends : EndsAt (meta_tried meta ∷ tries) now outcome
-  -- and what that makes of what keeper and wire tell
-  pub told : SyncsTold ids moment (asks_in tries) before left old.log now.log outcome
-  -- whether the wire is known to be alone stays
+  pub few : AreFew 40_000 39_999 (5 + graves) asks
+  pub rows : AllByRecursion SendsRows asks
+
+-- how what a sync tried, its meta first, ended it: each was granted before the next was asked, and all were if it is finished. A chunk that is
+-- granted and is not the last one has a row
+pub record TriesEnded {kind : WireKind} (tries : List TriedAsk) (now : WireState kind) (outcome : Outcome) : Type 0 where
+  pub granted : AllGrantedButLast tries
+  pub all_granted : outcome ≡ outcomes.Finished → AllGranted tries
+  pub why : EndsAt tries now outcome
+
+-- whether a wire is known to be alone stays. If it is, all that was committed meanwhile is of this asker's session
+pub record LeavesAlone {kind : WireKind} (who : Asker) (old now : WireState kind) : Type 0 where
   pub alone : now.alone ≡ old.alone
-  pub commits : old.alone ≡ true → CommitsAloneTold (asker ids) old.log now.log
+  pub commits : old.alone ≡ true → CommitsAloneTold who old.log now.log
+
+-- what a sync does over any keeper and wire, whose health and state go from the one to the other: what it asked, no more than it may, how
+-- that ended, and what it makes of what keeper and wire tell
+pub record IsSync {kind : WireKind} (ids : Ids) (before left : Keeping) (health_before health_now : Health) (old now : WireState kind)
+    (outcome : Outcome) : Type 0 where
+  pub asked : SyncAsked ids health_before health_now old now
+  pub bounded : AsksAtMost before (asks_in asked.tries)
+  pub ends : TriesEnded (meta_tried asked.meta ∷ asked.tries) now outcome
+  pub told : SyncsTold ids asked.moment (asks_in asked.tries) before left old.log now.log outcome
+  pub wire : LeavesAlone (asker ids) old now
 
 -- ---- why it ended at its meta
 -- what a meta said, if it was granted and has its form
@@ -275,7 +289,7 @@ pub record EndsBecause (meta : Result Reply WireEnd) (moment : ℤ) (tries : Lis
 pub record IsSyncEnded {kind : WireKind} (ids : Ids) (before left : Keeping) (health_before health_now : Health) (old now : WireState kind)
     (to_come_before : Option (List ℤ)) (outcome : Outcome) : Type 0 where
   pub sync : IsSync ids before left health_before health_now old now outcome
-  pub because : EndsBecause sync.meta sync.moment sync.tries before to_come_before outcome
+  pub because : EndsBecause sync.asked.meta sync.asked.moment sync.asked.tries before to_come_before outcome
 
 -- ---- where it may run out of memory
 -- none of these commits, so no finish is among them
@@ -291,7 +305,7 @@ LacksMemoryEarly tries = ArePlain (asks_in tries) ⊎ EndsUnanswered tries unans
 pub record IsSyncSparing {kind : WireKind} (spares : Bool) (ids : Ids) (before left : Keeping) (health_before health_now : Health) (old now : WireState kind)
     (to_come_before : Option (List ℤ)) (outcome : Outcome) : Type 0 where
   pub ended : IsSyncEnded ids before left health_before health_now old now to_come_before outcome
-  pub memory : spares ≡ true → outcome ≡ outcomes.Memory → LacksMemoryEarly (meta_tried ended.sync.meta ∷ ended.sync.tries)
+  pub memory : spares ≡ true → outcome ≡ outcomes.Memory → LacksMemoryEarly (meta_tried ended.sync.asked.meta ∷ ended.sync.asked.tries)
 
 -- ---- what it takes of its clock
 -- the moment that a clock gives once it gave so many others, and what it has still to give then

@@ -103,13 +103,13 @@ module _ {X : Type 0} (acts : Acting X) (idle : X → Bool) (account : AccountSt
   each_here = subst (λ (h : List ℕ). EachNewer (HasFreshSchema own.c) (world_in h account old) (world_in h account new)) same_host (fresh own.c held)
 
   -- what the client promises
-  pub synced : Synced (asker session.ids) session.ended.ended.sync.moment (asks_in session.ended.ended.sync.tries) own.c account (log_in old) (log_in new) (keeping_of made) outcome
+  pub synced : Synced (asker session.ids) session.ended.ended.sync.asked.moment (asks_in session.ended.ended.sync.asked.tries) own.c account (log_in old) (log_in new) (keeping_of made) outcome
   synced =
       let sync = session.ended.ended.sync in
       let it = sync.told (log_in old) refl in
       let now : it.0 ≡ log_in new = same_Some it.0 (log_in new) (sym it.1 ∙ ap (λ (z : LoggedState). Some (log_in z)) session.server) in
-      let syncs : Syncs session.ids sync.moment (asks_in sync.tries) (keeping_of d) (keeping_of made) (log_in old) (log_in new) outcome =
-      subst (λ (log : Log). Syncs session.ids sync.moment (asks_in sync.tries) (keeping_of d) (keeping_of made) (log_in old) log outcome) now it.2 in
+      let syncs : Syncs session.ids sync.asked.moment (asks_in sync.asked.tries) (keeping_of d) (keeping_of made) (log_in old) (log_in new) outcome =
+      subst (λ (log : Log). Syncs session.ids sync.asked.moment (asks_in sync.asked.tries) (keeping_of d) (keeping_of made) (log_in old) log outcome) now it.2 in
       syncs own.c account known may each_here
 
   leads : CommitsGrow (world_in lab_host account old) (world_in lab_host account new)
@@ -138,28 +138,28 @@ module _ {X : Type 0} (acts : Acting X) (idle : X → Bool) (account : AccountSt
 
   -- what it asked after its meta
   abbrev asked : List Request
-  asked = asked_by session.ids session.ended.ended.sync.moment session.ended.ended.sync.tries
+  asked = asked_by session.ids session.ended.ended.sync.asked.moment session.ended.ended.sync.asked.tries
 
-  joins_late : JoinsLate account key d session.ended.ended.sync.moment asked (log_in new)
+  joins_late : JoinsLate account key d session.ended.ended.sync.asked.moment asked (log_in new)
   joins_late = record { c = own.c; held = held; base = synced.base; once = λ later timely keys. once_by later timely keys }
     where
-      once_by : (later : List Event) → AllByRecursion IsTimely later → AllByRecursion (IsOwnOrOther key asked session.ended.ended.sync.moment) (events_of lab_host later)
+      once_by : (later : List Event) → AllByRecursion IsTimely later → AllByRecursion (IsOwnOrOther key asked session.ended.ended.sync.asked.moment) (events_of lab_host later)
           → CommitsAtMostOnce key own.c synced.base (world_of lab_host account (with_growth (log_in new) later)).commits
       once_by later timely keys =
           subst (λ (k : ℕ). CommitsAtMostOnce k own.c synced.base (world_of lab_host account (with_growth (log_in new) later)).commits) session.of.session
           (subst (λ (h : List ℕ). CommitsAtMostOnce session.ids.session.0 own.c synced.base (world_of h account (with_growth (log_in new) later)).commits) (sym same_host)
           (synced.once later timely
-          (subst (λ (h : List ℕ). AllByRecursion (IsOwnOrOther session.ids.session.0 asked session.ended.ended.sync.moment) (events_of h later)) same_host
-          (subst (λ (k : ℕ). AllByRecursion (IsOwnOrOther k asked session.ended.ended.sync.moment) (events_of lab_host later)) (sym session.of.session) keys))))
+          (subst (λ (h : List ℕ). AllByRecursion (IsOwnOrOther session.ids.session.0 asked session.ended.ended.sync.asked.moment) (events_of h later)) same_host
+          (subst (λ (k : ℕ). AllByRecursion (IsOwnOrOther k asked session.ended.ended.sync.asked.moment) (events_of lab_host later)) (sym session.of.session) keys))))
 
-  pub leaves_join : LeavesJoin account key device_at d made session.ended.ended.sync.moment asked (log_in old) (log_in new) outcome
+  pub leaves_join : LeavesJoin account key device_at d made session.ended.ended.sync.asked.moment asked (log_in old) (log_in new) outcome
   leaves_join = record { finished = finishes_over; others = keeps_crossed; late = joins_late }
 
 -- ---- a sync of the lab
 module _ (account : AccountState) (name : List ℕ) (s t : LabState) (crossed : List (List ℕ)) (outcome : Outcome) (linked : IsLinkedLab account s) (room : HasSession s)
     (ends : EndsSync name s t crossed outcome) (fresh : IsCrossedFresh ends.runs.d (lab_world account s) (lab_world account t)) where
-  pub sync_leaves : LeavesJoin account (one_more s.sessions) (s.clock +ℤ ends.runs.d.shift) ends.runs.d ends.runs.made ends.runs.session.ended.ended.sync.moment
-      (asked_by ends.runs.session.ids ends.runs.session.ended.ended.sync.moment ends.runs.session.ended.ended.sync.tries) (log_in s.server) (log_in t.server) outcome
+  pub sync_leaves : LeavesJoin account (one_more s.sessions) (s.clock +ℤ ends.runs.d.shift) ends.runs.d ends.runs.made ends.runs.session.ended.ended.sync.asked.moment
+      (asked_by ends.runs.session.ids ends.runs.session.ended.ended.sync.asked.moment ends.runs.session.ended.ended.sync.asked.tries) (log_in s.server) (log_in t.server) outcome
   sync_leaves =
       leaves_join CrossesAt crosses_nothing account (one_more s.sessions) s.clock (s.clock +ℤ ends.runs.d.shift) ends.runs.d.mishaps [] [] ends.runs.d ends.runs.made
       ends.runs.was ends.runs.became (server_met kinds.Sync s) (with_fails ends.runs.fails_left t.server) outcome ends.runs.session

@@ -84,9 +84,9 @@ module _ {X : Type 0} (acts : Acting X) (idle : X → Bool) (account : AccountSt
   known : keeping_of d ≡ holding own.c
   known = known_is d own.c own.holds
 
-  because : EndsBecause session.ended.ended.sync.meta session.ended.ended.sync.moment session.ended.ended.sync.tries (holding own.c) (Some (device_at ∷ [])) outcome
+  because : EndsBecause session.ended.ended.sync.asked.meta session.ended.ended.sync.asked.moment session.ended.ended.sync.asked.tries (holding own.c) (Some (device_at ∷ [])) outcome
   because =
-      subst (λ (k : Keeping). EndsBecause session.ended.ended.sync.meta session.ended.ended.sync.moment session.ended.ended.sync.tries k (Some (device_at ∷ [])) outcome) known session.ended.ended.because
+      subst (λ (k : Keeping). EndsBecause session.ended.ended.sync.asked.meta session.ended.ended.sync.asked.moment session.ended.ended.sync.asked.tries k (Some (device_at ∷ [])) outcome) known session.ended.ended.because
 
   -- ---- by the host key of the session, which is the lab's
   same_host : lab_host ≡ session.ids.host.digits
@@ -119,7 +119,7 @@ module _ {X : Type 0} (acts : Acting X) (idle : X → Bool) (account : AccountSt
   may : MayBegin (asker session.ids) own.c account (log_in old)
   may = crossed.may acts idle account key at device_at mishaps d.mishaps d.planned d made was became old new outcome session unused lawful own fresh_over
 
-  synced : Synced (asker session.ids) session.ended.ended.sync.moment (asks_in session.ended.ended.sync.tries) own.c account (log_in old) (log_in new) (keeping_of made) outcome
+  synced : Synced (asker session.ids) session.ended.ended.sync.asked.moment (asks_in session.ended.ended.sync.asked.tries) own.c account (log_in old) (log_in new) (keeping_of made) outcome
   synced = crossed.synced acts idle account key at device_at mishaps d.mishaps d.planned d made was became old new outcome session unused lawful own fresh_over
 
   -- ---- the server's schema moment
@@ -128,13 +128,13 @@ module _ {X : Type 0} (acts : Acting X) (idle : X → Bool) (account : AccountSt
       schema_led before.state.committed after.state.committed synced.server.newer synced.server.lead (finishes_here synced.server.newer synced.server.grown)
 
   -- a sync that found the join bad asked for its check, and so met the device's own
-  asked_more : (fault : CheckFault) → outcome ≡ outcomes.BadRow fault → session.ended.ended.sync.tries ≡ [] → ⊥
+  asked_more : (fault : CheckFault) → outcome ≡ outcomes.BadRow fault → session.ended.ended.sync.asked.tries ≡ [] → ⊥
   asked_more fault is none =
-      let ends : EndsAt (meta_tried session.ended.ended.sync.meta ∷ []) last outcome =
-      subst (λ (tries : List TriedAsk). EndsAt (meta_tried session.ended.ended.sync.meta ∷ tries) last outcome) none session.ended.ended.sync.ends in
-      let checked : IsCheckedLast (meta_tried session.ended.ended.sync.meta ∷ []) (stops.BadRow fault) last =
-      subst (λ (o : Outcome). EndsAt (meta_tried session.ended.ended.sync.meta ∷ []) last o) is ends in
-      let same : meta_tried session.ended.ended.sync.meta ≡ checked.it = last_of_one (meta_tried session.ended.ended.sync.meta) checked.it checked.last.0 checked.last.1 in
+      let ends : EndsAt (meta_tried session.ended.ended.sync.asked.meta ∷ []) last outcome =
+      subst (λ (tries : List TriedAsk). EndsAt (meta_tried session.ended.ended.sync.asked.meta ∷ tries) last outcome) none session.ended.ended.sync.ends.why in
+      let checked : IsCheckedLast (meta_tried session.ended.ended.sync.asked.meta ∷ []) (stops.BadRow fault) last =
+      subst (λ (o : Outcome). EndsAt (meta_tried session.ended.ended.sync.asked.meta ∷ []) last o) is ends in
+      let same : meta_tried session.ended.ended.sync.asked.meta ≡ checked.it = last_of_one (meta_tried session.ended.ended.sync.asked.meta) checked.it checked.last.0 checked.last.1 in
       not_both (ap (λ (t : TriedAsk). is_meta t.ask) (sym same)) (ap is_meta checked.asks)
 
   met_schema : (fault : CheckFault) → outcome ≡ outcomes.BadRow fault → own.c.head.schema ≡ before.state.committed.head.schema
@@ -146,17 +146,17 @@ module _ {X : Type 0} (acts : Acting X) (idle : X → Bool) (account : AccountSt
       enough : outcome ≢ outcomes.Memory
       enough other = not_both (ap ends_at_check is) (ap ends_at_check other)
 
-      by : (session.ended.ended.sync.tries ≡ [])
-          ⊎ ((said : MetaSaid) × (told_by session.ended.ended.sync.meta ≡ Some said) × (session.ended.ended.sync.moment ≡ said.moment) × (is_told_by_meta outcome ≡ false))
+      by : (session.ended.ended.sync.asked.tries ≡ [])
+          ⊎ ((said : MetaSaid) × (told_by session.ended.ended.sync.asked.meta ≡ Some said) × (session.ended.ended.sync.asked.moment ≡ said.moment) × (is_told_by_meta outcome ≡ false))
           → own.c.head.schema ≡ before.state.committed.head.schema
       by (inl none) = absurd (asked_more fault is none)
       by (inr (said, told, same, untold)) =
           let met = because.met said told in
-          let tried = session.ended.ended.sync.tried in
+          let tried = session.ended.ended.sync.asked.tried in
           one_schema said met.0 own.c outcome met.3 untold not_kept enough
           ∙ schema_told session.ids account (log_in old) (log_in new) unused_here finishes_here said
-          (requests_from (asker session.ids) session.ended.ended.sync.moment 1 (asks_in session.ended.ended.sync.tries)) (answers_in session.ended.ended.sync.tries)
-          (health_over no_calls mishaps) tried.0 session.health first tried.1 last session.ended.ended.sync.meta tried.2 tried.3 refl log_now told
+          (requests_from (asker session.ids) session.ended.ended.sync.asked.moment 1 (asks_in session.ended.ended.sync.asked.tries)) (answers_in session.ended.ended.sync.asked.tries)
+          (health_over no_calls mishaps) tried.0 session.health first tried.1 last session.ended.ended.sync.asked.meta tried.2 tried.3 refl log_now told
 
   -- ---- the device
   undone : made.undo ≡ []

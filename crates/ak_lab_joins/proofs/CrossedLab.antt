@@ -71,7 +71,7 @@ module _ (account : AccountState) (ordered : Bool) (name : List ℕ) (s t : LabS
   own_asked : AreOwnCalls (one_more s.sessions) ends.runs.session.calls
   own_asked =
       let sync = ends.runs.session.ended.ended.sync in
-      own_calls (one_more s.sessions) ends.runs.session.ids sync.moment sync.tries (sync.meta ∷ answers_in sync.tries) ends.runs.session.calls ends.runs.session.of.session sync.rows ends.runs.session.asked
+      own_calls (one_more s.sessions) ends.runs.session.ids sync.asked.moment sync.asked.tries (sync.asked.meta ∷ answers_in sync.asked.tries) ends.runs.session.calls ends.runs.session.of.session sync.bounded.rows ends.runs.session.asked
 
   pub stays : Stays account ordered ends.place (begun kinds.Sync name s t crossed outcome ends) (cross_state ends.runs.became.lab) s.server t.server
   stays = calls_stay account ordered kinds.Sync name s t crossed outcome ends own_asked
@@ -80,10 +80,10 @@ module _ (account : AccountState) (ordered : Bool) (name : List ℕ) (s t : LabS
   grown_timely : HasGrown (log_in s.server) (state_of_loop CrossesAt crosses_nothing ends.runs.session.end).log
   grown_timely =
       let sync = ends.runs.session.ended.ended.sync in
-      tried_grows (meta_of ends.runs.session.ids ∷ requests_from (asker ends.runs.session.ids) sync.moment 1 (asks_in sync.tries)) (sync.meta ∷ answers_in sync.tries)
+      tried_grows (meta_of ends.runs.session.ids ∷ requests_from (asker ends.runs.session.ids) sync.asked.moment 1 (asks_in sync.asked.tries)) (sync.asked.meta ∷ answers_in sync.asked.tries)
       (health_over no_calls ends.runs.d.mishaps) ends.runs.session.health
       (state_of_loop CrossesAt crosses_nothing (inside_with (server_met kinds.Sync s) ends.runs.was s.clock ends.runs.d.mishaps no_calls)) (state_of_loop CrossesAt crosses_nothing ends.runs.session.end)
-      (log_in s.server) sync.tried refl
+      (log_in s.server) sync.asked.tried refl
 
   pub sync_timely : (growth : List Event) → log_in t.server ≡ with_growth (log_in s.server) growth → AllByRecursion IsTimely growth
   sync_timely growth is =

@@ -258,8 +258,8 @@ module _ (account : AccountState) (ordered : Bool) (place : ℕ) where
       crossed_leaves =
           let sync = it.sync.sync in
           let ran = sync.session in
-          let moment : ℤ = ran.ended.ended.sync.moment in
-          let asked : List Request = asked_by ran.ids moment ran.ended.ended.sync.tries in
+          let moment : ℤ = ran.ended.ended.sync.asked.moment in
+          let asked : List Request = asked_by ran.ids moment ran.ended.ended.sync.asked.tries in
           subst (λ (log : Log). LeavesJoin account next_key (was.clock +ℤ it.d.shift) it.d made moment asked (log_in old) log it.outcome) (sym reached_log)
           (leaves_join ReplaysAt replays_nothing account next_key was.clock (was.clock +ℤ it.d.shift) it.d.mishaps [] (crossings_of it.d.planned) it.d made
           sync.replays sync.replays_left (with_line line old) sync.reached it.outcome ran (is.server.unused next_key (one_past was.sessions)) is.server.lawful own.linked

@@ -208,5 +208,5 @@ module _ (sessions : ℕ) where
       calls_keep Under keeps_under (IsOwnRequest key) at
       (λ x a b request reply own served. served_under key at past a b request reply own served)
       ReplaysAt replays_nothing replays_under mishaps 0 ran.calls was became old new
-      (own_calls key ran.ids ran.ended.ended.sync.moment ran.ended.ended.sync.tries (ran.ended.ended.sync.meta ∷ answers_in ran.ended.ended.sync.tries) ran.calls ran.of.session ran.ended.ended.sync.rows ran.asked)
+      (own_calls key ran.ids ran.ended.ended.sync.asked.moment ran.ended.ended.sync.asked.tries (ran.ended.ended.sync.asked.meta ∷ answers_in ran.ended.ended.sync.asked.tries) ran.calls ran.of.session ran.ended.ended.sync.bounded.rows ran.asked)
       ran.come

@@ -133,12 +133,12 @@ session_met_three : {X : Type 0} (acts : Acting X) (idle : X → Bool) (key : �
 session_met_three acts idle key at moments mishaps d made was became old new ran =
     let sync = ran.ended.ended.sync in
     -- the last that was tried, what was tried before it, and that it got no answer
-    let why : EndsUnanswered (meta_tried sync.meta ∷ sync.tries) unanswered.Lost = sync.ends in
-    let answers : List (Result Reply WireEnd) = sync.meta ∷ answers_in sync.tries in
+    let why : EndsUnanswered (meta_tried sync.asked.meta ∷ sync.asked.tries) unanswered.Lost = sync.ends.why in
+    let answers : List (Result Reply WireEnd) = sync.asked.meta ∷ answers_in sync.asked.tries in
     let is : answers ≡ answers_in why.1.0 ++ Err ends.Failed ∷ [] =
-    last_answer (meta_tried sync.meta ∷ sync.tries) why.1.0 why.0 why.1.1
+    last_answer (meta_tried sync.asked.meta ∷ sync.asked.tries) why.1.0 why.0 why.1.1
     ∙ ap (λ (answer : Result Reply WireEnd). answers_in why.1.0 ++ answer ∷ []) why.2 in
-    let found = last_lost (sent_by ran.ids sync.moment sync.tries) answers ran.calls (answers_in why.1.0) is ran.asked in
+    let found = last_lost (sent_by ran.ids sync.asked.moment sync.asked.tries) answers ran.calls (answers_in why.1.0) is ran.asked in
     record {
       earlier = found.earlier;
       request = found.request;

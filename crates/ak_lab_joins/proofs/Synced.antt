@@ -178,7 +178,7 @@ module _ {mishaps : List Mishap} (account : AccountState) (sessions : ℕ) (at d
     linked = linked.links.linked;
   }
 
-  abbrev ended : EndsBecause sync.ended.ended.sync.meta sync.ended.ended.sync.moment sync.ended.ended.sync.tries (keeping_of d) (Some (device_at ∷ [])) outcome
+  abbrev ended : EndsBecause sync.ended.ended.sync.asked.meta sync.ended.ended.sync.asked.moment sync.ended.ended.sync.asked.tries (keeping_of d) (Some (device_at ∷ [])) outcome
   ended = sync.ended.ended.because
 
   -- what was committed
@@ -344,7 +344,7 @@ module _ {mishaps : List Mishap} (account : AccountState) (sessions : ℕ) (at d
       (Some (device_at ∷ [])) outcome c sync.alone refl log_now known sync.ended.ended.sync ended may early
 
   -- what it asked is a front of its plan with a collection
-  pub asked_front : (base : Collection) × (rest : List Ask) × (asks_in sync.ended.ended.sync.tries ++ rest ≡ planned c base)
+  pub asked_front : (base : Collection) × (rest : List Ask) × (asks_in sync.ended.ended.sync.asked.tries ++ rest ≡ planned c base)
   asked_front =
       let it = syncs.synced sync.ids account (log_in met) (log_in new) (keeping_of d) (keeping_of made) (health_over no_calls mishaps) sync.health first last
       (Some (device_at ∷ [])) outcome c sync.alone refl log_now known sync.ended.ended.sync ended may in

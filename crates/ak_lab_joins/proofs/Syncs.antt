@@ -58,7 +58,7 @@ not_zero usn is over = omega (arith, ints, is, over)
 
 module _ {kind : WireKind} (ids : Ids) (account : AccountState) (old now : Log) (before left : Keeping) (h0 h1 : Health) (w0 w1 : WireState kind) (to_come : Option (List ℤ)) (outcome : Outcome) (c : Collection)
     (alone : w0.alone ≡ true) (told : w0.log ≡ Some old) (told_now : w1.log ≡ Some now) (holds : before ≡ holding c)
-    (sync : IsSync ids before left h0 h1 w0 w1 outcome) (because : EndsBecause sync.meta sync.moment sync.tries before to_come outcome)
+    (sync : IsSync ids before left h0 h1 w0 w1 outcome) (because : EndsBecause sync.asked.meta sync.asked.moment sync.asked.tries before to_come outcome)
     (may : MayBegin (asker ids) c account old) where
   abbrev pub who : Asker
   who = asker ids
@@ -71,12 +71,12 @@ module _ {kind : WireKind} (ids : Ids) (account : AccountState) (old now : Log) 
 
   -- ---- what came
   -- nothing but metas, if nothing more was asked
-  metas_came : sync.tries ≡ [] → GrowsSo IsQuiet old now
+  metas_came : sync.asked.tries ≡ [] → GrowsSo IsQuiet old now
   metas_came none =
-      let tried : AreTried (meta_of ids ∷ []) (sync.meta ∷ []) h0 h1 w0 w1 =
-      subst (λ (tries : List TriedAsk). AreTried (meta_of ids ∷ requests_from (asker ids) sync.moment 1 (asks_in tries)) (sync.meta ∷ answers_in tries) h0 h1 w0 w1)
-      none sync.tried in
-      grows_so IsQuiet (meta_of ids ∷ []) (sync.meta ∷ []) h0 h1 w0 w1 old now tried ((λ at setback. refl), tt) alone told told_now
+      let tried : AreTried (meta_of ids ∷ []) (sync.asked.meta ∷ []) h0 h1 w0 w1 =
+      subst (λ (tries : List TriedAsk). AreTried (meta_of ids ∷ requests_from (asker ids) sync.asked.moment 1 (asks_in tries)) (sync.asked.meta ∷ answers_in tries) h0 h1 w0 w1)
+      none sync.asked.tried in
+      grows_so IsQuiet (meta_of ids ∷ []) (sync.asked.meta ∷ []) h0 h1 w0 w1 old now tried ((λ at setback. refl), tt) alone told told_now
 
   none_newer : StaysQuiet was is_now → (P : Commit → Type 0) → EachNewer P was is_now
   none_newer quiet P newer is =
@@ -85,14 +85,14 @@ module _ {kind : WireKind} (ids : Ids) (account : AccountState) (old now : Log) 
   -- ---- what the log is
   pub own_growth : GrowsSo (IsOfSession ids.session.0) old now
   own_growth =
-      grows_so (IsOfSession ids.session.0) (meta_of ids ∷ requests_from (asker ids) sync.moment 1 (asks_in sync.tries)) (sync.meta ∷ answers_in sync.tries)
-      h0 h1 w0 w1 old now sync.tried ((λ at setback. refl), requests_of_session (asker ids) sync.moment 1 (asks_in sync.tries)) alone told told_now
+      grows_so (IsOfSession ids.session.0) (meta_of ids ∷ requests_from (asker ids) sync.asked.moment 1 (asks_in sync.asked.tries)) (sync.asked.meta ∷ answers_in sync.asked.tries)
+      h0 h1 w0 w1 old now sync.asked.tried ((λ at setback. refl), requests_of_session (asker ids) sync.asked.moment 1 (asks_in sync.asked.tries)) alone told told_now
 
   -- no upload is among what was asked, so each commit leaves the server's schema moment
   plain_growth : GrowsSo IsNoUpload old now
   plain_growth =
-      grows_so IsNoUpload (meta_of ids ∷ requests_from (asker ids) sync.moment 1 (asks_in sync.tries)) (sync.meta ∷ answers_in sync.tries)
-      h0 h1 w0 w1 old now sync.tried ((λ at setback. no_upload asks.Meta tt), none_uploads (asker ids) sync.moment 1 (asks_in sync.tries) sync.rows) alone told told_now
+      grows_so IsNoUpload (meta_of ids ∷ requests_from (asker ids) sync.asked.moment 1 (asks_in sync.asked.tries)) (sync.asked.meta ∷ answers_in sync.asked.tries)
+      h0 h1 w0 w1 old now sync.asked.tried ((λ at setback. no_upload asks.Meta tt), none_uploads (asker ids) sync.asked.moment 1 (asks_in sync.asked.tries) sync.bounded.rows) alone told told_now
 
   pub fresh : EachNewer (HasFreshSchema c) was is_now
   fresh =
@@ -101,16 +101,16 @@ module _ {kind : WireKind} (ids : Ids) (account : AccountState) (old now : Log) 
       (schemas_stay c was (events_of who.host.digits plain_growth.growth) (some_of_all IsNoUpload who.host.digits plain_growth.growth plain_growth.all))
 
   -- ---- what the client promises
-  pub synced : Synced who sync.moment (asks_in sync.tries) c account old now left outcome
+  pub synced : Synced who sync.asked.moment (asks_in sync.asked.tries) c account old now left outcome
   synced =
       let it = sync.told old told in
-      let syncs : Syncs ids sync.moment (asks_in sync.tries) before left old now outcome =
-      subst (λ (log : Log). Syncs ids sync.moment (asks_in sync.tries) before left old log outcome)
+      let syncs : Syncs ids sync.asked.moment (asks_in sync.asked.tries) before left old now outcome =
+      subst (λ (log : Log). Syncs ids sync.asked.moment (asks_in sync.asked.tries) before left old log outcome)
       (same_Some it.0 now (sym it.1 ∙ told_now)) it.2 in
       syncs c account holds may fresh
 
   pub commits : CommitsAlone who account old now
-  commits = sync.commits alone old now account told told_now may.unused
+  commits = sync.wire.commits alone old now account told told_now may.unused
 
   pub quiet_if_early : ends_before_finish outcome ≡ true → StaysQuiet was is_now
   quiet_if_early early =
@@ -118,13 +118,13 @@ module _ {kind : WireKind} (ids : Ids) (account : AccountState) (old now : Log) 
       record { committed = commits.stays none; commits = commits.commits ∙ ap (λ (l : List Commit). l ++ was.commits) none }
 
   -- ---- nothing to sync
-  nothing_more : outcome ≡ outcomes.NoChanges → sync.tries ≡ []
+  nothing_more : outcome ≡ outcomes.NoChanges → sync.asked.tries ≡ []
   nothing_more is = by because.more
     where
       never : {b : Bool} → b ≡ true → b ≡ false → ⊥
       never is_so is_not = grind (arith, is_so, is_not)
 
-      by : (sync.tries ≡ []) ⊎ ((said : MetaSaid) × (told_by sync.meta ≡ Some said) × (sync.moment ≡ said.moment) × (is_told_by_meta outcome ≡ false)) → sync.tries ≡ []
+      by : (sync.asked.tries ≡ []) ⊎ ((said : MetaSaid) × (told_by sync.asked.meta ≡ Some said) × (sync.asked.moment ≡ said.moment) × (is_told_by_meta outcome ≡ false)) → sync.asked.tries ≡ []
       by (inl none) = none
       by (inr (said, answered, same, untold)) = absurd (never (ap is_told_by_meta is) untold)
 

@@ -144,7 +144,7 @@ module _ (account : AccountState) (name : List ℕ) (s t : LabState) (outcome : 
       server_here device_here
 
   -- what was asked is a front of a plan
-  asked : (base : Collection) × (rest : List Ask) × (asks_in ends.session.ended.ended.sync.tries ++ rest ≡ planned device_here.c base)
+  asked : (base : Collection) × (rest : List Ask) × (asks_in ends.session.ended.ended.sync.asked.tries ++ rest ≡ planned device_here.c base)
   asked =
       synced.asked_front account s.sessions s.clock (s.clock +ℤ ends.d.shift) ends.d ends.made (server_met kinds.Sync s) (with_fails ends.fails_left t.server) outcome room ends.session
       server_here device_here
@@ -166,14 +166,14 @@ module _ (account : AccountState) (name : List ℕ) (s t : LabState) (outcome : 
     }
 
     -- if all that was tried is mild, nothing was committed
-    mild_commits_nothing : AllByRecursion (IsMild ends.d.mishaps) ends.session.ended.ended.sync.tries → KeepsCommitted (lab_world account s) (lab_world account t)
+    mild_commits_nothing : AllByRecursion (IsMild ends.d.mishaps) ends.session.ended.ended.sync.asked.tries → KeepsCommitted (lab_world account s) (lab_world account t)
     mild_commits_nothing mild = (quiet.committed, quiet.commits)
       where
         both : QuietOrBoth (world_in ends.session.ids.host.digits account s.server) (world_in ends.session.ids.host.digits account ends.session.end.server)
         both =
-            session_goes CrossesAt crosses_nothing account (asker ends.session.ids) ends.d.mishaps ends.session.ids ends.session.ended.ended.sync.moment
-            ends.session.ended.ended.sync.meta ends.session.ended.ended.sync.tries (health_over no_calls ends.d.mishaps) ends.session.health first last refl stands mild
-            ends.session.ended.ended.sync.tried
+            session_goes CrossesAt crosses_nothing account (asker ends.session.ids) ends.d.mishaps ends.session.ids ends.session.ended.ended.sync.asked.moment
+            ends.session.ended.ended.sync.asked.meta ends.session.ended.ended.sync.asked.tries (health_over no_calls ends.d.mishaps) ends.session.health first last refl stands mild
+            ends.session.ended.ended.sync.asked.tried
 
         here_quiet : StaysQuiet (world_in ends.session.ids.host.digits account s.server) (world_in ends.session.ids.host.digits account t.server)
         here_quiet =
@@ -185,16 +185,16 @@ module _ (account : AccountState) (name : List ℕ) (s t : LabState) (outcome : 
         quiet = subst (λ (h : List ℕ). StaysQuiet (world_in h account s.server) (world_in h account t.server)) ends.session.of.host here_quiet
 
     -- so it is if what was tried last is
-    last_commits_nothing : (it : TriedAsk) (before : List TriedAsk) → meta_tried ends.session.ended.ended.sync.meta ∷ ends.session.ended.ended.sync.tries ≡ before ++ it ∷ []
+    last_commits_nothing : (it : TriedAsk) (before : List TriedAsk) → meta_tried ends.session.ended.ended.sync.asked.meta ∷ ends.session.ended.ended.sync.asked.tries ≡ before ++ it ∷ []
         → IsMild ends.d.mishaps it → KeepsCommitted (lab_world account s) (lab_world account t)
     last_commits_nothing it before parts mild =
         mild_commits_nothing
-        (tries_mild (asker ends.session.ids) device_here.c asked.0 ends.d.mishaps ends.session.ended.ended.sync.meta ends.session.ended.ended.sync.tries before it asked.1 parts asked.2 mild)
+        (tries_mild (asker ends.session.ids) device_here.c asked.0 ends.d.mishaps ends.session.ended.ended.sync.asked.meta ends.session.ended.ended.sync.asked.tries before it asked.1 parts asked.2 mild)
 
     -- memory ran out before it asked its finish, or in its last call. If nothing is lost or repeated, that was not served
-    lacking_commits_nothing : ends.d.mishaps ≡ [] → LacksMemoryEarly (meta_tried ends.session.ended.ended.sync.meta ∷ ends.session.ended.ended.sync.tries)
+    lacking_commits_nothing : ends.d.mishaps ≡ [] → LacksMemoryEarly (meta_tried ends.session.ended.ended.sync.asked.meta ∷ ends.session.ended.ended.sync.asked.tries)
         → KeepsCommitted (lab_world account s) (lab_world account t)
-    lacking_commits_nothing nothing (inl plain) = mild_commits_nothing (plain_mild ends.d.mishaps ends.session.ended.ended.sync.tries plain.1)
+    lacking_commits_nothing nothing (inl plain) = mild_commits_nothing (plain_mild ends.d.mishaps ends.session.ended.ended.sync.asked.tries plain.1)
     lacking_commits_nothing nothing (inr (it, (before, parts), is)) =
         last_commits_nothing it before parts (inr (subst (ShowsNone ends.d.mishaps it.ask) (sym is) nothing))
 
@@ -207,24 +207,24 @@ module _ (account : AccountState) (name : List ℕ) (s t : LabState) (outcome : 
         lacking is (inl enough) = absurd (enough is)
         lacking is (inr nothing) = lacking_commits_nothing nothing (ends.session.ended.memory refl is)
 
-        ends_at : (o : Outcome) → outcome ≡ o → EndsAt (meta_tried ends.session.ended.ended.sync.meta ∷ ends.session.ended.ended.sync.tries) last o
-        ends_at o is = subst (EndsAt (meta_tried ends.session.ended.ended.sync.meta ∷ ends.session.ended.ended.sync.tries) last) is ends.session.ended.ended.sync.ends
+        ends_at : (o : Outcome) → outcome ≡ o → EndsAt (meta_tried ends.session.ended.ended.sync.asked.meta ∷ ends.session.ended.ended.sync.asked.tries) last o
+        ends_at o is = subst (EndsAt (meta_tried ends.session.ended.ended.sync.asked.meta ∷ ends.session.ended.ended.sync.asked.tries) last) is ends.session.ended.ended.sync.ends.why
 
         early : (o : Outcome) → outcome ≡ o → ends_before_finish o ≡ true → KeepsCommitted (lab_world account s) (lab_world account t)
         early o is before =
             let early_so : ends_before_finish outcome ≡ true = ap ends_before_finish is ∙ before in
             kept_early account name s t outcome linked room ends (λ memory. not_both early_so (ap ends_before_finish memory)) early_so
 
-        sends : (it : TriedAsk) (before : List TriedAsk) → meta_tried ends.session.ended.ended.sync.meta ∷ ends.session.ended.ended.sync.tries ≡ before ++ it ∷ [] → SendsRows it.ask
-        sends it before parts = last_sends before it (subst (λ (l : List TriedAsk). AllByRecursion SendsRows (asks_in l)) parts (tt, ends.session.ended.ended.sync.rows))
+        sends : (it : TriedAsk) (before : List TriedAsk) → meta_tried ends.session.ended.ended.sync.asked.meta ∷ ends.session.ended.ended.sync.asked.tries ≡ before ++ it ∷ [] → SendsRows it.ask
+        sends it before parts = last_sends before it (subst (λ (l : List TriedAsk). AllByRecursion SendsRows (asks_in l)) parts (tt, ends.session.ended.ended.sync.bounded.rows))
 
         refused : (status : ℕ) (word : Word) (seen : ℤ)
-            → EndsUnanswered (meta_tried ends.session.ended.ended.sync.meta ∷ ends.session.ended.ended.sync.tries) (unanswered.Refused status word seen)
+            → EndsUnanswered (meta_tried ends.session.ended.ended.sync.asked.meta ∷ ends.session.ended.ended.sync.asked.tries) (unanswered.Refused status word seen)
             → KeepsCommitted (lab_world account s) (lab_world account t)
         refused status word seen (it, (before, parts), refusal) =
             last_commits_nothing it before parts (refused_mild ends.d.mishaps it status word seen (sends it before parts) refusal)
 
-        unread : EndsUnanswered (meta_tried ends.session.ended.ended.sync.meta ∷ ends.session.ended.ended.sync.tries) unanswered.BadReply
+        unread : EndsUnanswered (meta_tried ends.session.ended.ended.sync.asked.meta ∷ ends.session.ended.ended.sync.asked.tries) unanswered.BadReply
             → KeepsCommitted (lab_world account s) (lab_world account t)
         unread (it, (before, parts), refusal) = last_commits_nothing it before parts (unread_mild ends.d.mishaps it (sends it before parts) refusal)
 

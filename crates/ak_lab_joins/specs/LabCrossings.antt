@@ -78,7 +78,7 @@ abbrev pub SyncJoinsLate : AccountState → (name : List ℕ) (s t : LabState) (
 SyncJoinsLate account name s t crossed outcome ended =
     let session = ended.runs.session in
     let sync = session.ended.ended.sync in
-    JoinsLate account (one_more s.sessions) ended.runs.d sync.moment (asked_by session.ids sync.moment sync.tries) (log_in t.server)
+    JoinsLate account (one_more s.sessions) ended.runs.d sync.asked.moment (asked_by session.ids sync.asked.moment sync.asked.tries) (log_in t.server)
 
 -- what a sync leaves that began when its device's clock stood at this moment, and asked these over that one
 pub record LeavesJoin (account : AccountState) (key : ℕ) (at : ℤ) (d made : Device) (moment : ℤ) (asked : List Request) (before now : Log) (outcome : Outcome)
@@ -92,7 +92,7 @@ abbrev pub CrossedLeavesJoin : AccountState → SaidOfCrossed
 CrossedLeavesJoin account name line session was now old new came it =
     let ran = it.sync.sync.session in
     let sync = ran.ended.ended.sync in
-    LeavesJoin account (was.sessions + 1) (was.clock +ℤ it.d.shift) it.d it.sync.made sync.moment (asked_by ran.ids sync.moment sync.tries)
+    LeavesJoin account (was.sessions + 1) (was.clock +ℤ it.d.shift) it.d it.sync.made sync.asked.moment (asked_by ran.ids sync.asked.moment sync.asked.tries)
     (log_in old) (log_in new) it.outcome
 
 -- ---- reviews

@@ -171,7 +171,7 @@ module _ (session : ℕ) where
   crossed_between name line was now old new came it =
       let sync = it.sync.sync in
       let ran = sync.session in
-      let own = crossed_key (was.sessions + 1) ran.ids ran.ended.ended.sync.moment ran.ended.ended.sync.tries (ran.ended.ended.sync.meta ∷ answers_in ran.ended.ended.sync.tries) ran.calls ran.of.session ran.asked in
+      let own = crossed_key (was.sessions + 1) ran.ids ran.ended.ended.sync.asked.moment ran.ended.ended.sync.asked.tries (ran.ended.ended.sync.asked.meta ∷ answers_in ran.ended.ended.sync.asked.tries) ran.calls ran.of.session ran.asked in
       subst (λ (s : LoggedState). ComesBetween session old s) (sym sync.back)
       (comes_lined session line old sync.reached
       (calls_keep (Came session) (keeps_between session) (λ (request : Request). request.session.0 ≡ session → ⊥) was.clock

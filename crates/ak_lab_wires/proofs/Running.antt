@@ -94,7 +94,7 @@ module _ {X : Type 0} (acts : Acting X) (idle : X → Bool) where
         → AskedInCalls kind ended
     asked_in_calls kinds.Sync ended =
         let sync = ended.ended.sync in
-        let it = calls_made (sent_by ids sync.moment sync.tries) (sync.meta ∷ answers_in sync.tries) h h' (state_of_loop acts idle was) (state_of_loop acts idle now) sync.tried in
+        let it = calls_made (sent_by ids sync.asked.moment sync.asked.tries) (sync.asked.meta ∷ answers_in sync.asked.tries) h h' (state_of_loop acts idle was) (state_of_loop acts idle now) sync.asked.tried in
         record { calls = it.calls; asked = it.tries; made = it.made }
     asked_in_calls (kinds.Transfer directions.Upload) ended =
         let t = transfer_tried (upload_errand true k k') ids ended.asked (given_outside h (state_of_loop acts idle was) moments) (given_outside h' (state_of_loop acts idle now) to_come) outcome ended.transfer in

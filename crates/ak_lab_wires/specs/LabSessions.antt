@@ -100,7 +100,7 @@ AsksInCalls ids told meta asked calls =
 abbrev pub CallsByKind : {kind : WireKind} (it : SessionKind) (ids : Ids) (before left : Keeping) (was now : TransferOutside kind)
     (outcome : Outcome) → EndsByKind it ids before left was now outcome → List MadeCall → Type 0
 CallsByKind kinds.Sync ids before left was now outcome ended calls =
-    AreCallsOf (sent_by ids ended.ended.sync.moment ended.ended.sync.tries) (ended.ended.sync.meta ∷ answers_in ended.ended.sync.tries) calls
+    AreCallsOf (sent_by ids ended.ended.sync.asked.moment ended.ended.sync.asked.tries) (ended.ended.sync.asked.meta ∷ answers_in ended.ended.sync.asked.tries) calls
 CallsByKind (kinds.Transfer directions.Upload) ids before left was now outcome ended calls =
     AsksInCalls ids ended.transfer.answer ended.transfer.meta.answer ended.asked calls
 CallsByKind (kinds.Transfer directions.Download) ids before left was now outcome ended calls =

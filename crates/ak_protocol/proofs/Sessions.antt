@@ -14,7 +14,7 @@ use Rattle.ak_protocol.specs.Lawful.{IsNext}
 use Rattle.ak_protocol.specs.Logs.{Event, View, Asked, Commit, World, commits_of, with_commit, world_next, world_after}
 use Rattle.ak_session.specs.Requests.{is_meta, asks_commit}
 use Rattle.ak_protocol.specs.Serving.{Setback, Served, served, kept_of, reply_to, commit_reply}
-use Rattle.ak_protocol.specs.Sessions.{IsAsked, IsMetaOrOther, IsOwnOrOther, IsFresh, IsSync, IsFront, IsOnlyCommit, HoldsSync}
+use Rattle.ak_protocol.specs.Sessions.{IsAsked, IsMetaOrOther, IsOwnOrOther, IsFresh, SyncComes, IsFront, IsOnlyCommit, HoldsSync}
 use Rattle.ak_protocol.proofs.Cases.{by_cases}
 use Rattle.ak_protocol.proofs.Commits.{not_both}
 use Rattle.ak_session.proofs.CommitLaws.{commits_are_later}
@@ -380,7 +380,7 @@ revived key plan base w k = record {
 
 -- whatever else comes before and after the place at which a sync's meta is answered, its session holds a front of what it asked, over
 -- what was committed there, and at most one commit is its own
-pub sessions_hold_fronts : (key : ℕ) (plan : List Request) (w : World) (first later : List Event) → IsSync key plan w first later
+pub sessions_hold_fronts : (key : ℕ) (plan : List Request) (w : World) (first later : List Event) → SyncComes key plan w first later
     → let met = world_after w first in HoldsSync key plan met.state.committed (world_after met later)
 sessions_hold_fronts key plan w first later sync =
     let met = world_after w first in

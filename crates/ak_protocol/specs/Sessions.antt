@@ -45,7 +45,7 @@ pub record IsFresh (key : ℕ) (w : World) : Type 0 where
 
 -- a sync with this key comes to an account: nothing but metas has its key before the place at which its meta is answered, and nothing but
 -- its own requests, over what is committed there, has it after that place
-pub record IsSync (key : ℕ) (plan : List Request) (w : World) (first later : List Event) : Type 0 where
+pub record SyncComes (key : ℕ) (plan : List Request) (w : World) (first later : List Event) : Type 0 where
   pub fresh : IsFresh key w
   pub metas : AllByRecursion (IsMetaOrOther key) first
   pub own : AllByRecursion (IsOwnOrOther key plan (world_after w first).state.committed.head.moment) later

@@ -10,7 +10,7 @@ ghost use Rattle.ak_protocol.specs.Serving.{Undisturbed, served};
 ghost use Rattle.ak_protocol.specs.Sessions.{
   IsFresh,
   IsMetaOrOther,
-  IsSync,
+  SyncComes,
   HoldsSync,
   AreUndisturbed,
   HasAcceptedMore,
@@ -29,7 +29,7 @@ pub fn keys_stay_fresh()
 /// most once, over that collection too. Any requests with other session keys, views and setbacks may come in
 /// between, and those of the sync any number of times.
 pub fn sessions_hold_fronts()
-    ensures { (key : ℕ) (plan : List Request) (w : World) (first later : List Event) → IsSync key plan w first later
+    ensures { (key : ℕ) (plan : List Request) (w : World) (first later : List Event) → SyncComes key plan w first later
         → let met = world_after w first in HoldsSync key plan met.state.committed (world_after met later) }
 {}
 

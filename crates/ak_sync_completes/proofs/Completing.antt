@@ -80,7 +80,7 @@ module _ {kind : WireKind} (ids : Ids) (c : Collection) (account : AccountState)
   own = ended.sync
 
   abbrev asked : List Ask
-  asked = asks_in own.tries
+  asked = asks_in own.asked.tries
 
   -- whatever came, no commit gives the device's schema moment, which is what the server has
   fresh : EachNewer (HasFreshSchema c) (world_at asker_of account it.old) (world_at asker_of account it.now)
@@ -92,11 +92,11 @@ module _ {kind : WireKind} (ids : Ids) (c : Collection) (account : AccountState)
       no_more : (a b : ℤ) → a ≡ b → a ≤ℤ b
       no_more a b is = omega (arith, ints, is)
 
-  synced : Synced asker_of own.moment asked c account it.old it.now after.keeping outcome
+  synced : Synced asker_of own.asked.moment asked c account it.old it.now after.keeping outcome
   synced =
       let told = own.told it.old it.begins.told in
-      let syncs : Syncs ids own.moment asked before.keeping after.keeping it.old it.now outcome =
-      subst (λ (log : Log). Syncs ids own.moment asked before.keeping after.keeping it.old log outcome)
+      let syncs : Syncs ids own.asked.moment asked before.keeping after.keeping it.old it.now outcome =
+      subst (λ (log : Log). Syncs ids own.asked.moment asked before.keeping after.keeping it.old log outcome)
       (same_Some told.0 it.now (sym told.1 ∙ it.begins.told_now)) told.2 in
       syncs c account it.begins.holds it.begins.may fresh
 
@@ -104,24 +104,24 @@ module _ {kind : WireKind} (ids : Ids) (c : Collection) (account : AccountState)
   lawful = it.begins.may.lawful.committed
 
   -- what its meta says
-  says : (said : MetaSaid) → told_by own.meta ≡ Some said → Says held it.at said
+  says : (said : MetaSaid) → told_by own.asked.meta ≡ Some said → Says held it.at said
   says =
       meta_says ids account it.old it.now it.growth it.begins.may.unused.opening it.grown it.at it.near
       before.health after.health before.wire after.wire it.begins.alone it.begins.told it.begins.told_now
-      own.meta (requests_from asker_of own.moment 1 asked) (answers_in own.tries) own.tried
+      own.asked.meta (requests_from asker_of own.asked.moment 1 asked) (answers_in own.asked.tries) own.asked.tried
 
   -- so it does not end for that
   goes_on : is_told_by_meta outcome ≡ true → ⊥
   goes_on =
-      goes_on_after ids c held own.meta own.moment it.at it.later own.tries before.keeping before.moments outcome says
+      goes_on_after ids c held own.asked.meta own.asked.moment it.at it.later own.asked.tries before.keeping before.moments outcome says
       it.joinable.schema it.joinable.differ it.joinable.room.usn (device_sound c held it.joinable lawful it.begins.may.linked)
       it.begins.holds it.clock ended.because
 
   -- if it asked more, its meta was answered over what was committed before it
-  over_held : own.moment ≡ held.head.moment → (asked ≡ []) ⊎ (synced.base ≡ held)
+  over_held : own.asked.moment ≡ held.head.moment → (asked ≡ []) ⊎ (synced.base ≡ held)
   over_held same = by synced.at_meta synced.shown
     where
-      by : (asked ≡ []) ⊎ IsCommittedIn asker_of account it.old synced.growth synced.base → IsShown asker_of account synced.base own.moment asked it.now
+      by : (asked ≡ []) ⊎ IsCommittedIn asker_of account it.old synced.growth synced.base → IsShown asker_of account synced.base own.asked.moment asked it.now
           → (asked ≡ []) ⊎ (synced.base ≡ held)
       by (inl none) shown = inl none
       by (inr place) (inl (none, unused)) = inl none
@@ -132,22 +132,22 @@ module _ {kind : WireKind} (ids : Ids) (c : Collection) (account : AccountState)
           inr (same_moment held synced.base grown.newer led (moment ∙ same))
 
   -- what it asked is a front of the plan
-  front : (own.tries ≡ []) ⊎ ((own.moment ≡ held.head.moment) × (synced.base ≡ held))
+  front : (own.asked.tries ≡ []) ⊎ ((own.asked.moment ≡ held.head.moment) × (synced.base ≡ held))
   front = by ended.because.more
     where
-      known : own.moment ≡ held.head.moment → (asked ≡ []) ⊎ (synced.base ≡ held) → (own.tries ≡ []) ⊎ ((own.moment ≡ held.head.moment) × (synced.base ≡ held))
-      known same (inl none) = inl (nothing_tried own.tries none)
+      known : own.asked.moment ≡ held.head.moment → (asked ≡ []) ⊎ (synced.base ≡ held) → (own.asked.tries ≡ []) ⊎ ((own.asked.moment ≡ held.head.moment) × (synced.base ≡ held))
+      known same (inl none) = inl (nothing_tried own.asked.tries none)
       known same (inr base) = inr (same, base)
 
-      by : (own.tries ≡ []) ⊎ ((said : MetaSaid) × (told_by own.meta ≡ Some said) × (own.moment ≡ said.moment) × (is_told_by_meta outcome ≡ false))
-          → (own.tries ≡ []) ⊎ ((own.moment ≡ held.head.moment) × (synced.base ≡ held))
+      by : (own.asked.tries ≡ []) ⊎ ((said : MetaSaid) × (told_by own.asked.meta ≡ Some said) × (own.asked.moment ≡ said.moment) × (is_told_by_meta outcome ≡ false))
+          → (own.asked.tries ≡ []) ⊎ ((own.asked.moment ≡ held.head.moment) × (synced.base ≡ held))
       by (inl none) = inl none
       by (inr (said, told, moment, untold)) =
-          let same : own.moment ≡ held.head.moment = moment ∙ (says said told).moment in
+          let same : own.asked.moment ≡ held.head.moment = moment ∙ (says said told).moment in
           known same (over_held same)
 
-  planned_front : (own.tries ≡ []) ⊎ ((own.moment ≡ held.head.moment) × (synced.base ≡ held))
-      → (asked ≡ []) ⊎ ((own.moment ≡ held.head.moment) × ((rest : List Ask) × (asked ++ rest ≡ planned c held)))
+  planned_front : (own.asked.tries ≡ []) ⊎ ((own.asked.moment ≡ held.head.moment) × (synced.base ≡ held))
+      → (asked ≡ []) ⊎ ((own.asked.moment ≡ held.head.moment) × ((rest : List Ask) × (asked ++ rest ≡ planned c held)))
   planned_front (inl none) = inl (ap asks_in none)
   planned_front (inr (same, base)) =
       inr (
@@ -157,7 +157,7 @@ module _ {kind : WireKind} (ids : Ids) (c : Collection) (account : AccountState)
       )
 
   -- a refusal is that memory ran out
-  refused : (status : ℕ) (word : Word) (seen : ℤ) → EndsAt (meta_tried own.meta ∷ own.tries) after.wire (outcomes.Refused status word seen) → RanOutOfMemory it.growth
+  refused : (status : ℕ) (word : Word) (seen : ℤ) → EndsAt (meta_tried own.asked.meta ∷ own.asked.tries) after.wire (outcomes.Refused status word seen) → RanOutOfMemory it.growth
   refused status word seen (last, (earlier, parts), (reply, answered, other, same_status, same_word, same_seen)) = by (quiet_or_out it.growth it.server)
     where
       by : AllByRecursion IsQuiet it.growth ⊎ RanOutOfMemory it.growth → RanOutOfMemory it.growth
@@ -166,7 +166,7 @@ module _ {kind : WireKind} (ids : Ids) (c : Collection) (account : AccountState)
           absurd (other (granted_last ids account it.old it.now it.growth it.begins.may.unused.opening it.grown quiet
           before.health after.health before.wire after.wire it.begins.alone it.begins.told it.begins.told_now
           c (may_sync c held it.joinable lawful it.begins.may.linked) it.joinable.room it.joinable.joins (short c held it.joinable lawful it.begins.may.linked asker_of)
-          own.meta own.moment own.tries own.granted (planned_front front) last earlier parts reply answered own.tried))
+          own.asked.meta own.asked.moment own.asked.tries own.ends.granted (planned_front front) last earlier parts reply answered own.asked.tried))
 
   -- what its session committed has a moment in its range
   committed_now : (made : Collection) → commits_of ids.session.0 (world_at asker_of account it.now).commits
@@ -175,46 +175,46 @@ module _ {kind : WireKind} (ids : Ids) (c : Collection) (account : AccountState)
       commit_is_timed asker_of account it.old it.now synced.growth synced.grown it.begins.may.unused it.begins.may.lawful synced.timely held
 
   -- each answer can be read
-  readable : EndsAt (meta_tried own.meta ∷ own.tries) after.wire outcomes.BadReply → ⊥
+  readable : EndsAt (meta_tried own.asked.meta ∷ own.asked.tries) after.wire outcomes.BadReply → ⊥
   readable (last, (earlier, parts), unusable) =
       it.reading (unread_counted ids c account it.old it.now it.begins.may.unused lawful (may_sync c held it.joinable lawful it.begins.may.linked)
       before.health after.health before.wire after.wire it.begins.alone it.begins.told it.begins.told_now committed_now
-      own.meta own.moment own.tries own.granted (planned_front front) last earlier parts own.tried unusable)
+      own.asked.meta own.asked.moment own.asked.tries own.ends.granted (planned_front front) last earlier parts own.asked.tried unusable)
 
   -- its meta is no sanity check
-  unchecked : (stop : Stop) → own.tries ≡ [] → IsCheckedLast (meta_tried own.meta ∷ own.tries) stop after.wire → ⊥
+  unchecked : (stop : Stop) → own.asked.tries ≡ [] → IsCheckedLast (meta_tried own.asked.meta ∷ own.asked.tries) stop after.wire → ⊥
   unchecked stop none check =
-      let same : check.it ≡ meta_tried own.meta =
-      last_of_one (meta_tried own.meta) check.it check.last.0 (ap (λ (l : List TriedAsk). meta_tried own.meta ∷ l) (sym none) ∙ check.last.1) in
+      let same : check.it ≡ meta_tried own.asked.meta =
+      last_of_one (meta_tried own.asked.meta) check.it check.last.0 (ap (λ (l : List TriedAsk). meta_tried own.asked.meta ∷ l) (sym none) ∙ check.last.1) in
       let ask : asks.Meta ≡ asks.SanityCheck2 check.counts = ap (λ (t : TriedAsk). t.ask) (sym same) ∙ check.asks in
       grind (arith, ask)
 
   -- the sanity check is good
-  fair : own.tries ≡ [] ⊎ IsFairEnd c held outcome
+  fair : own.asked.tries ≡ [] ⊎ IsFairEnd c held outcome
   fair = by front
     where
-      by : (own.tries ≡ []) ⊎ ((own.moment ≡ held.head.moment) × (synced.base ≡ held)) → own.tries ≡ [] ⊎ IsFairEnd c held outcome
+      by : (own.asked.tries ≡ []) ⊎ ((own.asked.moment ≡ held.head.moment) × (synced.base ≡ held)) → own.asked.tries ≡ [] ⊎ IsFairEnd c held outcome
       by (inl none) = inl none
       by (inr (same, base)) =
           inr (subst (λ (k : Collection). IsFairEnd c k outcome) base
           synced.fair)
 
-  bad_row : (fault : CheckFault) → outcome ≡ outcomes.BadRow fault → (own.tries ≡ [] ⊎ IsFairEnd c held outcome) → ⊥
+  bad_row : (fault : CheckFault) → outcome ≡ outcomes.BadRow fault → (own.asked.tries ≡ [] ⊎ IsFairEnd c held outcome) → ⊥
   bad_row fault is (inl none) =
-      unchecked (stops.BadRow fault) none (subst (EndsAt (meta_tried own.meta ∷ own.tries) after.wire) is own.ends)
+      unchecked (stops.BadRow fault) none (subst (EndsAt (meta_tried own.asked.meta ∷ own.asked.tries) after.wire) is own.ends.why)
   bad_row fault is (inr fair_end) = fair_end (stops.BadRow fault) is it.joinable.joins
 
-  bad_counts : (client server : SanityCounts) → outcome ≡ outcomes.BadCounts client server → (own.tries ≡ [] ⊎ IsFairEnd c held outcome) → ⊥
+  bad_counts : (client server : SanityCounts) → outcome ≡ outcomes.BadCounts client server → (own.asked.tries ≡ [] ⊎ IsFairEnd c held outcome) → ⊥
   bad_counts client server is (inl none) =
-      unchecked (stops.BadCounts client server) none (subst (EndsAt (meta_tried own.meta ∷ own.tries) after.wire) is own.ends)
+      unchecked (stops.BadCounts client server) none (subst (EndsAt (meta_tried own.asked.meta ∷ own.asked.tries) after.wire) is own.ends.why)
   bad_counts client server is (inr fair_end) = fair_end (stops.BadCounts client server) is
 
   -- and the chunks are few
-  too_many : outcome ≡ outcomes.TooManyChunks → (own.tries ≡ [] ⊎ IsFairEnd c held outcome) → ⊥
+  too_many : outcome ≡ outcomes.TooManyChunks → (own.asked.tries ≡ [] ⊎ IsFairEnd c held outcome) → ⊥
   too_many is (inl none) =
-      none_many (subst (λ (l : List TriedAsk). AreTooMany (meta_tried own.meta ∷ l)) none (subst (EndsAt (meta_tried own.meta ∷ own.tries) after.wire) is own.ends))
+      none_many (subst (λ (l : List TriedAsk). AreTooMany (meta_tried own.asked.meta ∷ l)) none (subst (EndsAt (meta_tried own.asked.meta ∷ own.asked.tries) after.wire) is own.ends.why))
     where
-      none_many : AreTooMany (meta_tried own.meta ∷ []) → ⊥
+      none_many : AreTooMany (meta_tried own.asked.meta ∷ []) → ⊥
       none_many (inl came) = omega (arith, came)
       none_many (inr sent) = omega (arith, sent)
   too_many is (inr fair_end) = by (fair_end stops.TooManyChunks is)
@@ -235,9 +235,9 @@ module _ {kind : WireKind} (ids : Ids) (c : Collection) (account : AccountState)
   by_outcome (outcomes.OwnCheck fault) is = absurd (goes_on (ap is_told_by_meta is))
   by_outcome outcomes.Stopped is = absurd (goes_on (ap is_told_by_meta is))
   by_outcome (outcomes.Refused status word seen) is =
-      inl (refused status word seen (subst (EndsAt (meta_tried own.meta ∷ own.tries) after.wire) is own.ends))
+      inl (refused status word seen (subst (EndsAt (meta_tried own.asked.meta ∷ own.asked.tries) after.wire) is own.ends.why))
   by_outcome outcomes.Lost is = inr (inl refl)
-  by_outcome outcomes.BadReply is = absurd (readable (subst (EndsAt (meta_tried own.meta ∷ own.tries) after.wire) is own.ends))
+  by_outcome outcomes.BadReply is = absurd (readable (subst (EndsAt (meta_tried own.asked.meta ∷ own.asked.tries) after.wire) is own.ends.why))
   by_outcome outcomes.TooManyChunks is = absurd (too_many is fair)
   by_outcome outcomes.Keep is = inr (inr refl)
   by_outcome outcomes.Memory is = inl tt

@@ -162,18 +162,18 @@ module _ {kind : WireKind} (ids : Ids) (c : Collection) (account : AccountState)
   own = it.ended.sync
 
   abbrev asked : List Ask
-  asked = asks_in own.tries
+  asked = asks_in own.asked.tries
 
   abbrev later_requests : List Request
-  later_requests = requests_from (asker ids) own.moment 1 asked
+  later_requests = requests_from (asker ids) own.asked.moment 1 asked
 
   abbrev base : Collection
   base = it.synced.base
 
-  first_call : (new : Log) × (own.tried.1.log ≡ Some new) × Grows it.old new (meta_of ids) own.meta
-  first_call = subst (λ (o : Option Log). Carries o own.tried.1.log (meta_of ids) own.meta) it.told own.tried.2.carries
+  first_call : (new : Log) × (own.asked.tried.1.log ≡ Some new) × Grows it.old new (meta_of ids) own.asked.meta
+  first_call = subst (λ (o : Option Log). Carries o own.asked.tried.1.log (meta_of ids) own.asked.meta) it.told own.asked.tried.2.carries
 
-  first_grows : (reply : Reply) → own.meta ≡ Ok reply → Grows {E = WireEnd} it.old first_call.0 (meta_of ids) (Ok reply)
+  first_grows : (reply : Reply) → own.asked.meta ≡ Ok reply → Grows {E = WireEnd} it.old first_call.0 (meta_of ids) (Ok reply)
   first_grows reply is = subst (λ (a : Answer). Grows it.old first_call.0 (meta_of ids) a) is first_call.2
 
   committed_over : (s : Collection) (new : Log) → IsMetOver (asker ids) account it.old new s → IsCommitted s
@@ -182,7 +182,7 @@ module _ {kind : WireKind} (ids : Ids) (c : Collection) (account : AccountState)
       (lawful_grown (asker ids) account it.old over.front (all_front IsTimely over.front over.rest over.timely) it.may.lawful).committed
 
   -- a meta that is granted has its form
-  meta_formed : (reply : Reply) → own.meta ≡ Ok reply → reply.status ≡ 200 → is_in_form asks.Meta reply.give ≡ true
+  meta_formed : (reply : Reply) → own.asked.meta ≡ Ok reply → reply.status ≡ 200 → is_in_form asks.Meta reply.give ≡ true
   meta_formed reply is ok =
       let met = meta_over ids account it.old first_call.0 reply it.may.unused (first_grows reply is) ok in
       ap (λ (r : Reply). is_in_form asks.Meta r.give) met.2.1
@@ -190,16 +190,16 @@ module _ {kind : WireKind} (ids : Ids) (c : Collection) (account : AccountState)
       (metas_fit met.0.head met.2.0 (committed_over met.0 first_call.0 met.1).head)
 
   -- a sync that asked more
-  module _ (later : is_later outcome ≡ true) (rest : List TriedAsk) (last : TriedAsk) (tries : own.tries ≡ rest ++ last ∷ [])
-      (granted_first : IsGranted (meta_tried own.meta)) where
-    nothing_else : own.tries ≡ [] → ⊥
+  module _ (later : is_later outcome ≡ true) (rest : List TriedAsk) (last : TriedAsk) (tries : own.asked.tries ≡ rest ++ last ∷ [])
+      (granted_first : IsGranted (meta_tried own.asked.meta)) where
+    nothing_else : own.asked.tries ≡ [] → ⊥
     nothing_else none = some_tried rest last (sym tries ∙ none)
 
-    said : (it : MetaSaid) × (told_by own.meta ≡ Some it) × (own.moment ≡ it.moment) × (is_told_by_meta outcome ≡ false)
+    said : (it : MetaSaid) × (told_by own.asked.meta ≡ Some it) × (own.asked.moment ≡ it.moment) × (is_told_by_meta outcome ≡ false)
     said = by it.ended.because.more
       where
-        by : (own.tries ≡ []) ⊎ ((it : MetaSaid) × (told_by own.meta ≡ Some it) × (own.moment ≡ it.moment) × (is_told_by_meta outcome ≡ false))
-            → (it : MetaSaid) × (told_by own.meta ≡ Some it) × (own.moment ≡ it.moment) × (is_told_by_meta outcome ≡ false)
+        by : (own.asked.tries ≡ []) ⊎ ((it : MetaSaid) × (told_by own.asked.meta ≡ Some it) × (own.asked.moment ≡ it.moment) × (is_told_by_meta outcome ≡ false))
+            → (it : MetaSaid) × (told_by own.asked.meta ≡ Some it) × (own.asked.moment ≡ it.moment) × (is_told_by_meta outcome ≡ false)
         by (inl none) = absurd (nothing_else none)
         by (inr found) = found
 
@@ -215,7 +215,7 @@ module _ {kind : WireKind} (ids : Ids) (c : Collection) (account : AccountState)
     told_of_s : meta_told (meta_reply s.head met.2.0) ≡ said.0
     told_of_s = meta_says s met.2.0 granted_first.reply said.0 met.2.1 (subst (λ (a : Answer). told_by a ≡ Some said.0) granted_first.is said.1)
 
-    moment_is : own.moment ≡ s.head.moment
+    moment_is : own.asked.moment ≡ s.head.moment
     moment_is = said.2 ∙ sym (ap (λ (m : MetaSaid). m.moment) told_of_s)
 
     schema_is : c.head.schema ≡ s.head.schema
@@ -230,7 +230,7 @@ module _ {kind : WireKind} (ids : Ids) (c : Collection) (account : AccountState)
 
     -- what came after the meta
     came : HasGrown first_call.0 after.wire.log
-    came = tried_grows later_requests (answers_in own.tries) own.tried.0 after.health own.tried.1 after.wire first_call.0 own.tried.3 first_call.1
+    came = tried_grows later_requests (answers_in own.asked.tries) own.asked.tried.0 after.health own.asked.tried.1 after.wire first_call.0 own.asked.tried.3 first_call.1
 
     now_is : it.now ≡ with_growth first_call.0 came.growth
     now_is = same_Some it.now came.now (sym it.told_now ∙ came.is) ∙ came.grown
@@ -248,14 +248,14 @@ module _ {kind : WireKind} (ids : Ids) (c : Collection) (account : AccountState)
     placed = by it.synced.at_meta
       where
         by : (asked ≡ []) ⊎ IsCommittedIn (asker ids) account it.old it.synced.growth base → IsCommittedIn (asker ids) account it.old it.synced.growth base
-        by (inl none) = absurd (nothing_else (nothing_tried own.tries none))
+        by (inl none) = absurd (nothing_else (nothing_tried own.asked.tries none))
         by (inr place) = place
 
-    base_moment : base.head.moment ≡ own.moment
+    base_moment : base.head.moment ≡ own.asked.moment
     base_moment = by it.synced.shown
       where
-        by : IsShown (asker ids) account base own.moment asked it.now → base.head.moment ≡ own.moment
-        by (inl (none, unused)) = absurd (nothing_else (nothing_tried own.tries none))
+        by : IsShown (asker ids) account base own.asked.moment asked it.now → base.head.moment ≡ own.asked.moment
+        by (inl (none, unused)) = absurd (nothing_else (nothing_tried own.asked.tries none))
         by (inr (moment, under_way)) = moment
 
     same : base ≡ s
@@ -273,22 +273,22 @@ module _ {kind : WireKind} (ids : Ids) (c : Collection) (account : AccountState)
     may_sync =
         sides_may_sync c s it.formed schema_is linked (committed_over s first_call.0 over)
 
-    asked_of : IsAskedOf c s own.moment asked
+    asked_of : IsAskedOf c s own.asked.moment asked
     asked_of = inr (moment_is, subst (λ (k : Collection). (more : List Ask) × (asked ++ more ≡ planned c k)) same it.synced.front)
 
-    last_tried : TriedLast later_requests (answers_in rest) last.answer own.tried.0 after.health own.tried.1 after.wire
+    last_tried : TriedLast later_requests (answers_in rest) last.answer own.asked.tried.0 after.health own.asked.tried.1 after.wire
     last_tried =
-        tried_last later_requests (answers_in rest) last.answer own.tried.0 after.health own.tried.1 after.wire
-        (subst (λ (x : List Answer). AreTried later_requests x own.tried.0 after.health own.tried.1 after.wire)
-        (ap answers_in tries ∙ answers_append rest (last ∷ [])) own.tried.3)
+        tried_last later_requests (answers_in rest) last.answer own.asked.tried.0 after.health own.asked.tried.1 after.wire
+        (subst (λ (x : List Answer). AreTried later_requests x own.asked.tried.0 after.health own.asked.tried.1 after.wire)
+        (ap answers_in tries ∙ answers_append rest (last ∷ [])) own.asked.tried.3)
 
     in_plan : IsAskedLast (asker ids) c s account last after.wire.log
     in_plan =
-        let there = place_in_plan (asker ids) c s own.moment asked last_tried.front last_tried.request last_tried.parts asked_of in
+        let there = place_in_plan (asker ids) c s own.asked.moment asked last_tried.front last_tried.request last_tried.parts asked_of in
         let on : IsOn (asker ids) c s account first_call.0 =
         syncs_ask_more ids.host.digits ids.session.0 [] (plan (asker ids) c s) s account first_call.0 over.under_way in
-        let mid = on_after (asker ids) c s account [] last_tried.front (last_tried.request ∷ there.0) (answers_in rest) own.tried.0 last_tried.health
-        own.tried.1 last_tried.wire first_call.0 there.1 last_tried.earlier first_call.1 on in
+        let mid = on_after (asker ids) c s account [] last_tried.front (last_tried.request ∷ there.0) (answers_in rest) own.asked.tried.0 last_tried.health
+        own.asked.tried.1 last_tried.wire first_call.0 there.1 last_tried.earlier first_call.1 on in
         let call : (new : Log) × (after.wire.log ≡ Some new) × Grows mid.0 new last_tried.request last.answer =
         subst (λ (o : Option Log). Carries o after.wire.log last_tried.request last.answer) mid.1 last_tried.tried.carries in
         record {
@@ -301,8 +301,8 @@ module _ {kind : WireKind} (ids : Ids) (c : Collection) (account : AccountState)
           request = last_tried.request;
           after = there.0;
           place = there.1;
-          asks = last_ask ids own.moment own.meta own.tries (meta_tried own.meta ∷ rest) last (meta_of ids ∷ last_tried.front) last_tried.request
-              (ap (λ (l : List TriedAsk). meta_tried own.meta ∷ l) tries) (ap (λ (l : List Request). meta_of ids ∷ l) last_tried.parts);
+          asks = last_ask ids own.asked.moment own.asked.meta own.asked.tries (meta_tried own.asked.meta ∷ rest) last (meta_of ids ∷ last_tried.front) last_tried.request
+              (ap (λ (l : List TriedAsk). meta_tried own.asked.meta ∷ l) tries) (ap (λ (l : List Request). meta_of ids ∷ l) last_tried.parts);
           grows = call.2;
         }
 
@@ -310,12 +310,12 @@ module _ {kind : WireKind} (ids : Ids) (c : Collection) (account : AccountState)
     asked_last = subst (λ (k : Collection). IsAskedLast (asker ids) c k account last after.wire.log) (sym same) in_plan
 
   -- what was tried last is the meta, or of the plan
-  meta_or_later : is_later outcome ≡ true → (earlier : List TriedAsk) (last : TriedAsk) → meta_tried own.meta ∷ own.tries ≡ earlier ++ last ∷ []
-      → (meta_tried own.meta ≡ last) ⊎ IsAskedLast (asker ids) c base account last after.wire.log
-  meta_or_later later [] last parts = inl (first_tried (meta_tried own.meta) last own.tries [] parts).0
+  meta_or_later : is_later outcome ≡ true → (earlier : List TriedAsk) (last : TriedAsk) → meta_tried own.asked.meta ∷ own.asked.tries ≡ earlier ++ last ∷ []
+      → (meta_tried own.asked.meta ≡ last) ⊎ IsAskedLast (asker ids) c base account last after.wire.log
+  meta_or_later later [] last parts = inl (first_tried (meta_tried own.asked.meta) last own.asked.tries [] parts).0
   meta_or_later later (one ∷ rest) last parts =
-      let both = first_tried (meta_tried own.meta) one own.tries (rest ++ last ∷ []) parts in
-      let granted_all = granted_before (one ∷ rest) last (subst AllGrantedButLast parts own.granted) in
+      let both = first_tried (meta_tried own.asked.meta) one own.asked.tries (rest ++ last ∷ []) parts in
+      let granted_all = granted_before (one ∷ rest) last (subst AllGrantedButLast parts own.ends.granted) in
       inr (asked_last later rest last both.1 (subst IsGranted (sym both.0) granted_all.0))
 
   -- ---- a reply of the plan
@@ -352,47 +352,47 @@ module _ {kind : WireKind} (ids : Ids) (c : Collection) (account : AccountState)
         (ap (λ (r : Reply). verdict_in r.give) (sym answered) ∙ gave) bad
 
   -- ---- a bad reply
-  last_formed : is_later outcome ≡ true → (earlier : List TriedAsk) (last : TriedAsk) → meta_tried own.meta ∷ own.tries ≡ earlier ++ last ∷ []
+  last_formed : is_later outcome ≡ true → (earlier : List TriedAsk) (last : TriedAsk) → meta_tried own.asked.meta ∷ own.asked.tries ≡ earlier ++ last ∷ []
       → (reply : Reply) → last.answer ≡ Ok reply → reply.status ≡ 200 → is_in_form last.ask reply.give ≡ true
   last_formed later earlier last parts reply is ok = by (meta_or_later later earlier last parts)
     where
-      by : (meta_tried own.meta ≡ last) ⊎ IsAskedLast (asker ids) c base account last after.wire.log → is_in_form last.ask reply.give ≡ true
+      by : (meta_tried own.asked.meta ≡ last) ⊎ IsAskedLast (asker ids) c base account last after.wire.log → is_in_form last.ask reply.give ≡ true
       by (inl meta) =
           ap (λ (t : TriedAsk). is_in_form t.ask reply.give) (sym meta) ∙ meta_formed reply (ap (λ (t : TriedAsk). t.answer) meta ∙ is) ok
       by (inr place) = later_formed last place reply is ok
 
   counted : outcome ≡ outcomes.BadReply → HasCauseOf {T = Reply} ends.BadReply before.wire.reading after.wire.reading (Err ends.BadReply)
-  counted is = by (subst (EndsAt (meta_tried own.meta ∷ own.tries) after.wire) is own.ends)
+  counted is = by (subst (EndsAt (meta_tried own.asked.meta ∷ own.asked.tries) after.wire) is own.ends.why)
     where
-      by : EndsAt (meta_tried own.meta ∷ own.tries) after.wire outcomes.BadReply
+      by : EndsAt (meta_tried own.asked.meta ∷ own.asked.tries) after.wire outcomes.BadReply
           → HasCauseOf {T = Reply} ends.BadReply before.wire.reading after.wire.reading (Err ends.BadReply)
       by (last, (earlier, parts), inl unread) =
           subst (λ (a : Answer). HasCauseOf ends.BadReply before.wire.reading after.wire.reading a) unread
           (last_is_counted (meta_of ids ∷ later_requests) (answers_in earlier) last.answer before.health after.health before.wire after.wire
           (tried_last (meta_of ids ∷ later_requests) (answers_in earlier) last.answer before.health after.health before.wire after.wire
           (subst (λ (x : List Answer). AreTried (meta_of ids ∷ later_requests) x before.health after.health before.wire after.wire)
-          (ap answers_in parts ∙ answers_append earlier (last ∷ [])) own.tried)))
+          (ap answers_in parts ∙ answers_append earlier (last ∷ [])) own.asked.tried)))
       by (last, (earlier, parts), inr (reply, answered, ok, wrong)) =
           absurd (not_both (last_formed (ap is_later is) earlier last parts reply answered ok) wrong)
 
   pub unread : HasOutcomeCause outcomes.BadReply before.wire.reading after.wire.reading outcome
   unread = record {
-    goes = tried_reads (meta_of ids ∷ later_requests) (own.meta ∷ answers_in own.tries) before.health after.health before.wire after.wire own.tried;
+    goes = tried_reads (meta_of ids ∷ later_requests) (own.asked.meta ∷ answers_in own.asked.tries) before.health after.health before.wire after.wire own.asked.tried;
     failed = λ is. (counted is).failed refl;
     unfailed = λ calm is. (counted is).unfailed calm refl;
   }
 
   -- ---- a bad row
   pub first : (fault : CheckFault) → outcome ≡ outcomes.BadRow fault → IsLeastFault (joined_under (row_under c) (row_under base)) fault
-  first fault is = by (subst (EndsAt (meta_tried own.meta ∷ own.tries) after.wire) is own.ends)
+  first fault is = by (subst (EndsAt (meta_tried own.asked.meta ∷ own.asked.tries) after.wire) is own.ends.why)
     where
-      by : IsCheckedLast (meta_tried own.meta ∷ own.tries) (stops.BadRow fault) after.wire → IsLeastFault (joined_under (row_under c) (row_under base)) fault
+      by : IsCheckedLast (meta_tried own.asked.meta ∷ own.asked.tries) (stops.BadRow fault) after.wire → IsLeastFault (joined_under (row_under c) (row_under base)) fault
       by check = by_place (meta_or_later (ap is_later is) check.last.0 check.it check.last.1)
         where
           not_meta : (ask : Ask) → ask ≡ asks.SanityCheck2 check.counts → asks.Meta ≡ ask → ⊥
           not_meta ask checks meta = let wrong : asks.Meta ≡ asks.SanityCheck2 check.counts = meta ∙ checks in grind (arith, wrong)
 
-          by_place : (meta_tried own.meta ≡ check.it) ⊎ IsAskedLast (asker ids) c base account check.it after.wire.log
+          by_place : (meta_tried own.asked.meta ≡ check.it) ⊎ IsAskedLast (asker ids) c base account check.it after.wire.log
               → IsLeastFault (joined_under (row_under c) (row_under base)) fault
           by_place (inl meta) = absurd (not_meta check.it.ask check.asks (ap (λ (t : TriedAsk). t.ask) meta))
           by_place (inr place) =

@@ -18,16 +18,16 @@ use Rattle.ak_sync_completes.specs.Alone.{BeginsAlone, LeavesTheJoin}
 
 module _ {kind : WireKind} (ids : Ids) (c : Collection) (account : AccountState) (old now : Log) (before left : Keeping) (h0 h1 : Health) (w0 w1 : WireState kind) (outcome : Outcome)
     (begins : BeginsAlone ids c account old now before w0 w1) (sync : IsSync ids before left h0 h1 w0 w1 outcome) where
-  synced : Synced (asker ids) sync.moment (asks_in sync.tries) c account old now left outcome
+  synced : Synced (asker ids) sync.asked.moment (asks_in sync.asked.tries) c account old now left outcome
   synced =
       let told = sync.told old begins.told in
-      let syncs : Syncs ids sync.moment (asks_in sync.tries) before left old now outcome =
-      subst (λ (log : Log). Syncs ids sync.moment (asks_in sync.tries) before left old log outcome)
+      let syncs : Syncs ids sync.asked.moment (asks_in sync.asked.tries) before left old now outcome =
+      subst (λ (log : Log). Syncs ids sync.asked.moment (asks_in sync.asked.tries) before left old log outcome)
       (same_Some told.0 now (sym told.1 ∙ begins.told_now)) told.2 in
       syncs c account begins.holds begins.may begins.fresh
 
   alone : CommitsAlone (asker ids) account old now
-  alone = sync.commits begins.alone old now account begins.told begins.told_now begins.may.unused
+  alone = sync.wire.commits begins.alone old now account begins.told begins.told_now begins.may.unused
 
   pub early : ends_before_finish outcome ≡ true
       → (world_at (asker ids) account now).state.committed ≡ (world_at (asker ids) account old).state.committed

@@ -97,10 +97,10 @@ module _ {kind : WireKind} (ids : Ids) (old : Log) (h0 h1 : Health) (w0 w1 : Wir
 
   pub never_stopped : (c : Collection) (before left : Keeping) (moments : Option (List ℤ)) (outcome : Outcome) → before ≡ holding c
       → IsSyncEnded ids before left h0 h1 w0 w1 moments outcome → outcome ≡ outcomes.Stopped → ⊥
-  never_stopped c before left moments outcome holds ended stopped = by (told_by ended.sync.meta) refl
+  never_stopped c before left moments outcome holds ended stopped = by (told_by ended.sync.asked.meta) refl
     where
-      goes : (said : MetaSaid) → told_by ended.sync.meta ≡ Some said → said.cont ≡ true
-      goes = said_goes ended.sync.meta (requests_from (asker ids) ended.sync.moment 1 (asks_in ended.sync.tries)) (answers_in ended.sync.tries) ended.sync.tried
+      goes : (said : MetaSaid) → told_by ended.sync.asked.meta ≡ Some said → said.cont ≡ true
+      goes = said_goes ended.sync.asked.meta (requests_from (asker ids) ended.sync.asked.moment 1 (asks_in ended.sync.asked.tries)) (answers_in ended.sync.asked.tries) ended.sync.asked.tried
 
       by_why : (said : MetaSaid) (second : ℤ) → said.cont ≡ true
           → (clock_stop said second ≡ Some outcome) ⊎ ((clock_stop said second ≡ None) × WhereTold before (λ h. device_stop said h ≡ Some outcome)) → ⊥
@@ -109,7 +109,7 @@ module _ {kind : WireKind} (ids : Ids) (old : Log) (h0 h1 : Health) (w0 w1 : Wir
           not_both (ap is_stopped stopped)
           (device_other said c outcome (subst (λ (k : Keeping). WhereTold k (λ h. device_stop said h ≡ Some outcome)) holds found))
 
-      by : (o : Option MetaSaid) → told_by ended.sync.meta ≡ o → ⊥
+      by : (o : Option MetaSaid) → told_by ended.sync.asked.meta ≡ o → ⊥
       by None none = not_both (ap is_told_by_meta stopped) (ended.because.unmet none)
       by (Some said) is =
           let met = ended.because.met said is in

@@ -27,4 +27,4 @@ pub record IsSyncTold {kind : WireKind} (ids : Ids) (c : Collection) (account : 
   pub fresh : EachNewer (HasFreshSchema c) (world_at (asker ids) account old) (world_at (asker ids) account now)
   -- what is promised of it, and what that makes of this log: this follows from the others, and stands here to name the collection at its meta
   pub ended : IsSyncEnded ids before.keeping after.keeping before.health after.health before.wire after.wire before.moments outcome
-  pub synced : Synced (asker ids) ended.sync.moment (asks_in ended.sync.tries) c account old now after.keeping outcome
+  pub synced : Synced (asker ids) ended.sync.asked.moment (asks_in ended.sync.asked.tries) c account old now after.keeping outcome

@@ -65,12 +65,12 @@ module _ {kind : WireKind} (spares : Bool) (host : HostKey) (status : ℕ) (befo
 
   -- ---- the log
   grows : HasGrown log mid.wire.log
-  grows = tried_grows (meta_of (ids_of host first.word) ∷ requests_from who one.moment 1 (asks_in one.tries)) (one.meta ∷ answers_in one.tries) before.health mid.health before.wire mid.wire log one.tried it.told
+  grows = tried_grows (meta_of (ids_of host first.word) ∷ requests_from who one.asked.moment 1 (asks_in one.asked.tries)) (one.asked.meta ∷ answers_in one.asked.tries) before.health mid.health before.wire mid.wire log one.asked.tried it.told
 
   grows_again : HasGrown between after.wire.log
   grows_again =
-      tried_grows (meta_of (ids_of host second.word) ∷ requests_from next two.moment 1 (asks_in two.tries)) (two.meta ∷ answers_in two.tries)
-      again.health after.health again.wire after.wire between two.tried it.told_again
+      tried_grows (meta_of (ids_of host second.word) ∷ requests_from next two.asked.moment 1 (asks_in two.asked.tries)) (two.asked.meta ∷ answers_in two.asked.tries)
+      again.health after.health again.wire after.wire between two.asked.tried it.told_again
 
   between_is : between ≡ with_growth log grows.growth
   between_is = same_Some between grows.now (sym it.told_then ∙ grows.is) ∙ grows.grown
@@ -107,9 +107,9 @@ module _ {kind : WireKind} (spares : Bool) (host : HostKey) (status : ℕ) (befo
   left =
       let (ended, is, syncs) = one.told log it.told in
       let same : ended ≡ between = same_Some ended between (sym is ∙ it.told_then) in
-      let synced : Synced who one.moment (asks_in one.tries) c account log ended mid.keeping first.outcome =
+      let synced : Synced who one.asked.moment (asks_in one.asked.tries) c account log ended mid.keeping first.outcome =
       syncs c account it.holds it.may (subst (λ (l : Log). EachNewer (HasFreshSchema c) (world_at who account log) (world_at who account l)) (sym same) fresh_first) in
-      let alone : CommitsAlone who account log between = one.commits it.alone log between account it.told it.told_then it.may.unused in
+      let alone : CommitsAlone who account log between = one.wire.commits it.alone log between account it.told it.told_then it.may.unused in
       let past : with_growth ended [] ≡ between = ap (λ (events : List Event). record ended { events = events }) (append-nil ended.events) ∙ same in
       by synced.base alone (subst (λ (l : Log). CommitsAtMostOnce who.session.0 c synced.base (world_at who account l).commits) past (synced.once [] tt tt))
     where
@@ -133,11 +133,11 @@ module _ {kind : WireKind} (spares : Bool) (host : HostKey) (status : ℕ) (befo
   healed =
       let (now, is, syncs) = two.told between it.told_again in
       let same : now ≡ grows_again.now = same_Some now grows_again.now (sym is ∙ grows_again.is) in
-      let synced : Synced next two.moment (asks_in two.tries) c account between now after.keeping second.outcome =
+      let synced : Synced next two.asked.moment (asks_in two.asked.tries) c account between now after.keeping second.outcome =
       syncs c account it.holds_still may_again
       (subst (λ (l : Log). EachNewer (HasFreshSchema c) (world_at next account between) (world_at next account l)) (sym same) fresh_again) in
       let done : IsSyncFinished next c synced.base account now after.keeping = synced.finished (finished_by second.outcome text second.told) in
-      let alone : CommitsAlone next account between now = two.commits it.alone_again between now account it.told_again is may_again.unused in
+      let alone : CommitsAlone next account between now = two.wire.commits it.alone_again between now account it.told_again is may_again.unused in
       (now, is, by now synced.base done (alone.one _ done.only))
     where
       by : (now : Log) (base : Collection) (done : IsSyncFinished next c base account now after.keeping)

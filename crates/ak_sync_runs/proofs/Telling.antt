@@ -102,7 +102,7 @@ run_finished spares host before after old run =
             λ newer. let it = (synced c account holds may newer).finished finished in (
               (synced c account holds may newer).base,
               it,
-              λ alone. (run.sparing.ended.sync.commits alone log now account tells grown may.unused).one _ it.only,
+              λ alone. (run.sparing.ended.sync.wire.commits alone log now account tells grown may.unused).one _ it.only,
             ),
           ),
     )

@@ -161,7 +161,7 @@ abbrev pub HasRunOutEarly : {kind : WireKind} → Ids → SyncOutside kind → S
 HasRunOutEarly ids before after = (outcome : Outcome)
     × (sparing : IsSyncSparing true ids before.keeping after.keeping before.health after.health before.wire after.wire
     before.moments outcome)
-    × (((outcome ≡ outcomes.Memory) × LacksMemoryEarly (meta_tried sparing.ended.sync.meta ∷ sparing.ended.sync.tries))
+    × (((outcome ≡ outcomes.Memory) × LacksMemoryEarly (meta_tried sparing.ended.sync.asked.meta ∷ sparing.ended.sync.asked.tries))
     ⊎ ((text : List ℕ) × (outcome_text outcome ≡ Some text) × (has_fixed_text outcome ≡ false)))
 
 -- a sync of the session whose key was the next word of chance ended so; or nothing was asked

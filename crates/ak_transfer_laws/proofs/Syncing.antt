@@ -63,7 +63,7 @@ module _ {kind : WireKind} (ids : Ids) (c : Collection) (account : AccountState)
   unkept is = it.keeper (over.kept.failed is)
 
   -- ---- a meta that was granted
-  met : (said : MetaSaid) → told_by own.meta ≡ Some said → Says (committed_before ids account it.old) it.at said → Ends
+  met : (said : MetaSaid) → told_by own.asked.meta ≡ Some said → Says (committed_before ids account it.old) it.at said → Ends
   met said told says = let m = over.ended.because.met said told in by m.0 m.1 m.2 m.3
     where
       refused : (fault : KeepFault) → outcome ≡ outcome_at (keep_stop fault) → Ends
@@ -84,54 +84,54 @@ module _ {kind : WireKind} (ids : Ids) (c : Collection) (account : AccountState)
           → (outcome ≡ other) ⊎ ((fault : KeepFault) × (outcome ≡ outcome_at (keep_stop fault))))) it.holds (ends_so.by_device pass) why (stops_so said says))
 
   -- ---- one that was not
-  module _ (none : told_by own.meta ≡ None) (refused : (reply : Reply) → own.meta ≡ Ok reply → (reply.status ≢ 200) × RanOutOfMemory it.growth) (readable : own.meta ≢ Err ends.BadReply) where
-    nothing_tried : own.tries ≡ []
+  module _ (none : told_by own.asked.meta ≡ None) (refused : (reply : Reply) → own.asked.meta ≡ Ok reply → (reply.status ≢ 200) × RanOutOfMemory it.growth) (readable : own.asked.meta ≢ Err ends.BadReply) where
+    nothing_tried : own.asked.tries ≡ []
     nothing_tried = by over.ended.because.more
       where
-        by : (own.tries ≡ []) ⊎ ((said : MetaSaid) × (told_by own.meta ≡ Some said) × (own.moment ≡ said.moment) × (is_told_by_meta outcome ≡ false)) → own.tries ≡ []
+        by : (own.asked.tries ≡ []) ⊎ ((said : MetaSaid) × (told_by own.asked.meta ≡ Some said) × (own.asked.moment ≡ said.moment) × (is_told_by_meta outcome ≡ false)) → own.asked.tries ≡ []
         by (inl nothing) = nothing
         by (inr (said, told, same, other)) = absurd (none-some said (sym none ∙ told))
 
     untold : is_told_by_meta outcome ≡ true → ⊥
     untold told = not_both told (over.ended.because.unmet none)
 
-    only_meta : (tried : TriedAsk) (earlier : List TriedAsk) → meta_tried own.meta ∷ own.tries ≡ earlier ++ tried ∷ [] → tried ≡ meta_tried own.meta
+    only_meta : (tried : TriedAsk) (earlier : List TriedAsk) → meta_tried own.asked.meta ∷ own.asked.tries ≡ earlier ++ tried ∷ [] → tried ≡ meta_tried own.asked.meta
     only_meta tried earlier parts =
-        last_of_one (meta_tried own.meta) tried earlier (ap (λ (l : List TriedAsk). meta_tried own.meta ∷ l) (sym nothing_tried) ∙ parts)
+        last_of_one (meta_tried own.asked.meta) tried earlier (ap (λ (l : List TriedAsk). meta_tried own.asked.meta ∷ l) (sym nothing_tried) ∙ parts)
 
-    ungranted : IsGranted (meta_tried own.meta) → ⊥
+    ungranted : IsGranted (meta_tried own.asked.meta) → ⊥
     ungranted one = (refused one.reply one.is).0 one.status
 
-    unchecked : (stop : Stop) → IsCheckedLast (meta_tried own.meta ∷ own.tries) stop after.wire → ⊥
+    unchecked : (stop : Stop) → IsCheckedLast (meta_tried own.asked.meta ∷ own.asked.tries) stop after.wire → ⊥
     unchecked stop check =
         let ask : asks.Meta ≡ asks.SanityCheck2 check.counts =
         ap (λ (t : TriedAsk). t.ask) (sym (only_meta check.it check.last.0 check.last.1)) ∙ check.asks in
         grind (arith, ask)
 
     answered_so : (tried : TriedAsk) (earlier : List TriedAsk) (reply : Reply)
-        → meta_tried own.meta ∷ own.tries ≡ earlier ++ tried ∷ [] → tried.answer ≡ Ok reply → own.meta ≡ Ok reply
+        → meta_tried own.asked.meta ∷ own.asked.tries ≡ earlier ++ tried ∷ [] → tried.answer ≡ Ok reply → own.asked.meta ≡ Ok reply
     answered_so tried earlier reply parts answered = ap (λ (t : TriedAsk). t.answer) (sym (only_meta tried earlier parts)) ∙ answered
 
-    refusal : (status : ℕ) (word : Word) (seen : ℤ) → outcome ≡ outcomes.Refused status word seen → EndsUnanswered (meta_tried own.meta ∷ own.tries) (unanswered.Refused status word seen) → Ends
+    refusal : (status : ℕ) (word : Word) (seen : ℤ) → outcome ≡ outcomes.Refused status word seen → EndsUnanswered (meta_tried own.asked.meta ∷ own.asked.tries) (unanswered.Refused status word seen) → Ends
     refusal status word seen is (tried, (earlier, parts), (reply, answered, other, same_status, same_word, same_seen)) =
         inl (inr (inr (status, word, seen, is, (refused reply (answered_so tried earlier reply parts answered)).1)))
 
-    unreadable : EndsUnanswered (meta_tried own.meta ∷ own.tries) unanswered.BadReply → ⊥
+    unreadable : EndsUnanswered (meta_tried own.asked.meta ∷ own.asked.tries) unanswered.BadReply → ⊥
     unreadable (tried, (earlier, parts), inl is) = readable (ap (λ (t : TriedAsk). t.answer) (sym (only_meta tried earlier parts)) ∙ is)
     unreadable (tried, (earlier, parts), inr (reply, answered, ok, wrong)) = (refused reply (answered_so tried earlier reply parts answered)).0 ok
 
-    none_many : AreTooMany (meta_tried own.meta ∷ own.tries) → ⊥
-    none_many many = by (subst (λ (l : List TriedAsk). AreTooMany (meta_tried own.meta ∷ l)) nothing_tried many)
+    none_many : AreTooMany (meta_tried own.asked.meta ∷ own.asked.tries) → ⊥
+    none_many many = by (subst (λ (l : List TriedAsk). AreTooMany (meta_tried own.asked.meta ∷ l)) nothing_tried many)
       where
-        by : AreTooMany (meta_tried own.meta ∷ []) → ⊥
+        by : AreTooMany (meta_tried own.asked.meta ∷ []) → ⊥
         by (inl came) = omega (arith, came)
         by (inr sent) = omega (arith, sent)
 
-    ends_at : (o : Outcome) → outcome ≡ o → EndsAt (meta_tried own.meta ∷ own.tries) after.wire o
-    ends_at o is = subst (EndsAt (meta_tried own.meta ∷ own.tries) after.wire) is own.ends
+    ends_at : (o : Outcome) → outcome ≡ o → EndsAt (meta_tried own.asked.meta ∷ own.asked.tries) after.wire o
+    ends_at o is = subst (EndsAt (meta_tried own.asked.meta ∷ own.asked.tries) after.wire) is own.ends.why
 
     unmet : (o : Outcome) → outcome ≡ o → Ends
-    unmet outcomes.Finished is = absurd (ungranted (own.all_granted is).0)
+    unmet outcomes.Finished is = absurd (ungranted (own.ends.all_granted is).0)
     unmet outcomes.NoChanges is = absurd (untold (ap is_told_by_meta is))
     unmet (outcomes.FullSchema device server) is = absurd (untold (ap is_told_by_meta is))
     unmet (outcomes.FullSequence usn) is = absurd (untold (ap is_told_by_meta is))
@@ -148,7 +148,7 @@ module _ {kind : WireKind} (ids : Ids) (c : Collection) (account : AccountState)
     unmet outcomes.Memory is = inl (inr (inl is))
 
   -- ---- so it ends for that reason
-  ends_by : Comes (committed_before ids account it.old) it.at it.growth own.meta → Ends
+  ends_by : Comes (committed_before ids account it.old) it.at it.growth own.asked.meta → Ends
   ends_by (inl failed) =
       unmet (ap told_by failed) (λ reply is. absurd (err_ok ends.Failed reply (sym failed ∙ is))) (λ is. absurd (failed_read (sym failed ∙ is))) outcome refl
   ends_by (inr (inl memory)) =
@@ -160,7 +160,7 @@ module _ {kind : WireKind} (ids : Ids) (c : Collection) (account : AccountState)
   ends_by (inr (inr (inr (reply, said, answered, ok, given, says)))) = met said (ap told_by answered ∙ told_of reply said ok given) says
 
   pub syncs_end : EndsWith why it.growth outcome ⊎ (outcome ≡ outcomes.Lost)
-  syncs_end = ends_by (meta_comes ids c account before after it own.meta (requests_from (asker ids) own.moment 1 (asks_in own.tries)) (answers_in own.tries) own.tried)
+  syncs_end = ends_by (meta_comes ids c account before after it own.asked.meta (requests_from (asker ids) own.asked.moment 1 (asks_in own.asked.tries)) (answers_in own.asked.tries) own.asked.tried)
 
   pub syncs_end_faultless : (Rose before.health after.health → ⊥) → EndsWith why it.growth outcome
   syncs_end_faultless calm = by syncs_end

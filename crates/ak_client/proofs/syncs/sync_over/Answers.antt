@@ -50,7 +50,7 @@ returns-clause-wire g c =
 
 pub returns-clause-reading : goal.returns-clause-reading
 returns-clause-reading g c =
-    tried_reads (meta_of c.args.ids ∷ requests_from (asker c.args.ids) c.sync_device.ensures.spares.ended.sync.moment 1 (asks_in c.sync_device.ensures.spares.ended.sync.tries))
-    (c.sync_device.ensures.spares.ended.sync.meta ∷ answers_in c.sync_device.ensures.spares.ended.sync.tries)
+    tried_reads (meta_of c.args.ids ∷ requests_from (asker c.args.ids) c.sync_device.ensures.spares.ended.sync.asked.moment 1 (asks_in c.sync_device.ensures.spares.ended.sync.asked.tries))
+    (c.sync_device.ensures.spares.ended.sync.asked.meta ∷ answers_in c.sync_device.ensures.spares.ended.sync.asked.tries)
     (g.W.End.health c.args.wire.now) (g.W.End.health c.sync_device.new.wire) (g.W.Wire.state c.args.wire.now) (g.W.Wire.state c.sync_device.new.wire)
-    c.sync_device.ensures.spares.ended.sync.tried
+    c.sync_device.ensures.spares.ended.sync.asked.tried
