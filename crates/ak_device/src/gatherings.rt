@@ -10,7 +10,7 @@ use ak_base::{Head, Memory, Name, Row, Table};
 use ak_keep::{KeepFault, Keeper, Wanted};
 use ak_messages::{Changes, Chunk, GraveIds, MOST_ENTRIES, Newer};
 use ak_sync_rows::{
-    changes_of, chunk_of, grave_ids, head_of, next_rows, wanted_changes, wanted_tags,
+    changes_of, chunk_of, grave_ids, head_of, newer_of, next_rows, wanted_changes, wanted_tags,
 };
 use std::alloc::Global;
 
@@ -76,10 +76,7 @@ fn newer_since(moment: i64, head: &Head) -> Result<Option<Newer>, Memory>
     ensures { IfOk result (λ newer. newer ≡ option_map newer_of (settings_since moment head.now)) }
 {
     if moment < head.moment {
-        return Ok(Some(Newer {
-            conf: head.conf.copy()?,
-            crt: head.crt,
-        }));
+        return Ok(Some(newer_of(head)?));
     }
     Ok(None)
 }

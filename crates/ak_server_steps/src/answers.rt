@@ -19,7 +19,7 @@ use ak_merge::Side;
 use ak_messages::{Ask, Changes, Chunk, Give, GraveIds, Newer};
 use ak_server_rules::Session;
 use ak_sync_rows::{
-    changes_of, chunk_of, grave_ids, head_of, next_rows, take_changes, take_chunk_rows,
+    changes_of, chunk_of, grave_ids, head_of, newer_of, next_rows, take_changes, take_chunk_rows,
     take_given_graves, wanted_changes, wanted_graves, wanted_tags,
 };
 use std::alloc::Global;
@@ -174,10 +174,7 @@ fn settings_given(head: &Head, live: &Session) -> Result<Option<Newer>, Memory>
     if head.moment < live.moment {
         return Ok(None);
     }
-    Ok(Some(Newer {
-        conf: head.conf.copy()?,
-        crt: head.crt,
-    }))
+    Ok(Some(newer_of(head)?))
 }
 
 /// Gives the next rows.

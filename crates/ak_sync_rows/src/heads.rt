@@ -6,7 +6,8 @@ ghost use Rattle.ak_keep.specs.HeadNumbers.{AreNumbersInRange, numbers_of};
 ghost use Rattle.ak_keep.specs.Keepers.{IsNamedRightly};
 ghost use Rattle.ak_keep.specs.Readings.{ReadsBy};
 ghost use Rattle.ak_keep.specs.declared.keepers.KeepFault.TheVariants.{Memory as WantOfMemory};
-ghost use Rattle.ak_session.specs.Messages.{settings_in};
+ghost use Rattle.ak_merge.specs.Commits.{settings_of};
+ghost use Rattle.ak_session.specs.Messages.{newer_of, settings_in};
 ghost use Rattle.ak_sync_rows.specs.Takes.{MayBeTaken, head_with, received_in};
 
 use ak_base::{Conf, Head, Memory};
@@ -44,6 +45,16 @@ pub fn held_numbers<K: Keeper>(keeper: &mut K) -> Result<Numbers, KeepFault>
         unreachable!();
     };
     Ok(numbers)
+}
+
+/// The settings of a head, as changes bring them.
+pub fn newer_of(head: &Head) -> Result<Newer, Memory>
+    ensures { IfOk result (λ newer. newer ≡ newer_of (settings_of head.now)) }
+{
+    Ok(Newer {
+        conf: head.conf.copy()?,
+        crt: head.crt,
+    })
 }
 
 /// The head once the tags and settings of these changes are taken, with one usn.

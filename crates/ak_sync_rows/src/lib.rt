@@ -17,7 +17,7 @@ mod walks;
 
 pub use chunks::next_rows;
 pub use counts::{counts_of, same_counts};
-pub use heads::{head_of, held_numbers};
+pub use heads::{head_of, held_numbers, newer_of};
 pub use lists::append_page;
 pub use methods::asked_method;
 pub use parts::{changes_of, chunk_of, grave_ids};

@@ -1,15 +1,15 @@
 // Whether what a message brings is in its ranges. It takes no memory.
-ghost use Rattle.std.specs.Prelude.{◌≡◌, ◌++◌, ◌&&◌, pos, negsuc, true};
+ghost use Rattle.std.specs.Prelude.{◌≡◌, ◌++◌, true};
 ghost use Rattle.std.specs.List.{list_all};
 ghost use Rattle.std.specs.Option.{option_map_or};
 ghost use Rattle.ak_base.specs.declared.rows.Row.TheVariants as rows;
 ghost use Rattle.ak_session.specs.Messages.{chunk_rows, change_rows};
 ghost use Rattle.ak_session.specs.Refusals.{is_checked, is_conf_in_range, is_id, is_newer_in_range, are_changes_in_range};
-ghost use Rattle.ak_base.specs.Heads.{is_tag_name, is_within};
+ghost use Rattle.ak_base.specs.Heads.{is_tag_name};
 
 use ak_base::{
-    Card, Conf, DAY_SECONDS, Deck, FIRST_DAY, LAST_COUNT, LAST_DAY, LAST_ID, LAST_STAMP,
-    NAME_BYTES, Note, NoteType, Options, REST_BYTES, Review, Text, is_within,
+    Card, Conf, Deck, LAST_ID, LAST_STAMP, NAME_BYTES, Note, NoteType, Options, Review, Text,
+    is_within,
 };
 use ak_messages::{Changes, Chunk, GraveIds, Newer};
 
@@ -127,19 +127,7 @@ fn is_newer_in_range(newer: &Option<Newer>) -> bool
 pub fn is_conf_in_range(conf: &Conf) -> bool
     ensures { result ≡ is_conf_in_range conf.now }
 {
-    are_conf_numbers_in_range(conf) && conf.rest.as_str().len() as u64 <= REST_BYTES
-}
-
-/// Whether the numbers of the settings are in their ranges.
-fn are_conf_numbers_in_range(conf: &Conf) -> bool
-    ensures { result ≡ (is_within (pos 0) (pos 2) conf.now.new_spread && is_within (pos 0) (pos 86_400) conf.now.collapse
-        && is_within (pos 0) (pos 2_147_483_647) conf.now.next_pos
-        && is_within (negsuc 9_999_999) (pos 100_000_000) conf.now.last_unburied) }
-{
-    is_within(conf.new_spread, 0, 2)
-        && is_within(conf.collapse, 0, DAY_SECONDS)
-        && is_within(conf.next_pos, 0, LAST_COUNT)
-        && is_within(conf.last_unburied, FIRST_DAY, LAST_DAY)
+    conf.is_in_range()
 }
 
 /// Whether a number is an id of a row.
