@@ -5,6 +5,7 @@ mod program_commands;
 mod program_runs;
 mod statuses;
 
+pub use ak_outcomes::{KEEPER_FAILED, NO_MEMORY};
 pub use program_commands::ProgramCommand;
 pub use program_runs::{print_usage, run};
-pub use statuses::{DONE, KEEPER_FAILED, NO_MEMORY, READ_FAILED, REFUSED, USAGE, WRITE_FAILED};
+pub use statuses::{COMMAND_REFUSED, DONE, READ_FAILED, USAGE, WRITE_FAILED};

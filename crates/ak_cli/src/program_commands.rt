@@ -4,11 +4,8 @@ ghost use Rattle.ak_cli.specs.Programs.{command_named, command_of, command_with,
 
 use ak_base::{HostKey, read_number};
 use ak_csv_runs::ImportPlace;
-use ak_desk_language::number_in;
+use ak_desk_language::{LAST_I64, number_in};
 use ak_made_collections::{MakePlan, MakeSize};
-
-/// The greatest number that fits 64 bits with its sign. Whether an id is that of a row is not asked of a word.
-const LAST: u64 = 9_223_372_036_854_775_807;
 
 /// A command of the program.
 #[derive(Clone, Copy, Debug, PartialEq, Eq)]
@@ -142,5 +139,5 @@ fn import_named(word: &str, note_type: &str, deck: &str) -> Option<ProgramComman
 fn id_of(word: &str) -> Option<i64>
     ensures { result ≡ id_of word.now }
 {
-    number_in(0, LAST, word)
+    number_in(0, LAST_I64, word)
 }

@@ -7,7 +7,7 @@ ghost use Rattle.ak_io.specs.Scripts.{AppendsPart};
 ghost use Rattle.ak_keep.specs.Keepers.{is_marked};
 
 use crate::program_commands::{ProgramCommand, command_of};
-use crate::statuses::{KEEPER_FAILED, READ_FAILED, USAGE, WRITE_FAILED, command_status};
+use crate::statuses::{READ_FAILED, USAGE, WRITE_FAILED, command_status};
 use ak_client_wire::Wire;
 use ak_csv_runs::{run_export, run_import};
 use ak_desk_runs::{init_collection, run_desk};
@@ -16,6 +16,7 @@ use ak_io::{Chance, Clock, Failed, Sink, Source, write_all};
 use ak_keep::Keeper;
 use ak_lab::run_lab;
 use ak_makes::make;
+use ak_outcomes::KEEPER_FAILED;
 use ak_sync_in_memory::Log;
 use ak_sync_runs::run_sync;
 use ak_transfer_runs::{run_download, run_upload};

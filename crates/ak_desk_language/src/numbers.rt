@@ -9,7 +9,7 @@ use ak_base::{List, Memory, cut, read_number};
 use std::alloc::Global;
 
 /// The greatest number that fits 64 bits with its sign. Whether an id is that of a row is not asked of a line.
-const LAST: u64 = 9_223_372_036_854_775_807;
+pub const LAST_I64: u64 = 9_223_372_036_854_775_807;
 
 /// The number that the whole text is, if it is from `least` to `most`. None also for a sign or a leading zero.
 pub fn number_in(least: u64, most: u64, text: &str) -> Option<i64>
@@ -28,7 +28,7 @@ pub fn number_in(least: u64, most: u64, text: &str) -> Option<i64>
 pub(crate) fn id_in(text: &str) -> Option<i64>
     ensures { result ≡ number_in any_id text.now }
 {
-    number_in(0, LAST, text)
+    number_in(0, LAST_I64, text)
 }
 
 /// The number before the first space, if it is from `least` to `most`, and what follows that space.
@@ -46,7 +46,7 @@ pub fn next_number(least: u64, most: u64, text: &str) -> Option<(i64, &str)>
 pub(crate) fn next_id(text: &str) -> Option<(i64, &str)>
     ensures { option_map (λ p. (p.0, p.1.now)) result ≡ next_number any_id text.now }
 {
-    next_number(0, LAST, text)
+    next_number(0, LAST_I64, text)
 }
 
 /// The ids that the whole text is. None if a word is no number.

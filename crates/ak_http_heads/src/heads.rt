@@ -16,7 +16,7 @@ use matchit::Router;
 use std::alloc::{AllocFailed, Global};
 
 /// The most bytes of a head, with its empty line and those before it.
-const MOST_HEAD_BYTES: usize = 16384;
+pub const MOST_HEAD_BYTES: usize = 16384;
 
 /// What the head of a request asks.
 #[derive(Clone, Copy, Debug, PartialEq, Eq)]

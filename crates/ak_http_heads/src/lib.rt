@@ -9,7 +9,7 @@ mod parses;
 mod routes;
 
 pub use fields::length_in;
-pub use heads::{Head, HeadFault, read_byte, read_head};
+pub use heads::{Head, HeadFault, MOST_HEAD_BYTES, read_byte, read_head};
 pub use laws::{
     bytes_are_read_in_one_way, heads_are_unique, heads_ask_or_are_refused, routes_are_named,
     tests_come_in_order, values_have_one_form,

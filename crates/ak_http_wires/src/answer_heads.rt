@@ -5,13 +5,10 @@ ghost use Rattle.ak_http_wires.specs.AnswerHeads.{HasNoAnswerHead, ParsesAnswerH
 ghost use Rattle.ak_http_wires.specs.declared.answers.AnswerFault.TheVariants as faults;
 
 use crate::answers::AnswerFault;
-use ak_http_heads::{MOST_FIELDS, length_in, read_byte};
+use ak_http_heads::{MOST_FIELDS, MOST_HEAD_BYTES, length_in, read_byte};
 use ak_links::Link;
 use httparse::{EMPTY_HEADER, Response, Status};
 use std::alloc::Global;
-
-/// The most bytes of a head, with its empty line and those before it.
-const MOST_HEAD_BYTES: usize = 16384;
 
 /// What the head of an answer tells.
 #[derive(Clone, Copy, Debug, PartialEq, Eq)]

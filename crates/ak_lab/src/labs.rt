@@ -6,12 +6,9 @@ ghost use Rattle.ak_openings.specs.declared.whole_collections.Opening.{Opening};
 use ak_base::{List, Memory, Text};
 use ak_lab_devices::Device;
 use ak_lab_wires::lab_key;
-use ak_openings::opening;
+use ak_openings::{OPENING_MOMENT, opening};
 use ak_sync_in_memory::{Log, LoggedServer};
 use std::alloc::Global;
-
-/// The moment at which a lab's clock stands at first, and at which its server was opened, in milliseconds.
-const OPENING_MOMENT: i64 = 1_700_000_000_000;
 
 /// A server and its devices.
 #[derive(Drop)]
@@ -28,7 +25,7 @@ pub(crate) struct Lab {
 }
 
 impl Lab {
-    /// A server with the opening collection, and no device.
+    /// A server with the opening collection, and no device. The clock stands at the moment at which the server was opened.
     pub(crate) fn open(alloc: Global) -> Result<Lab, Memory>
         ensures opened { IfOk result (λ lab. (made : Opening) × IsLabOpening made × (state_of lab ≡ opened_lab made)) }
         ensures ready { IfOk result (λ lab. IsReady (state_of lab)) }

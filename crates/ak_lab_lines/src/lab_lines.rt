@@ -6,12 +6,9 @@ ghost use Rattle.ak_lab_lines.specs.Written.{IsLabLine};
 use crate::LabLineFault;
 use crate::words::{another_word, is_device_name, next_word, signed_number, word_of};
 use ak_base::{LAST_ID, Memory, Table, Text, cut};
-use ak_desk_language::{next_number, number_in};
+use ak_desk_language::{LAST_I64, next_number, number_in};
 use ak_sync_in_memory::What;
 use std::alloc::Global;
-
-/// The greatest number of a call or of a request: it fits 64 bits with its sign.
-const LAST: u64 = 9_223_372_036_854_775_807;
 
 /// A line of a lab script, read. Whether a device is held is not asked, nor whether a word can be a device's name,
 /// but for the name of a new one.
@@ -272,7 +269,7 @@ fn read_losing(alloc: Global, device: &str, text: &str) -> Result<LabLine, LabLi
     ensures line { IfOk result (Reads (losing_of device.now text.now)) }
     ensures bad { IfErr result (Refuses (losing_of device.now text.now)) }
 {
-    let Some((call, word)) = next_number(0, LAST, text) else {
+    let Some((call, word)) = next_number(0, LAST_I64, text) else {
         return Err(LabLineFault::BadLine);
     };
     let Some(what) = lost_of(word) else {
@@ -294,7 +291,7 @@ fn read_repeat(alloc: Global, text: &str) -> Result<LabLine, LabLineFault>
     let Some((device, number)) = next_word(text) else {
         return Err(LabLineFault::BadLine);
     };
-    let Some(call) = number_in(0, LAST, number) else {
+    let Some(call) = number_in(0, LAST_I64, number) else {
         return Err(LabLineFault::BadLine);
     };
     let device = Text::of(alloc, device)?;
@@ -321,7 +318,7 @@ fn read_crossing(alloc: Global, device: &str, text: &str) -> Result<LabLine, Lab
     ensures line { IfOk result (Reads (crossing_of device.now text.now)) }
     ensures bad { IfErr result (Refuses (crossing_of device.now text.now)) }
 {
-    let Some((call, rest)) = next_number(0, LAST, text) else {
+    let Some((call, rest)) = next_number(0, LAST_I64, text) else {
         return Err(LabLineFault::BadLine);
     };
     let Some(other) = another_word(device, rest) else {
@@ -352,13 +349,13 @@ fn read_replaying(alloc: Global, device: &str, text: &str) -> Result<LabLine, La
     ensures line { IfOk result (Reads (replaying_of device.now text.now)) }
     ensures bad { IfErr result (Refuses (replaying_of device.now text.now)) }
 {
-    let Some((call, rest)) = next_number(0, LAST, text) else {
+    let Some((call, rest)) = next_number(0, LAST_I64, text) else {
         return Err(LabLineFault::BadLine);
     };
-    let Some((from, rest)) = next_number(0, LAST, rest) else {
+    let Some((from, rest)) = next_number(0, LAST_I64, rest) else {
         return Err(LabLineFault::BadLine);
     };
-    let Some(count) = number_in(0, LAST, rest) else {
+    let Some(count) = number_in(0, LAST_I64, rest) else {
         return Err(LabLineFault::BadLine);
     };
     let device = Text::of(alloc, device)?;
@@ -375,10 +372,10 @@ fn read_resend(text: &str) -> Result<LabLine, LabLineFault>
     ensures line { IfOk result (Reads (resend_line text.now)) }
     ensures bad { IfErr result (Refuses (resend_line text.now)) }
 {
-    let Some((from, rest)) = next_number(0, LAST, text) else {
+    let Some((from, rest)) = next_number(0, LAST_I64, text) else {
         return Err(LabLineFault::BadLine);
     };
-    let Some(count) = number_in(0, LAST, rest) else {
+    let Some(count) = number_in(0, LAST_I64, rest) else {
         return Err(LabLineFault::BadLine);
     };
     Ok(LabLine::Resend {

@@ -5,13 +5,10 @@ ghost use Rattle.ak_lab_devices.specs.declared.devices.Device.{Device};
 use crate::lab_sessions::lab_key;
 use ak_base::{List, Memory, Text};
 use ak_lab_devices::{Device, HeldCollection};
-use ak_openings::opening;
+use ak_openings::{OPENING_MOMENT, opening};
 use ak_sync_in_memory::LoggedServer;
 use ak_undo::UndoList;
 use std::alloc::Global;
-
-/// A moment at which a collection may be opened, in milliseconds.
-const OPENING_MOMENT: i64 = 1_700_000_000_000;
 
 /// A server to which nothing comes.
 pub(crate) fn spare_server(alloc: Global) -> Result<LoggedServer, Memory> {

@@ -12,11 +12,8 @@ use crate::made_notes::made_note;
 use crate::plans::MakePlan;
 use crate::row_numbers::{REVIEWS_OF_A_CARD, cards_before};
 use ak_base::{List, Memory, Row};
-use ak_openings::{Opening, opening};
+use ak_openings::{OPENING_MOMENT, Opening, opening};
 use std::alloc::Global;
-
-/// The moment at which the server was opened, in milliseconds.
-const OPENING_MOMENT: i64 = 1_700_000_000_000;
 
 /// The collection that is made of a seed: nothing of it is to be sent.
 pub fn made_collection(alloc: Global, plan: MakePlan) -> Result<Opening, Memory>

@@ -7,5 +7,5 @@ mod openings;
 mod whole_collections;
 
 pub use opening_laws::openings_are_sound_and_lawful;
-pub use openings::{opening, opening_conf};
+pub use openings::{OPENING_MOMENT, opening, opening_conf};
 pub use whole_collections::Opening;

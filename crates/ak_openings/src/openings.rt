@@ -12,6 +12,9 @@ use crate::opening_types::{basic, cloze, reversed};
 use ak_base::{Conf, Count, DAY_SECONDS, Deck, Head, List, Memory, Options, Rest, Row, Text};
 use std::alloc::Global;
 
+/// The moment at which the servers of a lab and of a made collection were opened, in milliseconds.
+pub const OPENING_MOMENT: i64 = 1_700_000_000_000;
+
 /// The collection that is made at a moment in milliseconds: deck 1, options 1 and the note types 1 to 3. Its rows are to be
 /// sent, as a learner's are, or they are a server's own, which has the usn 1 then.
 pub fn opening(alloc: Global, ms: i64, unsent: bool) -> Result<Opening, Memory>

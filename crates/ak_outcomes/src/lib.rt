@@ -4,5 +4,5 @@
 mod outcome_statuses;
 mod outcome_texts;
 
-pub use outcome_statuses::{NO_MEMORY, outcome_status};
+pub use outcome_statuses::{KEEPER_FAILED, NO_MEMORY, outcome_status};
 pub use outcome_texts::{fixed_text, outcome_text};

@@ -6,8 +6,8 @@ use ak_client::Outcome;
 /// Device and server hold one content, or had been changed last at one moment.
 const SYNCED: u8 = 0;
 
-/// The device's keeper failed.
-const KEEPER_FAILED: u8 = 6;
+/// The keeper of the collection failed.
+pub const KEEPER_FAILED: u8 = 6;
 
 /// Each of three tries of one request got no answer.
 const LOST: u8 = 7;
@@ -25,7 +25,7 @@ const SANITY_FAILED: u8 = 11;
 const CLOCK_OFF: u8 = 12;
 
 /// The server did not do what was asked.
-const REFUSED: u8 = 13;
+const SERVER_REFUSED: u8 = 13;
 
 /// The device's own collection has a fault.
 const OWN_CHECK_FAILED: u8 = 14;
@@ -44,7 +44,7 @@ pub fn outcome_status(outcome: &Outcome) -> u8
         Outcome::ClockOff { .. } => CLOCK_OFF,
         Outcome::OwnCheck(_) => OWN_CHECK_FAILED,
         Outcome::Stopped | Outcome::BadReply | Outcome::TooManyChunks => BROKEN_OFF,
-        Outcome::Refused { .. } => REFUSED,
+        Outcome::Refused { .. } => SERVER_REFUSED,
         Outcome::Lost => LOST,
         Outcome::Keep => KEEPER_FAILED,
         Outcome::Memory => NO_MEMORY,
