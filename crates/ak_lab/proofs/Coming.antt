@@ -17,7 +17,7 @@ use Rattle.ak_lab_lines.specs.declared.lab_lines.Side.TheVariants as sides
 use Rattle.ak_line_runs.specs.LineStops.{IsRefusalStop, IsStopBy}
 use Rattle.ak_line_runs.specs.declared.line_stops.LineStop.{LineStop}
 use Rattle.ak_line_runs.specs.declared.line_stops.LineStop.TheVariants as stops
-use Rattle.ak_server_copies.specs.Copies.{IsViewed}
+use Rattle.ak_sync_in_memory.specs.Copies.{IsViewed}
 use Rattle.ak_sync_in_memory.specs.Entries.{LoggedState}
 use Rattle.ak_sync_in_memory.specs.declared.logs.Entry.{Entry}
 

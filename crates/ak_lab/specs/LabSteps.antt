@@ -21,8 +21,8 @@ use Rattle.ak_lab_lines.specs.declared.lab_lines.Side.TheVariants as sides
 use Rattle.ak_lab_devices.specs.declared.new_reviews.ReviewPlan.{ReviewPlan}
 use Rattle.ak_line_runs.specs.LineTexts.{SaysNoLine}
 use Rattle.ak_outcomes.specs.OutcomeTexts.{outcome_text}
+use Rattle.ak_sync_in_memory.specs.Copies.{IsViewed, committed_in}
 use Rattle.ak_sync_in_memory.specs.Entries.{health_in}
-use Rattle.ak_server_copies.specs.Copies.{IsViewed, committed_in}
 use Rattle.ak_session.specs.Answers.{counts_of}
 use Rattle.ak_desk_texts.specs.AnswerTexts.{answer_text}
 use Rattle.ak_desk_texts.specs.FaultTexts.{desk_fault_text, refusal_text}

@@ -21,8 +21,8 @@ ghost use Rattle.ak_lab_devices.specs.NewReviews.{EndsReviews};
 ghost use Rattle.ak_desk_language.specs.AnyLines.{IsAnyInRange};
 ghost use Rattle.ak_line_runs.specs.LinePrints.{printed_by};
 ghost use Rattle.ak_line_runs.specs.declared.line_stops.LineStop.TheVariants as stops;
+ghost use Rattle.ak_sync_in_memory.specs.Copies.{IsViewed, committed_in};
 ghost use Rattle.ak_sync_in_memory.specs.Entries.{health_in};
-ghost use Rattle.ak_server_copies.specs.Copies.{IsViewed, committed_in};
 ghost use Rattle.ak_session.specs.Answers.{counts_of};
 ghost use Rattle.ak_desk_texts.specs.declared.line_refusals.LineRefusal.TheVariants as refusals;
 

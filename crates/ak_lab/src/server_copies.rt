@@ -5,15 +5,14 @@ ghost use Rattle.ak_lab_devices.specs.Devices.{as_downloaded};
 ghost use Rattle.ak_lab_devices.specs.RestingKeepers.{kept_of};
 ghost use Rattle.ak_lab_devices.specs.Shows.{shown_lines};
 ghost use Rattle.ak_lab_lines.specs.LabTexts.{counts_text};
-ghost use Rattle.ak_server_copies.specs.Copies.{IsViewed, committed_in};
 ghost use Rattle.ak_session.specs.Answers.{counts_of};
+ghost use Rattle.ak_sync_in_memory.specs.Copies.{IsViewed, committed_in};
 ghost use Rattle.ak_sync_in_memory.specs.Entries.{health_in};
 
 use ak_base::{List, Memory, Text};
 use ak_lab_devices::{HeldCollection, unfailed};
 use ak_lab_lines::{Shown, write_counts};
-use ak_server_copies::view_all;
-use ak_sync_in_memory::LoggedServer;
+use ak_sync_in_memory::{LoggedServer, view_all};
 use std::alloc::Global;
 
 /// A copy of the collection that is committed on the server. It is read by views.

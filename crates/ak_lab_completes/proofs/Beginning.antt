@@ -36,7 +36,7 @@ use Rattle.ak_merge.specs.Edits.{second_of}
 use Rattle.ak_openings.specs.declared.whole_collections.Opening.{Opening}
 use Rattle.ak_protocol.proofs.Commits.{not_both}
 use Rattle.ak_protocol.specs.Accounts.{AccountState}
-use Rattle.ak_server_copies.specs.Copies.{IsViewed, committed_in}
+use Rattle.ak_sync_in_memory.specs.Copies.{IsViewed, committed_in}
 use Rattle.ak_sync_in_memory.specs.Entries.{LoggedState, account_opened}
 use Rattle.ak_sync_in_memory.specs.Mishaps.{loses_nothing}
 

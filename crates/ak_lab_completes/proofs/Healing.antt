@@ -29,8 +29,8 @@ use Rattle.ak_protocol.proofs.Commits.{not_both}
 use Rattle.ak_protocol.proofs.Isolation.{logs_part}
 use Rattle.ak_protocol.specs.Accounts.{AccountState}
 use Rattle.ak_protocol.specs.Logs.{Log, World, events_of, opened, world_after}
-use Rattle.ak_server_copies.specs.Copies.{committed_in, committed_under}
 use Rattle.ak_sync_completes.specs.Completing.{AreJoinable, have_nothing_to_sync}
+use Rattle.ak_sync_in_memory.specs.Copies.{committed_in, committed_under}
 use Rattle.ak_sync_in_memory.specs.Entries.{LoggedState, log_in, server_of}
 
 -- ---- laws of others

@@ -41,9 +41,8 @@ use ak_lab_joins::{
     other_syncs_keep_sides, runs_keep_labs_linked, syncs_use_up_breaks,
 };
 use ak_lab_wires::Crossings;
-use ak_server_copies::views_keep_the_collection;
 use ak_sync_completes::syncs_complete;
-use ak_sync_in_memory::LoopWire;
+use ak_sync_in_memory::{LoopWire, views_keep_the_collection};
 use ak_transfer_laws::{
     copies_have_nothing_to_sync, equal_sides_have_nothing_to_sync, other_schemas_need_a_whole,
 };

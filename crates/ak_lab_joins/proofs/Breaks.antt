@@ -21,7 +21,7 @@ use Rattle.ak_line_runs.specs.LineRuns.{Accepted, AllGo, Failed, IsNext, NextEnd
 use Rattle.ak_line_runs.specs.declared.command_ends.CommandEnd.{CommandEnd}
 use Rattle.ak_line_runs.specs.declared.command_ends.CommandEnd.TheVariants as ends
 use Rattle.ak_openings.specs.declared.whole_collections.Opening.{Opening}
-use Rattle.ak_server_copies.specs.Copies.{IsViewed}
+use Rattle.ak_sync_in_memory.specs.Copies.{IsViewed}
 use Rattle.ak_sync_in_memory.specs.Entries.{LoggedState, entry_of, health_in}
 use Rattle.ak_sync_in_memory.specs.declared.logs.Entry.{Entry}
 use Rattle.ak_sync_in_memory.specs.declared.logs.Logged.TheVariants as logged

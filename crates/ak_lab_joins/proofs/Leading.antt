@@ -32,6 +32,7 @@ use Rattle.ak_lab_wires.specs.declared.replayed_requests.Replays.{Replays}
 use Rattle.ak_line_runs.specs.LineRuns.{Accepted, AllGo}
 use Rattle.ak_sync_in_memory.proofs.Logging.{events_append}
 use Rattle.ak_sync_in_memory.specs.Betweens.{ActEnd, Acting}
+use Rattle.ak_sync_in_memory.specs.Copies.{IsViewed}
 use Rattle.ak_sync_in_memory.specs.Entries.{LoggedState, entry_of, events_in, log_in, log_with}
 use Rattle.ak_sync_in_memory.specs.LoggedServers.{IsServed}
 use Rattle.ak_sync_in_memory.specs.declared.logs.Entry.{Entry}
@@ -44,7 +45,6 @@ use Rattle.ak_protocol.specs.Accounts.{AccountState}
 use Rattle.ak_protocol.specs.Commits.{CommitsGrow}
 use Rattle.ak_protocol.specs.Logs.{Event, Log, World, events_of, with_growth}
 use Rattle.ak_protocol.specs.Syncs.{world_of}
-use Rattle.ak_server_copies.specs.Copies.{IsViewed}
 
 -- ---- a log that grows
 -- some events came after those that came

@@ -43,6 +43,7 @@ use Rattle.ak_lab_devices.specs.declared.plans.Act.{Act}
 use Rattle.ak_lab_devices.specs.declared.plans.Act.TheVariants as acts
 use Rattle.ak_line_runs.specs.LineRuns.{Accepted}
 use Rattle.ak_line_runs.specs.LineTexts.{is_skipped_line}
+use Rattle.ak_sync_in_memory.specs.Copies.{IsViewed}
 use Rattle.ak_sync_in_memory.specs.declared.mishaps.What.{What}
 use Rattle.ak_lab_lines.specs.LabLines.{lab_line_of}
 use Rattle.ak_lab_lines.specs.declared.lab_lines.Direction.TheVariants as directions
@@ -61,7 +62,6 @@ use Rattle.ak_merge.specs.Undoing.{StepFits}
 use Rattle.ak_openings.specs.declared.whole_collections.Opening.{Opening}
 use Rattle.ak_outcomes.specs.OutcomeTexts.{outcome_text}
 use Rattle.ak_protocol.specs.Accounts.{AccountState}
-use Rattle.ak_server_copies.specs.Copies.{IsViewed}
 use Rattle.ak_desk_texts.specs.declared.answers.DeskAnswer.{DeskAnswer}
 use Rattle.ak_desk_texts.specs.declared.line_refusals.LineRefusal.{LineRefusal}
 

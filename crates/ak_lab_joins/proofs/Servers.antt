@@ -14,6 +14,7 @@ use Rattle.ak_lab.specs.LabRuns.{IsLabOpening}
 use Rattle.ak_lab.specs.LabSyncs.{with_fails}
 use Rattle.ak_lab_wires.specs.LabSessions.{lab_host}
 use Rattle.ak_sync_in_memory.proofs.Logging.{events_append}
+use Rattle.ak_sync_in_memory.specs.Copies.{IsViewed, committed_in, committed_under}
 use Rattle.ak_sync_in_memory.specs.Entries.{LoggedState, account_opened, collection_in, entry_of, events_in, log_in, server_of, server_opened}
 use Rattle.ak_sync_in_memory.specs.LoggedServers.{begins_with}
 use Rattle.ak_sync_in_memory.specs.declared.logs.Logged.TheVariants as logged
@@ -27,7 +28,6 @@ use Rattle.ak_protocol.specs.LawfulServers.{IsLawfulAccount}
 use Rattle.ak_protocol.specs.Logs.{Asked, Event, IsTimely, Log, View, World, events_of, opened, with_growth, world_after}
 use Rattle.ak_protocol.specs.Syncs.{IsUnused, world_of}
 use Rattle.ak_server.specs.Servers.{no_accounts}
-use Rattle.ak_server_copies.specs.Copies.{IsViewed, committed_in, committed_under}
 
 -- ---- what is committed
 -- the collection that a server committed is that of its account

@@ -35,7 +35,7 @@ use Rattle.ak_line_runs.specs.LineRuns.{Accepted}
 use Rattle.ak_merge.specs.Edits.{second_of}
 use Rattle.ak_messages.specs.declared.requests.Ask.{Ask}
 use Rattle.ak_protocol.specs.Accounts.{AccountState}
-use Rattle.ak_server_copies.specs.Copies.{IsViewed}
+use Rattle.ak_sync_in_memory.specs.Copies.{IsViewed}
 use Rattle.ak_sync_in_memory.specs.Entries.{LoggedState, entry_of, log_in}
 use Rattle.ak_sync_in_memory.specs.declared.logs.Logged.TheVariants as logged
 use Rattle.ak_transfers.specs.Greetings.{Line as WireLine, TransferOutside}

@@ -26,6 +26,7 @@ use Rattle.ak_lab_lines.specs.declared.lab_lines.Direction.TheVariants as direct
 use Rattle.ak_lab_lines.specs.declared.lab_lines.LabLine.{LabLine}
 use Rattle.ak_lab_lines.specs.declared.lab_lines.LabLine.TheVariants as lines
 use Rattle.ak_line_runs.specs.LineRuns.{Accepted, AllGo}
+use Rattle.ak_sync_in_memory.specs.Copies.{committed_in}
 use Rattle.ak_sync_in_memory.specs.Entries.{LoggedState, account_opened, log_in}
 use Rattle.ak_merge.specs.Commits.{IsCopyOf, Received}
 use Rattle.ak_merge.specs.Exchanges.{HoldsJoin}
@@ -40,7 +41,6 @@ use Rattle.ak_protocol.specs.Commits.{EachNewer, HasFreshSchema, IsFinishOf}
 use Rattle.ak_protocol.specs.LawfulServers.{IsLawfulAccount}
 use Rattle.ak_protocol.specs.Logs.{Commit, World}
 use Rattle.ak_protocol.specs.Syncs.{IsUnused, world_of}
-use Rattle.ak_server_copies.specs.Copies.{committed_in}
 use Rattle.ak_session.specs.Requests.{asked_method}
 use Rattle.ak_transfers.specs.Transfers.{HoldsUpload}
 

@@ -9,7 +9,7 @@ use Rattle.ak_makes.specs.MadeServers.{AreCountsOn, HoldsCopy, IsServerOf}
 use Rattle.ak_makes.specs.Measures.{IsMeasured, IsSynced}
 use Rattle.ak_merge.specs.Commits.{IsCopyOf}
 use Rattle.ak_messages.specs.declared.requests.SanityCounts.{SanityCounts}
-use Rattle.ak_server_copies.specs.Copies.{IsViewed, committed_in}
+use Rattle.ak_sync_in_memory.specs.Copies.{IsViewed, committed_in}
 use Rattle.ak_sync_in_memory.specs.Entries.{LoggedState, collection_in}
 use Rattle.ak_undo.specs.declared.steps.Step.{Step}
 

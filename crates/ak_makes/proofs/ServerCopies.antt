@@ -8,8 +8,8 @@ use Rattle.ak_keep.specs.Marks.{WithMark}
 use Rattle.ak_makes.specs.MadeServers.{AreCountsOn, HoldsCopy}
 use Rattle.ak_messages.specs.declared.requests.SanityCounts.{SanityCounts}
 use Rattle.ak_openings.specs.declared.whole_collections.Opening.{Opening}
-use Rattle.ak_server_copies.specs.Copies.{committed_in}
 use Rattle.ak_session.specs.Answers.{counts_of}
+use Rattle.ak_sync_in_memory.specs.Copies.{committed_in}
 use Rattle.ak_sync_in_memory.specs.Entries.{LoggedState, collection_in}
 
 pub moment_fits : (moment : ℤ) → IsMoment moment → SFits w64 moment

@@ -7,8 +7,8 @@ use Rattle.ak_made_collections.specs.MadeCollections.{IsMade}
 use Rattle.ak_merge.specs.Commits.{IsCopyOf}
 use Rattle.ak_messages.specs.declared.requests.SanityCounts.{SanityCounts}
 use Rattle.ak_openings.specs.declared.whole_collections.Opening.{Opening}
-use Rattle.ak_server_copies.specs.Copies.{committed_in}
 use Rattle.ak_session.specs.Answers.{counts_of}
+use Rattle.ak_sync_in_memory.specs.Copies.{committed_in}
 use Rattle.ak_sync_in_memory.specs.Entries.{LoggedState}
 use Rattle.ak_sync_in_memory.specs.LoggedServers.{begins_with}
 

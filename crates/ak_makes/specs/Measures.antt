@@ -10,6 +10,7 @@ use Rattle.ak_faults.specs.Causes.{Health}
 use Rattle.ak_keep.specs.Collections.{Collection}
 use Rattle.ak_keep.specs.Keepers.{Keeping}
 use Rattle.ak_sync_in_memory.specs.Betweens.{always_idle, does_nothing}
+use Rattle.ak_sync_in_memory.specs.Copies.{IsViewed}
 use Rattle.ak_sync_in_memory.specs.Entries.{LoggedState, collection_in}
 use Rattle.ak_sync_in_memory.specs.LoggedServers.{begins_with}
 use Rattle.ak_sync_in_memory.specs.LoopWires.{LoopInside, health_over, inside_with, state_of_loop}
@@ -20,7 +21,6 @@ use Rattle.ak_makes.specs.MadeServers.{AreCountsOn, make_host}
 use Rattle.ak_makes.specs.declared.measures.Measured.{Measured}
 use Rattle.ak_merge.specs.Commits.{IsCopyOf}
 use Rattle.ak_openings.specs.declared.whole_collections.Opening.{Opening}
-use Rattle.ak_server_copies.specs.Copies.{IsViewed}
 use Rattle.ak_undo.specs.declared.steps.Step.{Step}
 
 -- when the device syncs, by the clocks of both sides, in milliseconds

@@ -7,7 +7,7 @@ ghost use Rattle.ak_base.specs.Names.{name_cmp};
 ghost use Rattle.ak_base.specs.Rows.{IsChecked, name_of};
 ghost use Rattle.ak_keep.specs.Keepers.{all_known, is_marked};
 ghost use Rattle.ak_makes.specs.MadeServers.{AreCountsOn, HoldsCopy, IsServerOf, make_host};
-ghost use Rattle.ak_server_copies.specs.Copies.{IsViewed, committed_in};
+ghost use Rattle.ak_sync_in_memory.specs.Copies.{IsViewed, committed_in};
 ghost use Rattle.ak_sync_in_memory.specs.Entries.{collection_in};
 
 use ak_base::{HostKey, Text};
@@ -16,8 +16,7 @@ use ak_made_collections::{MakePlan, made_collection};
 use ak_memory::MemoryKeeper;
 use ak_messages::SanityCounts;
 use ak_openings::Opening;
-use ak_server_copies::view_all;
-use ak_sync_in_memory::{LoggedServer, keeper_with};
+use ak_sync_in_memory::{LoggedServer, keeper_with, view_all};
 use ak_sync_rows::counts_of;
 use std::alloc::Global;
 

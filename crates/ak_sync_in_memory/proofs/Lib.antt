@@ -1,6 +1,7 @@
 mod Alone
 mod Calling
 pub mod Carrying
+mod Copying
 mod Failing
 pub mod Growing
 mod InARow
@@ -8,3 +9,4 @@ pub mod Logging
 mod Losing
 mod Served
 mod Troubles
+mod Viewing

@@ -1,4 +1,5 @@
 pub mod Betweens
+pub mod Copies
 pub mod Entries
 pub mod LoggedServers
 pub mod LoopWires

@@ -5,9 +5,9 @@ use Rattle.ak_base.specs.Rows.{IsChecked}
 use Rattle.ak_base.specs.Tables.{all_tables}
 use Rattle.ak_faults.specs.Causes.{GoesOn}
 use Rattle.ak_keep.specs.Collections.{Collection}
+use Rattle.ak_sync_in_memory.specs.Copies.{IsViewed, committed_in}
 use Rattle.ak_sync_in_memory.specs.Entries.{health_in}
-use Rattle.ak_server_copies.specs.Copies.{IsViewed, committed_in}
-use Rattle.ak_server_copies.proofs.copies.view_rows.Given as goal
+use Rattle.ak_sync_in_memory.proofs.copies.view_rows.Given as goal
 
 -- the rows so far and those of the tables that are left are those of all tables
 abbrev pub invariant-loop-table : goal.invariant-loop-table

@@ -14,8 +14,8 @@ use Rattle.ak_protocol.specs.Accounts.{AccountState, viewed}
 use Rattle.ak_protocol.specs.Logs.{Event, View, server_after, server_next}
 use Rattle.ak_protocol.specs.Servers.{ServerState, by_view}
 use Rattle.ak_server.specs.Servers.{ViewsRows}
-use Rattle.ak_server_copies.specs.Copies.{IsViewed, committed_in, committed_under}
 use Rattle.ak_sync_in_memory.proofs.Logging.{after_append, events_append}
+use Rattle.ak_sync_in_memory.specs.Copies.{IsViewed, committed_in, committed_under}
 use Rattle.ak_sync_in_memory.specs.Entries.{LoggedState, entry_of, events_in, server_in, server_opened}
 use Rattle.ak_sync_in_memory.specs.LoggedServers.{Adds, AddsView}
 use Rattle.ak_sync_in_memory.specs.declared.logs.Entry.{Entry}

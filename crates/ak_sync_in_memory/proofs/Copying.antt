@@ -26,10 +26,10 @@ use Rattle.ak_merge.specs.Commits.{IsCommitted}
 use Rattle.ak_openings.specs.declared.whole_collections.Opening.{Opening}
 use Rattle.ak_protocol.specs.Accounts.{AccountState}
 use Rattle.ak_protocol.specs.LawfulServers.{IsLawful, IsLawfulUnder}
-use Rattle.ak_server_copies.proofs.Viewing.{collection_stays}
-use Rattle.ak_server_copies.specs.Copies.{IsViewed, committed_in}
+use Rattle.ak_sync_in_memory.proofs.Viewing.{collection_stays}
 use Rattle.ak_server_steps.proofs.InTables.{rows_in_all, table_read, tables_read}
 use Rattle.ak_server_steps.specs.Wholes.{rows_in}
+use Rattle.ak_sync_in_memory.specs.Copies.{IsViewed, committed_in}
 use Rattle.ak_sync_in_memory.specs.Entries.{LoggedState, collection_in, server_in}
 
 -- ---- what is committed

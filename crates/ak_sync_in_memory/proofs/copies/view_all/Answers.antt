@@ -1,6 +1,6 @@
-use Rattle.ak_server_copies.proofs.Copying.{copied}
-use Rattle.ak_server_copies.proofs.Viewing.{viewed_further, viewed_once}
-use Rattle.ak_server_copies.proofs.copies.view_all.Goals as goal
+use Rattle.ak_sync_in_memory.proofs.Copying.{copied}
+use Rattle.ak_sync_in_memory.proofs.Viewing.{viewed_further, viewed_once}
+use Rattle.ak_sync_in_memory.proofs.copies.view_all.Goals as goal
 
 pub returns-in_err-head-clause-views : goal.returns-in_err-head-clause-views
 returns-in_err-head-clause-views c =

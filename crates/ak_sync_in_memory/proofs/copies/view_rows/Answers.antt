@@ -1,8 +1,8 @@
 use Rattle.std.proofs.Common.{◌≤◌, ◌∙◌, arith}
 use Rattle.ak_faults.proofs.Healths.{goes_further}
-use Rattle.ak_server_copies.proofs.Copying.{all_read, table_next}
-use Rattle.ak_server_copies.proofs.Viewing.{collection_stays, viewed_further}
-use Rattle.ak_server_copies.proofs.copies.view_rows.Goals as goal
+use Rattle.ak_sync_in_memory.proofs.Copying.{all_read, table_next}
+use Rattle.ak_sync_in_memory.proofs.Viewing.{collection_stays, viewed_further}
+use Rattle.ak_sync_in_memory.proofs.copies.view_rows.Goals as goal
 
 pub returns-in_err-view_table-clause-views : goal.returns-in_err-view_table-clause-views
 returns-in_err-view_table-clause-views c =

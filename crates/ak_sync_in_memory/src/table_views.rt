@@ -3,12 +3,12 @@ ghost use Rattle.std.specs.Prelude.{◌≡◌, ◌<◌, ◌++◌, false, pos, So
 ghost use Rattle.ak_base.specs.Rows.{IsChecked};
 ghost use Rattle.ak_keep.specs.Collections.{Collection, last_id};
 ghost use Rattle.ak_keep.specs.Keepers.{KeepCause};
-ghost use Rattle.ak_server_copies.specs.Copies.{IsViewed, committed_in, most_pages, rows_to_come};
+ghost use Rattle.ak_sync_in_memory.specs.Copies.{IsViewed, committed_in, most_pages, rows_to_come};
 ghost use Rattle.ak_sync_in_memory.specs.Entries.{health_in};
 
+use crate::LoggedServer;
 use ak_base::{List, Name, Row, Table};
 use ak_keep::{KeepFault, PAGE};
-use ak_sync_in_memory::LoggedServer;
 
 /// Views of the rows of a table, by ascending id and page by page.
 #[derive(Clone, Copy, Debug)]

@@ -7,15 +7,15 @@ ghost use Rattle.ak_base.specs.Names.{name_cmp};
 ghost use Rattle.ak_base.specs.Rows.{IsChecked, name_of};
 ghost use Rattle.ak_keep.specs.Collections.{Collection};
 ghost use Rattle.ak_keep.specs.Keepers.{KeepCause};
-ghost use Rattle.ak_server_copies.specs.Copies.{IsViewed, committed_in};
 ghost use Rattle.ak_server_steps.specs.Wholes.{rows_in};
+ghost use Rattle.ak_sync_in_memory.specs.Copies.{IsViewed, committed_in};
 ghost use Rattle.ak_sync_in_memory.specs.Entries.{LoggedState, collection_in, health_in};
 
+use crate::LoggedServer;
 use crate::table_views::TableViews;
 use ak_base::{List, Row, Table};
 use ak_keep::KeepFault;
 use ak_openings::Opening;
-use ak_sync_in_memory::LoggedServer;
 use ak_sync_rows::append_page;
 use std::alloc::Global;
 

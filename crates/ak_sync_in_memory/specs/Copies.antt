@@ -6,9 +6,9 @@ use Rattle.ak_base.specs.declared.rows.Row.{Row}
 use Rattle.ak_keep.specs.Collections.{Collection, Rows, rows_past}
 use Rattle.ak_protocol.specs.Accounts.{AccountState}
 use Rattle.ak_protocol.specs.Servers.{ServerState}
-use Rattle.ak_server_copies.specs.declared.table_views.TableViews.{TableViews}
 use Rattle.ak_sync_in_memory.specs.Entries.{LoggedState, entry_of, server_in}
 use Rattle.ak_sync_in_memory.specs.declared.logs.Logged.TheVariants as logged
+use Rattle.ak_sync_in_memory.specs.declared.table_views.TableViews.{TableViews}
 
 -- the collection that is committed under a host key
 abbrev pub committed_under : List ℕ → ServerState → Option Collection

@@ -4,9 +4,9 @@ use Rattle.ak_server_steps.specs.Wholes.{rows_in}
 use Rattle.ak_base.specs.Rows.{IsChecked}
 use Rattle.ak_faults.specs.Causes.{GoesOn}
 use Rattle.ak_keep.specs.Collections.{Collection}
+use Rattle.ak_sync_in_memory.specs.Copies.{IsViewed, committed_in, most_pages, rows_to_come}
 use Rattle.ak_sync_in_memory.specs.Entries.{health_in}
-use Rattle.ak_server_copies.specs.Copies.{IsViewed, committed_in, most_pages, rows_to_come}
-use Rattle.ak_server_copies.proofs.copies.view_table.Given as goal
+use Rattle.ak_sync_in_memory.proofs.copies.view_table.Given as goal
 
 -- the rows so far and those that are to come are those of before and all of the table
 abbrev pub invariant-pages : goal.invariant-pages

@@ -4,9 +4,9 @@ use Rattle.std.proofs.lemmas.List.Elements.{All-append}
 use Rattle.ak_base.specs.Rows.{IsChecked}
 use Rattle.ak_base.specs.declared.rows.Row.{Row}
 use Rattle.ak_faults.proofs.Healths.{goes_further}
-use Rattle.ak_server_copies.proofs.Viewing.{collection_stays, viewed_further}
-use Rattle.ak_server_copies.specs.Copies.{rows_to_come}
-use Rattle.ak_server_copies.proofs.copies.view_table.Goals as goal
+use Rattle.ak_sync_in_memory.proofs.Viewing.{collection_stays, viewed_further}
+use Rattle.ak_sync_in_memory.specs.Copies.{rows_to_come}
+use Rattle.ak_sync_in_memory.proofs.copies.view_table.Goals as goal
 
 pub returns-in_err-page-clause-views : goal.returns-in_err-page-clause-views
 returns-in_err-page-clause-views c =

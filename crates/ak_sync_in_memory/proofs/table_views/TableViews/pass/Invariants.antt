@@ -1,6 +1,6 @@
 use Rattle.std.proofs.Common.{◌≡◌, drop}
 use Rattle.ak_keep.specs.Collections.{last_id}
-use Rattle.ak_server_copies.proofs.table_views.TableViews.pass.Given as goal
+use Rattle.ak_sync_in_memory.proofs.table_views.TableViews.pass.Given as goal
 
 -- the last of the rows that are left is the last of all, and nothing else changes
 abbrev pub invariant-loop-row : goal.invariant-loop-row
