@@ -4,9 +4,8 @@ use Rattle.std.specs.Cmp.Lexicographic.{pointwise}
 use Rattle.std.specs.List.{Contains, list_any}
 use Rattle.std.specs.Option.{option_map}
 use Rattle.std.specs.Ordering.{int_eq}
-use Rattle.std.specs.Prelude.{◌≡◌, ◌≢◌, ◌==◌, ◌+◌, ◌<◌, ◌||◌, ℕ, suc, ℤ, pos, negsuc, Bool, true, false, not, if◌then◌else◌, List, [], ◌∷◌, length, drop, find, get_or, Option, Some, None, IfSome}
-use Rattle.std.proofs.Common.{refl, sym, ap, ◌∙◌, arith}
-use Rattle.std.proofs.lemmas.List.{drop_more}
+use Rattle.std.specs.Prelude.{◌≡◌, ◌≢◌, ◌==◌, ◌||◌, ℕ, suc, ℤ, pos, negsuc, Bool, true, false, not, if◌then◌else◌, List, [], ◌∷◌, length, drop, find, Option, Some, None, IfSome}
+use Rattle.std.proofs.Common.{refl, ap, ◌∙◌, arith}
 use Rattle.ak_base.specs.Rows.{name_of, usn_of}
 use Rattle.ak_base.specs.Tables.{all_tables}
 use Rattle.ak_base.specs.declared.heads.Tag.{Tag}
@@ -25,13 +24,6 @@ use Rattle.ak_protocol.proofs.Commits.{not_both}
 
 not_empty : (n : ℕ) → (suc n == 0) ≡ false
 not_empty n = elim (suc n == 0) as (λ b. (suc n == 0) ≡ b → b ≡ false) [ true ↦ λ is. absurd (omega (arith, (unsigned_Decides (suc n) 0).0 is)) | false ↦ λ _. refl ] refl
-
--- what holds of the item at this place holds of one of those from there on
-pub any_here : {X : Type 0} (f : X → Bool) (xs : List X) (i : ℕ) (d : X) → i < length xs → f (get_or xs i d) ≡ true → list_any f (drop i xs) ≡ true
-any_here {X = X} f xs i d low is = ap (list_any f) (drop_more xs i d low) ∙ ap (λ b. b || list_any f (drop (i + 1) xs)) is
-
-pub any_behind : {X : Type 0} (f : X → Bool) (xs : List X) (i : ℕ) (d : X) → i < length xs → f (get_or xs i d) ≡ false → list_any f (drop (i + 1) xs) ≡ list_any f (drop i xs)
-any_behind {X = X} f xs i d low is = sym (ap (list_any f) (drop_more xs i d low) ∙ ap (λ b. b || list_any f (drop (i + 1) xs)) is)
 
 -- ---- where nothing is found all was sent
 or_left : (a b : Bool) → (a || b) ≡ false → a ≡ false

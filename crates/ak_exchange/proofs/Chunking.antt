@@ -83,13 +83,6 @@ front_below k n list le =
     (front.0, front.1 ∙ ap (λ (m : ℕ). slices m list) same)
 
 -- ---- how many slices there are
--- rows are left after the slices before one of those that have a row
-pub one_is_left : (k n : ℕ) → k < div_ceil n 250 → 250 * k < n
-one_is_left k n less =
-    let whole = div-add-mod' n 250 in
-    let below : n % 250 < 250 = mod_below n 250 (omega arith) in
-    omega (arith, whole, below, less)
-
 pub is_filled : (k n : ℕ) → 250 * k < n → k + 1 ≤ div_ceil n 250
 is_filled k n less =
     let whole = div-add-mod' n 250 in

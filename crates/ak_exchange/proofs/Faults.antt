@@ -67,9 +67,6 @@ unkept_wire result why is = unkept_as result (wire_stop why) (each why) is
     each (unanswered.Refused status word seen) = refl
     each unanswered.Memory = refl
 
-pub unkept_passed : {T : Type 0} (result : Result T Stop) (e : Stop) → is_keep e ≡ false → IsErrAnd result (λ (stop : Stop). stop ≡ e) → IsUnkept result
-unkept_passed result e not_keep is = unkept_as result e not_keep is
-
 pub cause_unkept : {T : Type 0} (result : Result T Stop) {a b : Health} → GoesOn a b → IsUnkept result → HasCauseOf stops.Keep a b result
 cause_unkept {T} result {a} {b} goes unkept = record {
   goes = goes;

@@ -25,7 +25,7 @@ use Rattle.ak_exchange.proofs.Checking.{fair_stop, sound_join}
 use Rattle.ak_exchange.proofs.Tried.{asks_append}
 use Rattle.ak_exchange.specs.Asked.{AreFew, Talk, TriedAsk, asker, asks_in, request_at, sends_unfinished}
 use Rattle.ak_exchange.specs.Grants.{brings_unfinished, came_unfinished}
-use Rattle.ak_exchange.specs.Loops.{HasPulledOne, HasPushedOne, HavePulled, HavePushed, HaveSentGraves, PullsOne, PushesOne, SendsOne, last_sent, rows_once_sent, rows_to_push}
+use Rattle.ak_exchange.specs.Loops.{HasPulledOne, HasPushedOne, HavePulled, HavePushed, HaveSentGraves, PullsOne, PushesOne, SendsOne, rows_once_sent, rows_to_push}
 use Rattle.ak_exchange.specs.Phases.{Advances, AreGraveRequests, Exchanges, HasPassedCheck, HasReceived, HasTenMillionRows, IsAt, IsMet, Place, at_end_of, at_meta, held_by}
 use Rattle.ak_exchange.specs.Stops.{verdict_of}
 use Rattle.ak_exchange.specs.declared.envelopes.Met.{Met}
@@ -286,11 +286,6 @@ pushed_few chunk = by chunk.done refl
       sent = subst (λ (b : Bool). 0 + cond (not b) 1 0 ≤ 1) (sym is) (omega arith);
       rest = subst (λ (b : Bool). 0 + cond (true && not (not b)) 1 0 ≤ 0) (sym is) (omega arith);
     }
-
-pub last_sent_most : (result : Result (Option Name) Stop) → last_sent result ≤ 1
-last_sent_most (Ok None) = omega arith
-last_sent_most (Ok (Some next)) = omega arith
-last_sent_most (Err stop) = omega arith
 
 -- the next chunk is that of what the device holds, which took the server's chunks and settled what it sent
 next_made : {kind : WireKind} (keeping : Keeping) (was : Talk kind) (k : ℕ) (from next : Name) (chunk : Chunk) → WhereTold keeping (λ h. IsNextToSend h.rows from chunk next)

@@ -60,9 +60,6 @@ module _ (c s : Collection) where
   pub after_start : Ahead (planned_start c)
   after_start = ahead_by (planned_start c) (planned_graves c s) (graves_to_send (wanted_graves Unsent (device_rows c s (planned_start c)))) (planned c s) refl after_graves
 
-  pub after_meta : Ahead []
-  after_meta = (planned c s, refl)
-
 -- a place at the end of a part leads on
 pub leads_on : (part : Collection → Collection → List Ask) → ((c s : Collection) → (rest : List Ask) × (part c s ++ rest ≡ planned c s)) → LeadsOn (at_end_of part)
 leads_on part ahead c s asked may is = ((ahead c s).0, ap (λ (l : List Ask). l ++ (ahead c s).0) is ∙ (ahead c s).1)
