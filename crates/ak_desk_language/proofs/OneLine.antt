@@ -20,7 +20,7 @@ use Rattle.ak_desk_language.specs.declared.desk_lines.DeskLine.{DeskLine}
 use Rattle.ak_desk_language.specs.declared.desk_lines.DeskLine.TheVariants as lines
 use Rattle.ak_desk_language.specs.declared.verbs.Verb.{Verb}
 use Rattle.ak_desk_language.specs.declared.verbs.Verb.TheVariants as verbs
-use Rattle.ak_desk_language.specs.Contents.{InJson, texts_of, map_of, part_of, has_id_zero, options_value, IsTypeWithMaps}
+use Rattle.ak_desk_language.specs.Contents.{InJson, map_of, part_of, has_id_zero, options_value, IsTypeWithMaps}
 use Rattle.ak_desk_language.specs.DeskLines.{HasVerb, HasIds, HasTexts, HasOptions, HasSearch, HasSide, MeansLine, SaysLine, AreSameLines}
 use Rattle.ak_desk_language.specs.LineForms.{LineForm, HasForm, Tail, Nothing, Ids, AnyText, end_text}
 use Rattle.ak_desk_language.specs.Reading.{form_of}

@@ -46,12 +46,12 @@ each_of means (item d ds) =
     option_and_then (λ first. option_map (λ others. first ∷ others) (each_of means ds)) (means d)
 
 -- the texts of an array of texts
-abbrev pub texts_of : Data → Option (List (List ℕ))
-texts_of d = option_and_then (each_of as_str) (as_array d)
+abbrev pub texts_in_array : Data → Option (List (List ℕ))
+texts_in_array d = option_and_then (each_of as_str) (as_array d)
 
 -- the value is not an array of texts
 abbrev pub RefusesTexts : Data → LineFault → Type 0
-RefusesTexts d fault = (texts_of d ≡ None) × (fault ≡ wrong_kind [])
+RefusesTexts d fault = (texts_in_array d ≡ None) × (fault ≡ wrong_kind [])
 
 -- a place in a list of fields or templates, from 0
 abbrev pub place_in : ℕ → Option ℕ

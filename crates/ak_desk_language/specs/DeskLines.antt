@@ -14,7 +14,7 @@ use Rattle.ak_desk_language.specs.declared.line_faults.LineFault.{LineFault}
 use Rattle.ak_desk_language.specs.declared.line_faults.LineFault.TheVariants as faults
 use Rattle.ak_desk_language.specs.declared.verbs.Verb.{Verb}
 use Rattle.ak_desk_language.specs.declared.verbs.Verb.TheVariants as verbs
-use Rattle.ak_desk_language.specs.Contents.{InJson, texts_of, IsGroup, IsSearch, IsTypeWithMaps, RefusesContent}
+use Rattle.ak_desk_language.specs.Contents.{InJson, texts_in_array, IsGroup, IsSearch, IsTypeWithMaps, RefusesContent}
 use Rattle.ak_desk_language.specs.Faults.{OrMemory}
 use Rattle.ak_desk_language.specs.LineForms.{LineForm, HasForm, Tail, Ids, AnyText, end_text}
 use Rattle.ak_desk_language.specs.Verbs.{content_of}
@@ -35,7 +35,7 @@ HasIds f ids = f.tail ≡ Ids ids
 
 -- it ends with the texts
 abbrev pub HasTexts : LineForm → List (List ℕ) → Type 0
-HasTexts f texts = InJson (end_text f.tail) (λ d. texts_of d ≡ Some texts)
+HasTexts f texts = InJson (end_text f.tail) (λ d. texts_in_array d ≡ Some texts)
 
 -- it ends with an option group; the truth value says whether its id is 0
 abbrev pub HasOptions : LineForm → Bool → Options → Type 0

@@ -5,7 +5,7 @@ ghost use Rattle.serde_json.specs.Read.{read};
 ghost use Rattle.serde_json.specs.View.{view, items_view};
 ghost use Rattle.ak_base.specs.declared.names.Table.TheVariants as tables;
 ghost use Rattle.ak_base.specs.declared.rows.Row.TheVariants as rows;
-ghost use Rattle.ak_desk_language.specs.Contents.{InJson, IsGroup, IsSearch, json_line, RefusesContent, RefusesRowValue, RefusesTypeWithMaps, RefusesMaps, texts_of, each_of, entry_of, map_of, has_id_zero, with_id_one, options_value, place_in, part_of, parts_fault, IsTypeWithMaps, wrong_kind};
+ghost use Rattle.ak_desk_language.specs.Contents.{InJson, IsGroup, IsSearch, json_line, RefusesContent, RefusesRowValue, RefusesTypeWithMaps, RefusesMaps, texts_in_array, each_of, entry_of, map_of, has_id_zero, with_id_one, options_value, place_in, part_of, parts_fault, IsTypeWithMaps, wrong_kind};
 ghost use Rattle.ak_desk_language.specs.Faults.{OrMemory};
 ghost use Rattle.ak_desk_language.specs.Verbs.{ListOfTexts, OptionGroup, TypeAlone, TypeWithMaps, Searching};
 ghost use Rattle.ak_desk_language.specs.declared.line_faults.LineFault.TheVariants as faults;
@@ -30,11 +30,11 @@ pub(crate) struct TypeAndMaps {
 
 /// The texts of a JSON text of an array of texts.
 pub(crate) fn read_texts(alloc: Global, json: &str) -> Result<List<Text>, LineFault>
-    ensures ok { IfOk result (λ texts. InJson json.now (λ d. texts_of d ≡ Some texts)) }
+    ensures ok { IfOk result (λ texts. InJson json.now (λ d. texts_in_array d ≡ Some texts)) }
     ensures err { IfErr result (OrMemory (RefusesContent ListOfTexts json.now)) }
 {
     let value = read_json(alloc, json)?;
-    match texts_of(alloc, &value)? {
+    match texts_in_array(alloc, &value)? {
         Some(texts) => Ok(texts),
         None => Err(wrong_kind(alloc, "")),
     }
@@ -67,8 +67,8 @@ pub(crate) fn wrong_kind(alloc: Global, place: &str) -> LineFault
 }
 
 /// The texts of an array of texts. None if the value is none.
-fn texts_of(alloc: Global, value: &Value) -> Result<Option<List<Text>>, Memory>
-    ensures { IfOk result (λ texts. texts ≡ texts_of (view value.now)) }
+fn texts_in_array(alloc: Global, value: &Value) -> Result<Option<List<Text>>, Memory>
+    ensures { IfOk result (λ texts. texts ≡ texts_in_array (view value.now)) }
 {
     match value.as_array() {
         Some(values) => each_text(alloc, values.as_slice()),

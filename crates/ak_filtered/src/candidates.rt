@@ -61,14 +61,14 @@ fn add_rows<R: Lookup>(
 {
     let mut rest = rows;
     while let Some((row, others)) = rest.split_first() {
-        add_row(from, sieve, search, row, keys)?;
+        add_if_card(from, sieve, search, row, keys)?;
         rest = others;
     }
     Ok(())
 }
 
-/// Adds the row, if it is a candidate.
-fn add_row<R: Lookup>(
+/// Adds the row, if it is a card and a candidate.
+fn add_if_card<R: Lookup>(
     from: &mut R,
     sieve: &Sieve<'_>,
     search: &mut Search<'_>,

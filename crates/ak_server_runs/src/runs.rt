@@ -1,6 +1,6 @@
 ghost use Rattle.std.specs.Prelude.{◌≡◌, [], ℕ};
 ghost use Rattle.ak_faults.specs.Causes.{Rose};
-ghost use Rattle.ak_server_words.specs.Words.{texts_of};
+ghost use Rattle.ak_server_words.specs.Words.{word_texts};
 ghost use Rattle.ak_server_runs.specs.ServerRuns.{RunsTo, status_of};
 ghost use Rattle.ak_server_runs.specs.declared.run_ends.RunEnd.{RunEnd as Ends};
 
@@ -28,7 +28,7 @@ pub fn serve_all<S: Named, D: Door, M: MakeKeeper, C: Clock>(
     requires none { server.old ≡ [] }
     ensures runs { (end : Ends) × (result ≡ status_of end) × RunsTo
         (record { left = D.Link.left; written = D.Link.written; link_health = D.Link.health; keeping = M.Keeper.keeping; health = M.Keeper.health })
-        (texts_of words.now) (S.left accounts.old)
+        (word_texts words.now) (S.left accounts.old)
         (record { door = D.state door.old; keepers = M.to_come maker.old; service = record { accounts = server.old; moments = C.to_come clock.old } })
         (record { door = D.state door.new; keepers = M.to_come maker.new; service = record { accounts = server.new; moments = C.to_come clock.new } })
         end }
@@ -51,7 +51,7 @@ fn run_server<S: Named, D: Door, M: MakeKeeper, C: Clock>(
 ) -> RunEnd
     ensures runs { RunsTo
         (record { left = D.Link.left; written = D.Link.written; link_health = D.Link.health; keeping = M.Keeper.keeping; health = M.Keeper.health })
-        (texts_of words.now) (S.left accounts.old)
+        (word_texts words.now) (S.left accounts.old)
         (record { door = D.state door.old; keepers = M.to_come maker.old; service = record { accounts = server.old; moments = C.to_come clock.old } })
         (record { door = D.state door.new; keepers = M.to_come maker.new; service = record { accounts = server.new; moments = C.to_come clock.new } })
         result }

@@ -11,8 +11,8 @@ abbrev pub rows_in : Table → Rows → List Row
 rows_in table held = rows_past table (pos 0) held
 
 -- the whole collection of these rows and this head
-abbrev pub whole_with : List Row → Head → Whole
-whole_with rows head = record {
+abbrev pub whole_given_with : List Row → Head → Whole
+whole_given_with rows head = record {
   rows = rows;
   crt = head.crt;
   moment = head.moment;

@@ -5,7 +5,7 @@ ghost use Rattle.ak_keep.specs.Collections.{collection_of};
 ghost use Rattle.ak_keep.specs.Keepers.{IsNamedRightly};
 ghost use Rattle.ak_keep.specs.Readings.{ReadsBy};
 ghost use Rattle.ak_protocol.specs.Replies.{whole_of};
-ghost use Rattle.ak_server_steps.specs.Wholes.{rows_in, whole_with};
+ghost use Rattle.ak_server_steps.specs.Wholes.{rows_in, whole_given_with};
 
 use ak_base::{Head, List, Row, Table};
 use ak_keep::{KeepFault, Keeper, Walk};
@@ -29,12 +29,12 @@ pub fn whole_of<K: Keeper>(alloc: Global, from: &mut K, head: Head) -> Result<Wh
         whole ≡ whole_of (record { rows = h.rows; head = head })) }
 {
     let rows = all_rows(alloc, from)?;
-    Ok(whole_with(rows, head))
+    Ok(whole_given_with(rows, head))
 }
 
 /// The whole collection of these rows and this head.
-fn whole_with(rows: List<Row>, head: Head) -> Whole
-    ensures { result ≡ whole_with rows head }
+fn whole_given_with(rows: List<Row>, head: Head) -> Whole
+    ensures { result ≡ whole_given_with rows head }
 {
     Whole {
         rows,

@@ -32,8 +32,8 @@ abbrev pub ankid : App
 ankid = with_rule (with_rule (with_rule nameless (needed (codes "listen"))) (needed (codes "accounts"))) turns_rule
 
 -- the words as texts
-abbrev pub texts_of : List (String Global) → List Text
-texts_of words = map string_bytes words
+abbrev pub word_texts : List (String Global) → List Text
+word_texts words = map string_bytes words
 
 -- the words are taken, and this is what they say
 pub record Says (words : List Text) (said : ServerWords) : Type 0 where

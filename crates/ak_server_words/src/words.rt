@@ -5,7 +5,7 @@ ghost use Rattle.clap.specs.Matches.{first_value, found_of, one_text};
 ghost use Rattle.clap.specs.Simple.{matches_of};
 ghost use Rattle.clap.specs.Walk.{rows_of};
 ghost use Rattle.clap.specs.Values.{IsUnsignedIn};
-ghost use Rattle.ak_server_words.specs.Words.{Says, ankid, texts_of};
+ghost use Rattle.ak_server_words.specs.Words.{Says, ankid, word_texts};
 
 use crate::commands::command;
 use ak_base::{Memory, Text};
@@ -45,10 +45,10 @@ impl From<Memory> for WordsFault {
 
 /// What the words say, which come without the program's name: `--listen ADDRESS --accounts FILE [--turns N]`, in any order.
 pub fn server_words(alloc: Global, words: &[String]) -> Result<ServerWords, WordsFault>
-    ensures ok { IfOk result (Says (texts_of words.now)) }
+    ensures ok { IfOk result (Says (word_texts words.now)) }
 
     // Words that are taken are refused only if memory runs out.
-    ensures usage { IfErr result (λ fault. fault ≡ WordsFault.Usage → fault_of ankid (texts_of words.now) ≢ []) }
+    ensures usage { IfErr result (λ fault. fault ≡ WordsFault.Usage → fault_of ankid (word_texts words.now) ≢ []) }
 {
     let matches = matches_in(alloc, words)?;
     said(alloc, &matches)
@@ -56,9 +56,9 @@ pub fn server_words(alloc: Global, words: &[String]) -> Result<ServerWords, Word
 
 /// What `clap` finds in the words.
 fn matches_in<'a>(alloc: Global, words: &'a [String]) -> Result<ArgMatches<'a>, WordsFault>
-    ensures taken { OnOk result (fault_of ankid (texts_of words.entry.now) ≡ []) }
-    ensures rows { IfOk result (λ matches. rows_of (found_of matches) ≡ matches_of ankid (texts_of words.entry.now)) }
-    ensures usage { IfErr result (λ fault. fault ≡ WordsFault.Usage → fault_of ankid (texts_of words.entry.now) ≢ []) }
+    ensures taken { OnOk result (fault_of ankid (word_texts words.entry.now) ≡ []) }
+    ensures rows { IfOk result (λ matches. rows_of (found_of matches) ≡ matches_of ankid (word_texts words.entry.now)) }
+    ensures usage { IfErr result (λ fault. fault ≡ WordsFault.Usage → fault_of ankid (word_texts words.entry.now) ≢ []) }
 {
     let ankid = match command(alloc) {
         Ok(ankid) => ankid,

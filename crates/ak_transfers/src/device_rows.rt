@@ -31,11 +31,11 @@ pub(crate) fn prepare<K: Keeper>(alloc: Global, keeper: &mut K) -> Result<Whole,
     let kept = uploaded_rows(alloc, rows.as_slice())?;
     let made = prepared_head(alloc, &head)?;
     keeper.replace_all(kept, made)?;
-    Ok(whole_with(rows, head))
+    Ok(whole_sent_with(rows, head))
 }
 
 /// What is sent of these rows and this head.
-fn whole_with(rows: List<Row>, head: Head) -> Whole
+fn whole_sent_with(rows: List<Row>, head: Head) -> Whole
     ensures { result ≡ whole_sent_with rows head }
 {
     Whole {

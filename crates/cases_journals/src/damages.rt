@@ -1,6 +1,6 @@
 use crate::disks::filled;
 use crate::stories::{Story, is_front_of, look};
-use crate::words::{byte_of, fault_text, number_of, opened_text, texts_of};
+use crate::words::{byte_of, fault_text, number_of, opened_text, payloads_of};
 use ak_base::cut;
 use ak_disks::{Disk, MemoryDisk};
 use ak_journals::JournalFault;
@@ -83,7 +83,7 @@ struct Changes {
 /// `changes PAYLOADS`: how many of the 256 bytes at each place leave what.
 pub fn after_each_change(alloc: Global, text: &str) -> Result<String, Unread> {
     let whole = filled(alloc, text)?;
-    let texts = texts_of(alloc, text)?;
+    let texts = payloads_of(alloc, text)?;
     let mut made = String::new(alloc);
     for place in 0..whole.file().len() as u64 {
         let changes = changes_at(alloc, place, text, texts.as_slice())?;

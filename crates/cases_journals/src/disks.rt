@@ -1,5 +1,5 @@
 use crate::stories::tell;
-use crate::words::texts_of;
+use crate::words::payloads_of;
 use ak_base::{List, Memory};
 use ak_disks::MemoryDisk;
 use cases_lines::Unread;
@@ -36,7 +36,7 @@ pub fn calls_from(alloc: Global, call: u64) -> Result<List<u64>, Memory> {
 
 /// A disk to which the payloads of this text were committed.
 pub fn filled(alloc: Global, text: &str) -> Result<MemoryDisk, Unread> {
-    let texts = texts_of(alloc, text)?;
+    let texts = payloads_of(alloc, text)?;
     let story = tell(alloc, sound_disk(alloc)?, texts.as_slice())?;
     Ok(story.into_disk())
 }

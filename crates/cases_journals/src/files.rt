@@ -1,5 +1,5 @@
 use crate::stories::{look, tell};
-use crate::words::{opened_text, texts_of};
+use crate::words::{opened_text, payloads_of};
 use ak_base::cut;
 use ak_disks::Disk;
 use ak_file_disks::FileDisk;
@@ -27,7 +27,7 @@ pub fn answer_of_file(
 /// `file NAME PAYLOADS`: what the file opens as after it was emptied and these were committed.
 fn committed(alloc: Global, rt: &HostRuntime, rest: &str) -> Result<String, Unread> {
     let (name, text) = cut(rest, " ").ok_or(Unread::Bad)?;
-    let texts = texts_of(alloc, text)?;
+    let texts = payloads_of(alloc, text)?;
     let mut disk = FileDisk::open(rt, name);
     if disk.cut(0).is_err() {
         return Ok(String::from_str(alloc, "failed")?);

@@ -1,6 +1,6 @@
 use crate::disks::{calls_from, failing_disk, tears_by};
 use crate::stories::{Story, look, tell};
-use crate::words::{number_of, texts_of};
+use crate::words::{number_of, payloads_of};
 use ak_base::{List, Memory, cut};
 use ak_disks::MemoryDisk;
 use cases_lines::Unread;
@@ -32,7 +32,7 @@ pub fn tallied(alloc: Global, rest: &str) -> Result<String, Unread> {
     let (calls, rest) = cut(rest, " ").ok_or(Unread::Bad)?;
     let (left, text) = cut(rest, " ").ok_or(Unread::Bad)?;
     let mode = mode_of(calls, left)?;
-    let texts = texts_of(alloc, text)?;
+    let texts = payloads_of(alloc, text)?;
     let tally = tally_of(alloc, mode, number_of(count)?, texts.as_slice())?;
     let Tally {
         kept,

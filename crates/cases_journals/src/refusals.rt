@@ -1,6 +1,6 @@
 use crate::disks::{failing_disk, tears_by};
 use crate::stories::{Story, tell};
-use crate::words::{number_of, opened_text, payload_text, texts_of};
+use crate::words::{number_of, opened_text, payload_text, payloads_of};
 use ak_base::{List, cut};
 use ak_disks::MemoryDisk;
 use ak_io::End;
@@ -12,7 +12,7 @@ pub fn after_fails(alloc: Global, rest: &str) -> Result<String, Unread> {
     let (calls, rest) = cut(rest, " ").ok_or(Unread::Bad)?;
     let (left, text) = cut(rest, " ").ok_or(Unread::Bad)?;
     let disk = failing_disk(calls_of(alloc, calls)?, tears_by(left)?)?;
-    let texts = texts_of(alloc, text)?;
+    let texts = payloads_of(alloc, text)?;
     let story = tell(alloc, disk, texts.as_slice())?;
     told(alloc, &story)
 }

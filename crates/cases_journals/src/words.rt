@@ -42,7 +42,7 @@ pub fn payload_text(payload: &[u8]) -> &str {
 }
 
 /// The payloads of a text, a bar between them; none if it is empty.
-pub fn texts_of(alloc: Global, text: &str) -> Result<Vec<&str>, Unread> {
+pub fn payloads_of(alloc: Global, text: &str) -> Result<Vec<&str>, Unread> {
     let mut texts = Vec::new(alloc);
     if text.is_empty() {
         return Ok(texts);

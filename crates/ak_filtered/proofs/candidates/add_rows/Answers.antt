@@ -16,11 +16,11 @@ pub loop-row-preserved : goal.loop-row-preserved
 loop-row-preserved g c =
     let rest : c.loop-row.rest.now ≡ c.in-Some.row.now ∷ c.in-Some.others.now = search rules in
     record {
-      kept = c.in_ok-add_row.ensures.reads.kept ∙ c.loop-row.invariant.kept;
-      same = c.in_ok-add_row.ensures.reads.same ∙ c.loop-row.invariant.same;
-      goes = goes_further c.loop-row.invariant.goes c.in_ok-add_row.ensures.reads.cause.goes;
-      found = row_put (g.R.Lookup.keeping c.args.from.now).told c.args.sieve.now c.args.search.now c.loop-row.search c.add_row.new.search c.args.keys.now.keys c.loop-row.keys.keys c.add_row.new.keys.keys
-          c.args.rows.now c.in-Some.others.now c.in-Some.row.now (rw rest at c.loop-row.invariant.found) (rw c.loop-row.invariant.same at c.in_ok-add_row.ensures.reads.told);
+      kept = c.in_ok-add_if_card.ensures.reads.kept ∙ c.loop-row.invariant.kept;
+      same = c.in_ok-add_if_card.ensures.reads.same ∙ c.loop-row.invariant.same;
+      goes = goes_further c.loop-row.invariant.goes c.in_ok-add_if_card.ensures.reads.cause.goes;
+      found = row_put (g.R.Lookup.keeping c.args.from.now).told c.args.sieve.now c.args.search.now c.loop-row.search c.add_if_card.new.search c.args.keys.now.keys c.loop-row.keys.keys c.add_if_card.new.keys.keys
+          c.args.rows.now c.in-Some.others.now c.in-Some.row.now (rw rest at c.loop-row.invariant.found) (rw c.loop-row.invariant.same at c.in_ok-add_if_card.ensures.reads.told);
     }
 
 pub returns : goal.returns

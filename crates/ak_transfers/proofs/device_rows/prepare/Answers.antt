@@ -18,13 +18,13 @@ replace_all-requires-clause-distinct g c =
 
 pub returns-clause-sent : goal.returns-clause-sent
 returns-clause-sent g c =
-    sent_whole (g.K.Lookup.keeping c.args.keeper.now) c.in_ok-head.head c.in_ok-rows.rows c.whole_with.result c.in_ok-head.ensures.reads.told
+    sent_whole (g.K.Lookup.keeping c.args.keeper.now) c.in_ok-head.head c.in_ok-rows.rows c.whole_sent_with.result c.in_ok-head.ensures.reads.told
     (subst (λ (k : Keeping). WhereTold k (λ h. c.in_ok-rows.rows ≡ plain_rows h.rows)) c.in_ok-head.ensures.reads.same c.in_ok-rows.ensures.reads.told)
-    c.whole_with.ensures
+    c.whole_sent_with.ensures
 
 pub returns-clause-put : goal.returns-clause-put
 returns-clause-put g c =
     put_whole (g.K.Lookup.keeping c.args.keeper.now) (g.K.Lookup.keeping c.plain_rows.new.from) (g.K.Lookup.keeping c.replace_all.new.self)
-    c.in_ok-head.head c.in_ok-made.made c.in_ok-rows.rows c.in_ok-kept.kept c.whole_with.result
+    c.in_ok-head.head c.in_ok-made.made c.in_ok-rows.rows c.in_ok-kept.kept c.whole_sent_with.result
     (c.in_ok-rows.ensures.reads.same ∙ c.in_ok-head.ensures.reads.same) c.in_ok-replace_all.ensures.ok
-    (c.in_ok-kept.ensures ∙ ap uploaded_rows c.as_slice.ensures) c.in_ok-made.ensures.made c.whole_with.ensures
+    (c.in_ok-kept.ensures ∙ ap uploaded_rows c.as_slice.ensures) c.in_ok-made.ensures.made c.whole_sent_with.ensures
