@@ -10,7 +10,7 @@ use Rattle.ak_base.specs.declared.names.Table.TheVariants as tables
 use Rattle.ak_base.specs.declared.note_types.NoteType.{NoteType}
 use Rattle.ak_base.specs.declared.option_groups.Options.{Options}
 use Rattle.ak_edit_calls.specs.Additions.{EndsAddition, IsNewRow}
-use Rattle.ak_edit_calls.specs.Calls.{RefusesAbsent}
+use Rattle.ak_edit_calls.specs.Calls.{RefusesAbsent, RefusesSchema}
 use Rattle.ak_deck_paths.specs.Additions.{IsAdded as IsAddedDeck, addition}
 use Rattle.ak_deck_paths.specs.Renames.{IsMoved, renaming}
 use Rattle.ak_deck_trees.specs.DeckDeletions.{deck_deletion}
@@ -43,7 +43,7 @@ use Rattle.ak_options.specs.OptionGroups.{given_group, options_addition}
 use Rattle.ak_study.specs.Answers.{IsAnswered, answer_edit}
 use Rattle.ak_study.specs.DayStarts.{HasStarted, day_start}
 use Rattle.ak_study.specs.declared.answers.CardAnswer.{CardAnswer}
-use Rattle.ak_types.specs.GivenTypes.{RefusesGiven, RefusesUsed, RefusesSchema, as_given, has_notes, with_id}
+use Rattle.ak_types.specs.GivenTypes.{RefusesGiven, RefusesUsed, as_given, has_notes, with_id}
 use Rattle.ak_types.specs.TypeAdditions.{RefusesNewType, RefusesTypeAddition, given_addition, given_type}
 use Rattle.ak_types.specs.TypeDeletions.{RefusesDeletion, RefusesKept, type_deletion}
 use Rattle.ak_types.specs.TypeEdits.{DoesEditType, IsTypeEdited, RefusesTypeEdit, retyping}

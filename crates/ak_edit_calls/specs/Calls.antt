@@ -1,5 +1,5 @@
 -- What the editing calls share: how they are refused for rows that are not held, and what they leave.
-use Rattle.std.specs.Prelude.{◌≡◌, ◌⊎◌, ℤ, Bool, not, is_some, List, Option, Some, None, Result, OnErr, OnOk}
+use Rattle.std.specs.Prelude.{◌≡◌, ◌⊎◌, ℤ, Bool, false, not, is_some, List, Option, Some, None, Result, OnErr, OnOk}
 use Rattle.std.specs.FinMap.{get}
 use Rattle.std.specs.List.{find, list_any}
 use Rattle.std.specs.Ordering.{int_eq}
@@ -38,6 +38,10 @@ RefusesMissing at table ids fault = (id : ℤ) × (first_missing at table ids �
 -- a row of the table is not held
 abbrev pub IsMissingFault : Table → DeskFault → Type 0
 IsMissingFault table fault = (id : ℤ) × (fault ≡ faults.NoSuch (name_in table id))
+
+-- the schema may not change
+abbrev pub RefusesSchema : Bool → Refusal
+RefusesSchema allow fault = (allow ≡ false) × (fault ≡ faults.SchemaAsk)
 
 -- what a call that names rows of the table may answer: one is not held, or a fault of the end of an edit
 abbrev pub IsMissingOrEnd : Table → DeskFault → Type 0

@@ -11,6 +11,7 @@ use Rattle.ak_edit.specs.Overlays.{Overlay, put_over}
 use Rattle.ak_edit.specs.Refusals.{IsEndFault, OrElse, Refusal}
 use Rattle.ak_edit.specs.declared.desk_faults.DeskFault.{DeskFault}
 use Rattle.ak_edit.specs.declared.desk_faults.DeskFault.TheVariants as faults
+use Rattle.ak_edit_calls.specs.Calls.{RefusesSchema}
 use Rattle.ak_keep.specs.Collections.{Collection, Rows, rows_past}
 use Rattle.ak_merge.specs.EditBuilding.{unedited, with_rows_mapped, with_schema, without_row}
 use Rattle.ak_merge.specs.Edits.{Edit}
@@ -45,10 +46,6 @@ options_deletion options c =
 -- options 1 always stay
 abbrev pub RefusesDefault : ℤ → Refusal
 RefusesDefault options fault = (options ≡ pos 1) × (fault ≡ faults.DefaultKept (name_in tables.Options (pos 1)))
-
--- the schema may not change
-abbrev pub RefusesSchema : Bool → Refusal
-RefusesSchema allow fault = (allow ≡ false) × (fault ≡ faults.SchemaAsk)
 
 -- the tests of that edit that ask for no collection: options 1 always stay, and the schema changes only if it is allowed
 abbrev pub RefusesAsked : ℤ → Bool → Refusal

@@ -8,12 +8,13 @@ use Rattle.ak_edit_calls.proofs.Answering.{passed_first, refused_first}
 use Rattle.ak_edit.specs.Refusals.{AnswersBy, OrElse, Refusal}
 use Rattle.ak_edit.specs.declared.desk_faults.DeskFault.{DeskFault}
 use Rattle.ak_edit.specs.declared.desk_faults.DeskFault.TheVariants as faults
+use Rattle.ak_edit_calls.specs.Calls.{RefusesSchema}
 use Rattle.ak_keep.proofs.Told.{where_told-map}
 use Rattle.ak_keep.specs.Collections.{Rows}
 use Rattle.ak_keep.specs.Keepers.{Keeping, WhereTold}
 use Rattle.ak_merge.proofs.EditFacts.{false_true, true_false}
 use Rattle.ak_merge.specs.Holdings.{name_in}
-use Rattle.ak_types.specs.GivenTypes.{RefusesSchema, RefusesUsed, has_notes}
+use Rattle.ak_types.specs.GivenTypes.{RefusesUsed, has_notes}
 use Rattle.ak_types.specs.TypeDeletions.{RefusesKept}
 use Rattle.ak_types.specs.TypeEdits.{RefusesOtherKind}
 use Rattle.ak_types.specs.declared.type_edits.TypeEdit.{TypeEdit}

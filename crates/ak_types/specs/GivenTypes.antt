@@ -67,11 +67,6 @@ abbrev pub RefusesUsed : ℤ → Rows → Refusal
 RefusesUsed note_type held fault =
     (has_notes note_type held ≡ true) × (fault ≡ faults.InUse (name_in tables.NoteType note_type))
 
--- ---- the schema
--- the schema may not change
-abbrev pub RefusesSchema : Bool → Refusal
-RefusesSchema allow fault = (allow ≡ false) × (fault ≡ faults.SchemaAsk)
-
 -- ---- what the tests of a given type may answer
 -- that it is out of its ranges
 abbrev pub IsGivenFault : DeskFault → Type 0

@@ -5,12 +5,12 @@ use Rattle.ak_edit.specs.Ends.{RefusesStamp}
 use Rattle.ak_edit.specs.Refusals.{IsEndFault, IsFromOutside, OrElse, Refusal}
 use Rattle.ak_edit.specs.declared.desk_faults.DeskFault.{DeskFault}
 use Rattle.ak_edit.specs.declared.desk_faults.DeskFault.TheVariants as faults
-use Rattle.ak_edit_calls.specs.Calls.{RefusesAbsent}
+use Rattle.ak_edit_calls.specs.Calls.{RefusesAbsent, RefusesSchema}
 use Rattle.ak_keep.specs.Collections.{Collection, Rows}
 use Rattle.ak_merge.specs.EditBuilding.{unedited, with_schema, without_row}
 use Rattle.ak_merge.specs.Edits.{Edit}
 use Rattle.ak_merge.specs.Holdings.{name_in, row_under}
-use Rattle.ak_types.specs.GivenTypes.{RefusesSchema, RefusesUsed}
+use Rattle.ak_types.specs.GivenTypes.{RefusesUsed}
 
 -- the edit that deletes the type of this id: the schema changes
 abbrev pub type_deletion : ℤ → Collection → Edit

@@ -11,6 +11,7 @@ use Rattle.ak_edit.specs.Overlays.{Overlay, conf_over, put_over, schema_over, un
 use Rattle.ak_edit.specs.Refusals.{IsFromOutside, OrElse, Refusal}
 use Rattle.ak_edit.specs.declared.desk_faults.DeskFault.{DeskFault}
 use Rattle.ak_edit.specs.declared.desk_faults.DeskFault.TheVariants as faults
+use Rattle.ak_edit_calls.specs.Calls.{RefusesSchema}
 use Rattle.ak_keep.specs.Collections.{Collection, Rows}
 use Rattle.ak_keep.specs.Keepers.{Keeping, WhereHeld}
 use Rattle.ak_keep.specs.Lookups.{note_type_at}
@@ -21,7 +22,7 @@ use Rattle.ak_notes.specs.LackingNotes.{next_at}
 use Rattle.ak_notes.specs.MadeNotes.{NeedsHeld, cards_over, with_cards}
 use Rattle.ak_notes.specs.declared.lacking_notes.LackingNote.{LackingNote}
 use Rattle.ak_notes.specs.declared.lacking_notes.NextCards.{NextCards}
-use Rattle.ak_types.specs.GivenTypes.{IsGivenFault, IsSideFault, IsUsedFault, RefusesGiven, RefusesSchema, RefusesSides, RefusesUsed, as_given}
+use Rattle.ak_types.specs.GivenTypes.{IsGivenFault, IsSideFault, IsUsedFault, RefusesGiven, RefusesSides, RefusesUsed, as_given}
 use Rattle.ak_types.specs.PlaceMaps.{IsMapFault, RefusesMap, keeps_all}
 use Rattle.ak_types.specs.RetypedCards.{AreAllMissing, AreLackingIn, RefusesAllIds, notes_of}
 use Rattle.ak_types.specs.RetypedRows.{is_dropped, notes_retyped, retyped}
