@@ -6,6 +6,7 @@ mod CardLists
 mod CardsApart
 mod CheckedTypes
 mod DeskRuns
+mod ImportCalls
 mod Keepings
 mod KeptOrds
 mod LeftRows

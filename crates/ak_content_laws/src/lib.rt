@@ -5,6 +5,7 @@ mod card_laws;
 mod deck_laws;
 mod edit_laws;
 mod filtered_laws;
+mod import_laws;
 mod line_laws;
 mod note_laws;
 mod option_laws;
@@ -25,6 +26,7 @@ pub use filtered_laws::{
     built_decks_keep_sound, emptied_decks_keep_sound, emptied_subtrees_keep_sound,
     made_decks_keep_sound, sent_cards_keep_sound,
 };
+pub use import_laws::imports_keep_sound;
 pub use line_laws::{init_begins_sound, lines_keep_sound, runs_keep_sound};
 pub use note_laws::{
     added_notes_keep_sound, added_notes_say_what_was_given, deleted_notes_keep_sound,
