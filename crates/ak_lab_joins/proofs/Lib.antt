@@ -24,6 +24,7 @@ mod NoUploads
 mod Ordered
 mod Plain
 mod Prints
+mod Reading
 mod Resent
 mod Reviews
 mod SchemasStay

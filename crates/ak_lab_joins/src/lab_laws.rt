@@ -3,14 +3,17 @@ ghost use Rattle.std.specs.List.{AllByRecursion};
 ghost use Rattle.std.specs.Prelude.{◌≡◌, ◌≢◌, ◌+◌, ◌+ℤ◌, ◌<◌, ◌∷◌, [], ℕ, ℤ, Bool, List, Option as Maybe, codes, false, length, true};
 ghost use Rattle.ak_client.specs.declared.outcomes.Outcome.{Outcome};
 ghost use Rattle.ak_client.specs.declared.outcomes.Outcome.TheVariants as outcomes;
+ghost use Rattle.ak_exchange.specs.Phases.{held_by};
 ghost use Rattle.ak_faults.specs.Calls.{names_none};
 ghost use Rattle.ak_faults.specs.Causes.{one_more};
 ghost use Rattle.ak_io.specs.declared.lines.Line.{Line};
+ghost use Rattle.ak_keep.specs.Collections.{Collection, IsWellFormed};
 ghost use Rattle.ak_lab_joins.specs.LabJoins.{
   Agrees,
   AllGoFresh,
   AllGoUncrossed,
   AreUnlike,
+  DeviceHolds,
   LeavesDownload,
   Finishes,
   GoFresh,
@@ -92,6 +95,9 @@ ghost use Rattle.ak_sync_in_memory.specs.Entries.{LoggedState, account_opened};
 ghost use Rattle.ak_sync_in_memory.specs.declared.logs.Entry.{Entry};
 
 use ak_any_lines::any_lines_are_steps;
+use ak_lab_wires::Crossings;
+use ak_sync_completes::told_ends_have_causes;
+use ak_sync_in_memory::LoopWire;
 
 /// The server of a lab that was opened is one with which devices can be linked. There is none yet.
 pub fn opened_labs_are_linked()
@@ -247,6 +253,24 @@ pub fn outcomes_tell_commits()
     ensures uploads { (account : AccountState) (name : List ℕ) (s t : LabState) (outcome : Outcome) → IsLinkedLab account s → HasSession s
         → EndsTransfer directions.Upload name s t outcome → UploadCommitsAsTold account name s t outcome }
 {}
+
+/// No sync ends as a bad reply, whatever is lost and repeated and whatever breaks: each answer of the server can be read, and one with status
+/// 200 has the form of what was asked. The device must hold what a keeper may hold.
+pub fn syncs_get_no_bad_reply()
+    // If nothing is planned between its calls.
+    ensures alone { (account : AccountState) (name : List ℕ) (s t : LabState) (c : Collection) (crossed : List (List ℕ))
+        → (outcome : Outcome) → IsLinkedLab account s → HasSession s → PlansNothing name s → DeviceHolds name s c
+        → IsWellFormed (held_by c) → EndsSync name s t crossed outcome → outcome ≢ outcomes.BadReply }
+
+    // Others may have crossed it too. Then the schema moments that commits took meanwhile must be fresh.
+    ensures others_cross { (account : AccountState) (name : List ℕ) (s t : LabState) (c : Collection) (crossed : List (List ℕ))
+        → (outcome : Outcome) → IsLinkedLab account s → HasSession s → DeviceHolds name s c → IsWellFormed (held_by c)
+        → (ended : EndsSync name s t crossed outcome)
+        → IsCrossedFresh ended.runs.d (lab_world account s) (lab_world account t) → outcome ≢ outcomes.BadReply }
+{
+    // For the proof alone.
+    told_ends_have_causes::<LoopWire<Crossings>>();
+}
 
 /// Whatever is lost, repeated, crossed and broken: if no finish and no upload was served, what the server has committed is as it was.
 pub fn only_served_requests_commit()

@@ -11,5 +11,5 @@ pub use lab_laws::{
     only_lines_plan, only_served_requests_commit, opened_labs_are_linked, other_syncs_keep_sides,
     other_transfers_keep_sides, outcomes_tell_commits, printed_syncs_join,
     printed_transfers_replace, resends_leave_schemas, runs_keep_labs_linked, script_syncs_join,
-    script_transfers_replace, syncs_use_up_breaks, unchanged_syncs_agree,
+    script_transfers_replace, syncs_get_no_bad_reply, syncs_use_up_breaks, unchanged_syncs_agree,
 };

@@ -1,11 +1,12 @@
 -- That a sync over a wire which tells its log never ends as stopped.
 use Rattle.std.specs.Option.{option_map, option_or}
 use Rattle.std.specs.Ordering.{int_eq}
-use Rattle.std.specs.Prelude.{◌≡◌, ◌⊎◌, ℤ, not, if◌then◌else◌, Bool, true, false, List, ◌∷◌, Option, Some, None, Ok, Err}
+use Rattle.std.specs.Prelude.{◌≡◌, ◌⊎◌, ℤ, not, if◌then◌else◌, Bool, true, false, List, ◌∷◌, Option, Some, None, IfSome, option_and_then, Ok, Err}
 use Rattle.std.proofs.Common.{refl, sym, ap, subst, ◌∙◌, inl, inr}
 use Rattle.std.proofs.lemmas.Option.{none-some, same_Some}
 use Rattle.ak_base.specs.Limits.{last_head_usn}
-use Rattle.ak_client.specs.Greetings.{are_far_apart, clock_stop, device_stop, is_unchanged, meta_of}
+use Rattle.ak_base.specs.declared.heads.Head.{Head}
+use Rattle.ak_client.specs.Greetings.{are_far_apart, clock_stop, device_stop, head_stop, is_unchanged, meta_of}
 use Rattle.ak_client.specs.Outcomes.{is_told_by_meta}
 use Rattle.ak_client.specs.Syncs.{IsSyncEnded, told_by}
 use Rattle.ak_client.specs.declared.outcomes.Outcome.{Outcome}
@@ -14,11 +15,11 @@ use Rattle.ak_client_wire.specs.Forms.{is_meta_in_range, meta_told}
 use Rattle.ak_client_wire.specs.Wires.{WireKind, Carries, WireState}
 use Rattle.ak_client_wire.specs.declared.wires.MetaSaid.{MetaSaid}
 use Rattle.ak_exchange.specs.Asked.{AreTried, answers_in, asker, asks_in}
-use Rattle.ak_exchange.specs.Phases.{held_by, holding}
 use Rattle.ak_exchange.specs.declared.envelopes.Ids.{Ids}
 use Rattle.ak_faults.specs.Causes.{Health}
-use Rattle.ak_keep.specs.Collections.{Collection}
+use Rattle.ak_keep.specs.Collections.{Holding, Rows}
 use Rattle.ak_keep.specs.Keepers.{Keeping, WhereTold}
+use Rattle.ak_keep.specs.Marks.{WithMark}
 use Rattle.ak_merge.specs.Edits.{second_of}
 use Rattle.ak_merge.specs.Soundness.{first_fault}
 use Rattle.ak_merge.specs.declared.checks.CheckFault.{CheckFault}
@@ -50,9 +51,11 @@ clocks_other said second why goes is =
     by true found = ap is_stopped (sym (same_Some (outcomes.ClockOff second said.ts) why found))
     by false found = absurd (none-some why found)
 
--- and neither does the device
-device_other : (said : MetaSaid) (c : Collection) (why : Outcome) → device_stop said (held_by c) ≡ Some why → is_stopped why ≡ false
-device_other said c why = by (is_unchanged said c.head c.rows) (int_eq c.head.schema said.scm) (int_eq said.usn last_head_usn)
+-- and neither does the device, by its head
+head_other : (said : MetaSaid) (head : Head) (held : Rows) (why : Outcome)
+    → option_or (head_stop said head (is_unchanged said head held)) (option_map (λ (fault : CheckFault). outcomes.OwnCheck fault) (first_fault held)) ≡ Some why
+    → is_stopped why ≡ false
+head_other said head held why = by (is_unchanged said head held) (int_eq head.schema said.scm) (int_eq said.usn last_head_usn)
   where
     own : (o : Option CheckFault) → option_map (λ (fault : CheckFault). outcomes.OwnCheck fault) o ≡ Some why → is_stopped why ≡ false
     own None found = absurd (none-some why found)
@@ -60,13 +63,23 @@ device_other said c why = by (is_unchanged said c.head c.rows) (int_eq c.head.sc
 
     by : (unchanged schemas last : Bool)
         → option_or (if unchanged then Some outcomes.NoChanges
-        else if not schemas then Some (outcomes.FullSchema c.head.schema said.scm)
+        else if not schemas then Some (outcomes.FullSchema head.schema said.scm)
         else if last then Some (outcomes.FullSequence said.usn)
-        else None) (option_map (λ (fault : CheckFault). outcomes.OwnCheck fault) (first_fault c.rows)) ≡ Some why → is_stopped why ≡ false
+        else None) (option_map (λ (fault : CheckFault). outcomes.OwnCheck fault) (first_fault held)) ≡ Some why → is_stopped why ≡ false
     by true schemas last found = ap is_stopped (sym (same_Some outcomes.NoChanges why found))
-    by false false last found = ap is_stopped (sym (same_Some (outcomes.FullSchema c.head.schema said.scm) why found))
+    by false false last found = ap is_stopped (sym (same_Some (outcomes.FullSchema head.schema said.scm) why found))
     by false true true found = ap is_stopped (sym (same_Some (outcomes.FullSequence said.usn) why found))
-    by false true false found = own (first_fault c.rows) found
+    by false true false found = own (first_fault held) found
+
+-- if it has none, it gives no reason
+device_other : (said : MetaSaid) (h : Holding) (why : Outcome) → device_stop said h ≡ Some why → is_stopped why ≡ false
+device_other said h why = by h.head
+  where
+    by : (o : Option Head)
+        → option_and_then (λ (head : Head). option_or (head_stop said head (is_unchanged said head h.rows))
+        (option_map (λ (fault : CheckFault). outcomes.OwnCheck fault) (first_fault h.rows))) o ≡ Some why → is_stopped why ≡ false
+    by None found = absurd (none-some why found)
+    by (Some head) found = head_other said head h.rows why found
 
 -- ---- the meta
 -- a meta that is granted lets the sync go on
@@ -95,9 +108,9 @@ module _ {kind : WireKind} (ids : Ids) (old : Log) (h0 h1 : Health) (w0 w1 : Wir
           meta_goes (world_of ids.host.digits account (with_growth old r.before)).state ids r.now r.setback reply said
           (reply_at_place (meta_of ids) account old growth reply r opening) told
 
-  pub never_stopped : (c : Collection) (before left : Keeping) (moments : Option (List ℤ)) (outcome : Outcome) → before ≡ holding c
+  pub never_stopped : (held : WithMark Holding) (before left : Keeping) (moments : Option (List ℤ)) (outcome : Outcome) → before.told ≡ Some held
       → IsSyncEnded ids before left h0 h1 w0 w1 moments outcome → outcome ≡ outcomes.Stopped → ⊥
-  never_stopped c before left moments outcome holds ended stopped = by (told_by ended.sync.asked.meta) refl
+  never_stopped held before left moments outcome tells ended stopped = by (told_by ended.sync.asked.meta) refl
     where
       goes : (said : MetaSaid) → told_by ended.sync.asked.meta ≡ Some said → said.cont ≡ true
       goes = said_goes ended.sync.asked.meta (requests_from (asker ids) ended.sync.asked.moment 1 (asks_in ended.sync.asked.tries)) (answers_in ended.sync.asked.tries) ended.sync.asked.tried
@@ -107,7 +120,8 @@ module _ {kind : WireKind} (ids : Ids) (old : Log) (h0 h1 : Health) (w0 w1 : Wir
       by_why said second cont (inl found) = not_both (ap is_stopped stopped) (clocks_other said second outcome cont found)
       by_why said second cont (inr (pass, found)) =
           not_both (ap is_stopped stopped)
-          (device_other said c outcome (subst (λ (k : Keeping). WhereTold k (λ h. device_stop said h ≡ Some outcome)) holds found))
+          (device_other said held.current outcome
+          (subst (λ (o : Option (WithMark Holding)). IfSome o (λ (w : WithMark Holding). device_stop said w.current ≡ Some outcome)) tells found))
 
       by : (o : Option MetaSaid) → told_by ended.sync.asked.meta ≡ o → ⊥
       by None none = not_both (ap is_told_by_meta stopped) (ended.because.unmet none)
