@@ -65,12 +65,9 @@ abbrev pub listings_in : Members → Option (List Listing)
 listings_in document = option_and_then listings_at (account_array document)
 
 -- ---- accounts apart
-abbrev pub same_text : List ℕ → List ℕ → Bool
-same_text = pointwise ◌==◌
-
 -- another account has the name or the key of this one
 abbrev pub shares : Listing → Listing → Bool
-shares listing other = same_text listing.name other.name || same_text listing.host other.host
+shares listing other = pointwise ◌==◌ listing.name other.name || pointwise ◌==◌ listing.host other.host
 
 -- no two accounts have one name or one key
 abbrev pub are_apart : List Listing → Bool

@@ -1,5 +1,8 @@
 // The limits that several values share. The definitions hold each as a literal, so the proofs pin them.
 
+/// The last number that fits 64 bits with its sign.
+pub const LAST_I64: u64 = 9_223_372_036_854_775_807;
+
 /// The last id of a row: the last whole number that a double holds exactly. The first is 1.
 pub const LAST_ID: i64 = 9_007_199_254_740_991;
 

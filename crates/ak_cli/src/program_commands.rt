@@ -2,9 +2,9 @@ ghost use Rattle.std.specs.Prelude.{◌≡◌};
 ghost use Rattle.std.specs.Option.{option_map};
 ghost use Rattle.ak_cli.specs.Programs.{command_named, command_of, command_with, id_of, import_named, make_named, named_by, size_named, three_named, valued_named};
 
-use ak_base::{HostKey, read_number};
+use ak_base::{HostKey, LAST_I64, read_number};
 use ak_csv_runs::ImportPlace;
-use ak_desk_language::{LAST_I64, number_in};
+use ak_desk_language::number_in;
 use ak_made_collections::{MakePlan, MakeSize};
 
 /// A command of the program.

@@ -159,7 +159,7 @@ pub record Synced (who : Asker) (moment : ℤ) (asks : List Ask) (c : Collection
   pub early : ends_before_finish outcome ≡ true → commits_of who.session.0 (world_at who account now).commits ≡ []
   pub finished : outcome ≡ outcomes.Finished → IsSyncFinished who c base account now left
   pub fair : IsFairEnd c base outcome
-  -- if it found nothing to sync, the device has the content of the collection that was committed at its meta
+  -- if it found nothing to sync, the device has the content of that collection, which was committed at some moment of the sync
   pub unchanged : outcome ≡ outcomes.NoChanges
       → IsCommittedIn who account old growth base × SameContent (content_of c) (content_of base)
 
@@ -226,7 +226,7 @@ pub record SyncAsked {kind : WireKind} (ids : Ids) (health_before health_now : H
       health_before health_now old now
 
 -- these are no more than a sync may ask after its meta: at most 40,000 chunks, at most 39,999 sent that are not the last one, each with
--- 250 rows, at most 5 others, and those for graves: 250 go in each
+-- 250 rows, at most 5 others, and those for graves: 250 go in each. No whole collection is sent. A keeper that tells nothing bounds no graves
 pub record AsksAtMost (before : Keeping) (asks : List Ask) : Type 0 where
   pub graves : ℕ
   pub graves_most : AreGraveRequests before graves
@@ -240,7 +240,8 @@ pub record TriesEnded {kind : WireKind} (tries : List TriedAsk) (now : WireState
   pub all_granted : outcome ≡ outcomes.Finished → AllGranted tries
   pub why : EndsAt tries now outcome
 
--- whether a wire is known to be alone stays. If it is, all that was committed meanwhile is of this asker's session
+-- whether a wire is known to be alone stays. If it is, and the key is unused in the log that it tells, all that was committed meanwhile is of
+-- this asker's session
 pub record LeavesAlone {kind : WireKind} (who : Asker) (old now : WireState kind) : Type 0 where
   pub alone : now.alone ≡ old.alone
   pub commits : old.alone ≡ true → CommitsAloneTold who old.log now.log

@@ -14,4 +14,4 @@ pub use any_lines::{AnyLine, read_line};
 pub use desk_lines::{DeskLine, is_skipped};
 pub use laws::one_line_is_said;
 pub use line_faults::LineFault;
-pub use numbers::{LAST_I64, next_number, number_in};
+pub use numbers::{next_number, number_in};

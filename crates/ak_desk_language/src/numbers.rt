@@ -5,11 +5,8 @@ ghost use Rattle.ak_base.specs.Heads.{IsWithin};
 ghost use Rattle.ak_desk_language.specs.Reading.{number_in, next_number, numbers_of, ids_of};
 ghost use Rattle.ak_desk_language.specs.Verbs.{any_id};
 
-use ak_base::{List, Memory, cut, read_number};
+use ak_base::{LAST_I64, List, Memory, cut, read_number};
 use std::alloc::Global;
-
-/// The greatest number that fits 64 bits with its sign. Whether an id is that of a row is not asked of a line.
-pub const LAST_I64: u64 = 9_223_372_036_854_775_807;
 
 /// The number that the whole text is, if it is from `least` to `most`. None also for a sign or a leading zero.
 pub fn number_in(least: u64, most: u64, text: &str) -> Option<i64>
@@ -24,7 +21,7 @@ pub fn number_in(least: u64, most: u64, text: &str) -> Option<i64>
     Some(number as i64)
 }
 
-/// The id that the whole text is.
+/// The id that the whole text is. Whether it is that of a row is not asked of a line.
 pub(crate) fn id_in(text: &str) -> Option<i64>
     ensures { result ≡ number_in any_id text.now }
 {

@@ -1,9 +1,11 @@
 ghost use Rattle.std.specs.Prelude.{◌≡◌, ◌++◌, [], ◌∷◌, true, is_some, None, Some, OnOk, OnErr, IfOk, IfSome};
 ghost use Rattle.std.specs.Option.{option_map, unwrap_or};
+ghost use Rattle.std.specs.Result.{IsErrOf};
 ghost use Rattle.ak_base.specs.Heads.{IsConfInRange};
 ghost use Rattle.std.specs.FinMap as map;
 ghost use Rattle.ak_base.specs.Rows.{IsChecked, name_of, stamp_of};
 ghost use Rattle.ak_keep.specs.Readings.{ReadsBy};
+ghost use Rattle.ak_keep.specs.declared.keepers.KeepFault.TheVariants.{Memory as WantOfMemory};
 ghost use Rattle.ak_merge.specs.Tags.{IsTagName};
 ghost use Rattle.ak_edit.specs.Overlays.{IsConfOver, IsFitting, IsRowOver, IsSet, IsStampOver, conf_over, entry_at, put_over, removed_over, schema_over, tag_over, unchanged};
 
@@ -84,6 +86,7 @@ impl Change {
         name: Name,
     ) -> Result<Option<i64>, KeepFault>
         ensures reads { ReadsBy R.Lookup from.old from.new result (IsStampOver self.now name) }
+        ensures spares { IsErrOf result WantOfMemory → ⊥ }
     {
         match self.changed_stamp(&name) {
             Some(stamp) => Ok(stamp),

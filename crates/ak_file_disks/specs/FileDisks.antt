@@ -1,10 +1,6 @@
 -- What a disk over a file of the system tells: nothing of its bytes, nor of what a crash leaves of them. It is seen as the
 -- count of its faults.
-use Rattle.std.specs.Prelude.{ℕ, List, Option, None, ⊤}
-
--- the file as it is read: it is not told
-abbrev pub untold : ℕ → Option (List ℕ)
-untold faults = None
+use Rattle.std.specs.Prelude.{ℕ, List, ⊤}
 
 -- of a file that is not told a crash may leave any image
 abbrev pub any_image : ℕ → List ℕ → Type 0

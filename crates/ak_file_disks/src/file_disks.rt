@@ -2,8 +2,8 @@ ghost use Rattle.std.specs.Prelude.{◌≡◌, ◌+◌, ◌^◌, ◌<◌, length
 ghost use Rattle.std.specs.Io.{ReadsAtMost};
 ghost use Rattle.std.specs.Result.{result_ok};
 ghost use Rattle.ak_faults.specs.Causes.{HasCause};
-ghost use Rattle.ak_io.specs.Ends.{uncertain};
-ghost use Rattle.ak_file_disks.specs.FileDisks.{any_image, any_past, at_no_time, untold};
+ghost use Rattle.ak_io.specs.Ends.{uncertain, untold};
+ghost use Rattle.ak_file_disks.specs.FileDisks.{any_image, any_past, at_no_time};
 
 use crate::openings::open_locked;
 use crate::retries::read_retrying;

@@ -2,7 +2,7 @@
 use Rattle.std.proofs.Common.{◌≡◌, ℕ, ◌+◌, ◌-◌, ◌<◌, ◌≤◌, zero, suc, Bool, true, false, cond, List, [], ◌∷◌, ◌++◌, arith, length, take, drop, refl, sym, ap, ◌∙◌, add-one}
 use Rattle.std.specs.Prelude.{if◌then◌else◌, map, nat_lt, ◌||◌}
 use Rattle.std.specs.List.{count_by}
-use Rattle.std.proofs.lemmas.Bool.{eqb-true, ltb-true, ltb-false, lt-ltb, le-ltb}
+use Rattle.std.proofs.lemmas.Bool.{eqb-true, lt-ltb, le-ltb}
 use Rattle.std.proofs.lemmas.Bool.Decides.{nat_tests}
 use Rattle.std.proofs.lemmas.List.{length-append}
 use Rattle.std.proofs.lemmas.List.Sums.{sum_by-append, sum_by-cons}
@@ -112,10 +112,6 @@ size_le (x ∷ xs) =
     elim (is_line_feed x) as (λ t. (if t then 1 else first_size xs + 1) ≤ length (x ∷ xs))
     [ true ↦ omega arith | false ↦ omega (arith, size_le xs) ]
 
-pub size_above_none : (x : ℕ) (xs : List ℕ) → 0 < first_size (x ∷ xs)
-size_above_none x xs =
-    elim (is_line_feed x) as (λ t. 0 < (if t then 1 else first_size xs + 1)) [ true ↦ omega arith | false ↦ omega arith ]
-
 -- what the two sizes of the first line tell
 pub ended_by_size : (xs : List ℕ) → length (first_line xs) < first_size xs → has_feed xs ≡ true
 ended_by_size xs h =
@@ -221,15 +217,6 @@ first_within room x xs fits =
           ∙ ap (λ line. as_read line ∷ []) (sym whole.line)
           ∙ ap (λ lines. as_read (first_line (x ∷ xs)) ∷ lines) (sym (none_within (room - first_size (x ∷ xs))) ∙ ap (lines_within (room - first_size (x ∷ xs))) (sym whole.rest))
     ] refl
-
--- the lines of an input that is not empty, from the front
-pub lines_from_front : (room x : ℕ) (xs : List ℕ)
-    → lines_within room (x ∷ xs) ≡ (if nat_lt room (first_size (x ∷ xs)) then PastInput ∷ []
-    else as_read (first_line (x ∷ xs)) ∷ lines_within (room - first_size (x ∷ xs)) (behind (x ∷ xs)))
-lines_from_front room x xs =
-    elim (nat_lt room (first_size (x ∷ xs))) as (λ t. nat_lt room (first_size (x ∷ xs)) ≡ t
-    → lines_within room (x ∷ xs) ≡ (if t then PastInput ∷ [] else as_read (first_line (x ∷ xs)) ∷ lines_within (room - first_size (x ∷ xs)) (behind (x ∷ xs))))
-    [ true ↦ λ e. past_within room (x ∷ xs) (ltb-true _ _ e) | false ↦ λ e. first_within room x xs (ltb-false _ _ e) ] refl
 
 -- what follows makes the first line no shorter
 pub size_joined_le : (xs ys : List ℕ) → first_size xs ≤ first_size (xs ++ ys)

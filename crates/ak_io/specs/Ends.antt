@@ -1,4 +1,4 @@
--- What an end in memory holds, and what each of its calls answers and leaves.
+-- What an end in memory holds, and what each of its calls answers and leaves; and what is known of one over the system.
 use Rattle.std.specs.Prelude.{ℕ, ◌-◌, min, Bool, false, ◌==◌, nat_lt, ◌&&◌, ◌||◌, if◌then◌else◌, List, ◌++◌, length, take, drop, Option, Some, None}
 use Rattle.ak_faults.specs.Calls.{is_named, listed_health}
 use Rattle.ak_faults.specs.Causes.{Health, one_more}
@@ -6,6 +6,10 @@ use Rattle.ak_faults.specs.Causes.{Health, one_more}
 -- the health of an end that may fail at any call
 abbrev pub uncertain : ℕ → Health
 uncertain faults = record { faults = faults; calm = false }
+
+-- of what an end over the system holds or gives nothing is told, whatever its count of faults is
+abbrev pub untold : ℕ → Option (List ℕ)
+untold faults = None
 
 -- the bytes that are left, how many reads came, which reads fail, and how many failed
 pub record SourceState : Type 0 where

@@ -56,7 +56,7 @@ impl Kind {
     {
         match self {
             Kind::Integer => value.as_i64().is_some(),
-            Kind::Within(least, most) => is_number_within(least, most, value.as_i64()),
+            Kind::Within(least, most) => is_number_within(value.as_i64(), least, most),
             Kind::Text => value.as_str().is_some(),
             Kind::Bool => value.as_bool().is_some(),
             Kind::Decimal => decimal_in(value).is_some(),
@@ -74,7 +74,7 @@ impl Kind {
 }
 
 /// Whether there is a whole number from the least to the most.
-pub fn is_number_within(least: i64, most: i64, number: Option<i64>) -> bool
+pub fn is_number_within(number: Option<i64>, least: i64, most: i64) -> bool
     ensures { result ≡ is_number_within least most number }
 {
     match number {

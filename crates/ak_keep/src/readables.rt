@@ -4,12 +4,14 @@ ghost use Rattle.std.specs.List.{All};
 ghost use Rattle.std.specs.List.Sorted.{IsStrictlySortedBy};
 ghost use Rattle.std.specs.Option.{option_map};
 ghost use Rattle.std.specs.Ordering.{int_cmp};
+ghost use Rattle.std.specs.Result.{IsErrOf};
 ghost use Rattle.ak_base.specs.Heads.{IsHeadInRange};
 ghost use Rattle.ak_base.specs.Rows.{IsChecked, name_of, stamp_of};
 ghost use Rattle.ak_faults.specs.Causes.{Health};
 ghost use Rattle.ak_keep.specs.Collections.{AscendsPast, IsId, IsPageOf, rows_past, row_count, cards_of};
 ghost use Rattle.ak_keep.specs.FreeNames.{IsFirstFree, IsFoundFrom, is_used};
 ghost use Rattle.ak_keep.specs.Keepers.{Keeping, IsNamedRightly, IsRightlyKnown, Reads};
+ghost use Rattle.ak_keep.specs.declared.keepers.KeepFault.TheVariants.{Memory as WantOfMemory};
 
 use crate::keepers::KeepFault;
 use ak_base::{Head, List, Name, Row, Table};
@@ -52,9 +54,11 @@ pub trait Lookup {
         ensures named { IfOk result (λ row. IfSome row (λ row. name_of row ≡ name)) }
         ensures checked { checks ≡ true → IfOk result (λ row. IfSome row IsChecked) };
 
-    /// The stamp of the row of this name, None if it is not held: a review's and a grave's are 0. No row is copied.
+    /// The stamp of the row of this name, None if it is not held: a review's and a grave's are 0. It takes no memory: no row
+    /// is copied.
     fn stamp_of(&mut self, name: Name) -> Result<Option<i64>, KeepFault>
-        ensures reads { Reads (kept self.old) (kept self.new) (keeping self.old) (keeping self.new) (health self.old) (health self.new) result (λ h stamp. stamp ≡ option_map stamp_of (finite.get h.rows name)) };
+        ensures reads { Reads (kept self.old) (kept self.new) (keeping self.old) (keeping self.new) (health self.old) (health self.new) result (λ h stamp. stamp ≡ option_map stamp_of (finite.get h.rows name)) }
+        ensures spares { IsErrOf result WantOfMemory → ⊥ };
 
     /// The ids of the cards of a note, in ascending order, in logarithmic time and a step for each card.
     fn cards_of(&mut self, note: i64) -> Result<List<i64>, KeepFault>

@@ -5,8 +5,8 @@ ghost use Rattle.ak_lab_lines.specs.Written.{IsLabLine};
 
 use crate::LabLineFault;
 use crate::words::{another_word, is_device_name, next_word, signed_number, word_of};
-use ak_base::{LAST_ID, Memory, Table, Text, cut};
-use ak_desk_language::{LAST_I64, next_number, number_in};
+use ak_base::{LAST_I64, LAST_ID, Memory, Table, Text, cut};
+use ak_desk_language::{next_number, number_in};
 use ak_sync_in_memory::What;
 use std::alloc::Global;
 
@@ -161,7 +161,7 @@ fn read_clock(text: &str) -> Result<LabLine, LabLineFault>
     ensures line { IfOk result (Reads (clock_line text.now)) }
     ensures bad { IfErr result (Refuses (clock_line text.now)) }
 {
-    match number_in(0, 9_223_372_036_854_775_807, text) {
+    match number_in(0, LAST_I64, text) {
         Some(at) => Ok(LabLine::Clock(at)),
         None => Err(LabLineFault::BadLine),
     }

@@ -6,7 +6,7 @@ ghost use Rattle.std.specs.Option.{option_map};
 ghost use Rattle.ak_base.specs.Decimals.{number_of};
 ghost use Rattle.ak_lab_lines.specs.LabLines.{word_of, another_word, next_word, is_device_name, negated, signed_number};
 
-use ak_base::{cut, read_number};
+use ak_base::{LAST_I64, cut, read_number};
 use ak_desk_language::number_in;
 
 /// The text, if it is one word.
@@ -61,7 +61,7 @@ pub(crate) fn signed_number(text: &str) -> Option<i64>
 {
     match text.strip_prefix("-") {
         Some(digits) => negative_number(digits),
-        None => number_in(0, 9_223_372_036_854_775_807, text),
+        None => number_in(0, LAST_I64, text),
     }
 }
 

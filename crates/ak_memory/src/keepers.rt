@@ -117,6 +117,7 @@ impl Lookup for MemoryKeeper {
     fn stamp_of(&mut self, name: Name) -> Result<Option<i64>, KeepFault>
         ensures state { self.new ≡ called self.old }
         ensures answer { result ≡ answer_of (is_to_fail self.old) (option_map stamp_of (finite.get self.old.kept.current.rows name)) }
+        ensures spares { IsErrOf result Memory → ⊥ }
         ensures cause { KeepCause (health_of self.old) (health_of self.new) result }
     {
         next_call(&mut self.calls)?;

@@ -18,7 +18,7 @@ use Rattle.ak_base.specs.declared.rows.Row.{Row}
 use Rattle.ak_keep.specs.declared.keepers.Wanted.{Wanted}
 use Rattle.ak_keep.specs.declared.keepers.Wanted.TheVariants.{Unsent, From}
 use Rattle.ak_merge.specs.Commits.{Settings, Received, settings_of}
-use Rattle.ak_merge.specs.Exchanges.{tags_from, wanted_under, AreOf, IsSent, is_unsent_tag, is_tag_from, settled, settled_number, settled_tags, MayExchange, GivesServer, GivesDevice, IsServerHalf, IsDeviceHalf, HoldsJoin, IsExchange, AreExchanged}
+use Rattle.ak_merge.specs.Exchanges.{tags_from, wanted_under, AreOf, IsSent, is_unsent_tag, is_tag_from, settled, settled_number, settled_tags, MayExchange, ComesToServer, ComesToDevice, IsServerHalf, IsDeviceHalf, HoldsJoin, IsExchange, AreExchanged}
 use Rattle.ak_merge.specs.Tags.{tags_taken}
 use Rattle.ak_merge.specs.Takings.{IsListOf, all_taken}
 use Rattle.ak_merge.specs.declared.sides.Side.{Side}
@@ -152,14 +152,14 @@ device_meets usn got sent c s name may sends gives =
 
 -- ---- the rows of one side
 -- what the server holds under each name once it took what the device sent is the join's
-pub server_rows_join : (usn : ℤ) (got sent : List Row) (c s : Collection) → GivesServer usn got sent c s
+pub server_rows_join : (usn : ℤ) (got sent : List Row) (c s : Collection) → ComesToServer usn got sent c s
     → (name : Name) → IsTrue (same_held (get (all_taken Server usn sent s.rows) name) (joined_under (row_under c) (row_under s) name))
 server_rows_join usn got sent c s given name =
     ap (λ o. same_held o (joined_under (row_under c) (row_under s) name)) (all_taken_at Server usn sent s.rows name)
     ∙ server_agrees c.head.usn usn _ _ _ _ _ _ _ _ (server_meets usn got sent c s name given.linked given.named given.gives (subst (IsSent sent (wanted_under Unsent (row_under c))) (fun_ext (all_taken_at Device usn got c.rows)) given.sends))
 
 -- and so is what the device holds once it took what came
-pub device_rows_join : (usn : ℤ) (got sent : List Row) (c s : Collection) → GivesDevice usn got sent c s
+pub device_rows_join : (usn : ℤ) (got sent : List Row) (c s : Collection) → ComesToDevice usn got sent c s
     → (name : Name) → IsTrue (same_held (get (all_taken Device usn got c.rows) name) (joined_under (row_under c) (row_under s) name))
 device_rows_join usn got sent c s given name =
     ap (λ o. same_held o (joined_under (row_under c) (row_under s) name)) (all_taken_at Device usn got c.rows name)
@@ -176,7 +176,7 @@ settled_held usn (Some x) None same = same
 settled_held usn (Some x) (Some y) same = same-through (settled usn x) x y (settled_like usn x) same
 
 -- and it still is once it is settled
-pub settled_rows_join : (usn : ℤ) (got sent : List Row) (c s : Collection) (now : RowsByName) → GivesDevice usn got sent c s
+pub settled_rows_join : (usn : ℤ) (got sent : List Row) (c s : Collection) (now : RowsByName) → ComesToDevice usn got sent c s
     → ((name : Name) → now name ≡ option_map (settled usn) (get (all_taken Device usn got c.rows) name))
     → (name : Name) → IsTrue (same_held (now name) (joined_under (row_under c) (row_under s) name))
 settled_rows_join usn got sent c s now given settles name =

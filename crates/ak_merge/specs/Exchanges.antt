@@ -107,14 +107,14 @@ pub record MayExchange (c s : Collection) : Type 0 where
   pub their_checked : AreChecked (row_under s)
 
 -- a linked device c sends rows to a server s, once the rows that it got came to it, which are any of what the server has for it
-pub record GivesServer (usn : ℤ) (got sent : List Row) (c s : Collection) : Type 0 where
+pub record ComesToServer (usn : ℤ) (got sent : List Row) (c s : Collection) : Type 0 where
   pub linked : AreLinkedParts c s
   pub named : AreNamed (row_under c)
   pub gives : AreOf (wanted_under (From c.head.usn) (row_under s)) got
   pub sends : IsSent sent (wanted_under Unsent (row_under c)) (get (all_taken Device usn got c.rows))
 
--- a server s gives rows to a linked device c, once the rows that this sent came to it, which are any of what the device has for it
-pub record GivesDevice (usn : ℤ) (got sent : List Row) (c s : Collection) : Type 0 where
+-- a server s gives rows to a linked device c, once the rows that the device sent came to it, which are any of what that has for it
+pub record ComesToDevice (usn : ℤ) (got sent : List Row) (c s : Collection) : Type 0 where
   pub may : MayExchange c s
   pub sends : AreOf (wanted_under Unsent (row_under c)) sent
   pub gives : IsSent got (wanted_under (From c.head.usn) (row_under s)) (get (all_taken Server usn sent s.rows))

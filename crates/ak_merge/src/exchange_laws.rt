@@ -6,7 +6,7 @@ ghost use Rattle.std.specs.Option.{option_map};
 ghost use Rattle.ak_base.specs.declared.names.Name.{Name};
 ghost use Rattle.ak_base.specs.declared.rows.Row.{Row};
 ghost use Rattle.ak_merge.specs.Commits.{Received};
-ghost use Rattle.ak_merge.specs.Exchanges.{settled, MayExchange, GivesServer, GivesDevice, IsServerHalf, IsDeviceHalf, HoldsJoin, IsExchange, AreExchanged};
+ghost use Rattle.ak_merge.specs.Exchanges.{settled, MayExchange, ComesToServer, ComesToDevice, IsServerHalf, IsDeviceHalf, HoldsJoin, IsExchange, AreExchanged};
 ghost use Rattle.ak_keep.specs.Graves.{RowsByName};
 ghost use Rattle.ak_merge.specs.Holdings.{row_under, AreNamed, content_of, same_held, SameContent};
 ghost use Rattle.ak_merge.specs.Joins.{joined_under, join};
@@ -17,7 +17,7 @@ ghost use Rattle.ak_merge.specs.declared.sides.Side.TheVariants.{Device, Server}
 /// What a server holds under each name once it took what a linked device sent is the join's, before any
 /// commit. What came to the device before it sent is any of what the server has for it.
 pub fn server_rows_join()
-    ensures { (usn : ℤ) (got sent : List Row) (c s : Collection) → GivesServer usn got sent c s
+    ensures { (usn : ℤ) (got sent : List Row) (c s : Collection) → ComesToServer usn got sent c s
         → (name : Name) → IsTrue (same_held (get (all_taken Server usn sent s.rows) name) (joined_under (row_under c) (row_under s) name)) }
 {}
 
@@ -25,9 +25,9 @@ pub fn server_rows_join()
 /// join's, before and after it settles. What was sent to the server before is any of what the device has for it.
 /// It keeps a grave that the server holds too: the two are one if both are in their ranges.
 pub fn device_rows_join()
-    ensures taken { (usn : ℤ) (got sent : List Row) (c s : Collection) → GivesDevice usn got sent c s
+    ensures taken { (usn : ℤ) (got sent : List Row) (c s : Collection) → ComesToDevice usn got sent c s
         → (name : Name) → IsTrue (same_held (get (all_taken Device usn got c.rows) name) (joined_under (row_under c) (row_under s) name)) }
-    ensures settled { (usn : ℤ) (got sent : List Row) (c s : Collection) (now : RowsByName) → GivesDevice usn got sent c s
+    ensures settled { (usn : ℤ) (got sent : List Row) (c s : Collection) (now : RowsByName) → ComesToDevice usn got sent c s
         → ((name : Name) → now name ≡ option_map (settled usn) (get (all_taken Device usn got c.rows) name))
         → (name : Name) → IsTrue (same_held (now name) (joined_under (row_under c) (row_under s) name)) }
 {}

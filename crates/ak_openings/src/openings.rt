@@ -12,7 +12,8 @@ use crate::opening_types::{basic, cloze, reversed};
 use ak_base::{Conf, Count, DAY_SECONDS, Deck, Head, List, Memory, Options, Rest, Row, Text};
 use std::alloc::Global;
 
-/// The moment at which the servers of a lab and of a made collection were opened, in milliseconds.
+/// The moment at which the servers of a lab and of a made collection were opened, and what stands in for a lab's servers and
+/// devices, in milliseconds.
 pub const OPENING_MOMENT: i64 = 1_700_000_000_000;
 
 /// The collection that is made at a moment in milliseconds: deck 1, options 1 and the note types 1 to 3. Its rows are to be

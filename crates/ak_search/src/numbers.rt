@@ -2,7 +2,7 @@
 ghost use Rattle.std.specs.Prelude.{◌≡◌, ◌≤◌, ◌-◌, ◌^◌};
 ghost use Rattle.ak_search.specs.Terms.{up_to, whole, not_zero, from_one, days_of, signed_of};
 
-use ak_base::{cut, read_number};
+use ak_base::{LAST_I64, cut, read_number};
 
 /// The number of a flag: 0 to 7.
 pub(crate) fn flag_of(text: &str) -> Option<i64>
@@ -71,5 +71,5 @@ pub(crate) fn signed_of(text: &str) -> Option<i64>
 pub(crate) fn whole(text: &str) -> Option<i64>
     ensures { result ≡ whole text.now }
 {
-    up_to(9_223_372_036_854_775_807, text)
+    up_to(LAST_I64, text)
 }

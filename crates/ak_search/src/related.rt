@@ -99,7 +99,7 @@ impl Latest {
         if self.texts.is_some() {
             return Ok(());
         }
-        let texts = texts_of(alloc, &self.related)?;
+        let texts = stripped_texts(alloc, &self.related)?;
         self.texts = texts;
         Ok(())
     }
@@ -207,7 +207,7 @@ fn type_id(note: &Option<Note>) -> Option<i64>
 }
 
 /// The stripped texts of the note's fields, if there is a note.
-fn texts_of(alloc: Global, related: &Related) -> Result<Option<List<Text>>, Memory>
+fn stripped_texts(alloc: Global, related: &Related) -> Result<Option<List<Text>>, Memory>
     ensures { IfOk result (λ texts. texts ≡ option_map (texts_seen related.now.note_type) related.now.note) }
 {
     match &related.note {

@@ -1,12 +1,8 @@
 -- What an end over the system knows: how many of its calls were refused. Of what it holds it tells nothing.
-use Rattle.std.specs.Prelude.{ℕ, false, List, Result, Ok, Err, Option, None}
+use Rattle.std.specs.Prelude.{ℕ, false, Result, Ok, Err, None}
 use Rattle.ak_faults.specs.Causes.{Health, one_more}
 use Rattle.ak_io.specs.Ends.{uncertain}
 use Rattle.ak_links.specs.Doors.{DoorState}
-
--- of bytes or links: none are told, whatever the count of faults is
-abbrev pub untold : ℕ → Option (List ℕ)
-untold faults = None
 
 -- the count of faults after a call with this result: one more if it was refused
 abbrev pub faults_after : {T E : Type 0} → ℕ → Result T E → ℕ

@@ -2,8 +2,8 @@ ghost use Rattle.std.specs.Prelude.{◌≡◌};
 ghost use Rattle.std.specs.Io.{ReadsAtMost};
 ghost use Rattle.std.specs.Io.KnownBytes.{ReadConsumes};
 ghost use Rattle.ak_faults.specs.Causes.{HasCause};
-ghost use Rattle.ak_io.specs.Ends.{uncertain};
-ghost use Rattle.ak_sockets.specs.Counts.{untold, faults_after};
+ghost use Rattle.ak_io.specs.Ends.{uncertain, untold};
+ghost use Rattle.ak_sockets.specs.Counts.{faults_after};
 
 use crate::faults::Faults;
 use crate::retries::read_retrying;

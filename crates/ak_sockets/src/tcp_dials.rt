@@ -1,8 +1,8 @@
 ghost use Rattle.std.specs.Prelude.{◌≡◌, IfOk, OnErr};
 ghost use Rattle.ak_faults.specs.Causes.{HasCause};
-ghost use Rattle.ak_io.specs.Ends.{uncertain};
+ghost use Rattle.ak_io.specs.Ends.{uncertain, untold};
 ghost use Rattle.ak_links.specs.Dials.{GivesFirst};
-ghost use Rattle.ak_sockets.specs.Counts.{untold, faults_after};
+ghost use Rattle.ak_sockets.specs.Counts.{faults_after};
 
 use crate::deadlines::Deadline;
 use crate::faults::Faults;

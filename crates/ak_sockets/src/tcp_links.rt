@@ -2,8 +2,8 @@ ghost use Rattle.std.specs.Prelude.{◌≡◌, ◌<◌, true, length, IfOk};
 ghost use Rattle.std.specs.Io.{ReadsAtMost, WritesAtMost};
 ghost use Rattle.std.specs.Io.KnownBytes.{ReadConsumes, WriteAppends};
 ghost use Rattle.ak_faults.specs.Causes.{HasCause, Rose};
-ghost use Rattle.ak_io.specs.Ends.{uncertain};
-ghost use Rattle.ak_sockets.specs.Counts.{untold, faults_after};
+ghost use Rattle.ak_io.specs.Ends.{uncertain, untold};
+ghost use Rattle.ak_sockets.specs.Counts.{faults_after};
 
 use crate::buffers::Buffer;
 use crate::deadlines::Deadline;

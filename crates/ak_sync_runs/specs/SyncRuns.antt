@@ -122,7 +122,7 @@ FinishesNext host before after =
     (word : ℕ) × GivesNext before.words after.words word × HasFinished (ids_of host word) before after
 
 -- ---- what `no changes` means
--- under the same premises: the device holds the content of what was committed when its meta was answered
+-- under the same premises: the device holds the content of what was committed at some moment of the sync
 abbrev pub HasAgreed : {kind : WireKind} → Ids → SyncOutside kind → SyncOutside kind → Type 0
 HasAgreed ids before after = let who = asker ids in (c : Collection) (account : AccountState) (log : Log)
     → before.keeping ≡ holding c → before.wire.log ≡ Some log → MayBegin who c account log
@@ -137,8 +137,8 @@ AgreesNext host before after =
     (word : ℕ) × GivesNext before.words after.words word × HasAgreed (ids_of host word) before after
 
 -- ---- what any end leaves on the server
--- under the same premises, however the sync ended: the session committed at most once, the join of the device and what was committed when its
--- meta was answered; so it is in any later log in which nothing but metas and what this sync asked has its key. It committed nothing where
+-- under the same premises, however the sync ended: the session committed at most once, the join of the device and what was committed at some
+-- moment of the sync; so it is in any later log in which nothing but metas and what this sync asked has its key. It committed nothing where
 -- its status tells an end before its finish
 abbrev pub CommitsOnce : {kind : WireKind} → Ids → ℕ → SyncOutside kind → SyncOutside kind → Type 0
 CommitsOnce ids status before after = let who = asker ids in (c : Collection) (account : AccountState) (log : Log)

@@ -15,8 +15,8 @@ pub fn a_printed_finish_joins<W: Wire>()
         → FinishesNext host before after }
 {}
 
-/// If `no changes` is what was printed, and the status is 0, then the device holds the content of what the server had committed when it
-/// was asked: nothing was to be sent or fetched.
+/// If `no changes` is what was printed, and the status is 0, then the device holds the content of what the server had committed at
+/// some moment of the sync.
 pub fn a_printed_no_changes_agrees<W: Wire>()
     ensures { (spares : Bool) (host : HostKey) (before after : SyncOutside W.kind) (old : List ℕ)
         → EndsSync spares host 0 before after (Some old) (Some (old ++ (codes "no changes" ++ 10 ∷ [])))

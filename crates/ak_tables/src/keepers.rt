@@ -163,6 +163,7 @@ impl<T: Tables> Lookup for TableKeeper<T> {
         ensures stamp { IfOk result (λ stamp. stamp ≡ option_map stamp_of (finite.get self.old.kept.current.rows name)) }
         ensures state { self.new ≡ self.old }
         ensures unfailing { IsErrOf result Failed → ⊥ }
+        ensures spares { IsErrOf result WantOfMemory → ⊥ }
         ensures cause { KeepCause (T.health self.old.tables) (T.health self.new.tables) result }
     {
         self.memory.stamp_of(name)

@@ -40,11 +40,11 @@ RefusesTypeAddition at note_type c =
     OrElse (RefusesGiven (with_id (pos 1) (as_given note_type))) (RefusesNewType at (as_given note_type) c)
 
 -- ---- what is added
--- a type that is in its ranges, at this moment
+-- what is added of a type that is in its ranges, at this moment
 abbrev pub new_type : ℤ → NoteType → Addition
 new_type at note_type = record { at = at; table = tables.NoteType; rule = type_addition note_type; tests = RefusesNewType at note_type }
 
--- a type that was given, at this moment
+-- the same of a type that was given
 abbrev pub given_type : ℤ → NoteType → Addition
 given_type at note_type = record { at = at; table = tables.NoteType; rule = given_addition note_type; tests = RefusesTypeAddition at note_type }
 

@@ -4,12 +4,9 @@ ghost use Rattle.ak_wire.specs.Kinds.{holds, is_after, are_ids, number_at, is_li
 ghost use Rattle.ak_base.specs.Heads.{is_tag_name};
 
 use crate::words::word_of;
-use ak_base::{LAST_ID, LAST_USN, NAME_BYTES};
+use ak_base::{LAST_I64, LAST_ID, LAST_USN, NAME_BYTES};
 use ak_json::is_number_within;
 use serde_json::{Map, Value};
-
-/// The last count: counts are kept with a sign.
-const LAST_COUNT: u64 = 9_223_372_036_854_775_807;
 
 /// What stands under a key of a message.
 #[derive(Clone, Copy)]
@@ -49,7 +46,7 @@ impl Kind {
     {
         match self {
             Kind::Integer => value.as_i64().is_some(),
-            Kind::Within(least, most) => is_number_within(least, most, value.as_i64()),
+            Kind::Within(least, most) => is_number_within(value.as_i64(), least, most),
             Kind::Text => value.as_str().is_some(),
             Kind::Bool => value.as_bool().is_some(),
             Kind::Values => value.as_array().is_some(),
@@ -145,9 +142,9 @@ fn are_counts(value: &Value) -> bool
 fn is_nothing_due(value: &Value) -> bool
     ensures { result ≡ is_nothing_due (view value.now) }
 {
-    is_number_within(0, 0, number_at(0, value))
-        && is_number_within(0, 0, number_at(1, value))
-        && is_number_within(0, 0, number_at(2, value))
+    is_number_within(number_at(0, value), 0, 0)
+        && is_number_within(number_at(1, value), 0, 0)
+        && is_number_within(number_at(2, value), 0, 0)
         && value.get(3).is_none()
 }
 
@@ -164,13 +161,13 @@ fn are_seven_counts(value: &Value) -> bool
         && is_count(7, value)
 }
 
-/// Whether a count stands at a place of a list.
+/// Whether a count stands at a place of a list: counts are kept with a sign.
 fn is_count(place: usize, value: &Value) -> bool
     ensures { result ≡ is_count place (view value.now) }
 {
     match value.get(place) {
         Some(found) => match found.as_u64() {
-            Some(count) => count <= LAST_COUNT,
+            Some(count) => count <= LAST_I64,
             None => false,
         },
         None => false,
@@ -184,8 +181,8 @@ fn is_fault(value: &Value) -> bool
     if value.is_null() {
         return true;
     }
-    is_number_within(1, 4, number_at(0, value))
-        && is_number_within(1, LAST_ID, number_at(1, value))
+    is_number_within(number_at(0, value), 1, 4)
+        && is_number_within(number_at(1, value), 1, LAST_ID)
         && value.get(2).is_none()
 }
 
@@ -219,7 +216,7 @@ fn are_tags(members: &Map<String, Value>) -> bool
     ensures { result ≡ are_tags (members_view members.now.entries) }
 {
     for (name, value) in members {
-        if !is_tag_name(name.as_str()) || !is_number_within(-1, LAST_USN, value.as_i64()) {
+        if !is_tag_name(name.as_str()) || !is_number_within(value.as_i64(), -1, LAST_USN) {
             return false;
         }
     }
