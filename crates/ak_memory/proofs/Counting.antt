@@ -23,11 +23,11 @@ use Rattle.ak_keep.proofs.TablePlaces.{below_nine}
 use Rattle.ak_keep.proofs.RowsByName.{both_first, both_second, same_of_tied, none_below, below_more, named-empty, named-insert, all-remove, IsNamed}
 use Rattle.ak_memory.specs.HeldRows.{row_in}
 use Rattle.ak_memory.specs.Indexes.{AreCounts, IsCounted}
-use Rattle.ak_memory.specs.Places.{is_changed, one_if, row_at, rows_at, unchanged_count, with_under}
+use Rattle.ak_memory.specs.Places.{is_changed, one_if, row_at, row_under, rows_at, unchanged_count, with_under}
 use Rattle.ak_memory.specs.declared.held_rows.Replacement.{Replacement}
 use Rattle.ak_memory.specs.declared.places.Place.{Place}
 use Rattle.ak_memory.specs.declared.versions.Version.{Version}
-use Rattle.ak_memory.proofs.RowsUnder.{get-with_under, with_none}
+use Rattle.ak_memory.proofs.RowsUnder.{get-rows_at, get-with_under, rows_at-with, with_none}
 
 -- ---- places that were not changed
 length-cons_if : {X : Type 0} (b : Bool) (x : X) (xs : List X) → length (cond b (x ∷ xs) xs) ≡ one_if b + length xs
@@ -236,3 +236,14 @@ named-with name (Some row) rows named h = subst (λ (n : Name). StandsUnderNames
 pub some_in : (row : Option (Box Replacement)) → is_some row ≡ is_some (row_in row)
 some_in None = refl
 some_in (Some row) = refl
+
+-- a row was put under a name that had none, and counted
+pub counted-added : (numbers next : List ℕ) (v : Version) (es fs : List (Name × Place)) (name : Name) (row : Row) → ((q : Name) → row_under v fs q ≡ cond (is_at (name_cmp name) q) (Some row) (row_under v es q))
+    → row_under v es name ≡ None → name_of row ≡ name → IsCounted numbers (rows_at v es) → length next ≡ 9
+    → next ≡ slice_set numbers (table_place name.table) (slice_index numbers (table_place name.table) + one_if true - one_if false) → IsCounted next (rows_at v fs)
+counted-added numbers next v es fs name row added none named was nine set =
+    subst (IsCounted next) (sym (rows_at-with v es fs name (Some row) added))
+    (record {
+      counts = counts-with numbers next (rows_at v es) name (Some row) false true was.counts (sym (ap is_some (get-rows_at v es name ∙ none))) refl nine set;
+      named = named-with name (Some row) (rows_at v es) was.named named;
+    })

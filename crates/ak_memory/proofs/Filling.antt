@@ -2,6 +2,7 @@
 use Rattle.std.specs.Prelude.{◌≡◌, Bool, true, false, cond, Option, Some, None, is_some, List, [], ◌∷◌, map}
 use Rattle.std.proofs.Common.{refl, sym, ap, subst, ◌∙◌}
 use Rattle.std.specs.BTreeMap.{is_at}
+use Rattle.std.specs.Bool.{OnFalse, OnTrue}
 use Rattle.std.specs.FinMap.{find, get, insert, empty, entries, get-empty, get-entries, same_map}
 use Rattle.std.specs.Option.{option_or}
 use Rattle.ak_base.proofs.NameOrder.{names_exact}
@@ -35,6 +36,12 @@ filled-put rows name row free q =
     ∙ put_filled (entries rows) (entries more) name row (ap is_some (entries-get rows name) ∙ free)
     (λ p. entries-get more p ∙ get-with_under name (Some row) rows p ∙ ap (cond (is_at (name_cmp name) p) (Some row)) (sym (entries-get rows p))) q
     ∙ ap (λ o. option_or o (row_at ((name, row) ∷ []) q)) (entries-get rows q)
+
+-- a row was loaded, or was not since one is held under its name
+pub filled-loaded : (was now : Rows) (row : Row) (loaded : Bool) → OnTrue loaded (get was (name_of row) ≡ None) → OnTrue loaded (now ≡ insert was (name_of row) row)
+    → OnFalse loaded (is_some (get was (name_of row)) ≡ true) → OnFalse loaded (now ≡ was) → (q : Name) → get now q ≡ option_or (get was q) (row_at ((name_of row, row) ∷ []) q)
+filled-loaded was now row true free put held same q = ap (λ (rows : Rows). get rows q) put ∙ filled-put was (name_of row) row (ap is_some free) q
+filled-loaded was now row false free put held same q = ap (λ (rows : Rows). get rows q) same ∙ filled-held was (name_of row) row held q
 
 or_first : (a : Option Row) (b : Bool) (row : Row) (rest : Option Row) → option_or (option_or a (cond b (Some row) None)) rest ≡ option_or a (cond b (Some row) rest)
 or_first (Some x) b row rest = refl

@@ -12,7 +12,7 @@ use Rattle.ak_base.specs.declared.names.Name.{Name}
 use Rattle.ak_base.specs.declared.rows.Row.{Row}
 use Rattle.ak_memory.specs.NoteKeys.{NoteKey, AreSetWhere, has_key, is_key_of, is_note, note_of_card}
 use Rattle.ak_keep.proofs.RowsByName.{same_of_tied}
-use Rattle.ak_memory.specs.Indexes.{HaveAllKeys}
+use Rattle.ak_memory.specs.Indexes.{HaveAllKeys, HaveKeys}
 use Rattle.ak_memory.specs.Places.{note_under, row_under}
 use Rattle.ak_memory.specs.declared.places.Place.{Place}
 use Rattle.ak_memory.specs.declared.versions.Version.{Version}
@@ -66,12 +66,17 @@ keys-forgotten keys after es (Some note) name have none gone version n q is =
 pub keys-same : (keys : List NoteKey) (es fs : List (Name × Place)) → ((version : Version) (q : Name) → row_under version fs q ≡ row_under version es q) → HaveAllKeys keys es → HaveAllKeys keys fs
 keys-same keys es fs same have version n q is = have version n q (ap (λ o. is_note n (option_and_then note_of_card o)) (sym (same version q)) ∙ is)
 
+-- a row was put under a name, or taken out, in one version
+pub keys-with : (keys : List NoteKey) (f g : Name → Option Row) (name : Name) (row : Option Row) → ((q : Name) → g q ≡ cond (is_at (name_cmp name) q) row (f q))
+    → ((n : ℤ) → is_note n (option_and_then note_of_card row) ≡ true → has_key keys (n, Some name) ≡ true) → HaveKeys keys f → HaveKeys keys g
+keys-with keys f g name row put key have n q is =
+    elim (is_at (name_cmp name) q) as (λ b. is_at (name_cmp name) q ≡ b → is_note n (option_and_then note_of_card (cond b row (f q))) ≡ true → has_key keys (n, Some q) ≡ true) [
+      | true ↦ λ tied h. ap (λ (x : Name). has_key keys (n, Some x)) (sym (same_of_tied name q tied)) ∙ key n h
+      | false ↦ λ _ h. have n q h
+    ] refl (ap (λ o. is_note n (option_and_then note_of_card o)) (sym (put q)) ∙ is)
+
 pub keys-held : (keys : List NoteKey) (es fs : List (Name × Place)) (name : Name) (row : Option Row)
     → ((q : Name) → row_under Now fs q ≡ cond (is_at (name_cmp name) q) row (row_under Now es q)) → ((q : Name) → row_under Mark fs q ≡ row_under Mark es q)
     → ((n : ℤ) → is_note n (option_and_then note_of_card row) ≡ true → has_key keys (n, Some name) ≡ true) → HaveAllKeys keys es → HaveAllKeys keys fs
-keys-held keys es fs name row now mark key have Now n q is =
-    elim (is_at (name_cmp name) q) as (λ b. is_at (name_cmp name) q ≡ b → is_note n (option_and_then note_of_card (cond b row (row_under Now es q))) ≡ true → has_key keys (n, Some q) ≡ true) [
-      | true ↦ λ tied h. ap (λ (x : Name). has_key keys (n, Some x)) (sym (same_of_tied name q tied)) ∙ key n h
-      | false ↦ λ _ h. have Now n q h
-    ] refl (ap (λ o. is_note n (option_and_then note_of_card o)) (sym (now q)) ∙ is)
+keys-held keys es fs name row now mark key have Now n q is = keys-with keys (row_under Now es) (row_under Now fs) name row now key (have Now) n q is
 keys-held keys es fs name row now mark key have Mark n q is = have Mark n q (ap (λ o. is_note n (option_and_then note_of_card o)) (sym (mark q)) ∙ is)

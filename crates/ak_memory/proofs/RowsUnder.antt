@@ -14,6 +14,8 @@ use Rattle.ak_base.specs.declared.rows.Row.{Row}
 use Rattle.ak_keep.specs.Collections.{Rows}
 use Rattle.ak_keep.proofs.RowsByName.{same_of_tied}
 use Rattle.ak_memory.specs.Places.{row_at, row_under, rows_at, with_under, place_under, is_changed, is_changed_place, is_changed_under, is_empty_place, AreFull, AreFullBut}
+use Rattle.ak_memory.specs.HeldRows.{held_row}
+use Rattle.ak_memory.specs.declared.held_rows.HeldRow.{HeldRow}
 use Rattle.ak_memory.specs.declared.places.Place.{Place}
 use Rattle.ak_memory.specs.declared.places.Place.TheVariants.{Empty, Opened, Same, Added, Removed, Replaced}
 use Rattle.ak_memory.specs.declared.versions.Version.{Version}
@@ -63,6 +65,10 @@ with_none name rows none = same_map names_total names_exact _ _ (λ q.
 -- no row is under a name that has no place
 pub no_place : (version : Version) (es : List (Name × Place)) (name : Name) → place_under es name ≡ None → row_under version es name ≡ None
 no_place version es name none = ap (option_and_then (row_at version)) none
+
+pub none_found : (found : Option Place) → is_some found ≡ false → found ≡ None
+none_found None is = refl
+none_found (Some place) is = absurd (subst T is tt)
 
 -- ---- places that were not changed
 
@@ -130,3 +136,31 @@ full_without name es fs same but q =
       | true ↦ λ _. refl
       | false ↦ λ other. but q other
     ] refl
+
+-- ---- a place that was added with a row in both versions
+-- the places have one more, under a name, with this row
+abbrev pub IsAdded : Name → HeldRow → List (Name × Place) → List (Name × Place) → Type 0
+IsAdded name row es fs = (q : Name) → place_under fs q ≡ cond (is_at (name_cmp name) q) (Some (Same row)) (place_under es q)
+
+row_of_both : (v : Version) (row : HeldRow) → row_at v (Same row) ≡ Some (held_row row)
+row_of_both Now row = refl
+row_of_both Mark row = refl
+
+row_or : (b : Bool) (v : Version) (row : HeldRow) (found : Option Place) → option_and_then (row_at v) (cond b (Some (Same row)) found) ≡ cond b (Some (held_row row)) (option_and_then (row_at v) found)
+row_or true v row found = row_of_both v row
+row_or false v row found = refl
+
+pub rows_added : (name : Name) (row : HeldRow) (es fs : List (Name × Place)) → IsAdded name row es fs → (v : Version) (q : Name) → row_under v fs q ≡ cond (is_at (name_cmp name) q) (Some (held_row row)) (row_under v es q)
+rows_added name row es fs added v q = ap (option_and_then (row_at v)) (added q) ∙ row_or (is_at (name_cmp name) q) v row (place_under es q)
+
+changed_or : (b : Bool) (row : HeldRow) (found : Option Place) → is_changed_place (cond b (Some (Same row)) found) ≡ (not b && is_changed_place found)
+changed_or true row found = refl
+changed_or false row found = refl
+
+pub changed_added : (name : Name) (row : HeldRow) (es fs : List (Name × Place)) → IsAdded name row es fs → (q : Name) → is_changed_under fs q ≡ (not (is_at (name_cmp name) q) && is_changed_under es q)
+changed_added name row es fs added q = ap is_changed_place (added q) ∙ changed_or (is_at (name_cmp name) q) row (place_under es q)
+
+pub full_added : (name : Name) (row : HeldRow) (es fs : List (Name × Place)) → IsAdded name row es fs → AreFull es → AreFull fs
+full_added name row es fs added full q =
+    ap is_empty_place (added q)
+    ∙ elim (is_at (name_cmp name) q) as (λ b. is_empty_place (cond b (Some (Same row)) (place_under es q)) ≡ false) [ true ↦ refl | false ↦ full q ]

@@ -29,6 +29,10 @@ not_not : (b : Bool) → not b ≡ false → b ≡ true
 not_not true is = refl
 not_not false is = absurd (true_false is)
 
+second : (a b : Bool) → (a && b) ≡ true → b ≡ true
+second true b is = is
+second false b is = absurd (true_false (sym is))
+
 -- ---- what is noted
 among-append : (noted more : List Name) (q : Name) → is_among (noted ++ more) q ≡ (is_among noted q || is_among more q)
 among-append [] more q = refl
@@ -59,6 +63,10 @@ pub noted-change : (noted next : List Name) (es fs : List (Name × Place)) (name
     → first ≡ not (is_changed_under es name) → next ≡ noted ++ (if first then name ∷ [] else []) → AreNoted next fs
 noted-change noted next es fs name true changed are is noted_so = subst (λ (ns : List Name). AreNoted ns fs) (sym noted_so) (noted-more noted es fs name changed are)
 noted-change noted next es fs name false changed are is noted_so = subst (λ (ns : List Name). AreNoted ns fs) (sym noted_so) (noted-again noted es fs name changed are (not_not _ (sym is)))
+
+-- a place was added that counts as not changed
+pub noted-added : (noted : List Name) (es fs : List (Name × Place)) (name : Name) → ((q : Name) → is_changed_under fs q ≡ (not (is_at (name_cmp name) q) && is_changed_under es q)) → AreNoted noted es → AreNoted noted fs
+noted-added noted es fs name changed are q is = are q (second _ _ (sym (changed q) ∙ is))
 
 -- ---- one name after the other
 pub one_settled : (b a : Bool) (x y : Option Row) → cond a (cond b x x) (cond b x y) ≡ cond (b || a) x y

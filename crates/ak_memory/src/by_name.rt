@@ -1,12 +1,12 @@
 // The places of rows by their names.
-ghost use Rattle.std.specs.Prelude.{◌≡◌, ◌+◌, ◌≤◌, true, false, not, ◌&&◌, ◌||◌, None, is_some, cond, IfSome, OnOk, OnErr, OnSome};
+ghost use Rattle.std.specs.Prelude.{◌≡◌, ◌+◌, ◌≤◌, true, false, not, ◌&&◌, ◌||◌, Some, None, is_some, cond, length, IfSome, OnOk, OnErr, OnSome};
 ghost use Rattle.std.specs.BTreeMap.{is_at};
 ghost use Rattle.std.specs.Option.{option_copied, option_eq};
 ghost use Rattle.std.specs.Ordering.{int_eq};
 ghost use Rattle.ak_base.specs.Names.{name_cmp};
 ghost use Rattle.ak_base.specs.declared.names.Name.{Name as RowName};
 ghost use Rattle.ak_memory.specs.NoteKeys.{is_note};
-ghost use Rattle.ak_memory.specs.HeldRows.{held_in, row_in};
+ghost use Rattle.ak_memory.specs.HeldRows.{held_in, held_row, row_in};
 ghost use Rattle.ak_memory.specs.Places.{AreFull, AreFullBut, is_changed_under, is_empty_under, is_needed, note_under, one_if, place_under, row_under, unchanged_count};
 ghost use Rattle.ak_memory.specs.TakenRuns.{is_used_under};
 ghost use Rattle.ak_memory.specs.declared.versions.Version.{Version as WhichVersion};
@@ -88,6 +88,19 @@ pub(crate) fn add_place(places: &mut Places, name: Name) -> Result<(), Memory>
     ensures err { OnErr result (places.new.entries ≡ places.old.entries) }
 {
     places.insert(name, Place::opened())?;
+    Ok(())
+}
+
+/// Adds a place under the name that holds the row, and held it at the mark. There is none yet.
+pub(crate) fn add_same(places: &mut Places, name: Name, row: HeldRow) -> Result<(), Memory>
+    requires { place_under places.old.entries name ≡ None }
+    ensures rows { OnOk result ((each : WhichVersion) (q : RowName) → row_under each places.new.entries q ≡ cond (is_at (name_cmp name) q) (Some (held_row row)) (row_under each places.old.entries q)) }
+    ensures changed { OnOk result ((q : RowName) → is_changed_under places.new.entries q ≡ (not (is_at (name_cmp name) q) && is_changed_under places.old.entries q)) }
+    ensures full { OnOk result (AreFull places.old.entries → AreFull places.new.entries) }
+    ensures len { OnOk result (length places.new.entries ≡ length places.old.entries + 1) }
+    ensures err { OnErr result (places.new.entries ≡ places.old.entries) }
+{
+    places.insert(name, Place::Same(row))?;
     Ok(())
 }
 

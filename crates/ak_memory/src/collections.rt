@@ -1,4 +1,5 @@
-ghost use Rattle.std.specs.Prelude.{◌≡◌, ◌<◌, ◌^◌, ◌≤◌, true, if◌then◌else◌, Some, None, is_some, length, IfOk, IfSome, OnOk, OnErr};
+ghost use Rattle.std.specs.Prelude.{◌≡◌, ◌<◌, ◌^◌, ◌≤◌, true, false, if◌then◌else◌, Some, None, is_some, length, IfOk, IfSome, OnOk, OnErr};
+ghost use Rattle.std.specs.Bool.{OnFalse, OnTrue};
 ghost use Rattle.std.specs.FinMap as finite;
 ghost use Rattle.std.specs.List.{All};
 ghost use Rattle.std.specs.List.Sorted.{IsStrictlySortedBy};
@@ -113,6 +114,19 @@ impl MarkedCollection {
     {
         self.rows.put(row)?;
         Ok(())
+    }
+
+    /// Puts in the row, unless one is held under its name: whether it did.
+    pub(crate) fn load(&mut self, row: Row) -> Result<bool, Memory>
+        requires unmarked { is_some self.old.mark ≡ false }
+        requires checked { IsChecked row }
+        ensures free { IfOk result (λ loaded. OnTrue loaded (finite.get self.old.current.rows (name_of row) ≡ None)) }
+        ensures put { IfOk result (λ loaded. OnTrue loaded (self.new ≡ marks.changed (with_row row) self.old)) }
+        ensures held { IfOk result (λ loaded. OnFalse loaded (is_some (finite.get self.old.current.rows (name_of row)) ≡ true)) }
+        ensures same { IfOk result (λ loaded. OnFalse loaded (self.new ≡ self.old)) }
+        ensures err { OnErr result (self.new ≡ self.old) }
+    {
+        self.rows.load(row)
     }
 
     /// Takes out the row of this name, if there is one. It takes no memory.

@@ -1,6 +1,7 @@
 // The places of rows, with what is kept beside them so that nobody walks over a table to know it, or over what was not
 // changed to settle it.
-ghost use Rattle.std.specs.Prelude.{◌≡◌, ℤ, true, false, not, cond, None, [], ◌+◌, ◌-◌, ◌<◌, ◌≤◌, ◌^◌, ◌&&◌, ◌++◌, ◌∷◌, if◌then◌else◌, length, is_some, slice_index, slice_set, IfOk, IfSome, OnOk, OnErr};
+ghost use Rattle.std.specs.Prelude.{◌≡◌, ℤ, true, false, not, cond, Some, None, [], ◌+◌, ◌-◌, ◌<◌, ◌≤◌, ◌^◌, ◌&&◌, ◌++◌, ◌∷◌, if◌then◌else◌, length, is_some, slice_index, slice_set, IfOk, IfSome, OnOk, OnErr};
+ghost use Rattle.std.specs.Bool.{OnFalse, OnTrue};
 ghost use Rattle.std.specs.BTreeMap.{is_at};
 ghost use Rattle.std.specs.FinMap as finite;
 ghost use Rattle.std.specs.List.Sorted.{IsStrictlySortedBy};
@@ -20,7 +21,7 @@ ghost use Rattle.ak_memory.specs.TakenRuns.{runs_before};
 ghost use Rattle.ak_memory.specs.declared.versions.Version.{Version as WhichVersion};
 ghost use Rattle.ak_memory.specs.declared.versions.Version.TheVariants.{Mark, Now};
 
-use crate::by_name::{Places, add_place, drop_empty, hold_under, row_of, settle_under};
+use crate::by_name::{Places, add_place, add_same, drop_empty, hold_under, row_of, settle_under};
 use crate::held_rows::{HeldRow, Replacement};
 use crate::note_keys::{NoteKey, add_key, forget_key, ids_of};
 use crate::places::Change;
@@ -126,10 +127,65 @@ impl IndexedPlaces {
         // Memory comes first: all that follows takes none.
         let name = row.name();
         let row = Replacement::of(alloc, row)?;
-        let note = row.row.note();
+        self.make_room(row.row.note(), name)?;
         self.make_place(name)?;
-        add_key(&mut self.cards, note, name)?;
         self.exchange(name, Some(row));
+        Ok(())
+    }
+
+    /// Holds the row under its name, unless a row is held there: whether it does. It may hold it at the mark too, since then
+    /// no place is noted as changed.
+    pub(crate) fn load(&mut self, alloc: Global, row: Row) -> Result<bool, Memory>
+        requires { IsIndexed self.old }
+        ensures indexed { IsIndexed self.new }
+        ensures free { IfOk result (λ loaded. OnTrue loaded (finite.get (rows_of Now self.old) (name_of row) ≡ None)) }
+        ensures put { IfOk result (λ loaded. OnTrue loaded (rows_of Now self.new ≡ finite.insert (rows_of Now self.old) (name_of row) row)) }
+        ensures held { IfOk result (λ loaded. OnFalse loaded (is_some (finite.get (rows_of Now self.old) (name_of row)) ≡ true)) }
+        ensures same { IfOk result (λ loaded. OnFalse loaded (rows_of Now self.new ≡ rows_of Now self.old)) }
+        ensures err { OnErr result (rows_of Now self.new ≡ rows_of Now self.old) }
+    {
+        let name = row.name();
+        if !self.places.contains_key(&name) {
+            self.add(alloc, row)?;
+            return Ok(true);
+        }
+        if self.get(&name).is_some() {
+            return Ok(false);
+        }
+        self.put(alloc, row)?;
+        Ok(true)
+    }
+
+    /// Holds the row under its name, now and at the mark. There is no place under the name yet.
+    fn add(&mut self, alloc: Global, row: Row) -> Result<(), Memory>
+        requires indexed { IsIndexed self.old }
+        requires free { place_under self.old.places.entries (name_of row) ≡ None }
+        ensures indexed { IsIndexed self.new }
+        ensures ok { OnOk result (rows_of Now self.new ≡ finite.insert (rows_of Now self.old) (name_of row) row) }
+        ensures err { OnErr result (rows_of Now self.new ≡ rows_of Now self.old) }
+    {
+        let name = row.name();
+        let row = HeldRow::of(alloc, row)?;
+        self.make_room(row.note(), name)?;
+        add_same(&mut self.places, name, row)?;
+        count_change(&mut self.counts, name.table, false, true);
+        count_change(&mut self.mark_counts, name.table, false, true);
+        Ok(())
+    }
+
+    /// Sees to it that there is room to note one place more, and that a card of this note and name has its key.
+    fn make_room(&mut self, note: Option<i64>, name: Name) -> Result<(), Memory>
+        requires { IsIndexed self.old }
+        ensures indexed { IsIndexed self.new }
+        ensures places { self.new.places ≡ self.old.places }
+        ensures counts { self.new.counts ≡ self.old.counts }
+        ensures mark_counts { self.new.mark_counts ≡ self.old.mark_counts }
+        ensures small { length self.new.places.entries < 2 ^ 63 }
+        ensures key { OnOk result ((of : ℤ) → is_note of note ≡ true → has_key self.new.cards.keys (of, Some name) ≡ true) }
+        ensures room { OnOk result (vec_len self.new.noted + (length self.new.places.entries + 1) ≤ vec_capacity self.new.noted) }
+    {
+        self.noted.reserve(self.places.len() + 1)?;
+        add_key(&mut self.cards, note, name)?;
         Ok(())
     }
 
@@ -143,17 +199,18 @@ impl IndexedPlaces {
         self.exchange(name, None);
     }
 
-    /// Sees to it that there is a place under the name, and room to note all places.
+    /// Sees to it that there is a place under the name.
     fn make_place(&mut self, name: Name) -> Result<(), Memory>
-        requires { IsIndexed self.old }
+        requires indexed { IsIndexed self.old }
+        requires room { vec_len self.old.noted + (length self.old.places.entries + 1) ≤ vec_capacity self.old.noted }
         ensures indexed { IsIndexed self.new }
+        ensures cards { self.new.cards ≡ self.old.cards }
         ensures rows { (version : WhichVersion) → rows_of version self.new ≡ rows_of version self.old }
         ensures there { OnOk result (place_under self.new.places.entries name ≡ None → ⊥) }
     {
         if self.places.contains_key(&name) {
             return Ok(());
         }
-        self.noted.reserve(self.places.len() + 1)?;
         add_place(&mut self.places, name)?;
         self.noted.push_reserved(name);
         Ok(())

@@ -1,4 +1,5 @@
 ghost use Rattle.std.specs.Prelude.{◌≡◌, ◌<◌, ◌≤◌, ◌≤ℤ◌, ◌^◌, pos, [], true, false, None, is_some, length, map, IfOk, IfSome, OnOk, OnErr};
+ghost use Rattle.std.specs.Bool.{OnFalse, OnTrue};
 ghost use Rattle.std.specs.FinMap as finite;
 ghost use Rattle.std.specs.List.{All, IsDistinct};
 ghost use Rattle.std.specs.List.Sorted.{IsStrictlySortedBy};
@@ -19,7 +20,7 @@ ghost use Rattle.ak_keep.specs.declared.keepers.KeepFault.TheVariants.{Memory};
 use crate::calls::next_call;
 use crate::collections::MarkedCollection;
 use crate::marked_rows::MarkedRows;
-use ak_base::{Head, List, Name, Row, Table};
+use ak_base::{Head, List, Memory as OutOfMemory, Name, Row, Table};
 use ak_faults::Calls;
 use ak_keep::{KeepFault, Keeper, Lookup, Numbers, Readable, Wanted};
 use std::alloc::Global;
@@ -74,6 +75,29 @@ impl MemoryKeeper {
         ensures { self.new ≡ record self.old { calls = 0; fails = calls } }
     {
         self.calls.fail_at(calls.into_vec());
+    }
+
+    /// Puts in the row, unless one is held under its name: whether it did. A keeper is filled so before its first mark, with
+    /// nothing noted for a way back. It is not among the calls that can fail, but for want of memory.
+    pub fn load(&mut self, row: Row) -> Result<bool, OutOfMemory>
+        requires unmarked { is_marked (all_known self.old.kept) ≡ false }
+        requires checked { IsChecked row }
+        ensures free { IfOk result (λ loaded. OnTrue loaded (finite.get self.old.kept.current.rows (name_of row) ≡ None)) }
+        ensures put { IfOk result (λ loaded. OnTrue loaded (self.new ≡ record self.old { kept = marks.changed (with_row row) self.old.kept })) }
+        ensures held { IfOk result (λ loaded. OnFalse loaded (is_some (finite.get self.old.kept.current.rows (name_of row)) ≡ true)) }
+        ensures same { IfOk result (λ loaded. OnFalse loaded (self.new ≡ self.old)) }
+        ensures err { OnErr result (self.new ≡ self.old) }
+    {
+        self.memory.load(row)
+    }
+
+    /// Puts this head in place of the one that is held. It is the head of rows that were loaded, and takes no memory.
+    pub fn load_head(&mut self, head: Head)
+        requires unmarked { is_marked (all_known self.old.kept) ≡ false }
+        requires range { IsHeadInRange head }
+        ensures { self.new ≡ record self.old { kept = marks.changed (with_head head) self.old.kept } }
+    {
+        self.memory.set_head(head);
     }
 
     /// The current rows.

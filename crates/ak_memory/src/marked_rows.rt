@@ -1,4 +1,5 @@
-ghost use Rattle.std.specs.Prelude.{◌≡◌, true, [], ◌∷◌, is_some, ◌<◌, ◌^◌, ◌≤◌, IfOk, IfSome, OnOk, OnErr};
+ghost use Rattle.std.specs.Prelude.{◌≡◌, true, false, None, [], ◌∷◌, is_some, ◌<◌, ◌^◌, ◌≤◌, IfOk, IfSome, OnOk, OnErr};
+ghost use Rattle.std.specs.Bool.{OnFalse, OnTrue};
 ghost use Rattle.std.specs.FinMap as map;
 ghost use Rattle.std.specs.List.{All};
 ghost use Rattle.std.specs.List.Sorted.{IsStrictlySortedBy};
@@ -73,21 +74,20 @@ impl MarkedRows {
     fn add(&mut self, row: Row) -> Result<(), Memory>
         ensures { OnOk result ((q : RowName) → map.get self.new.current q ≡ option_or (map.get self.old.current q) (row_at ((name_of row, row) ∷ []) q)) }
     {
-        if self.holds(&row.name()) {
-            return Ok(());
-        }
-        self.put(row)?;
+        self.load(row)?;
         Ok(())
     }
 
-    /// Whether a row is held under this name.
-    fn holds(&self, name: &Name) -> bool
-        ensures { result ≡ is_some (map.get self.now.current name.now) }
+    /// Puts in the row, unless one is held under its name: whether it did. What is held at the mark is left open, so it is for
+    /// rows that have no mark.
+    pub(crate) fn load(&mut self, row: Row) -> Result<bool, Memory>
+        ensures free { IfOk result (λ loaded. OnTrue loaded (map.get self.old.current (name_of row) ≡ None)) }
+        ensures put { IfOk result (λ loaded. OnTrue loaded (self.new.current ≡ map.insert self.old.current (name_of row) row)) }
+        ensures held { IfOk result (λ loaded. OnFalse loaded (is_some (map.get self.old.current (name_of row)) ≡ true)) }
+        ensures same { IfOk result (λ loaded. OnFalse loaded (self.new.current ≡ self.old.current)) }
+        ensures err { OnErr result (self.new.current ≡ self.old.current) }
     {
-        match self.indexed.get(name) {
-            Some(_) => true,
-            None => false,
-        }
+        self.indexed.load(self.alloc, row)
     }
 
     /// A copy of the row that is held under this name.

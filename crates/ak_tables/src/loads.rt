@@ -1,18 +1,17 @@
 // What was read from tables, put into a keeper in memory.
-ghost use Rattle.std.specs.Prelude.{◌≡◌, [], None, true, is_some, Err, IfOk, IfErr, IfSome, OnOk, OnErr};
+ghost use Rattle.std.specs.Prelude.{◌≡◌, [], None, false, Err, IfOk, IfSome, OnOk, OnErr};
 ghost use Rattle.std.specs.FinMap as finite;
-ghost use Rattle.ak_base.specs.Names.{name_cmp};
 ghost use Rattle.ak_base.specs.Heads.{IsHeadInRange};
 ghost use Rattle.ak_base.specs.Rows.{IsChecked, name_of};
 ghost use Rattle.ak_keep.specs.Collections.{rows_of, with_head, with_row};
 ghost use Rattle.ak_keep.specs.Keepers.{all_known, is_marked};
 ghost use Rattle.ak_keep.specs.Marks as marks;
-ghost use Rattle.ak_keep.specs.declared.keepers.KeepFault.TheVariants.{Failed, Memory as WantOfMemory};
+ghost use Rattle.ak_keep.specs.declared.keepers.KeepFault.TheVariants.{Failed};
 ghost use Rattle.ak_tables.specs.Tables.{AreNew, ArePutInto, IsCollection, loaded};
 
 use crate::tables::StoredCollection;
-use ak_base::{Head, List, Name, Row};
-use ak_keep::{KeepFault, Keeper};
+use ak_base::{Head, List, Row};
+use ak_keep::KeepFault;
 use ak_memory::MemoryKeeper;
 use std::alloc::Global;
 
@@ -28,77 +27,61 @@ pub(crate) fn memory_of(alloc: Global, read: StoredCollection) -> Result<MemoryK
 {
     let StoredCollection { rows, head } = read;
     let mut keeper = MemoryKeeper::new(alloc);
-    keeper.mark()?;
-    put_rows(&mut keeper, rows)?;
-    put_head(&mut keeper, head)?;
-    keeper.commit()?;
+    load_rows(&mut keeper, rows)?;
+    load_head(&mut keeper, head)?;
     Ok(keeper)
 }
 
 /// Puts in the rows.
-fn put_rows(keeper: &mut MemoryKeeper, rows: List<Row>) -> Result<(), KeepFault>
-    requires marked { is_marked (all_known keeper.old.kept) ≡ true }
-    requires obeys { keeper.old.fails ≡ [] }
+fn load_rows(keeper: &mut MemoryKeeper, rows: List<Row>) -> Result<(), KeepFault>
+    requires unmarked { is_marked (all_known keeper.old.kept) ≡ false }
     ensures rows { OnOk result (ArePutInto keeper.old.kept.current.rows rows keeper.new.kept.current.rows) }
     ensures head { keeper.new.kept.current.head ≡ keeper.old.kept.current.head }
     ensures mark { keeper.new.kept.mark ≡ keeper.old.kept.mark }
-    ensures obeys { keeper.new.fails ≡ [] }
+    ensures fails { keeper.new.fails ≡ keeper.old.fails }
     ensures good { OnOk result (AreNew keeper.old.kept.current.rows rows) }
     ensures failed { result ≡ Err Failed → AreNew keeper.old.kept.current.rows rows → ⊥ }
 {
     for row in rows.into_vec() {
-        put_row(keeper, row)?;
+        load_row(keeper, row)?;
     }
     Ok(())
 }
 
 /// Puts in the row, if it is in its ranges and none is held under its name.
-fn put_row(keeper: &mut MemoryKeeper, row: Row) -> Result<(), KeepFault>
-    requires marked { is_marked (all_known keeper.old.kept) ≡ true }
-    requires obeys { keeper.old.fails ≡ [] }
+fn load_row(keeper: &mut MemoryKeeper, row: Row) -> Result<(), KeepFault>
+    requires unmarked { is_marked (all_known keeper.old.kept) ≡ false }
     ensures free { OnOk result (finite.get keeper.old.kept.current.rows (name_of row) ≡ None) }
     ensures checked { OnOk result (IsChecked row) }
     ensures failed { result ≡ Err Failed → finite.get keeper.old.kept.current.rows (name_of row) ≡ None → IsChecked row → ⊥ }
     ensures ok { OnOk result (keeper.new.kept ≡ marks.changed (with_row row) keeper.old.kept) }
     ensures err { OnErr result (keeper.new.kept ≡ keeper.old.kept) }
-    ensures obeys { keeper.new.fails ≡ [] }
+    ensures fails { keeper.new.fails ≡ keeper.old.fails }
 {
-    if is_held(keeper, row.name())? {
+    if row.check().is_err() {
         return Err(KeepFault::Failed);
     }
-    match row.check() {
-        Ok(()) => keeper.put(row),
-        Err(_) => Err(KeepFault::Failed),
+    if keeper.load(row)? {
+        return Ok(());
     }
-}
-
-/// Whether a row is held under the name.
-fn is_held(keeper: &MemoryKeeper, name: Name) -> Result<bool, KeepFault>
-    ensures held { IfOk result (λ held. held ≡ is_some (finite.get keeper.now.kept.current.rows name)) }
-    ensures memory { IfErr result (λ fault. fault ≡ WantOfMemory) }
-{
-    let row = keeper.rows().get(name)?;
-    Ok(row.is_some())
+    Err(KeepFault::Failed)
 }
 
 /// Sets the head, if there is one and it is in its ranges.
-fn put_head(keeper: &mut MemoryKeeper, head: Option<Head>) -> Result<(), KeepFault>
-    requires marked { is_marked (all_known keeper.old.kept) ≡ true }
+fn load_head(keeper: &mut MemoryKeeper, head: Option<Head>) -> Result<(), KeepFault>
+    requires unmarked { is_marked (all_known keeper.old.kept) ≡ false }
     requires none { keeper.old.kept.current.head ≡ None }
-    requires obeys { keeper.old.fails ≡ [] }
     ensures ok { OnOk result (keeper.new.kept ≡ marks.changed (λ held. record held { head = head }) keeper.old.kept) }
-    ensures obeys { keeper.new.fails ≡ [] }
+    ensures fails { keeper.new.fails ≡ keeper.old.fails }
     ensures mark { keeper.new.kept.mark ≡ keeper.old.kept.mark }
     ensures good { OnOk result (IfSome head IsHeadInRange) }
     ensures failed { result ≡ Err Failed → IfSome head IsHeadInRange → ⊥ }
 {
-    match head {
-        Some(head) => {
-            if !head.is_in_range() {
-                return Err(KeepFault::Failed);
-            }
-            keeper.set_head(head)
+    if let Some(head) = head {
+        if !head.is_in_range() {
+            return Err(KeepFault::Failed);
         }
-        None => Ok(()),
+        keeper.load_head(head);
     }
+    Ok(())
 }
