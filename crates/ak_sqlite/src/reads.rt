@@ -21,17 +21,27 @@ pub(crate) fn read_all<S: Alter>(
     ensures { conn.new.in_transaction ≡ false }
 {
     let mut rows = List::new(alloc);
-    let notes = all_rows(conn, READ_NOTES)?;
-    add_all(Table::Note, notes.as_slice(), &mut rows)?;
-    let cards = all_rows(conn, READ_CARDS)?;
-    add_all(Table::Card, cards.as_slice(), &mut rows)?;
-    let reviews = all_rows(conn, READ_REVIEWS)?;
-    add_all(Table::Review, reviews.as_slice(), &mut rows)?;
-    let graves = all_rows(conn, READ_GRAVES)?;
-    add_all(Table::NoteGrave, graves.as_slice(), &mut rows)?;
+    add_table(conn, READ_NOTES, Table::Note, &mut rows)?;
+    add_table(conn, READ_CARDS, Table::Card, &mut rows)?;
+    add_table(conn, READ_REVIEWS, Table::Review, &mut rows)?;
+    add_table(conn, READ_GRAVES, Table::NoteGrave, &mut rows)?;
     let col = all_rows(conn, READ_COL)?;
     let head = read_col(col.as_slice(), &mut rows)?;
     Ok(StoredCollection { rows, head })
+}
+
+/// Adds the rows of a table, all of which the statement shows. What SQLite showed of it is let go before the next table is read.
+fn add_table<S: Alter>(
+    conn: &mut Connection<S>,
+    sql: &str,
+    table: Table,
+    rows: &mut List<Row>,
+) -> Result<(), FileFault>
+    requires { conn.old.in_transaction ≡ false }
+    ensures { conn.new.in_transaction ≡ false }
+{
+    let found = all_rows(conn, sql)?;
+    add_all(table, found.as_slice(), rows)
 }
 
 /// Adds the rows of notes, cards or reviews, or else of graves.
