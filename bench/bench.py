@@ -6,7 +6,8 @@
 Each size is a collection of so many notes, as `anki - - make` makes it. Each number is the median of the runs; a run is a process of its own over a file of its own,
 and the sides take turns. The first table is the work after the opening: what a process takes that does it, less one that only opens the file. The second is
 whole processes, from their start to their end. Processor time is of both kinds, user and system. What is printed is compared first: the program and
-Python must print the same for each line whose answer is not a matter of chance. Rows of what is not there are left out, and named. The files lie in a folder
+Python must print the same for each line whose answer is not a matter of chance. A work that takes little beside an opening is done many times in a process, and told for one: a day of answers
+over other cards each time. Rows of what is not there are left out, and named. The files lie in a folder
 in FOLDER, which is to be on the disk that is measured, and goes at the end. With --page the tables are written to a page as well. With --transfers
 only the third table is made, of what uploads, syncs and downloads take on both sides.
 """
@@ -38,6 +39,8 @@ import try_server  # noqa: E402
 IN_PYTHON = os.path.join(HERE, "in_python.py")
 PROGRAM, PYTHON, SHELL = "anki", "Python", "sqlite3"
 DAY = 192
+# How many times each work is done in a process, so that the noise of two openings is little beside it.
+DAYS, OF_FINDS, OF_LOOKS, OF_PAGES, OF_CHECKS = 10, 5, 100, 2000, 5
 A_DAY = "a day of answers, a commit each"
 PARTS = ("", "-wal", "-shm", "-journal")
 # What a process of one side took: processor time and time in seconds, and memory in MB at its peak.
@@ -122,10 +125,17 @@ class Files:
         shutil.copyfile(path, self.path(name))
         return self.path(name)
 
-    def day(self):
-        """The lines of a day of answers, each with a commit."""
-        answered = self.cards[:DAY]
-        return ["answer %d %d 5000" % (card, 1 + number % 4) for number, card in enumerate(answered)]
+    def day(self, day=0):
+        """The lines of a day of answers, each with a commit. Days are over other cards."""
+        return ["answer %d %d 5000" % (card, button) for card, button in self.answered(day)]
+
+    def answered(self, day):
+        """The cards of a day, each with the button that answers it."""
+        return [(card, 1 + number % 4) for number, card in enumerate(self.cards[day * DAY:(day + 1) * DAY])]
+
+    def days(self):
+        """How many days there are cards for, but at least one."""
+        return max(1, min(DAYS, len(self.cards) // DAY))
 
     def table_bytes(self):
         with open(self.table, "rb") as file:
@@ -161,18 +171,23 @@ OPENING = ["next 1"]
 
 def works_of(files):
     """What is done after the opening: its name, its lines, and how many times the work is done in them."""
-    page = "page %d back" % files.cards[len(files.cards) // 2]
-    return ((A_DAY, files.day(), 1),
-            ("`find` of %d expressions" % len(FINDS), FINDS, 1),
-            ("`next`", ["next 1"] * 50, 50),
-            ("`counts`", ["counts 1"] * 50, 50),
-            ("a page", [page] * 50, 50),
-            ("`check`", ["check"] * 5, 5))
+    days = files.days()
+    return ((A_DAY, [line for day in range(days) for line in files.day(day)], days),
+            ("`find` of %d expressions" % len(FINDS), FINDS * OF_FINDS, OF_FINDS),
+            ("`next`", ["next 1"] * OF_LOOKS, OF_LOOKS),
+            ("`counts`", ["counts 1"] * OF_LOOKS, OF_LOOKS),
+            ("a page", [page_of(files.cards[len(files.cards) // 2])] * OF_PAGES, OF_PAGES),
+            ("`check`", ["check"] * OF_CHECKS, OF_CHECKS))
+
+
+def page_of(card):
+    return "page %d back" % card
 
 
 def compare(files):
     """The program and Python print the same for a line whose answer is not a matter of chance."""
-    said = OPENING + FINDS + ["counts 1", "page %d back" % files.cards[0], "page %d back" % files.cards[-1], "check"]
+    pages = [page_of(files.cards[place]) for place in (0, len(files.cards) // 2, -1)]
+    said = OPENING + FINDS + ["counts 1"] + pages + ["check"]
     printed = [desk(side, files, said)[1].decode().splitlines() for side in (PROGRAM, PYTHON)]
     for line, one, other in zip(said, *printed):
         if one != other:
@@ -185,15 +200,15 @@ def compare(files):
             raise Wrong("`make` prints %s, and not %s" % (line.decode(), made.line_of(files.size)))
 
 
-def day_in_sql(files):
-    """The rows and the commits of a day of answers, as statements for the shell."""
+def days_in_sql(files):
+    """The rows and the commits of the days of answers, as statements for the shell."""
     decks = sqlite3.connect(files.whole).execute("select decks from col").fetchone()[0].replace("'", "''")
     moment = int(time.time() * 1000)
     said = ["pragma journal_mode = wal;", "pragma synchronous = full;"]
-    for number, card in enumerate(files.cards[:DAY]):
+    for number, (card, button) in enumerate(answer for day in range(files.days()) for answer in files.answered(day)):
         said += ["begin immediate;",
                  "update cards set mod = %d, usn = -1, due = 2000, ivl = 300, factor = 2350, reps = 5, lapses = 0 where id = %d;" % (moment // 1000, card),
-                 "insert into revlog values (%d, %d, -1, %d, 300, 100, 2350, 5000, 1);" % (moment + number, card, 1 + number % 4),
+                 "insert into revlog values (%d, %d, -1, %d, 300, 100, 2350, 5000, 1);" % (moment + number, card, button),
                  "update col set decks = '%s', mod = %d;" % (decks, moment + number), "commit;"]
     return lines(*said)
 
@@ -310,7 +325,7 @@ def measure_after(files, runs, table):
         for side in (PROGRAM, PYTHON):
             jobs[side, name] = lambda side=side, said=said: desk(side, files, OPENING + said)
     if SHELL in PLACES:
-        given = day_in_sql(files)
+        given = days_in_sql(files)
         jobs[SHELL, None] = lambda: shell(files, b"select 1;\n")
         jobs[SHELL, works[0][0]] = lambda: shell(files, given)
     taken = in_turn(runs, jobs)
@@ -430,7 +445,10 @@ def page_text(after, whole, sides, sizes, runs, left_out):
              machine() + ".", "",
              "Milliseconds of processor time, user and system, at collections of so many notes; `growth` is the last of them divided by the first. The time that went by and "
              "the memory at its peak are those at the largest. A day is %d answers, or as many as there are cards; less than 9 MB of memory can't be told." % DAY, "",
-             "## The work after the opening", "", after.text(sizes), behind_text(after, sizes[-1]),
+             "## The work after the opening", "",
+             "Each is told for one, but done often in a process: %d days, each over other cards, or as many as there are cards for; %d times all expressions of `find`; " % (DAYS, OF_FINDS)
+             + "%d times `next` and `counts`; %s pages; %d times `check`." % (OF_LOOKS, "{:,}".format(OF_PAGES), OF_CHECKS), "",
+             after.text(sizes), behind_text(after, sizes[-1]),
              "## Whole processes", "", whole.text(sizes), behind_text(whole, sizes[-1])]
     if sides:
         parts += [sides_text(sides)]

@@ -87,7 +87,8 @@ class Desk:
         for key, limit, queue, due in (("newToday", self.limits["new"]["perDay"], 0, 1 << 60), ("revToday", self.limits["rev"]["perDay"], 2, days["today"])):
             left = self.left(key, limit, days["today"])
             counted.append(self.link.execute("select count(*) from (select 1 from cards where did = 1 and queue = ? and due <= ? limit ?)", (queue, due, left)).fetchone()[0])
-        learning = self.link.execute("select count(*) from cards where did = 1 and (queue = 1 and due < ? or queue = 3 and due <= ?)",
+        # Two counts, each over its part of the index: with an `or` of the two all cards of the deck would be gone through.
+        learning = self.link.execute("select (select count(*) from cards where did = 1 and queue = 1 and due < ?) + (select count(*) from cards where did = 1 and queue = 3 and due <= ?)",
                                      (self.clock() // 1000 + 1200, days["today"])).fetchone()[0]
         return "new %d learning %d review %d" % (counted[0], learning, counted[1])
 

@@ -12,6 +12,7 @@ import sys
 import tempfile
 import threading
 import unittest
+from unittest import mock
 
 TOP = os.path.dirname(os.path.dirname(os.path.dirname(os.path.realpath(__file__))))
 sys.dont_write_bytecode = True
@@ -40,10 +41,10 @@ class Rooms(unittest.TestCase):
         os.chmod(self.path("stand-in"), 0o755)
         return self.path("stand-in")
 
-    def files(self):
-        """A collection of the test's size, over the program in dist/."""
+    def files(self, size=SIZE):
+        """A collection of so many notes, over the program in dist/."""
         self.left_out = bench.places(bench.arguments([]))
-        return bench.Files(self.room, bench.path_of(bench.PROGRAM), 7, SIZE)
+        return bench.Files(self.room, bench.path_of(bench.PROGRAM), 7, size)
 
 
 def drawn(seed):
@@ -110,10 +111,46 @@ class Sides(Rooms):
             self.assertEqual(link.execute("select count(*) from cards where reps = 5").fetchone(), (50,), side)
             link.close()
 
+    def test_days_are_over_other_cards(self):
+        files = self.files(300)
+        (name, said, days), *_ = bench.works_of(files)
+        self.assertEqual((name, days, len(said), len(files.cards)), (bench.A_DAY, 2, 2 * bench.DAY, 500))
+        for side in (bench.PROGRAM, bench.PYTHON):
+            _, printed = bench.desk(side, files, said)
+            self.assertEqual([line.split()[0] for line in printed.decode().splitlines()], ["answered"] * len(said), side)
+            self.assertEqual(self.answered(files), files.cards[:len(said)], side)
+        if bench.SHELL in bench.PLACES:
+            bench.shell(files, bench.days_in_sql(files))
+            self.assertEqual(self.answered(files), files.cards[:len(said)])
+
+    def answered(self, files):
+        """The cards that have one review more than they were made with."""
+        link = sqlite3.connect(files.path("work.anki"))
+        found = [card for (card,) in link.execute("select id from cards where reps = 5 and (select count(*) from revlog where cid = cards.id) = 5 order by id")]
+        link.close()
+        return found
+
+    def test_there_are_as_many_days_as_there_are_cards_for(self):
+        files = self.files()
+        for cards, days in ((50, 1), (2 * bench.DAY - 1, 1), (2 * bench.DAY, 2), (100 * bench.DAY, bench.DAYS)):
+            files.cards = list(range(cards))
+            self.assertEqual(files.days(), days)
+
+    def test_python_counts_the_cards_that_are_learned(self):
+        files = self.files()
+        link = sqlite3.connect(files.copy(files.indexed))
+        desk = in_python.Desk(link, lambda: 1_700_000_000_000)
+        today, now = desk.days(desk.clock())["today"], 1_700_000_000
+        # Those within 20 minutes, and those of whole days up to today.
+        for place, (queue, due) in enumerate(((1, now), (1, now + 1199), (1, now + 1200), (3, today - 1), (3, today), (3, today + 1), (-1, now))):
+            link.execute("update cards set queue = ?, due = ? where id = ?", (queue, due, files.cards[place]))
+        self.assertEqual(desk.counts(), "new 0 learning 4 review 43")
+        link.close()
+
     @unittest.skipUnless(shutil.which("sqlite3"), "the shell is not there")
     def test_the_shell_makes_the_same_rows_and_reads_them(self):
         files = self.files()
-        bench.shell(files, bench.day_in_sql(files))
+        bench.shell(files, bench.days_in_sql(files))
         link = sqlite3.connect(files.path("work.anki"))
         self.assertEqual(link.execute("select count(*) from revlog").fetchone(), (250,))
         self.assertEqual(link.execute("select count(*) from cards where reps = 5").fetchone(), (50,))
@@ -181,6 +218,19 @@ class Tables(unittest.TestCase):
         for words in (["--sizes", "0"], ["--sizes", "20001"], ["--runs", "0"], ["--seed", "18446744073709551616"], ["--sizes", "x"]):
             with contextlib.redirect_stderr(io.StringIO()), self.assertRaises(SystemExit):
                 bench.arguments(words)
+
+    def test_a_work_is_told_for_one_of_those_that_are_done(self):
+        files = mock.Mock(cards=list(range(5 * bench.DAY)), day=lambda day: ["answer"] * bench.DAY, days=lambda: 5)
+        of_one = [len(said) / times for _, said, times in bench.works_of(files)]
+        self.assertEqual(of_one, [bench.DAY, len(bench.FINDS), 1, 1, 1, 1])
+        taken = {(side, None): bench.Taken(1.0, 2.0, 9.0) for side in (bench.PROGRAM, bench.PYTHON)}
+        taken.update({(side, name): bench.Taken(3.0, 7.0, 9.0) for side in (bench.PROGRAM, bench.PYTHON) for name, _, _ in bench.works_of(files)})
+        table = bench.Table()
+        files.size = 30
+        with mock.patch.object(bench, "in_turn", lambda runs, jobs: taken), mock.patch.dict(bench.PLACES, clear=True):
+            bench.measure_after(files, 1, table)
+        self.assertEqual(table.rows["a page"][bench.PYTHON][30], bench.Taken(2.0 / bench.OF_PAGES, 5.0 / bench.OF_PAGES, 9.0))
+        self.assertEqual(table.rows[bench.A_DAY][bench.PROGRAM][30], bench.Taken(2.0 / 5, 5.0 / 5, 9.0))
 
     def test_each_search_has_a_line_of_the_desk(self):
         self.assertEqual(len(in_python.FINDS), 12)
