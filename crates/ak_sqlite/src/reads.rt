@@ -9,7 +9,7 @@ use crate::objects::{DECKS, MODELS, OPTIONS, ObjectColumn, add_rows};
 use crate::statements::{READ_CARDS, READ_COL, READ_GRAVES, READ_NOTES, READ_REVIEWS};
 use ak_base::{Head, List, Row, Table};
 use ak_tables::StoredCollection;
-use sqlite::{Alter, Connection, Row as SqlRow};
+use sqlite::{Alter, Connection, Row as SqlRow, Rows};
 use std::alloc::Global;
 
 /// All rows and the head.
@@ -30,7 +30,8 @@ pub(crate) fn read_all<S: Alter>(
     Ok(StoredCollection { rows, head })
 }
 
-/// Adds the rows of a table, all of which the statement shows. What SQLite showed of it is let go before the next table is read.
+/// Adds the rows of notes, cards or reviews, or else of graves, that the statement shows. They are taken one at a time, so that
+/// few of them are held twice.
 fn add_table<S: Alter>(
     conn: &mut Connection<S>,
     sql: &str,
@@ -40,17 +41,34 @@ fn add_table<S: Alter>(
     requires { conn.old.in_transaction ≡ false }
     ensures { conn.new.in_transaction ≡ false }
 {
-    let found = all_rows(conn, sql)?;
-    add_all(table, found.as_slice(), rows)
+    let mut shown = conn.query(sql, &[])?;
+    'shown: for _ in 0..u64::MAX {
+        if !add_next(&mut shown, table, rows)? {
+            return Ok(());
+        }
+    }
+    // No file has so many.
+    Err(FileFault::Failed)
 }
 
-/// Adds the rows of notes, cards or reviews, or else of graves.
-fn add_all(table: Table, found: &[SqlRow], rows: &mut List<Row>) -> Result<(), FileFault> {
-    for row in found {
-        let row = row_of(table, row)?;
-        rows.push(row)?;
+/// Adds the next row that is shown. It gives false after the last.
+fn add_next<S: Alter>(
+    shown: &mut Rows<'_, S>,
+    table: Table,
+    rows: &mut List<Row>,
+) -> Result<bool, FileFault>
+    ensures same_reference { shown.new.conn.ghost_name ≡ shown.old.conn.ghost_name }
+    ensures mode { shown.old.conn.now.in_transaction ≡ false → shown.new.conn.now.in_transaction ≡ false }
+{
+    shown.advance()?;
+    match shown.get() {
+        Some(row) => {
+            let row = row_of(table, row)?;
+            rows.push(row)?;
+            Ok(true)
+        }
+        None => Ok(false),
     }
-    Ok(())
 }
 
 /// The row of these columns.
