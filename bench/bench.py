@@ -40,7 +40,7 @@ IN_PYTHON = os.path.join(HERE, "in_python.py")
 PROGRAM, PYTHON, SHELL = "anki", "Python", "sqlite3"
 DAY = 192
 # How many times each work is done in a process, so that the noise of two openings is little beside it.
-DAYS, OF_FINDS, OF_LOOKS, OF_PAGES, OF_CHECKS = 10, 5, 100, 2000, 5
+DAYS, OF_FINDS, OF_LOOKS, OF_PAGES, OF_CHECKS = 10, 5, 1_000, 20_000, 5
 A_DAY = "a day of answers, a commit each"
 PARTS = ("", "-wal", "-shm", "-journal")
 # What a process of one side took: processor time and time in seconds, and memory in MB at its peak.
@@ -305,7 +305,7 @@ def growth_text(first, last):
 
 def number_text(seconds):
     ms = seconds * 1000
-    return "%.2f" % ms if ms < 10 else "%.1f" % ms if ms < 100 else "{:,.0f}".format(ms)
+    return "%.4f" % ms if 0 < ms < 0.1 else "%.2f" % ms if ms < 10 else "%.1f" % ms if ms < 100 else "{:,.0f}".format(ms)
 
 
 def in_turn(runs, jobs):
@@ -447,7 +447,7 @@ def page_text(after, whole, sides, sizes, runs, left_out):
              "the memory at its peak are those at the largest. A day is %d answers, or as many as there are cards; less than 9 MB of memory can't be told." % DAY, "",
              "## The work after the opening", "",
              "Each is told for one, but done often in a process: %d days, each over other cards, or as many as there are cards for; %d times all expressions of `find`; " % (DAYS, OF_FINDS)
-             + "%d times `next` and `counts`; %s pages; %d times `check`." % (OF_LOOKS, "{:,}".format(OF_PAGES), OF_CHECKS), "",
+             + "{:,} times `next` and `counts`; {:,} pages; {} times `check`.".format(OF_LOOKS, OF_PAGES, OF_CHECKS), "",
              after.text(sizes), behind_text(after, sizes[-1]),
              "## Whole processes", "", whole.text(sizes), behind_text(whole, sizes[-1])]
     if sides:

@@ -210,6 +210,7 @@ class Tables(unittest.TestCase):
             table.put("work", "Python", size, bench.Taken(seconds / 2, 1.25, 30.0))
         self.assertEqual(table.text([3, 20]).splitlines()[2:], ["| work | anki | 2.00 | 14.4 | 7.2 | 500 | 20 |", "| work | Python | 1.00 | 7.20 | 7.2 | 1,250 | 30 |",
                                                                "| other | anki | 0.00 | 0.00 |  | 500 | 20 |"])
+        self.assertEqual([bench.number_text(ms / 1000) for ms in (0, 0.0034, 0.1, 9.99, 10, 1234)], ["0.00", "0.0034", "0.10", "9.99", "10.0", "1,234"])
         self.assertEqual(bench.behind(table, 20), ["work"])
         self.assertEqual(bench.behind_text(table, 20), "Python takes less processor time at 20 in work.\n")
 
