@@ -70,3 +70,7 @@ pub decides_last : (pattern : List PatternItem) (row read : List Bool) (rest nam
 decides_last pattern row read rest name may one is on d =
     row_matches pattern read (d.above ++ rest) may is (on d.above d.at) ∙ sym (or-false (matches pattern (d.above ++ rest)))
     ∙ sym (ap (list_any (matches pattern)) (one.ancestors d.above)) ∙ d.decides
+
+-- a name of one level matches whole
+pub matches_whole : (pattern : List PatternItem) (name : List ℕ) → IsOnePart name → matches pattern name ≡ path_matches pattern name
+matches_whole pattern name one = sym (or-false (matches pattern name)) ∙ sym (ap (list_any (matches pattern)) (one.ancestors []))

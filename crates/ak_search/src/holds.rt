@@ -8,6 +8,7 @@ ghost use Rattle.ak_search.specs.Passes.{field_passes, holds_by, is_shown};
 ghost use Rattle.ak_search.specs.Patterns.{matches};
 
 use crate::answers::Answers;
+use crate::boxed_types::BoxedType;
 use crate::patterns::are_letters;
 use crate::related::Latest;
 use crate::states::{
@@ -122,18 +123,18 @@ fn field_matches(
     alloc: Global,
     name: &str,
     pattern: &[PatternItem],
-    note_type: &Option<NoteType>,
+    note_type: &Option<BoxedType>,
     texts: &Option<List<Text>>,
 ) -> Result<bool, Memory>
     ensures { IfOk result (λ does. does ≡ field_passes name.now pattern.now note_type.now texts.now) }
 {
     match (note_type, texts) {
-        (Some(note_type), Some(texts)) => {
+        (Some(boxed), Some(texts)) => {
             named_text_matches(
                 alloc,
                 name,
                 pattern,
-                note_type.fields.as_slice(),
+                boxed.note_type().fields.as_slice(),
                 texts.as_slice(),
             )
         }
@@ -175,12 +176,12 @@ fn has_no_tag(alloc: Global, note: &Option<Note>) -> Result<bool, Memory>
 fn type_matches(
     alloc: Global,
     pattern: &[PatternItem],
-    note_type: &Option<NoteType>,
+    note_type: &Option<BoxedType>,
 ) -> Result<bool, Memory>
     ensures { IfOk result (λ does. does ≡ held_and (is_type pattern.now) note_type.now) }
 {
     match note_type {
-        Some(note_type) => matches(alloc, pattern, note_type.name.as_str()),
+        Some(boxed) => matches(alloc, pattern, boxed.note_type().name.as_str()),
         None => Ok(false),
     }
 }
@@ -189,13 +190,13 @@ fn type_matches(
 fn template_matches(
     alloc: Global,
     pattern: &[PatternItem],
-    note_type: &Option<NoteType>,
+    note_type: &Option<BoxedType>,
     card: &Card,
 ) -> Result<bool, Memory>
     ensures { IfOk result (λ does. does ≡ held_and (is_template pattern.now card.now) note_type.now) }
 {
     match note_type {
-        Some(note_type) => is_template(alloc, pattern, note_type, card),
+        Some(boxed) => is_template(alloc, pattern, boxed.note_type(), card),
         None => Ok(false),
     }
 }

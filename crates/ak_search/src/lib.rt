@@ -2,6 +2,7 @@
 #![tactic(auto)]
 
 mod answers;
+mod boxed_types;
 mod checks;
 mod earliest;
 mod evaluator;

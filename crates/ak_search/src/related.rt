@@ -8,9 +8,10 @@ ghost use Rattle.ak_keep.specs.Readings.{ReadsBy};
 ghost use Rattle.ak_search.specs.Passes.{AreLatest, AreTypesOf, HasNoteOf, HasTexts, HasTypeOf, KeepsTexts, Stays, Suits, needs_note, needs_deck, needs_texts, texts_seen};
 
 use crate::Term;
+use crate::boxed_types::BoxedType;
 use crate::kept_types::KeptTypes;
 use crate::texts::stripped_fields;
-use ak_base::{Card, Deck, List, Memory, Note, NoteType, Text};
+use ak_base::{Card, Deck, List, Memory, Note, Text};
 use ak_keep::{KeepFault, Lookup, deck_of_card, note_at};
 use std::alloc::Global;
 
@@ -18,7 +19,7 @@ use std::alloc::Global;
 #[derive(Debug, Drop)]
 pub(crate) struct Related {
     pub(crate) note: Option<Note>,
-    pub(crate) note_type: Option<NoteType>,
+    pub(crate) note_type: Option<BoxedType>,
     /// Its deck, and deck 1 if that is not held.
     pub(crate) deck: Option<Deck>,
 }
@@ -69,7 +70,7 @@ impl Latest {
             return self.turn_to_texts(alloc, from, card);
         }
         if needs_note(term) {
-            return self.turn_to_note(from, card);
+            return self.turn_to_note(alloc, from, card);
         }
         if needs_deck(term) {
             return self.turn_to_deck(from, card);
@@ -86,7 +87,7 @@ impl Latest {
     ) -> Result<(), KeepFault>
         ensures reads { ReadsBy R.Lookup from.old from.new result (λ h _. Stays self.old self.new h.rows (HasNoteOf self.new h.rows card.now × HasTexts self.new)) }
     {
-        self.turn_to_note(from, card)?;
+        self.turn_to_note(alloc, from, card)?;
         self.strip_fields(alloc)?;
         Ok(())
     }
@@ -105,11 +106,16 @@ impl Latest {
     }
 
     /// Looks up the note of the card and its type.
-    fn turn_to_note<R: Lookup>(&mut self, from: &mut R, card: &Card) -> Result<(), KeepFault>
+    fn turn_to_note<R: Lookup>(
+        &mut self,
+        alloc: Global,
+        from: &mut R,
+        card: &Card,
+    ) -> Result<(), KeepFault>
         ensures reads { ReadsBy R.Lookup from.old from.new result (λ h _. Stays self.old self.new h.rows (HasNoteOf self.new h.rows card.now)) }
     {
         self.look_up_note(from, card.nid)?;
-        self.look_up_type(from)
+        self.look_up_type(alloc, from)
     }
 
     /// Looks up the note of that id.
@@ -127,11 +133,11 @@ impl Latest {
     }
 
     /// Looks up the type of the note that was looked up last.
-    fn look_up_type<R: Lookup>(&mut self, from: &mut R) -> Result<(), KeepFault>
+    fn look_up_type<R: Lookup>(&mut self, alloc: Global, from: &mut R) -> Result<(), KeepFault>
         ensures reads { ReadsBy R.Lookup from.old from.new result (λ h _. Stays self.old self.new h.rows (HasTypeOf self.old self.new h.rows)) }
     {
         match type_id(&self.related.note) {
-            Some(id) => self.look_up_type_at(from, id),
+            Some(id) => self.look_up_type_at(alloc, from, id),
             None => {
                 self.related.note_type = None;
                 self.texts = None;
@@ -142,7 +148,12 @@ impl Latest {
     }
 
     /// The same by the id of the type.
-    fn look_up_type_at<R: Lookup>(&mut self, from: &mut R, id: i64) -> Result<(), KeepFault>
+    fn look_up_type_at<R: Lookup>(
+        &mut self,
+        alloc: Global,
+        from: &mut R,
+        id: i64,
+    ) -> Result<(), KeepFault>
         requires { option_map (λ (n : Noted). n.mid) self.old.related.note ≡ Some id }
         ensures reads { ReadsBy R.Lookup from.old from.new result (λ h _. Stays self.old self.new h.rows (HasTypeOf self.old self.new h.rows)) }
     {
@@ -150,7 +161,7 @@ impl Latest {
             return Ok(());
         }
         self.keep_type()?;
-        let note_type = self.types.take(from, id)?;
+        let note_type = self.types.take(alloc, from, id)?;
         self.related.note_type = note_type;
         self.texts = None;
         self.mid = Some(id);

@@ -10,9 +10,10 @@ ghost use Rattle.ak_search.specs.Matching.{falses};
 ghost use Rattle.ak_search.specs.Passes.{named_text, texts_seen};
 ghost use Rattle.ak_search.specs.Patterns.{matches};
 
+use crate::boxed_types::BoxedType;
 use crate::matching::{first_row, may_end, read_on};
 use crate::{PatternItem, matches, matches_spaced};
-use ak_base::{FieldDef, List, Memory, Note, NoteType, Text, next_part};
+use ak_base::{FieldDef, List, Memory, Note, Text, next_part};
 use ak_template::strip;
 use std::alloc::Global;
 
@@ -25,13 +26,23 @@ pub(crate) enum MatchMode {
     Spaced,
 }
 
-/// Whether the name of a deck or tag matches, or that of one that it is below. The pattern goes over the name once, and may
-/// end at each `::`.
+/// Whether the name of a deck or tag matches, or that of one that it is below.
 pub(crate) fn path_matches(
     alloc: Global,
     pattern: &[PatternItem],
     name: &str,
 ) -> Result<bool, Memory>
+    ensures { IfOk result (λ does. does ≡ path_matches pattern.now name.now) }
+{
+    match next_part(name) {
+        Some(_) => some_level_matches(alloc, pattern, name),
+        // Most names have one level, and are matched as any text is: that is faster.
+        None => matches(alloc, pattern, name),
+    }
+}
+
+/// The same of a name of several levels. The pattern goes over the name once, and may end at each `::`.
+fn some_level_matches(alloc: Global, pattern: &[PatternItem], name: &str) -> Result<bool, Memory>
     ensures { IfOk result (λ does. does ≡ path_matches pattern.now name.now) }
 {
     let mut row = first_row(alloc, pattern.len())?;
@@ -104,7 +115,7 @@ fn are_none(names: &[&str]) -> bool
 pub(crate) fn stripped_fields(
     alloc: Global,
     note: &Note,
-    note_type: &Option<NoteType>,
+    note_type: &Option<BoxedType>,
 ) -> Result<List<Text>, Memory>
     ensures { IfOk result (λ texts. texts ≡ texts_seen note_type.now note.now) }
 {
@@ -136,11 +147,11 @@ fn fields_of(alloc: Global, note: &Note, count: usize) -> Result<Vec<&str>, Memo
 }
 
 /// How many fields the type has, 0 without a type.
-fn field_count(note_type: &Option<NoteType>) -> usize
+fn field_count(note_type: &Option<BoxedType>) -> usize
     ensures { result ≡ field_count note_type.now }
 {
     match note_type {
-        Some(note_type) => note_type.fields.as_slice().len(),
+        Some(boxed) => boxed.note_type().fields.as_slice().len(),
         None => 0,
     }
 }

@@ -18,13 +18,13 @@ returns-in-Some g c = record {
 
 pub returns-in-None : goal.returns-in-None
 returns-in-None g c =
-    let read = c.note_type_at.ensures.reads in
+    let read = c.boxed_type_at.ensures.reads in
     record {
       reads = record {
         kept = read.kept;
         same = read.same;
         cause = read.cause;
-        told = type_looked_up (g.R.Lookup.keeping c.args.from.now).told c.args.self.now (record { by_id = c.remove.new.self }) c.args.id (to_z w64 (of_z w64 c.args.id)) c.note_type_at.result c.remove.ensures.updates.0
+        told = type_looked_up (g.R.Lookup.keeping c.args.from.now).told c.args.self.now (record { by_id = c.remove.new.self }) c.args.id (to_z w64 (of_z w64 c.args.id)) c.boxed_type_at.result c.remove.ensures.updates.0
             (rw (to_z-of_z w64 c.args.id c.ranges.id) at read.told);
       };
     }
