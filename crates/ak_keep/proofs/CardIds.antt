@@ -82,7 +82,7 @@ first_is_none None faults is = refl
 first_is_none (Some fault) faults is = cc
 
 -- a note's card that passes its check has such an id
-card_id : (note : ℤ) (row : Row) → is_card_of note row ≡ true → IsChecked row → IsId (name_of row).id
+pub card_id : (note : ℤ) (row : Row) → is_card_of note row ≡ true → IsChecked row → IsId (name_of row).id
 unfolding place_faults
 card_id note (rows.Note n) is checked = absurd (subst T (sym is) tt)
 card_id note (rows.Card c) is checked = id_without_fault c.id (first_is_none (id_fault c.id) _ checked)

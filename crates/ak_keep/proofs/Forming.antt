@@ -16,7 +16,7 @@ use Rattle.ak_keep.specs.Collections.{Rows, Holding, IsWellFormed, rows_of, is_p
 use Rattle.ak_keep.proofs.RowsByName.{IsNamed, named-empty, named-insert, named-rows_of, all_from_gets, all_find, all_gets, all-remove}
 use Rattle.ak_keep.specs.declared.keepers.Wanted.{Wanted}
 
-checked_gets : (rows : Rows) (q : Name) (row : Row) → AllByRecursion (λ (entry : Name × Row). IsChecked entry.1) (entries rows) → get rows q ≡ Some row → IsChecked row
+pub checked_gets : (rows : Rows) (q : Name) (row : Row) → AllByRecursion (λ (entry : Name × Row). IsChecked entry.1) (entries rows) → get rows q ≡ Some row → IsChecked row
 checked_gets rows q row h is = all_gets (λ entry. IsChecked entry.1) rows q row h is
 
 checked_from_gets : (rows : Rows) → ((q : Name) (row : Row) → get rows q ≡ Some row → IsChecked row) → AllByRecursion (λ (entry : Name × Row). IsChecked entry.1) (entries rows)

@@ -1,10 +1,13 @@
 pub mod CardIds
+pub mod CardsIn
 pub mod Causing
 pub mod Collecting
 pub mod Forming
 pub mod HeadNumbers
 pub mod Paging
 pub mod RowsByName
+pub mod SortedKeys
 pub mod TablePlaces
 pub mod Told
+pub mod WaitingCards
 pub mod Walking

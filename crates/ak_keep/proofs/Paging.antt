@@ -1,5 +1,5 @@
 -- A page of a table: a run of the entries, and what comes after it.
-use Rattle.std.specs.Prelude.{◌≡◌, ℕ, suc, ℤ, ◌-◌, ◌<◌, ◌≤◌, None, Bool, true, false, T, cond, ◌&&◌, ◌==◌, int_lt, List, [], ◌∷◌, ◌++◌, map, filter, length, take, drop, get_or, min}
+use Rattle.std.specs.Prelude.{◌≡◌, ℕ, suc, ℤ, ◌<◌, ◌≤◌, None, Bool, true, false, T, cond, ◌&&◌, ◌==◌, int_lt, List, [], ◌∷◌, ◌++◌, map, filter, length, take, drop, get_or, min}
 use Rattle.std.proofs.Common.{refl, sym, ap, subst, ◌∙◌, arith}
 use Rattle.std.proofs.lemmas.Bool.{ne_eqb}
 use Rattle.std.proofs.lemmas.List.{length-take, take-append-drop, take_all}
@@ -51,7 +51,7 @@ apart m n h = ne_eqb m n (λ is. omega (arith, is, h))
 apart_too : (m n : ℕ) → m < n → (m == n) ≡ false
 apart_too m n h = ne_eqb m n (λ is. omega (arith, is, h))
 
-less_than : (a b : ℤ) → int_cmp a b ≡ Less → int_lt a b ≡ true
+pub less_than : (a b : ℤ) → int_cmp a b ≡ Less → int_lt a b ≡ true
 less_than a b =
     elim (int_lt a b) as (λ t. cond t Less (cond (int_lt b a) Greater Equal) ≡ Less → t ≡ true) [
       | true ↦ λ _. refl

@@ -10,7 +10,7 @@ use Rattle.ak_base.specs.declared.rows.Row.{Row}
 use Rattle.ak_keep.specs.Collections.{AscendsPast, last_id}
 use Rattle.ak_keep.proofs.Paging.{int_chain}
 
-gap_falls : (a b : ℤ) (top : ℕ) → int_lt a b ≡ true → b <ℤ pos top → int_gap b (pos top) < int_gap a (pos top)
+pub gap_falls : (a b : ℤ) (top : ℕ) → int_lt a b ≡ true → b <ℤ pos top → int_gap b (pos top) < int_gap a (pos top)
 gap_falls (pos a) (pos b) top less high = omega (arith, ints, less, high)
 gap_falls (pos a) (negsuc b) top less high = absurd (subst T (sym less) tt)
 gap_falls (negsuc a) (pos b) top less high = omega (arith, ints, less, high)

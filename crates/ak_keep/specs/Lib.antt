@@ -8,5 +8,7 @@ pub mod Lookups
 pub mod Marks
 pub mod MemoryKeepers
 pub mod Pages
+pub mod QueueWalks
 pub mod Readings
+pub mod WaitingCards
 pub mod Walks

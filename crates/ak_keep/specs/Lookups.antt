@@ -43,6 +43,10 @@ as_options row = None
 abbrev pub decks_in : Rows → List Deck
 decks_in held = filter_map as_deck (rows_past tables.Deck (pos 0) held)
 
+-- the cards that are held, by ascending id: an id is at least 1
+abbrev pub cards_in : Rows → List Card
+cards_in held = filter_map as_card (rows_past tables.Card (pos 0) held)
+
 -- the row of a table under an id
 abbrev pub row_of_id : Rows → Table → ℤ → Option Row
 row_of_id held table id = get held (record { table = table; id = id })

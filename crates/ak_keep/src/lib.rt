@@ -6,6 +6,7 @@ mod decks;
 mod head_numbers;
 mod keepers;
 mod lookups;
+mod queue_walks;
 mod readables;
 mod walks;
 
@@ -17,5 +18,6 @@ pub use lookups::{
     card_at, deck_at, deck_of_card, note_at, note_type_at, options_at, options_of_card,
     options_of_deck, type_of_note,
 };
+pub use queue_walks::{QueueWalk, Waiting};
 pub use readables::{Lookup, Readable};
 pub use walks::{PAGE, Walk};

@@ -1,20 +1,24 @@
 ghost use Rattle.std.specs.Prelude.{◌≡◌, ◌<◌, ◌≤◌, ◌≤ℤ◌, ◌^◌, pos, Bool, true, is_some, length, IfOk, IfSome};
 ghost use Rattle.std.specs.FinMap as finite;
-ghost use Rattle.std.specs.List.{All};
+ghost use Rattle.std.specs.List.{All, AllByRecursion};
 ghost use Rattle.std.specs.List.Sorted.{IsStrictlySortedBy};
 ghost use Rattle.std.specs.Option.{option_map};
 ghost use Rattle.std.specs.Ordering.{int_cmp};
 ghost use Rattle.std.specs.Result.{IsErrOf};
+ghost use Rattle.ak_base.specs.Cards.{IsCheckedCard};
 ghost use Rattle.ak_base.specs.Heads.{IsHeadInRange};
 ghost use Rattle.ak_base.specs.Rows.{IsChecked, name_of, stamp_of};
 ghost use Rattle.ak_faults.specs.Causes.{Health};
 ghost use Rattle.ak_keep.specs.Collections.{AscendsPast, IsId, IsPageOf, rows_past, row_count, cards_of};
 ghost use Rattle.ak_keep.specs.FreeNames.{IsFirstFree, IsFoundFrom, is_used};
 ghost use Rattle.ak_keep.specs.Keepers.{Keeping, IsNamedRightly, IsRightlyKnown, Reads};
+ghost use Rattle.ak_keep.specs.Lookups.{cards_in};
+ghost use Rattle.ak_keep.specs.WaitingCards.{AscendsAfter, IsOneOf, IsWaitingPage, waits};
 ghost use Rattle.ak_keep.specs.declared.keepers.KeepFault.TheVariants.{Memory as WantOfMemory};
 
 use crate::keepers::KeepFault;
-use ak_base::{Head, List, Name, Row, Table};
+use crate::queue_walks::Waiting;
+use ak_base::{Card, Head, List, Name, Row, Table};
 
 /// What rows and a head can be looked up in by name: a keeper, or an edit under way over one.
 ///
@@ -85,6 +89,17 @@ pub trait Readable: Lookup {
         ensures fits { IfOk result (λ page. length page ≤ limit) }
         ensures ascends { IfOk result (λ page. AscendsPast table past page) }
         ensures checked { Self.checks ≡ true → IfOk result (λ page. All IsChecked page) };
+
+    /// The cards that wait in a queue, by due, then by id, past a place and due by a last number where these are given: the
+    /// first `limit` of them. It takes logarithmic time, and a step for each card.
+    fn waiting(&mut self, waiting: Waiting, limit: usize) -> Result<List<Card>, KeepFault>
+        requires low { 0 < limit }
+        requires high { limit ≤ 1000 }
+        ensures reads { ReadsBy Self.Lookup self.old self.new result (λ h page. IsWaitingPage (IsOneOf (cards_in h.rows)) waiting limit page) }
+        ensures fits { IfOk result (λ page. length page ≤ limit) }
+        ensures asked { IfOk result (λ page. AllByRecursion (λ c. waits waiting c ≡ true) page) }
+        ensures ascends { IfOk result (λ page. AscendsAfter waiting.past page) }
+        ensures checked { Self.checks ≡ true → IfOk result (λ page. All IsCheckedCard page) };
 
     /// How many rows a table has.
     fn count(&mut self, table: Table) -> Result<u64, KeepFault>

@@ -23,8 +23,10 @@ use Rattle.ak_memory.specs.NoteKeys.{NoteKey, key_cmp, has_key, note_of_card, no
 use Rattle.ak_memory.specs.NoteCards.{name_in, names_run, keys_from}
 use Rattle.ak_memory.specs.Indexes.{HaveAllKeys}
 use Rattle.ak_memory.specs.Places.{note_under, row_under, rows_at}
+use Rattle.ak_memory.specs.declared.card_keys.CardKeys.{CardKeys}
 use Rattle.ak_memory.specs.declared.places.Place.{Place}
 use Rattle.ak_memory.specs.declared.versions.Version.TheVariants.{Now}
+use Rattle.ak_memory.proofs.Keys.{note_keyed}
 use Rattle.ak_memory.proofs.RowsUnder.{get-rows_at}
 
 -- the names in all keys of a note
@@ -296,9 +298,10 @@ find-row_at [] q = refl
 find-row_at (e ∷ es) q = ap (cond (is_at (name_cmp q) e.0) (Some e.1)) (find-row_at es q)
 
 -- the run of a note's keys, as far as its cards are held, has the ids of its cards
-pub run-cards : (note : ℤ) (keys : List NoteKey) (places : List (Name × Place)) → IsStrictlySortedBy key_cmp keys → HaveAllKeys keys places
-    → map (λ (name : Name). name.id) (filter (λ (name : Name). is_note note (note_under Now places name)) (names_run note (keys_from note keys))) ≡ cards_of note (rows_at Now places)
-run-cards note keys places ordered have =
+pub run-cards : (note : ℤ) (all : CardKeys) (places : List (Name × Place)) → IsStrictlySortedBy key_cmp all.notes.keys → HaveAllKeys all places
+    → map (λ (name : Name). name.id) (filter (λ (name : Name). is_note note (note_under Now places name)) (names_run note (keys_from note all.notes.keys))) ≡ cards_of note (rows_at Now places)
+run-cards note all places ordered have =
+    let keys : List NoteKey = all.notes.keys in
     let t : Name → Bool = λ name. is_note note (note_under Now places name) in
     let es : List (Name × Row) = entries (rows_at Now places) in
     let sorted : IsStrictlySortedBy name_cmp (keys_of es) = sorted_keys es (entries_sorted (rows_at Now places)) in
@@ -306,6 +309,6 @@ run-cards note keys places ordered have =
     ap (λ (names : List Name). map (λ (name : Name). name.id) names)
     (ap (filter t) (names_run-all note keys ordered)
     ∙ same_names (filter t (names_at note keys)) (names_among note es) (kept-sorted t (names_at note keys) (names_at-sorted note keys ordered)) (names_among-sorted note es sorted)
-    (λ q. has-kept t q (names_at note keys) ∙ ap (λ b. b && t q) (has-names_at note q keys) ∙ has_and (has_key keys (note, Some q)) (t q) (have Now note q)
+    (λ q. has-kept t q (names_at note keys) ∙ ap (λ b. b && t q) (has-names_at note q keys) ∙ has_and (has_key keys (note, Some q)) (t q) (note_keyed all (row_under Now places) (have Now) note q)
     ∙ ap (λ o. is_note note (option_and_then note_of_card o)) (sym (under q)) ∙ sym (has-names_among note q es sorted)))
     ∙ ids-names (filter (λ (entry : Name × Row). is_card_of note entry.1) es)

@@ -192,11 +192,8 @@ counted-at numbers table other n nine =
       | false ↦ λ is. get_or-set_other numbers (table_place table) (table_place other) n 0 (λ e. subst T (sym ((unsigned_Decides (table_place table) (table_place other)).1 (sym e)) ∙ is) tt)
     ] refl
 
-still_nine : (numbers next : List ℕ) (i n : ℕ) → next ≡ slice_set numbers i n → length next ≡ 9 → length numbers ≡ 9
-still_nine numbers next i n set nine = sym (length-set numbers i n) ∙ sym (ap length set) ∙ nine
-
 -- the numbers after a row was put under a name, or taken out there
-pub counts-with : (numbers next : List ℕ) (rows : Rows) (name : Name) (o : Option Row) (held holds : Bool) → AreCounts numbers rows → held ≡ is_some (get rows name) → holds ≡ is_some o → length next ≡ 9
+counts-with : (numbers next : List ℕ) (rows : Rows) (name : Name) (o : Option Row) (held holds : Bool) → AreCounts numbers rows → held ≡ is_some (get rows name) → holds ≡ is_some o → length numbers ≡ 9
     → next ≡ slice_set numbers (table_place name.table) (slice_index numbers (table_place name.table) + one_if holds - one_if held) → AreCounts next (with_under name o rows)
 counts-with numbers next rows name o held holds are was is nine set other =
     let p = table_place name.table in
@@ -205,7 +202,7 @@ counts-with numbers next rows name o held holds are was is nine set other =
     let one : after + one_if (held && (p == q)) ≡ row_count other rows + one_if (holds && (p == q)) =
     ap (λ b. after + one_if (b && (p == q))) was ∙ counted-with other rows name o ∙ ap (λ b. row_count other rows + one_if (b && (p == q))) (sym is) in
     let h = are other in
-    ap (λ ns. slice_index ns q) set ∙ counted-at numbers name.table other (slice_index numbers p + one_if holds - one_if held) (still_nine numbers next p _ set nine)
+    ap (λ ns. slice_index ns q) set ∙ counted-at numbers name.table other (slice_index numbers p + one_if holds - one_if held) nine
     ∙ elim (p == q) as (λ b. (p == q) ≡ b → after + one_if (held && b) ≡ row_count other rows + one_if (holds && b) → cond b (slice_index numbers p + one_if holds - one_if held) (slice_index numbers q) ≡ after) [
       | true ↦ λ is one.
           let same = ap (slice_index numbers) ((unsigned_Decides p q).0 is) in
@@ -226,10 +223,10 @@ no-counts tables.DeckGrave = refl
 
 -- nothing is counted yet
 pub counted-none : IsCounted (0 ∷ 0 ∷ 0 ∷ 0 ∷ 0 ∷ 0 ∷ 0 ∷ 0 ∷ 0 ∷ []) empty
-counted-none = record { counts = λ table. no-counts table ∙ sym (none_counted table); named = named-empty }
+counted-none = record { nine = refl; counts = λ table. no-counts table ∙ sym (none_counted table); named = named-empty }
 
 -- a row under its own name, or none, keeps each row under its own name
-pub named-with : (name : Name) (o : Option Row) (rows : Rows) → StandsUnderNames rows → IfSome o (λ row. name_of row ≡ name) → StandsUnderNames (with_under name o rows)
+named-with : (name : Name) (o : Option Row) (rows : Rows) → StandsUnderNames rows → IfSome o (λ row. name_of row ≡ name) → StandsUnderNames (with_under name o rows)
 named-with name None rows named h = all-remove IsNamed rows name named
 named-with name (Some row) rows named h = subst (λ (n : Name). StandsUnderNames (insert rows n row)) h (named-insert rows row named)
 
@@ -237,13 +234,14 @@ pub some_in : (row : Option (Box Replacement)) → is_some row ≡ is_some (row_
 some_in None = refl
 some_in (Some row) = refl
 
--- a row was put under a name that had none, and counted
-pub counted-added : (numbers next : List ℕ) (v : Version) (es fs : List (Name × Place)) (name : Name) (row : Row) → ((q : Name) → row_under v fs q ≡ cond (is_at (name_cmp name) q) (Some row) (row_under v es q))
-    → row_under v es name ≡ None → name_of row ≡ name → IsCounted numbers (rows_at v es) → length next ≡ 9
-    → next ≡ slice_set numbers (table_place name.table) (slice_index numbers (table_place name.table) + one_if true - one_if false) → IsCounted next (rows_at v fs)
-counted-added numbers next v es fs name row added none named was nine set =
-    subst (IsCounted next) (sym (rows_at-with v es fs name (Some row) added))
+-- a row was put under a name, or taken out there, and counted
+pub counted-after : (numbers next : List ℕ) (v : Version) (es fs : List (Name × Place)) (name : Name) (o : Option Row) (held holds : Bool)
+    → ((q : Name) → row_under v fs q ≡ cond (is_at (name_cmp name) q) o (row_under v es q)) → held ≡ is_some (row_under v es name) → holds ≡ is_some o → IfSome o (λ row. name_of row ≡ name) → IsCounted numbers (rows_at v es)
+    → next ≡ slice_set numbers (table_place name.table) (slice_index numbers (table_place name.table) + one_if holds - one_if held) → IsCounted next (rows_at v fs)
+counted-after numbers next v es fs name o held holds put was is named counted set =
+    subst (IsCounted next) (sym (rows_at-with v es fs name o put))
     (record {
-      counts = counts-with numbers next (rows_at v es) name (Some row) false true was.counts (sym (ap is_some (get-rows_at v es name ∙ none))) refl nine set;
-      named = named-with name (Some row) (rows_at v es) was.named named;
+      nine = ap length set ∙ length-set numbers (table_place name.table) _ ∙ counted.nine;
+      counts = counts-with numbers next (rows_at v es) name o held holds counted.counts (was ∙ ap is_some (sym (get-rows_at v es name))) is counted.nine set;
+      named = named-with name o (rows_at v es) counted.named named;
     })

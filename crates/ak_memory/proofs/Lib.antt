@@ -4,6 +4,7 @@ pub mod Filling
 pub mod Forming
 pub mod Keys
 pub mod Paging
+pub mod QueueRuns
 pub mod RowsUnder
 pub mod Settling
 pub mod TakenRuns

@@ -1,9 +1,12 @@
+pub mod CardKeys
 pub mod Collections
+pub mod FoundBy
 pub mod Heads
 pub mod HeldRows
 pub mod Indexes
 pub mod NoteCards
 pub mod NoteKeys
 pub mod Places
+pub mod QueueKeys
 pub mod TakenRuns
 pub mod Versions

@@ -1,5 +1,5 @@
 -- The keys by which a note's cards are found, kept beside the rows.
-use Rattle.std.specs.Prelude.{◌≡◌, ℤ, Bool, false, cond, Option, Some, None, List}
+use Rattle.std.specs.Prelude.{ℤ, Bool, false, Option, Some, None, List}
 use Rattle.std.specs.BTreeMap.{is_at}
 use Rattle.std.specs.List.{list_any}
 use Rattle.std.specs.Option.{option_cmp, option_and_then}
@@ -41,12 +41,3 @@ note_of_card_at es name = option_and_then note_of_card (row_at es name)
 abbrev pub is_note : ℤ → Option ℤ → Bool
 is_note note None = false
 is_note note (Some other) = int_eq other note
-
--- whether the key is that of a card of this note under this name
-abbrev pub is_key_of : Option ℤ → Name → NoteKey → Bool
-is_key_of None name key = false
-is_key_of (Some note) name key = is_at (key_cmp (note, Some name)) key
-
--- the keys that pass are all there, or all gone, and any other is there or not as it was
-abbrev pub AreSetWhere : List NoteKey → (NoteKey → Bool) → Bool → List NoteKey → Type 0
-AreSetWhere keys test there after = (key : NoteKey) → has_key after key ≡ cond (test key) there (has_key keys key)

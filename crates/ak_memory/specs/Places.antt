@@ -1,18 +1,19 @@
 -- The places of rows: what is held under a name now, and what was held there at the mark.
-use Rattle.std.specs.Prelude.{◌≡◌, ℕ, ℤ, if◌then◌else◌, Bool, true, false, not, ◌&&◌, ◌||◌, Option, Some, None, is_some, List, [], ◌∷◌, ◌++◌, ◌==◌, filter, length}
+use Rattle.std.specs.Prelude.{◌≡◌, ℕ, ℤ, if◌then◌else◌, Bool, true, false, not, ◌&&◌, Option, Some, None, is_some, List, [], ◌∷◌, ◌++◌, ◌==◌, filter, length}
 use Rattle.std.specs.BTreeMap.{is_at}
 use Rattle.std.specs.FinMap.{empty, insert, remove}
 use Rattle.std.specs.List.{list_any}
 use Rattle.std.specs.Map.{lookup}
-use Rattle.std.specs.Option.{option_and_then, option_eq, option_to_list}
-use Rattle.std.specs.Ordering.{int_eq}
+use Rattle.std.specs.Option.{option_and_then, option_to_list}
 use Rattle.ak_base.specs.Names.{name_cmp, table_place}
 use Rattle.ak_base.specs.declared.names.Name.{Name}
 use Rattle.ak_base.specs.declared.names.Table.{Table}
 use Rattle.ak_base.specs.declared.rows.Row.{Row}
 use Rattle.ak_keep.specs.Collections.{Rows}
 use Rattle.ak_memory.specs.NoteKeys.{note_of_card}
+use Rattle.ak_memory.specs.FoundBy.{found_by}
 use Rattle.ak_memory.specs.HeldRows.{held_in, held_row}
+use Rattle.ak_memory.specs.declared.held_rows.FoundBy.{FoundBy}
 use Rattle.ak_memory.specs.declared.places.Place.{Place}
 use Rattle.ak_memory.specs.declared.places.Place.TheVariants.{Empty, Opened, Same, Added, Removed, Replaced}
 use Rattle.ak_memory.specs.declared.versions.Version.{Version}
@@ -64,9 +65,9 @@ row_under version places name = option_and_then (row_at version) (place_under pl
 abbrev pub note_under : Version → List (Name × Place) → Name → Option ℤ
 note_under version places name = option_and_then note_of_card (row_under version places name)
 
--- whether the row under a name is a card of this note, or was one at the mark; with no note, whether it is none or was none
-abbrev pub is_needed : Option ℤ → Name → List (Name × Place) → Bool
-is_needed note name places = option_eq int_eq (note_under Now places name) note || option_eq int_eq (note_under Mark places name) note
+-- what the card under a name is found by
+abbrev pub found_under : Version → List (Name × Place) → Name → Option FoundBy
+found_under version places name = option_and_then found_by (row_under version places name)
 
 -- whether there is a place, and it was changed
 abbrev pub is_changed_place : Option Place → Bool

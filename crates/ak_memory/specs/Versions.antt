@@ -14,6 +14,11 @@ abbrev pub at : {T : Type 0} → Version → Versions T → T
 at Now versions = versions.current
 at Mark versions = versions.mark
 
+-- the other of the two
+abbrev pub other : Version → Version
+other Now = Mark
+other Mark = Now
+
 -- the same now as at the mark
 abbrev pub both : {T : Type 0} → T → Versions T
 both value = record { current = value; mark = value }

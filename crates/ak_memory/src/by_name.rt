@@ -1,18 +1,18 @@
 // The places of rows by their names.
 ghost use Rattle.std.specs.Prelude.{◌≡◌, ◌+◌, ◌≤◌, true, false, not, ◌&&◌, ◌||◌, Some, None, is_some, cond, length, IfSome, OnOk, OnErr, OnSome};
 ghost use Rattle.std.specs.BTreeMap.{is_at};
-ghost use Rattle.std.specs.Option.{option_copied, option_eq};
-ghost use Rattle.std.specs.Ordering.{int_eq};
+ghost use Rattle.std.specs.Option.{option_copied};
 ghost use Rattle.ak_base.specs.Names.{name_cmp};
 ghost use Rattle.ak_base.specs.declared.names.Name.{Name as RowName};
 ghost use Rattle.ak_memory.specs.NoteKeys.{is_note};
 ghost use Rattle.ak_memory.specs.HeldRows.{held_in, held_row, row_in};
-ghost use Rattle.ak_memory.specs.Places.{AreFull, AreFullBut, is_changed_under, is_empty_under, is_needed, note_under, one_if, place_under, row_under, unchanged_count};
+ghost use Rattle.ak_memory.specs.Places.{AreFull, AreFullBut, found_under, is_changed_under, is_empty_under, note_under, one_if, place_under, row_under, unchanged_count};
 ghost use Rattle.ak_memory.specs.TakenRuns.{is_used_under};
+ghost use Rattle.ak_memory.specs.Versions.{other};
 ghost use Rattle.ak_memory.specs.declared.versions.Version.{Version as WhichVersion};
 ghost use Rattle.ak_memory.specs.declared.versions.Version.TheVariants.{Mark, Now};
 
-use crate::held_rows::{HeldRow, Replacement};
+use crate::held_rows::{FoundBy, HeldRow, Replacement};
 use crate::note_keys::is_note;
 use crate::places::{Change, Place};
 use crate::versions::Version;
@@ -66,14 +66,14 @@ pub(crate) fn holds_card(places: &Places, name: &Name, note: &i64) -> bool
     }
 }
 
-/// Whether a card of the note is held under the name, or was at the mark; with no note, whether no card is or was.
-pub(crate) fn needs_key(places: &Places, name: &Name, note: &Option<i64>) -> bool
-    ensures apart { result ≡ false → (version : WhichVersion) → option_eq int_eq (note_under version places.now.entries name.now) note.now ≡ false }
-    ensures needed { result ≡ true → is_needed note.now name.now places.now.entries ≡ true }
+/// What the cards under the name are found by: first the one of now, then the one of the mark.
+pub(crate) fn found_under(places: &Places, name: &Name) -> (Option<FoundBy>, Option<FoundBy>)
+    ensures now { result.0 ≡ found_under Now places.now.entries name.now }
+    ensures mark { result.1 ≡ found_under Mark places.now.entries name.now }
 {
     match places.get(name) {
-        Some(place) => place.note(Version::Now) == *note || place.note(Version::Mark) == *note,
-        None => note.is_none(),
+        Some(place) => (place.found_by(Version::Now), place.found_by(Version::Mark)),
+        None => (None, None),
     }
 }
 
@@ -113,7 +113,7 @@ pub(crate) fn hold_under(
     ensures none { result ≡ None → place_under places.old.entries name ≡ None }
     ensures unchanged { result ≡ None → places.new.entries ≡ places.old.entries }
     ensures held { IfSome result (λ change. change.held ≡ is_some (row_under Now places.old.entries name)) }
-    ensures note { IfSome result (λ change. change.note ≡ note_under Now places.old.entries name) }
+    ensures card { IfSome result (λ change. change.card ≡ found_under Now places.old.entries name) }
     ensures now { OnSome result ((q : RowName) → row_under Now places.new.entries q ≡ cond (is_at (name_cmp name) q) (row_in row) (row_under Now places.old.entries q)) }
     ensures mark { OnSome result ((q : RowName) → row_under Mark places.new.entries q ≡ row_under Mark places.old.entries q) }
     ensures changed { OnSome result ((q : RowName) → is_changed_under places.new.entries q ≡ (is_at (name_cmp name) q || is_changed_under places.old.entries q)) }
@@ -128,8 +128,9 @@ pub(crate) fn hold_under(
 }
 
 /// Settles the place under the name: it holds from now on what it held in this version, and is not changed. It gives
-/// the note of the card that it held in the other version. It takes no memory.
-pub(crate) fn settle_under(places: &mut Places, name: Name, version: Version) -> Option<i64>
+/// what the card is found by that it held in the other version. It takes no memory.
+pub(crate) fn settle_under(places: &mut Places, name: Name, version: Version) -> Option<FoundBy>
+    ensures card { result ≡ found_under (other version) places.old.entries name }
     ensures rows { (each : WhichVersion) (q : RowName) → row_under each places.new.entries q ≡ cond (is_at (name_cmp name) q) (row_under version places.old.entries q) (row_under each places.old.entries q) }
     ensures changed { (q : RowName) → is_changed_under places.new.entries q ≡ (not (is_at (name_cmp name) q) && is_changed_under places.old.entries q) }
     ensures full { AreFull places.old.entries → AreFullBut name places.new.entries }
@@ -137,9 +138,9 @@ pub(crate) fn settle_under(places: &mut Places, name: Name, version: Version) ->
 {
     match places.get_mut(&name) {
         Some(place) => {
-            let note = place.note(version.other());
+            let card = place.found_by(version.other());
             place.settle(version);
-            note
+            card
         }
         None => None,
     }

@@ -1,23 +1,26 @@
 ghost use Rattle.std.specs.Prelude.{◌≡◌, ◌<◌, ◌^◌, ◌≤◌, true, false, if◌then◌else◌, Some, None, is_some, length, IfOk, IfSome, OnOk, OnErr};
 ghost use Rattle.std.specs.Bool.{OnFalse, OnTrue};
 ghost use Rattle.std.specs.FinMap as finite;
-ghost use Rattle.std.specs.List.{All};
+ghost use Rattle.std.specs.List.{All, AllByRecursion};
 ghost use Rattle.std.specs.List.Sorted.{IsStrictlySortedBy};
 ghost use Rattle.std.specs.Option.{option_map};
 ghost use Rattle.std.specs.Ordering.{int_cmp};
+ghost use Rattle.ak_base.specs.Cards.{IsCheckedCard};
 ghost use Rattle.ak_base.specs.Heads.{AreMomentsInRange, IsHeadInRange};
 ghost use Rattle.ak_base.specs.Rows.{IsChecked, name_of, stamp_of};
 ghost use Rattle.ak_keep.specs.Collections.{AscendsPast, IsId, IsPageOf, IsWellFormed, Rows, with_row, without, with_head, with_moments, made_of, rows_past, wanted_past, is_wanted, cards_of, row_count};
 ghost use Rattle.ak_keep.specs.FreeNames.{IsFirstFree, IsFoundFrom, is_used};
 ghost use Rattle.ak_keep.specs.HeadNumbers.{AreNumbersInRange, numbers_of};
+ghost use Rattle.ak_keep.specs.Lookups.{cards_in};
 ghost use Rattle.ak_keep.specs.Marks as marks;
+ghost use Rattle.ak_keep.specs.WaitingCards.{AscendsAfter, IsOneOf, IsWaitingPage, waits};
 ghost use Rattle.ak_memory.specs.Collections.{rows_before};
 
 use crate::heads::{MarkedHead, Moments};
 use crate::marked_rows::MarkedRows;
 use crate::versions::Version;
-use ak_base::{Head, List, Memory, Name, Row, Table};
-use ak_keep::{Numbers, Wanted};
+use ak_base::{Card, Head, List, Memory, Name, Row, Table};
+use ak_keep::{Numbers, Waiting, Wanted};
 use std::alloc::Global;
 use std::marker::Model;
 use std::mem;
@@ -177,6 +180,18 @@ impl MarkedCollection {
     {
         let ids = self.rows.cards_of(note)?;
         Ok(ids)
+    }
+
+    /// The first `limit` of the cards that are asked for, by due, then by id.
+    pub(crate) fn waiting(&self, waiting: &Waiting, limit: usize) -> Result<List<Card>, Memory>
+        ensures page { IfOk result (λ page. IsWaitingPage (IsOneOf (cards_in self.now.current.rows)) waiting.now limit page) }
+        ensures fits { IfOk result (λ page. length page ≤ limit) }
+        ensures asked { IfOk result (λ page. AllByRecursion (λ c. waits waiting.now c ≡ true) page) }
+        ensures ascends { IfOk result (λ page. AscendsAfter waiting.now.past page) }
+        ensures checked { IfOk result (λ page. All IsCheckedCard page) }
+    {
+        let page = self.rows.waiting(waiting, limit)?;
+        Ok(page)
     }
 
     /// How many rows a table has.

@@ -1,7 +1,10 @@
 // Rows in boxes. A `Row` has the size of the largest kind, over three times that of a review.
 ghost use Rattle.std.specs.Prelude.{◌≡◌, None, IfOk};
+ghost use Rattle.std.specs.Option.{option_copied};
 ghost use Rattle.ak_base.specs.Rows.{stamp_of, usn_of};
 ghost use Rattle.ak_base.specs.declared.rows.Row.TheVariants as rows;
+ghost use Rattle.ak_keep.specs.Lookups.{as_card};
+ghost use Rattle.ak_memory.specs.FoundBy.{found_by};
 ghost use Rattle.ak_memory.specs.NoteKeys.{note_of_card};
 ghost use Rattle.ak_memory.specs.HeldRows.{held_row};
 
@@ -91,6 +94,40 @@ impl HeldRow {
             HeldRow::NoteType(_) | HeldRow::Deck(_) | HeldRow::Options(_) => None,
         }
     }
+
+    /// The row, if it is a card.
+    pub(crate) fn card(&self) -> Option<&Card>
+        ensures { option_copied result ≡ as_card (held_row self.now) }
+    {
+        match self {
+            HeldRow::Card(card) => Some(card),
+            HeldRow::Note(_) | HeldRow::Review(_) | HeldRow::Grave(_) => None,
+            HeldRow::NoteType(_) | HeldRow::Deck(_) | HeldRow::Options(_) => None,
+        }
+    }
+
+    /// What the row is found by, if it is a card.
+    pub(crate) fn found_by(&self) -> Option<FoundBy>
+        ensures { result ≡ found_by (held_row self.now) }
+    {
+        match self {
+            HeldRow::Card(card) => Some(FoundBy {
+                note: card.nid,
+                queue: card.queue,
+                due: card.due,
+            }),
+            HeldRow::Note(_) | HeldRow::Review(_) | HeldRow::Grave(_) => None,
+            HeldRow::NoteType(_) | HeldRow::Deck(_) | HeldRow::Options(_) => None,
+        }
+    }
+}
+
+/// What a card is found by.
+#[derive(Clone, Copy, Debug)]
+pub(crate) struct FoundBy {
+    pub note: i64,
+    pub queue: i64,
+    pub due: i64,
 }
 
 /// A row that is a copy of the note.

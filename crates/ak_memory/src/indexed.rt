@@ -13,32 +13,38 @@ ghost use Rattle.ak_base.specs.Rows.{name_of};
 ghost use Rattle.ak_base.specs.declared.names.Name.{Name as RowName};
 ghost use Rattle.ak_keep.specs.Collections.{cards_of, row_count};
 ghost use Rattle.ak_keep.specs.FreeNames.{IsFirstFree, IsFoundFrom, is_used};
-ghost use Rattle.ak_memory.specs.NoteKeys.{has_key, is_note, note_of_card};
+ghost use Rattle.ak_keep.specs.WaitingCards.{IsHeld, IsWaitingPage};
+ghost use Rattle.ak_memory.specs.CardKeys.{AreForgotten, HasKeys};
+ghost use Rattle.ak_memory.specs.FoundBy.{found_by};
 ghost use Rattle.ak_memory.specs.HeldRows.{held_in, row_in};
 ghost use Rattle.ak_memory.specs.Indexes.{HaveAllKeys, IsIndexed, rows_of};
-ghost use Rattle.ak_memory.specs.Places.{AreFull, is_among, is_changed_under, place_under, one_if, row_under, rows_at, unchanged_count, with_under};
+ghost use Rattle.ak_memory.specs.Places.{AreFull, found_under, is_among, is_changed_under, place_under, one_if, row_under, rows_at, unchanged_count, with_under};
 ghost use Rattle.ak_memory.specs.TakenRuns.{runs_before};
+ghost use Rattle.ak_memory.specs.Versions.{other};
 ghost use Rattle.ak_memory.specs.declared.versions.Version.{Version as WhichVersion};
 ghost use Rattle.ak_memory.specs.declared.versions.Version.TheVariants.{Mark, Now};
 
 use crate::by_name::{Places, add_place, add_same, drop_empty, hold_under, row_of, settle_under};
-use crate::held_rows::{HeldRow, Replacement};
-use crate::note_keys::{NoteKey, add_key, forget_key, ids_of};
+use crate::card_keys::CardKeys;
+use crate::held_rows::{FoundBy, HeldRow, Replacement};
+use crate::note_keys::ids_of;
 use crate::places::Change;
+use crate::queue_keys::waiting_of;
 use crate::taken_runs::TakenRuns;
 use crate::versions::Version;
-use ak_base::{LAST_ID, List, Memory, Name, Row, Table};
+use ak_base::{Card, LAST_ID, List, Memory, Name, Row, Table};
+use ak_keep::Waiting;
 use std::alloc::Global;
-use std::collections::{BTreeMap, BTreeSet};
+use std::collections::BTreeMap;
 
-/// The places of rows by name. Beside them are the numbers of rows of each table, now and at the mark, a key for each
-/// card, the names of the places that were changed since the mark, some of them twice, and ids that are taken now.
+/// The places of rows by name. Beside them are the numbers of rows of each table, now and at the mark, keys by
+/// which cards are found, the names of the places that were changed since the mark, some of them twice, and ids that are taken now.
 #[derive(Debug, Drop)]
 pub(crate) struct IndexedPlaces {
     places: Places,
     counts: [u64; 9],
     mark_counts: [u64; 9],
-    cards: BTreeSet<NoteKey>,
+    cards: CardKeys,
     noted: Vec<Name>,
     taken: TakenRuns,
 }
@@ -53,7 +59,7 @@ impl IndexedPlaces {
             places: BTreeMap::new(alloc),
             counts: [0; 9],
             mark_counts: [0; 9],
-            cards: BTreeSet::new(alloc),
+            cards: CardKeys::new(alloc),
             noted: Vec::new(alloc),
             taken: TakenRuns::none(),
         }
@@ -91,8 +97,22 @@ impl IndexedPlaces {
     {
         // For the proof alone, as in `count`.
         let _ordered = self.places.len();
-        let ids = ids_of(alloc, &self.cards, &self.places, note)?;
+        let ids = ids_of(alloc, &self.cards.notes, &self.places, note)?;
         Ok(ids)
+    }
+
+    /// The first `limit` of the cards that are asked for, by due, then by id.
+    pub(crate) fn waiting(
+        &self,
+        alloc: Global,
+        waiting: &Waiting,
+        limit: usize,
+    ) -> Result<List<Card>, Memory>
+        requires { IsIndexed self.now }
+        ensures { IfOk result (λ page. IsWaitingPage (IsHeld (rows_of Now self.now)) waiting.now limit page) }
+    {
+        let page = waiting_of(alloc, &self.cards.queues, &self.places, waiting, limit)?;
+        Ok(page)
     }
 
     /// The first name of its table from this one on that is free for a new row. It steps over the ids that were found to be
@@ -127,7 +147,7 @@ impl IndexedPlaces {
         // Memory comes first: all that follows takes none.
         let name = row.name();
         let row = Replacement::of(alloc, row)?;
-        self.make_room(row.row.note(), name)?;
+        self.make_room(&row.row.found_by(), name)?;
         self.make_place(name)?;
         self.exchange(name, Some(row));
         Ok(())
@@ -166,26 +186,26 @@ impl IndexedPlaces {
     {
         let name = row.name();
         let row = HeldRow::of(alloc, row)?;
-        self.make_room(row.note(), name)?;
+        self.make_room(&row.found_by(), name)?;
         add_same(&mut self.places, name, row)?;
         count_change(&mut self.counts, name.table, false, true);
         count_change(&mut self.mark_counts, name.table, false, true);
         Ok(())
     }
 
-    /// Sees to it that there is room to note one place more, and that a card of this note and name has its key.
-    fn make_room(&mut self, note: Option<i64>, name: Name) -> Result<(), Memory>
+    /// Sees to it that there is room to note one place more, and that the card of this name has its keys.
+    fn make_room(&mut self, card: &Option<FoundBy>, name: Name) -> Result<(), Memory>
         requires { IsIndexed self.old }
         ensures indexed { IsIndexed self.new }
         ensures places { self.new.places ≡ self.old.places }
         ensures counts { self.new.counts ≡ self.old.counts }
         ensures mark_counts { self.new.mark_counts ≡ self.old.mark_counts }
         ensures small { length self.new.places.entries < 2 ^ 63 }
-        ensures key { OnOk result ((of : ℤ) → is_note of note ≡ true → has_key self.new.cards.keys (of, Some name) ≡ true) }
+        ensures keys { OnOk result (IfSome card.now (λ card. HasKeys self.new.cards card name)) }
         ensures room { OnOk result (vec_len self.new.noted + (length self.new.places.entries + 1) ≤ vec_capacity self.new.noted) }
     {
         self.noted.reserve(self.places.len() + 1)?;
-        add_key(&mut self.cards, note, name)?;
+        self.cards.add(card, name)?;
         Ok(())
     }
 
@@ -216,15 +236,16 @@ impl IndexedPlaces {
         Ok(())
     }
 
-    /// Holds the row under the name from now on, or none. For a row there are a place and a key. It takes no memory.
+    /// Holds the row under the name from now on, or none. For a row there are a place and its keys. It takes no memory.
     fn exchange(&mut self, name: Name, row: Option<Box<Replacement>>)
         requires indexed { IsIndexed self.old }
         requires place { place_under self.old.places.entries name ≡ None → row_in row ≡ None }
-        requires key { (note : ℤ) → is_note note (option_and_then note_of_card (row_in row)) ≡ true → has_key self.old.cards.keys (note, Some name) ≡ true }
+        requires keys { IfSome (option_and_then found_by (row_in row)) (λ card. HasKeys self.old.cards card name) }
         requires named { IfSome (row_in row) (λ row. name_of row ≡ name) }
         ensures indexed { IsIndexed self.new }
         ensures now { rows_of Now self.new ≡ with_under name (row_in row) (rows_of Now self.old) }
         ensures mark { rows_of Mark self.new ≡ rows_of Mark self.old }
+        ensures gone { IfSome (found_under Now self.old.places.entries name) (λ was. AreForgotten self.new.cards (found_under Now self.new.places.entries name) (found_under Mark self.new.places.entries name) was name) }
     {
         // For the proof alone: there are fewer than 2^63 places, so a count has room for one more.
         let _small = self.places.len();
@@ -234,7 +255,7 @@ impl IndexedPlaces {
         };
         note_change(&mut self.noted, name, change.first);
         count_change(&mut self.counts, name.table, change.held, holds);
-        forget_key(&mut self.cards, &self.places, change.note, name);
+        self.cards.forget(&self.places, &change.card, name);
         forget_taken(&mut self.taken, name, holds);
     }
 
@@ -275,9 +296,9 @@ fn note_change(noted: &mut Vec<Name>, name: Name, first: bool)
 }
 
 /// Settles the places under these names: they hold from now on what they held in this version, and are not changed.
-fn settle_all(places: &mut Places, cards: &mut BTreeSet<NoteKey>, names: &[Name], version: Version)
-    requires { HaveAllKeys cards.old.keys places.old.entries }
-    ensures keys { HaveAllKeys cards.new.keys places.new.entries }
+fn settle_all(places: &mut Places, cards: &mut CardKeys, names: &[Name], version: Version)
+    requires { HaveAllKeys cards.old places.old.entries }
+    ensures keys { HaveAllKeys cards.new places.new.entries }
     ensures rows { (each : WhichVersion) (q : RowName) → row_under each places.new.entries q ≡ cond (is_among names.now q) (row_under version places.old.entries q) (row_under each places.old.entries q) }
     ensures changed { (q : RowName) → is_changed_under places.new.entries q ≡ (not (is_among names.now q) && is_changed_under places.old.entries q) }
     ensures full { AreFull places.old.entries → AreFull places.new.entries }
@@ -288,18 +309,19 @@ fn settle_all(places: &mut Places, cards: &mut BTreeSet<NoteKey>, names: &[Name]
     }
 }
 
-/// Settles the place under the name, and takes out the key of the card that is not needed any more.
-fn settle_one(places: &mut Places, cards: &mut BTreeSet<NoteKey>, name: Name, version: Version)
-    requires { HaveAllKeys cards.old.keys places.old.entries }
-    ensures keys { HaveAllKeys cards.new.keys places.new.entries }
+/// Settles the place under the name, and takes out the keys of its card that are not needed any more.
+fn settle_one(places: &mut Places, cards: &mut CardKeys, name: Name, version: Version)
+    requires { HaveAllKeys cards.old places.old.entries }
+    ensures keys { HaveAllKeys cards.new places.new.entries }
     ensures rows { (each : WhichVersion) (q : RowName) → row_under each places.new.entries q ≡ cond (is_at (name_cmp name) q) (row_under version places.old.entries q) (row_under each places.old.entries q) }
     ensures changed { (q : RowName) → is_changed_under places.new.entries q ≡ (not (is_at (name_cmp name) q) && is_changed_under places.old.entries q) }
     ensures full { AreFull places.old.entries → AreFull places.new.entries }
     ensures count { unchanged_count places.new.entries ≤ unchanged_count places.old.entries + 1 }
+    ensures gone { IfSome (found_under (other version) places.old.entries name) (λ was. AreForgotten cards.new (found_under Now places.new.entries name) (found_under Mark places.new.entries name) was name) }
 {
-    let note = settle_under(places, name, version);
+    let card = settle_under(places, name, version);
     drop_empty(places, name);
-    forget_key(cards, places, note, name);
+    cards.forget(places, &card, name);
 }
 
 /// Counts a row in or out, if one came where none was held, or none where one was.

@@ -1,11 +1,12 @@
 ghost use Rattle.std.specs.Prelude.{◌≡◌, ◌<◌, ◌≤◌, ◌≤ℤ◌, ◌^◌, pos, [], true, false, None, is_some, length, map, IfOk, IfSome, OnOk, OnErr};
 ghost use Rattle.std.specs.Bool.{OnFalse, OnTrue};
 ghost use Rattle.std.specs.FinMap as finite;
-ghost use Rattle.std.specs.List.{All, IsDistinct};
+ghost use Rattle.std.specs.List.{All, AllByRecursion, IsDistinct};
 ghost use Rattle.std.specs.List.Sorted.{IsStrictlySortedBy};
 ghost use Rattle.std.specs.Option.{option_map};
 ghost use Rattle.std.specs.Ordering.{eq_by_cmp, int_cmp};
 ghost use Rattle.std.specs.Result.{IsErrOf};
+ghost use Rattle.ak_base.specs.Cards.{IsCheckedCard};
 ghost use Rattle.ak_base.specs.Heads.{AreMomentsInRange, IsHeadInRange};
 ghost use Rattle.ak_base.specs.Names.{name_cmp};
 ghost use Rattle.ak_base.specs.Rows.{IsChecked, name_of, stamp_of};
@@ -13,23 +14,25 @@ ghost use Rattle.ak_keep.specs.Collections.{AscendsPast, IsId, IsPageOf, IsWellF
 ghost use Rattle.ak_keep.specs.FreeNames.{IsFirstFree, IsFoundFrom, is_used};
 ghost use Rattle.ak_keep.specs.HeadNumbers.{AreNumbersInRange, numbers_of};
 ghost use Rattle.ak_keep.specs.Keepers.{KeepCause, all_known, is_marked, put};
+ghost use Rattle.ak_keep.specs.Lookups.{cards_in};
 ghost use Rattle.ak_keep.specs.Marks as marks;
 ghost use Rattle.ak_keep.specs.MemoryKeepers.{FailsWhere, health_of, is_to_fail, called, called_with, answer_of};
+ghost use Rattle.ak_keep.specs.WaitingCards.{AscendsAfter, IsOneOf, IsWaitingPage, waits};
 ghost use Rattle.ak_keep.specs.declared.keepers.KeepFault.TheVariants.{Memory};
 
 use crate::calls::next_call;
 use crate::collections::MarkedCollection;
 use crate::marked_rows::MarkedRows;
-use ak_base::{Head, List, Memory as OutOfMemory, Name, Row, Table};
+use ak_base::{Card, Head, List, Memory as OutOfMemory, Name, Row, Table};
 use ak_faults::Calls;
-use ak_keep::{KeepFault, Keeper, Lookup, Numbers, Readable, Wanted};
+use ak_keep::{KeepFault, Keeper, Lookup, Numbers, Readable, Waiting, Wanted};
 use std::alloc::Global;
 use std::marker::Model;
 
 /// A keeper in memory, which tells what it keeps. The calls that `fail_at` lists fail, and no others: with none listed
 /// it is known not to fail.
-/// A row is found in logarithmic time, and so are the cards of a note, with a step for each key: until the commit there may
-/// be keys of cards that are gone. A free name takes a step for each taken id from the first one on, but for those of the one
+/// A row is found in logarithmic time, and so are the cards of a note and those that wait in a queue, with a step for each key: until
+/// the commit there may be keys of cards that are gone. A free name takes a step for each taken id from the first one on, but for those of the one
 /// run of taken ids that is known of its table: what the latest question that passed any went through. To take out a row
 /// ends the runs of all tables before its id, and to go back to the mark forgets them.
 #[derive(Debug, Drop)]
@@ -188,6 +191,23 @@ impl Readable for MemoryKeeper {
     {
         next_call(&mut self.calls)?;
         let page = self.memory.page(table, past, limit)?;
+        Ok(page)
+    }
+
+    fn waiting(&mut self, waiting: Waiting, limit: usize) -> Result<List<Card>, KeepFault>
+        requires low { 0 < limit }
+        requires high { limit ≤ 1000 }
+        ensures page { IfOk result (λ page. IsWaitingPage (IsOneOf (cards_in self.old.kept.current.rows)) waiting limit page) }
+        ensures fits { IfOk result (λ page. length page ≤ limit) }
+        ensures asked { IfOk result (λ page. AllByRecursion (λ c. waits waiting c ≡ true) page) }
+        ensures ascends { IfOk result (λ page. AscendsAfter waiting.past page) }
+        ensures checked { IfOk result (λ page. All IsCheckedCard page) }
+        ensures state { self.new ≡ called self.old }
+        ensures fails { FailsWhere (is_to_fail self.old) result }
+        ensures cause { KeepCause (health_of self.old) (health_of self.new) result }
+    {
+        next_call(&mut self.calls)?;
+        let page = self.memory.waiting(&waiting, limit)?;
         Ok(page)
     }
 

@@ -4,6 +4,7 @@
 
 mod by_name;
 mod calls;
+mod card_keys;
 mod collections;
 mod heads;
 mod held_rows;
@@ -13,6 +14,7 @@ mod marked_rows;
 mod note_keys;
 mod pages;
 mod places;
+mod queue_keys;
 mod taken_runs;
 mod versions;
 

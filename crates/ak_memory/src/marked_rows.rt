@@ -10,14 +10,15 @@ ghost use Rattle.ak_base.specs.declared.names.Name.{Name as RowName};
 ghost use Rattle.ak_keep.specs.Collections.{AscendsPast, IsPageOf, rows_of, rows_past, wanted_past, is_wanted, cards_of, row_count};
 ghost use Rattle.ak_keep.specs.Entries.{row_at};
 ghost use Rattle.ak_keep.specs.FreeNames.{IsFirstFree, IsFoundFrom, is_used};
+ghost use Rattle.ak_keep.specs.WaitingCards.{IsHeld, IsWaitingPage};
 ghost use Rattle.ak_memory.specs.Versions.{at, both, with_current};
 ghost use Rattle.ak_memory.specs.declared.versions.Version.{Version as WhichVersion};
 
 use crate::indexed::IndexedPlaces;
 use crate::pages::page_of;
 use crate::versions::Version;
-use ak_base::{List, Memory, Name, Row, Table};
-use ak_keep::Wanted;
+use ak_base::{Card, List, Memory, Name, Row, Table};
+use ak_keep::{Waiting, Wanted};
 use std::alloc::Global;
 use std::marker::Model;
 
@@ -170,6 +171,14 @@ impl MarkedRows {
     {
         let ids = self.indexed.cards_of(self.alloc, &note)?;
         Ok(ids)
+    }
+
+    /// The first `limit` of the cards that are asked for, by due, then by id.
+    pub(crate) fn waiting(&self, waiting: &Waiting, limit: usize) -> Result<List<Card>, Memory>
+        ensures { IfOk result (λ page. IsWaitingPage (IsHeld self.now.current) waiting.now limit page) }
+    {
+        let page = self.indexed.waiting(self.alloc, waiting, limit)?;
+        Ok(page)
     }
 
     /// The first name of its table from this one on that is free for a new row. It takes no memory.

@@ -1,15 +1,14 @@
-// The keys by which the cards of a note are found. There may be more of them than cards.
-ghost use Rattle.std.specs.Prelude.{◌≡◌, true, false, ◌++◌, map, filter, IfOk, OnOk, OnErr};
+// The keys by which the cards of a note are found, and what is read by them.
+ghost use Rattle.std.specs.Prelude.{◌≡◌, ◌++◌, map, filter, IfOk, OnOk};
 ghost use Rattle.std.specs.List.Sorted.{IsStrictlySortedBy};
 ghost use Rattle.std.specs.Ordering.{int_eq};
 ghost use Rattle.ak_base.specs.declared.names.Name.{Name as RowName};
 ghost use Rattle.ak_memory.specs.NoteCards.{keys_from, name_in, names_run};
-ghost use Rattle.ak_memory.specs.NoteKeys.{AreSetWhere, NoteKey, has_key, is_key_of, is_note, key_cmp};
-ghost use Rattle.ak_memory.specs.Indexes.{HaveAllKeys};
-ghost use Rattle.ak_memory.specs.Places.{is_needed, note_under};
+ghost use Rattle.ak_memory.specs.NoteKeys.{is_note, key_cmp};
+ghost use Rattle.ak_memory.specs.Places.{note_under};
 ghost use Rattle.ak_memory.specs.declared.versions.Version.TheVariants.{Now};
 
-use crate::by_name::{Places, holds_card, needs_key};
+use crate::by_name::{Places, holds_card};
 use ak_base::{List, Memory, Name};
 use std::alloc::Global;
 use std::collections::BTreeSet;
@@ -25,59 +24,6 @@ pub(crate) fn is_note(other: &Option<i64>, note: &i64) -> bool
     match other {
         Some(other) => other == note,
         None => false,
-    }
-}
-
-/// Adds the key of the note's card of this name. With no note there is none to add.
-pub(crate) fn add_key(
-    keys: &mut BTreeSet<NoteKey>,
-    note: Option<i64>,
-    name: Name,
-) -> Result<(), Memory>
-    ensures ok { OnOk result (AreSetWhere keys.old.keys (is_key_of note name) true keys.new.keys) }
-    ensures err { OnErr result (keys.new.keys ≡ keys.old.keys) }
-{
-    match note {
-        Some(note) => {
-            keys.insert((note, Some(name)))?;
-            return Ok(());
-        }
-        None => return Ok(()),
-    }
-}
-
-/// Takes out the key of the note's card of this name, unless such a card is held or was at the mark. With no note there
-/// is none to take out. It takes no memory.
-pub(crate) fn forget_key(
-    keys: &mut BTreeSet<NoteKey>,
-    places: &Places,
-    note: Option<i64>,
-    name: Name,
-)
-    requires { HaveAllKeys keys.old.keys places.now.entries }
-    ensures all { HaveAllKeys keys.new.keys places.now.entries }
-    ensures gone { is_needed note name places.now.entries ≡ false → (key : NoteKey) → is_key_of note name key ≡ true → has_key keys.new.keys key ≡ false }
-{
-    // Most rows are no cards, or replaced none: nothing is looked up for them.
-    if note.is_none() {
-        return;
-    }
-    if needs_key(places, &name, &note) {
-        return;
-    }
-    drop_key(keys, note, name);
-}
-
-/// Takes out the key of the note's card of this name. With no note there is none to take out.
-fn drop_key(keys: &mut BTreeSet<NoteKey>, note: Option<i64>, name: Name)
-    ensures { AreSetWhere keys.old.keys (is_key_of note name) false keys.new.keys }
-{
-    match note {
-        Some(note) => {
-            keys.remove(&(note, Some(name)));
-            return;
-        }
-        None => return,
     }
 }
 

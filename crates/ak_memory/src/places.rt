@@ -1,13 +1,14 @@
 // The places of rows, each with its row as it is now and as it was at the mark.
 ghost use Rattle.std.specs.Prelude.{◌≡◌, true, false, not, ◌&&◌, None, is_some};
 ghost use Rattle.std.specs.Option.{option_and_then, option_copied};
+ghost use Rattle.ak_memory.specs.FoundBy.{found_by};
 ghost use Rattle.ak_memory.specs.NoteKeys.{note_of_card};
 ghost use Rattle.ak_memory.specs.HeldRows.{held_in, row_in};
 ghost use Rattle.ak_memory.specs.Places.{is_changed, row_at, row_before, row_now};
 ghost use Rattle.ak_memory.specs.declared.versions.Version.{Version as WhichVersion};
 ghost use Rattle.ak_memory.specs.declared.versions.Version.TheVariants.{Mark, Now};
 
-use crate::held_rows::{HeldRow, Replacement};
+use crate::held_rows::{FoundBy, HeldRow, Replacement};
 use crate::versions::Version;
 use std::mem;
 
@@ -36,8 +37,8 @@ pub(crate) struct Change {
     pub first: bool,
     /// Whether a row was held.
     pub held: bool,
-    /// The note that the row was a card of.
-    pub note: Option<i64>,
+    /// What the row was found by, if it was a card.
+    pub card: Option<FoundBy>,
 }
 
 impl Place {
@@ -68,6 +69,16 @@ impl Place {
     {
         match self.row_of(version) {
             Some(row) => row.note(),
+            None => None,
+        }
+    }
+
+    /// What its row, now or at the mark, is found by, if it is a card.
+    pub(crate) fn found_by(&self, version: Version) -> Option<FoundBy>
+        ensures { result ≡ option_and_then found_by (row_at version self.now) }
+    {
+        match self.row_of(version) {
+            Some(row) => row.found_by(),
             None => None,
         }
     }
@@ -132,12 +143,12 @@ impl Place {
         ensures changed { is_changed self.new ≡ true }
         ensures first { result.first ≡ not (is_changed self.old) }
         ensures held { result.held ≡ is_some (row_at Now self.old) }
-        ensures note { result.note ≡ option_and_then note_of_card (row_at Now self.old) }
+        ensures card { result.card ≡ option_and_then found_by (row_at Now self.old) }
     {
         let change = Change {
             first: self.is_unchanged(),
             held: self.is_held(),
-            note: self.note(Version::Now),
+            card: self.found_by(Version::Now),
         };
         let before = mem::replace(self, Place::Empty).into_row(Version::Mark);
         *self = Place::changed(row, before);

@@ -42,7 +42,7 @@ module _ {K : Type 0} (cmp : K → K → Ordering) where
   last_inserted (x ∷ xs) k after = ap (λ r. match_ordering r (k ∷ x ∷ xs) (x ∷ xs) (x ∷ insert_key cmp xs k)) after.0 ∙ ap (λ ks. x ∷ ks) (last_inserted xs k after.1)
 
   -- and is not among the first, if there are as many before it
-  comes_last : (n : ℕ) (xs : List K) (k : K) → n ≤ length xs → AllByRecursion (λ x. cmp k x ≡ Greater) xs → take n xs ≡ take n (insert_key cmp xs k)
+  pub comes_last : (n : ℕ) (xs : List K) (k : K) → n ≤ length xs → AllByRecursion (λ x. cmp k x ≡ Greater) xs → take n xs ≡ take n (insert_key cmp xs k)
   comes_last n xs k few after = sym (ap (take n) (last_inserted xs k after) ∙ take-append-le n xs (k ∷ []) few)
 
   -- a key that comes after one that none comes after, comes after all

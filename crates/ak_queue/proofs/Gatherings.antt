@@ -1,15 +1,17 @@
--- What one pass over the cards gathers, a part of them after another.
-use Rattle.std.proofs.Common.{◌≡◌, ℕ, true, cond, List, [], ◌∷◌, ◌++◌, take, filter_map, Option, Some, None, IfSome, Ordering, refl, sym, ap, subst, ◌∙◌, append_assoc, append-nil}
+-- What is gathered of the cards that wait, a page of them after another.
+use Rattle.std.proofs.Common.{◌≡◌, ◌≤◌, ◌⊎◌, ◌&&◌, ℕ, pos, not, true, false, List, [], ◌∷◌, ◌++◌, length, take, filter_map, Option, Some, None, IfSome, Ordering, Less, refl, sym, ap, subst, ◌∙◌, inl, inr, true≢false}
 use Rattle.std.proofs.lemmas.List.Elements.{filter_map-append}
 use Rattle.std.specs.BTreeSet.{insert_key}
+use Rattle.std.specs.List.{AllByRecursion}
 use Rattle.ak_base.specs.declared.cards.Card.{Card}
-use Rattle.ak_base.specs.declared.rows.Row.{Row}
-use Rattle.ak_keep.specs.Collections.{Holding, rows_past}
-use Rattle.ak_keep.specs.Lookups.{as_card}
+use Rattle.ak_keep.specs.Collections.{Holding}
+use Rattle.ak_keep.specs.Lookups.{cards_in}
 use Rattle.ak_keep.specs.Marks.{WithMark}
-use Rattle.ak_keep.specs.Walks.{ahead}
-use Rattle.ak_keep.specs.declared.walks.Walk.{Walk}
-use Rattle.ak_queue.specs.Gathering.{Gathers, HasNone, HasAllOf}
+use Rattle.ak_keep.proofs.WaitingCards.{IsNextPage, next_page}
+use Rattle.ak_keep.specs.QueueWalks.{is_to_come, passed}
+use Rattle.ak_keep.specs.WaitingCards.{IsOneOf, IsWaitingPage, key_of, waits}
+use Rattle.ak_keep.specs.declared.queue_walks.QueueWalk.{QueueWalk}
+use Rattle.ak_queue.specs.Gathering.{ComesAfterEnough, Gathers, GathersOver}
 use Rattle.ak_queue.specs.Lists.{QueueView, due_key, new_key, is_learning, is_soon, is_day_learning, is_due_review}
 use Rattle.ak_queue.specs.Orders.{put_among, due_cmp, new_cmp}
 use Rattle.ak_queue.specs.declared.gathered.Gathered.{Gathered}
@@ -50,54 +52,107 @@ both_parts s xs ys a b c first then = record {
 pub no_part : (s : QueueView) (a : Gathered) → Gathers s [] a a
 no_part s a = record { most = refl; learning = refl; soon = refl; day_learning = refl; reviews = refl; new_cards = refl }
 
--- ---- rows
-abbrev pub cards_among : List Row → List Card
-cards_among rows = filter_map as_card rows
+-- ---- pages of a walk
+-- some cards of a walk were gathered, and those that are to come come after them
+pub record PassedSoFar (s : QueueView) (held : Card → Type 0) (over walk : QueueWalk) (old new : Gathered) : Type 0 where
+  pub passed : List Card
+  pub gathered : Gathers s passed old new
+  pub sound : AllByRecursion (λ c. held c × (is_to_come over c ≡ true)) passed
+  pub whole : (c : Card) → held c → is_to_come over c ≡ true → IsOneOf passed c ⊎ (is_to_come walk c ≡ true)
+  pub later : (c : Card) → is_to_come walk c ≡ true → (is_to_come over c ≡ true) × AllByRecursion (λ d. due_cmp (key_of d) (key_of c) ≡ Less) passed
 
-pub row_gathered : (s : QueueView) (row : Row) (front : List Row) (a b c : Gathered) → Gathers s (cards_among front) a b → Gathers s (cards_among (row ∷ [])) b c → Gathers s (cards_among (front ++ row ∷ [])) a c
-row_gathered s row front a b c first then = rw (filter_map-append as_card front (row ∷ [])) (both_parts s (cards_among front) (cards_among (row ∷ [])) a b c first then)
+pub all_both : (P : Card → Type 0) (xs ys : List Card) → AllByRecursion P xs → AllByRecursion P ys → AllByRecursion P (xs ++ ys)
+all_both P [] ys g h = h
+all_both P (x ∷ xs) ys g h = (g.0, all_both P xs ys g.1 h)
 
--- ---- pages
--- some cards were gathered since the first page, and these with those ahead are all
-pub record GathersAll (s : QueueView) (start walk : Walk) (a b : Gathered) (h : Holding) : Type 0 where
-  pub passed : List Row
-  pub gathered : Gathers s (cards_among passed) a b
-  pub split : ahead start h.rows ≡ passed ++ ahead walk h.rows
+pub one_of_first : (xs ys : List Card) (c : Card) → IsOneOf xs c → IsOneOf (xs ++ ys) c
+one_of_first [] ys c is = absurd is
+one_of_first (x ∷ xs) ys c (inl same) = inl same
+one_of_first (x ∷ xs) ys c (inr is) = inr (one_of_first xs ys c is)
 
-pub first_page_told : (told : Option (WithMark Holding)) (s : QueueView) (start : Walk) (a : Gathered) → IfSome told (λ w. GathersAll s start start a a w.current)
-first_page_told None s start a = tt
-first_page_told (Some w) s start a = record { passed = []; gathered = no_part s a; split = refl }
+pub one_of_second : (xs ys : List Card) (c : Card) → IsOneOf ys c → IsOneOf (xs ++ ys) c
+one_of_second [] ys c is = is
+one_of_second (x ∷ xs) ys c is = inr (one_of_second xs ys c is)
 
-next_page : (h : Holding) (s : QueueView) (start walk next : Walk) (a b c : Gathered) (page : List Row) → GathersAll s start walk a b h → ahead walk h.rows ≡ page ++ ahead next h.rows → Gathers s (cards_among page) b c
-    → GathersAll s start next a c h
-next_page h s start walk next a b c page so_far split step = record {
+none_passed : (s : QueueView) (held : Card → Type 0) (over : QueueWalk) (a : Gathered) → PassedSoFar s held over over a a
+none_passed s held over a = record { passed = []; gathered = no_part s a; sound = tt; whole = λ c one is. inr is; later = λ c is. (is, tt) }
+
+sound_before : (held : Card → Type 0) (over walk : QueueWalk) (page : List Card) → ((c : Card) → is_to_come walk c ≡ true → is_to_come over c ≡ true) → AllByRecursion (λ c. held c × (is_to_come walk c ≡ true)) page
+    → AllByRecursion (λ c. held c × (is_to_come over c ≡ true)) page
+sound_before held over walk [] back sound = tt
+sound_before held over walk (c ∷ page) back sound = ((sound.0.0, back c sound.0.1), sound_before held over walk page back sound.1)
+
+page_passed : (s : QueueView) (held : Card → Type 0) (over walk next : QueueWalk) (a b c : Gathered) (page : List Card) → PassedSoFar s held over walk a b → IsNextPage held walk next page → Gathers s page b c
+    → PassedSoFar s held over next a c
+page_passed s held over walk next a b c page so_far is step = record {
   passed = so_far.passed ++ page;
-  gathered = rw (filter_map-append as_card so_far.passed page) (both_parts s (cards_among so_far.passed) (cards_among page) a b c so_far.gathered step);
-  split = so_far.split ∙ ap (λ rows. so_far.passed ++ rows) split ∙ sym (append_assoc so_far.passed page (ahead next h.rows));
+  gathered = both_parts s so_far.passed page a b c so_far.gathered step;
+  sound = all_both (λ d. held d × (is_to_come over d ≡ true)) so_far.passed page so_far.sound (sound_before held over walk page (λ d ahead. (so_far.later d ahead).0) is.sound);
+  whole = λ d one ahead. once d one (so_far.whole d one ahead);
+  later = λ d ahead.
+      let here = is.later d ahead in
+      let before = so_far.later d here.0 in
+      (before.0, all_both (λ e. due_cmp (key_of e) (key_of d) ≡ Less) so_far.passed page before.1 here.1);
 }
+  where
+    then : (d : Card) → IsOneOf page d ⊎ (is_to_come next d ≡ true) → IsOneOf (so_far.passed ++ page) d ⊎ (is_to_come next d ≡ true)
+    then d (inl inside) = inl (one_of_second so_far.passed page d inside)
+    then d (inr ahead) = inr ahead
 
-pub page_told : (told : Option (WithMark Holding)) (s : QueueView) (start walk next : Walk) (a b c : Gathered) (page : List Row) → IfSome told (λ w. GathersAll s start walk a b w.current)
-    → IfSome told (λ w. ahead walk w.current.rows ≡ page ++ ahead next w.current.rows) → Gathers s (cards_among page) b c → IfSome told (λ w. GathersAll s start next a c w.current)
-page_told None s start walk next a b c page so_far split step = tt
-page_told (Some w) s start walk next a b c page so_far split step = next_page w.current s start walk next a b c page so_far split step
+    once : (d : Card) → held d → IsOneOf so_far.passed d ⊎ (is_to_come walk d ≡ true) → IsOneOf (so_far.passed ++ page) d ⊎ (is_to_come next d ≡ true)
+    once d one (inl inside) = inl (one_of_first so_far.passed page d inside)
+    once d one (inr ahead) = then d (is.whole d one ahead)
 
-from_none : (most : ℕ) (s : QueueView) (cards : List Card) (a b : Gathered) → HasNone most a → Gathers s cards a b → HasAllOf s cards b
-from_none most s cards a b none gathers = record {
-  learning = gathers.learning ∙ ap (λ ks. put_among due_cmp ks (filter_map (due_key is_learning s) cards)) none.learning;
-  soon = gathers.soon ∙ ap (λ ks. put_among due_cmp ks (filter_map (due_key is_soon s) cards)) none.soon;
-  day_learning = gathers.day_learning ∙ ap (λ ks. put_among due_cmp ks (filter_map (due_key is_day_learning s) cards)) none.day_learning;
-  reviews = subst (λ (n : ℕ). take n b.reviews.keys ≡ take n (put_among due_cmp [] (filter_map (due_key is_due_review s) cards))) (sym gathers.most)
-      (gathers.reviews ∙ ap (λ ks. take a.most (put_among due_cmp ks (filter_map (due_key is_due_review s) cards))) none.reviews);
-  new_cards = gathers.new_cards ∙ ap (λ ks. put_among new_cmp ks (filter_map (new_key s) cards)) none.new_cards;
+over_all : (s : QueueView) (held : Card → Type 0) (over walk : QueueWalk) (a b : Gathered) → walk.done ≡ true → PassedSoFar s held over walk a b → GathersOver s held over a b
+over_all s held over walk a b done so_far = record {
+  passed = so_far.passed;
+  gathered = so_far.gathered;
+  sound = so_far.sound;
+  whole = λ c one ahead. inside c (so_far.whole c one ahead);
 }
+  where
+    inside : (c : Card) → IsOneOf so_far.passed c ⊎ (is_to_come walk c ≡ true) → IsOneOf so_far.passed c ⊎ ComesAfterEnough over b so_far.passed c
+    inside c (inl is) = inl is
+    inside c (inr ahead) = absurd (true≢false (sym ahead ∙ ap (λ d. not d && waits walk.waiting c) done))
 
-whole : (most : ℕ) (h : Holding) (s : QueueView) (start walk : Walk) (a b : Gathered) → HasNone most a → walk.done ≡ true → GathersAll s start walk a b h → HasAllOf s (cards_among (ahead start h.rows)) b
-whole most h s start walk a b none done so_far =
-    let nothing_ahead : so_far.passed ++ ahead walk h.rows ≡ so_far.passed = ap (λ v. so_far.passed ++ cond v [] (rows_past walk.past.table walk.past.id h.rows)) done ∙ append-nil so_far.passed in
-    from_none most s (cards_among (ahead start h.rows)) a b none
-    (subst (λ (rows : List Row). Gathers s (cards_among rows) a b) (sym (so_far.split ∙ nothing_ahead)) so_far.gathered)
+over_enough : (s : QueueView) (held : Card → Type 0) (over walk : QueueWalk) (a b : Gathered) → over.waiting.queue ≡ pos 2 → b.most ≤ length b.reviews.keys → PassedSoFar s held over walk a b → GathersOver s held over a b
+over_enough s held over walk a b queue most so_far = record {
+  passed = so_far.passed;
+  gathered = so_far.gathered;
+  sound = so_far.sound;
+  whole = λ c one ahead. inside c (so_far.whole c one ahead);
+}
+  where
+    inside : (c : Card) → IsOneOf so_far.passed c ⊎ (is_to_come walk c ≡ true) → IsOneOf so_far.passed c ⊎ ComesAfterEnough over b so_far.passed c
+    inside c (inl is) = inl is
+    inside c (inr ahead) = inr (record { queue = queue; most = most; after = (so_far.later c ahead).1 })
 
-pub whole_told : (most : ℕ) (told : Option (WithMark Holding)) (s : QueueView) (start walk : Walk) (a b : Gathered) → HasNone most a → walk.done ≡ true → IfSome told (λ w. GathersAll s start walk a b w.current)
-    → IfSome told (λ w. HasAllOf s (cards_among (ahead start w.current.rows)) b)
-whole_told most None s start walk a b none done so_far = tt
-whole_told most (Some w) s start walk a b none done so_far = whole most w.current s start walk a b none done so_far
+-- the same where it is told what is held
+abbrev Told : Option (WithMark Holding) → ((Card → Type 0) → Type 0) → Type 0
+Told told P = IfSome told (λ w. P (IsOneOf (cards_in w.current.rows)))
+
+pub first_told : (told : Option (WithMark Holding)) (s : QueueView) (over : QueueWalk) (a : Gathered) → Told told (λ held. PassedSoFar s held over over a a)
+first_told None s over a = tt
+first_told (Some w) s over a = none_passed s (IsOneOf (cards_in w.current.rows)) over a
+
+pub next_told : (told : Option (WithMark Holding)) (s : QueueView) (over walk next : QueueWalk) (a b c : Gathered) (page : List Card) → Told told (λ held. PassedSoFar s held over walk a b) → Told told (λ held. IsNextPage held walk next page)
+    → Gathers s page b c → Told told (λ held. PassedSoFar s held over next a c)
+next_told None s over walk next a b c page so_far is step = tt
+next_told (Some w) s over walk next a b c page so_far is step = page_passed s (IsOneOf (cards_in w.current.rows)) over walk next a b c page so_far is step
+
+-- the page that a walk gives, as what is to come before and after it
+pub page_told : (told : Option (WithMark Holding)) (walk next : QueueWalk) (page : List Card) → walk.done ≡ false → next ≡ passed page walk → Told told (λ held. IsWaitingPage held walk.waiting 100 page)
+    → Told told (λ held. IsNextPage held walk next page)
+page_told None walk next page going is one = tt
+page_told (Some w) walk next page going is one =
+    let held = IsOneOf (cards_in w.current.rows) in
+    subst (λ (now : QueueWalk). IsNextPage held walk now page) (sym is) (next_page held walk page going one)
+
+pub all_told : (told : Option (WithMark Holding)) (s : QueueView) (over walk : QueueWalk) (a b : Gathered) → walk.done ≡ true → Told told (λ held. PassedSoFar s held over walk a b) → Told told (λ held. GathersOver s held over a b)
+all_told None s over walk a b done so_far = tt
+all_told (Some w) s over walk a b done so_far = over_all s (IsOneOf (cards_in w.current.rows)) over walk a b done so_far
+
+pub enough_told : (told : Option (WithMark Holding)) (s : QueueView) (over walk : QueueWalk) (a b : Gathered) → over.waiting.queue ≡ pos 2 → b.most ≤ length b.reviews.keys → Told told (λ held. PassedSoFar s held over walk a b)
+    → Told told (λ held. GathersOver s held over a b)
+enough_told None s over walk a b queue most so_far = tt
+enough_told (Some w) s over walk a b queue most so_far = over_enough s (IsOneOf (cards_in w.current.rows)) over walk a b queue most so_far

@@ -1,4 +1,5 @@
 pub mod Adding
+pub mod AllGathered
 pub mod Asking
 pub mod Assembled
 pub mod Burying

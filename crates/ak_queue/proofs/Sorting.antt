@@ -13,7 +13,7 @@ module _ {K : Type 0} (cmp : K → K → Ordering) (o : IsTotalOrder cmp) where
   below_all k x [] less all = tt
   below_all k x (y ∷ ys) less all = (o.trans k x y less all.0, below_all k x ys less all.1)
 
-  all_inserted : (P : K → Type 0) (xs : List K) (k : K) → AllByRecursion P xs → P k → AllByRecursion P (insert_key cmp xs k)
+  pub all_inserted : (P : K → Type 0) (xs : List K) (k : K) → AllByRecursion P xs → P k → AllByRecursion P (insert_key cmp xs k)
   all_inserted P [] k all one = (one, tt)
   all_inserted P (x ∷ xs) k all one =
       elim (cmp k x) as (λ r. AllByRecursion P (match_ordering r (k ∷ x ∷ xs) (x ∷ xs) (x ∷ insert_key cmp xs k))) [
@@ -32,11 +32,11 @@ module _ {K : Type 0} (cmp : K → K → Ordering) (o : IsTotalOrder cmp) where
         | Greater ↦ λ e. (all_inserted (λ y. cmp x y ≡ Less) xs k sorted.0 (o.antisymm x k ∙ ap ordering_reverse e), inserted_sorted xs k sorted.1)
       ] refl
 
-  put_sorted : (sorted keys : List K) → IsStrictlySortedBy cmp sorted → IsStrictlySortedBy cmp (put_among cmp sorted keys)
+  pub put_sorted : (sorted keys : List K) → IsStrictlySortedBy cmp sorted → IsStrictlySortedBy cmp (put_among cmp sorted keys)
   put_sorted sorted [] h = h
   put_sorted sorted (k ∷ keys) h = put_sorted (insert_key cmp sorted k) keys (inserted_sorted sorted k h)
 
-  order_ascends : (keys : List K) → IsStrictlySortedBy cmp (in_order cmp keys)
+  pub order_ascends : (keys : List K) → IsStrictlySortedBy cmp (in_order cmp keys)
   unfolding IsStrictlySortedBy
   order_ascends keys = put_sorted [] keys tt
 
@@ -64,7 +64,7 @@ module _ {K : Type 0} (cmp : K → K → Ordering) (exact : IsAntisymmetric cmp)
         | Greater ↦ λ e. ap (λ v. p x && v) (inserted_whole xs k) ∙ both_swap (p x) (p k) (list_all p xs)
       ] refl
 
-  put_whole : (sorted keys : List K) → list_all p (put_among cmp sorted keys) ≡ (list_all p sorted && list_all p keys)
+  pub put_whole : (sorted keys : List K) → list_all p (put_among cmp sorted keys) ≡ (list_all p sorted && list_all p keys)
   put_whole sorted [] = and_true (list_all p sorted)
     where
       and_true : (a : Bool) → a ≡ (a && true)
@@ -78,7 +78,7 @@ module _ {K : Type 0} (cmp : K → K → Ordering) (exact : IsAntisymmetric cmp)
 pub due_total : IsTotalOrder due_cmp
 due_total = then_total (on_total (λ (k : DueKey). k.0) int_cmp_total) (on_total (λ (k : DueKey). k.1) int_cmp_total)
 
-new_total : IsTotalOrder new_cmp
+pub new_total : IsTotalOrder new_cmp
 new_total = then_total (then_total (on_total (λ (k : NewKey). k.0) parts_total) (on_total (λ (k : NewKey). k.1) int_cmp_total)) (on_total (λ (k : NewKey). k.2) int_cmp_total)
 
 both_equal : (a b : Ordering) → ordering_then a b ≡ Equal → (a ≡ Equal) × (b ≡ Equal)
@@ -86,12 +86,12 @@ both_equal Less b h = absurd (cc)
 both_equal Equal b h = (refl, h)
 both_equal Greater b h = absurd (cc)
 
-due_exact : IsAntisymmetric due_cmp
+pub due_exact : IsAntisymmetric due_cmp
 due_exact x y h =
     let parts = both_equal (int_cmp x.0 y.0) (int_cmp x.1 y.1) h in
     λ i. (int_cmp-IsAntisymmetric x.0 y.0 parts.0 i, int_cmp-IsAntisymmetric x.1 y.1 parts.1 i)
 
-new_exact : IsAntisymmetric new_cmp
+pub new_exact : IsAntisymmetric new_cmp
 new_exact x y h =
     let last = both_equal (ordering_then (parts_cmp x.0 y.0) (int_cmp x.1 y.1)) (int_cmp x.2 y.2) h in
     let first = both_equal (parts_cmp x.0 y.0) (int_cmp x.1 y.1) last.0 in

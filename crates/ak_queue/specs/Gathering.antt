@@ -1,7 +1,11 @@
--- What one pass over the cards gathers.
-use Rattle.std.specs.Prelude.{◌≡◌, ℕ, Bool, if◌then◌else◌, List, [], ◌∷◌, take, Some}
-use Rattle.std.specs.List.{filter_map}
+-- What is gathered of the cards that wait.
+use Rattle.std.specs.Prelude.{◌≡◌, ◌⊎◌, ◌≤◌, ◌+ℤ◌, ℕ, ℤ, pos, Bool, true, int_lt, if◌then◌else◌, List, [], ◌∷◌, length, take, Option, Some}
+use Rattle.std.specs.List.{AllByRecursion, filter_map}
+use Rattle.std.specs.declared.cmp.Ordering.TheVariants.{Less}
 use Rattle.ak_base.specs.declared.cards.Card.{Card}
+use Rattle.ak_keep.specs.QueueWalks.{is_to_come}
+use Rattle.ak_keep.specs.WaitingCards.{IsOneOf, is_due_by, key_of}
+use Rattle.ak_keep.specs.declared.queue_walks.QueueWalk.{QueueWalk}
 use Rattle.ak_queue.specs.Homes.{Parts}
 use Rattle.ak_queue.specs.Lists.{QueueView, due_key, key_under, new_key, is_learning, is_soon, is_day_learning, is_due_review}
 use Rattle.ak_queue.specs.Orders.{DueKey, NewKey, put_among, due_cmp, new_cmp}
@@ -15,6 +19,24 @@ pub record Gathers (s : QueueView) (cards : List Card) (old new : Gathered) : Ty
   pub day_learning : new.day_learning.keys ≡ put_among due_cmp old.day_learning.keys (filter_map (due_key is_day_learning s) cards)
   pub reviews : take old.most new.reviews.keys ≡ take old.most (put_among due_cmp old.reviews.keys (filter_map (due_key is_due_review s) cards))
   pub new_cards : new.new_cards.keys ≡ put_among new_cmp old.new_cards.keys (filter_map (new_key s) cards)
+
+-- a card that is learned today is due by then, if it is due now or soon
+pub record IsLastLearning (s : QueueView) (last : Option ℤ) : Type 0 where
+  pub now : (due : ℤ) → int_lt due s.day.now ≡ true → is_due_by last due ≡ true
+  pub soon : (due : ℤ) → int_lt due (s.day.now +ℤ s.collapse) ≡ true → is_due_by last due ≡ true
+
+-- as many reviews as are looked for were gathered, and this card comes after all that were passed
+pub record ComesAfterEnough (over : QueueWalk) (g : Gathered) (passed : List Card) (c : Card) : Type 0 where
+  pub queue : over.waiting.queue ≡ pos 2
+  pub most : g.most ≤ length g.reviews.keys
+  pub after : AllByRecursion (λ d. due_cmp (key_of d) (key_of c) ≡ Less) passed
+
+-- cards that a walk goes over were gathered: all of them, or as many reviews as are looked for, and none is left out that comes before one that was passed
+pub record GathersOver (s : QueueView) (held : Card → Type 0) (over : QueueWalk) (old new : Gathered) : Type 0 where
+  pub passed : List Card
+  pub gathered : Gathers s passed old new
+  pub sound : AllByRecursion (λ c. held c × (is_to_come over c ≡ true)) passed
+  pub whole : (c : Card) → held c → is_to_come over c ≡ true → IsOneOf passed c ⊎ ComesAfterEnough over new passed c
 
 -- nothing was gathered yet, and so many reviews are looked for
 pub record HasNone (looked_for : ℕ) (g : Gathered) : Type 0 where

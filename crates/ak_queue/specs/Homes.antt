@@ -1,22 +1,15 @@
 -- The decks and the cards of a collection, and in which deck a card lies.
 use Rattle.std.specs.Prelude.{ℕ, ℤ, pos, Bool, false, if◌then◌else◌, List, [], ◌∷◌, Option, Some, None}
-use Rattle.std.specs.List.{filter_map}
 use Rattle.std.specs.Option.{option_or}
 use Rattle.std.specs.Ordering.{int_eq}
 use Rattle.ak_base.specs.Paths.{parts_of, are_first_parts}
 use Rattle.ak_base.specs.declared.cards.Card.{Card}
 use Rattle.ak_base.specs.declared.decks.Deck.{Deck}
-use Rattle.ak_base.specs.declared.names.Table.TheVariants as tables
-use Rattle.ak_keep.specs.Collections.{Rows, rows_past}
-use Rattle.ak_keep.specs.Lookups.{as_card}
+pub use Rattle.ak_keep.specs.Lookups.{cards_in}
 
 -- the parts of a deck's path, from the top
 abbrev pub Parts : Type 0
 Parts = List (List ℕ)
-
--- the cards that are held, by ascending id: an id is at least 1
-abbrev pub cards_in : Rows → List Card
-cards_in held = filter_map as_card (rows_past tables.Card (pos 0) held)
 
 -- the parts of the path of the deck of an id, if it is among the decks
 abbrev pub parts_at : List Deck → ℤ → Option Parts

@@ -6,18 +6,11 @@ use Rattle.std.specs.Cmp.Lexicographic.{slice_cmp, lists_total, nat_list_cmp_tot
 use Rattle.std.specs.Ordering.{nat_cmp, int_cmp, ordering_then}
 use Rattle.std.specs.declared.cmp.Ordering.{Ordering}
 use Rattle.ak_queue.specs.Homes.{Parts}
-
--- what waits: when it is due, and the card's id
-abbrev pub DueKey : Type 0
-DueKey = ℤ × ℤ
+pub use Rattle.ak_keep.specs.WaitingCards.{DueKey, due_cmp}
 
 -- a new card: the parts of its deck's path, its place among new cards, and its id
 abbrev pub NewKey : Type 0
 NewKey = Parts × ℤ × ℤ
-
--- by due, then by id
-abbrev pub due_cmp : DueKey → DueKey → Ordering
-due_cmp one other = ordering_then (int_cmp one.0 other.0) (int_cmp one.1 other.1)
 
 -- part by part, each by its bytes
 abbrev pub parts_cmp : Parts → Parts → Ordering

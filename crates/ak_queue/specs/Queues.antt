@@ -9,7 +9,7 @@ use Rattle.ak_base.specs.declared.heads.Head.{Head}
 use Rattle.ak_keep.specs.Collections.{Holding}
 use Rattle.ak_keep.specs.Lookups.{deck_at, decks_in}
 use Rattle.ak_queue.specs.Choices.{first_choice}
-use Rattle.ak_queue.specs.Homes.{Parts, cards_in, parts_at}
+use Rattle.ak_queue.specs.Homes.{cards_in, parts_at}
 use Rattle.ak_queue.specs.Limits.{all_limits, limits_of, most_reviews}
 use Rattle.ak_queue.specs.Lists.{QueueView, by_due, new_cards, is_learning, is_soon, is_day_learning, is_due_review}
 use Rattle.ak_queue.specs.Orders.{DueKey, NewKey}

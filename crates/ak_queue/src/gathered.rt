@@ -1,19 +1,17 @@
-// The cards that a day asks for, gathered in one pass over the cards.
-ghost use Rattle.std.specs.Prelude.{◌≡◌, ◌∷◌, [], map, take, true, IfOk, OnOk};
+// The cards that a day asks for, gathered from the queues in which they wait.
+ghost use Rattle.std.specs.Prelude.{◌≡◌, ◌≤◌, ◌∷◌, [], pos, map, length, take, true, IfOk, OnOk};
 ghost use Rattle.std.specs.BTreeSet.{insert_key};
-ghost use Rattle.std.specs.List.{filter_map};
-ghost use Rattle.ak_base.specs.declared.rows.Row.TheVariants as rows;
-ghost use Rattle.ak_keep.specs.Lookups.{as_card};
 ghost use Rattle.ak_keep.specs.Readings.{ReadsBy};
-ghost use Rattle.ak_queue.specs.Gathering.{Gathers, HasAllOf, HasNone, PutsDue, PutsFirst, PutsNew, PutsUnder};
+ghost use Rattle.ak_keep.specs.WaitingCards.{IsOneOf};
+ghost use Rattle.ak_queue.specs.Gathering.{Gathers, GathersOver, HasAllOf, HasNone, PutsDue, PutsFirst, PutsNew, PutsUnder};
 ghost use Rattle.ak_queue.specs.Homes.{cards_in};
 ghost use Rattle.ak_queue.specs.Orders.{due_cmp};
 ghost use Rattle.ak_queue.specs.Scopes.{scope_seen};
 
 use crate::paths::Path;
 use crate::scopes::Scope;
-use ak_base::{Card, List, Memory, Row, Table};
-use ak_keep::{KeepFault, Readable, Walk};
+use ak_base::{Card, List, Memory};
+use ak_keep::{KeepFault, QueueWalk, Readable};
 use std::alloc::Global;
 use std::cmp::Ordering;
 use std::collections::BTreeSet;
@@ -35,7 +33,7 @@ pub(crate) struct Gathered {
     pub(crate) new_cards: BTreeSet<(Path, i64, i64)>,
 }
 
-/// The cards that the day asks for, a page of cards at a time; of the reviews the first `most`.
+/// The cards that the day asks for, queue by queue; of the reviews the first `most`.
 pub(crate) fn gather<R: Readable>(
     scope: &Scope,
     most: u64,
@@ -45,12 +43,38 @@ pub(crate) fn gather<R: Readable>(
     ensures reads { ReadsBy R.Lookup from.old from.new result (λ h gathered. HasAllOf (scope_seen scope.now) (cards_in h.rows) gathered) }
 {
     let mut gathered = Gathered::new(scope.alloc, most);
-    let mut walk = Walk::over(Table::Card);
-    'pages: while !walk.is_done() {
-        let page = walk.next(from)?;
-        gathered.add_rows(scope, page.as_slice())?;
-    }
+    let today = Some(scope.day.number);
+    gather_over(
+        &mut gathered,
+        scope,
+        QueueWalk::over(1, scope.last_learning()),
+        from,
+    )?;
+    gather_over(&mut gathered, scope, QueueWalk::over(3, today), from)?;
+    gather_over(&mut gathered, scope, QueueWalk::over(0, None), from)?;
+    gather_over(&mut gathered, scope, QueueWalk::over(2, today), from)?;
     Ok(gathered)
+}
+
+/// Adds the cards that the walk goes over, a page at a time; of reviews no more pages than are looked for.
+fn gather_over<R: Readable>(
+    gathered: &mut Gathered,
+    scope: &Scope,
+    over: QueueWalk,
+    from: &mut R,
+) -> Result<(), KeepFault>
+    ensures most { OnOk result (gathered.new.most ≡ gathered.old.most) }
+    ensures reads { ReadsBy R.Lookup from.old from.new result (λ h _. GathersOver (scope_seen scope.now) (IsOneOf (cards_in h.rows)) over gathered.old gathered.new) }
+{
+    let mut walk = over;
+    'pages: while !walk.is_done() {
+        if gathered.has_enough(over.queue()) {
+            return Ok(());
+        }
+        let page = walk.next(from)?;
+        gathered.add_cards(scope, page.as_slice())?;
+    }
+    Ok(())
 }
 
 impl Gathered {
@@ -68,26 +92,24 @@ impl Gathered {
         }
     }
 
-    /// Adds the cards among the rows that the day asks for.
-    fn add_rows(&mut self, scope: &Scope, rows: &[Row]) -> Result<(), Memory>
-        ensures { OnOk result (Gathers (scope_seen scope.now) (filter_map as_card rows.now) self.old self.new) }
+    /// Adds those of the cards that the day asks for.
+    fn add_cards(&mut self, scope: &Scope, cards: &[Card]) -> Result<(), Memory>
+        ensures { OnOk result (Gathers (scope_seen scope.now) cards.now self.old self.new) }
     {
-        let mut rest = rows;
-        while let Some((row, others)) = rest.split_first() {
-            self.add_row(scope, row)?;
+        let mut rest = cards;
+        while let Some((card, others)) = rest.split_first() {
+            self.add_card(scope, card)?;
             rest = others;
         }
         Ok(())
     }
 
-    /// Adds the row, if it is a card that the day asks for.
-    fn add_row(&mut self, scope: &Scope, row: &Row) -> Result<(), Memory>
-        ensures { OnOk result (Gathers (scope_seen scope.now) (filter_map as_card (row.now ∷ [])) self.old self.new) }
+    /// Whether it is the queue of reviews, and as many were found as are looked for.
+    fn has_enough(&self, queue: i64) -> bool
+        ensures queue { result ≡ true → queue ≡ pos 2 }
+        ensures most { result ≡ true → self.now.most ≤ length self.now.reviews.keys }
     {
-        match row {
-            Row::Card(card) => self.add_card(scope, card),
-            _ => Ok(()),
-        }
+        queue == 2 && self.most <= self.reviews.len() as u64
     }
 
     /// Adds the card, if the day asks for it.

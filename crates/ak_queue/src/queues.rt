@@ -30,7 +30,8 @@ pub fn counts<R: Readable>(
     Ok(queue.counts())
 }
 
-/// The cards of the deck and its subtree that the day asks for, in one pass over the decks and one over the cards.
+/// The cards of the deck and its subtree that the day asks for, in one pass over the decks and one over the cards
+/// of every deck that wait in the queues of a day.
 pub fn queue_of<R: Readable>(
     alloc: Global,
     from: &mut R,

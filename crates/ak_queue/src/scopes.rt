@@ -1,6 +1,8 @@
 // What the lists of a day look at.
-ghost use Rattle.std.specs.Prelude.{◌≡◌, ◌+ℤ◌, int_lt};
+ghost use Rattle.std.specs.Prelude.{◌≡◌, ◌+ℤ◌, ℤ, true, int_lt};
 ghost use Rattle.std.specs.Option.{option_copied};
+ghost use Rattle.ak_keep.specs.WaitingCards.{is_due_by};
+ghost use Rattle.ak_queue.specs.Gathering.{IsLastLearning};
 ghost use Rattle.ak_queue.specs.Homes.{path_of_card, leads_to};
 ghost use Rattle.ak_queue.specs.Lists.{is_inside, is_learning, is_soon, is_day_learning, is_due_review, is_new, has_come};
 ghost use Rattle.ak_queue.specs.Scopes.{scope_seen};
@@ -67,6 +69,13 @@ impl Scope {
             && is_before_sum(card.due, self.day.now, self.collapse)
     }
 
+    /// No card that is learned today comes later than this, neither now nor soon; None if any may.
+    pub(crate) fn last_learning(&self) -> Option<i64>
+        ensures { IsLastLearning (scope_seen self.now) result }
+    {
+        last_of_sum(self.day.now, self.collapse)
+    }
+
     /// Whether a card is learned over days, and the day of its step has come.
     pub(crate) fn is_day_learning(&self, card: &Card) -> bool
         ensures { result ≡ is_day_learning (scope_seen self.now) card.now }
@@ -98,4 +107,15 @@ fn is_before_sum(number: i64, one: i64, other: i64) -> bool
         // Past the last number all come before the sum, and before the first none do.
         None => one > 0,
     }
+}
+
+/// At least each number that is below the first or below the sum; None if the sum is out of range.
+fn last_of_sum(one: i64, other: i64) -> Option<i64>
+    ensures one { (number : ℤ) → int_lt number one ≡ true → is_due_by result number ≡ true }
+    ensures sum { (number : ℤ) → int_lt number (one +ℤ other) ≡ true → is_due_by result number ≡ true }
+{
+    if other <= 0 {
+        return Some(one);
+    }
+    one.checked_add(other)
 }

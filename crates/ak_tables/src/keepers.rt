@@ -1,9 +1,10 @@
 ghost use Rattle.std.specs.Prelude.{◌≡◌, ◌⊎◌, ◌<◌, ◌≤◌, ◌≤ℤ◌, ◌^◌, pos, true, false, [], None, is_some, option_map, length, map, Err, IfOk, IfSome, OnOk, OnErr};
 ghost use Rattle.std.specs.FinMap as finite;
-ghost use Rattle.std.specs.List.{All, IsDistinct};
+ghost use Rattle.std.specs.List.{All, AllByRecursion, IsDistinct};
 ghost use Rattle.std.specs.List.Sorted.{IsStrictlySortedBy};
 ghost use Rattle.std.specs.Ordering.{eq_by_cmp, int_cmp};
 ghost use Rattle.std.specs.Result.{IsErrOf};
+ghost use Rattle.ak_base.specs.Cards.{IsCheckedCard};
 ghost use Rattle.ak_base.specs.Heads.{AreMomentsInRange, IsHeadInRange};
 ghost use Rattle.ak_base.specs.Names.{name_cmp};
 ghost use Rattle.ak_base.specs.Rows.{IsChecked, name_of, stamp_of};
@@ -11,15 +12,17 @@ ghost use Rattle.ak_keep.specs.Collections.{AscendsPast, Holding, IsId, IsPageOf
 ghost use Rattle.ak_keep.specs.FreeNames.{IsFirstFree, IsFoundFrom, is_used};
 ghost use Rattle.ak_keep.specs.HeadNumbers.{AreNumbersInRange, numbers_of};
 ghost use Rattle.ak_keep.specs.Keepers.{IsRightlyKnown, KeepCause, all_known, is_marked};
+ghost use Rattle.ak_keep.specs.Lookups.{cards_in};
 ghost use Rattle.ak_keep.specs.Marks as marks;
+ghost use Rattle.ak_keep.specs.WaitingCards.{AscendsAfter, IsOneOf, IsWaitingPage, waits};
 ghost use Rattle.ak_keep.specs.declared.keepers.KeepFault.TheVariants.{Failed, Memory as WantOfMemory};
 ghost use Rattle.ak_tables.specs.Tables.{Covers, CrashLeaves, LeavesNow, last_kept, with_kept};
 
 use crate::loads::memory_of;
 use crate::tables::{OpenTables, Tables};
 use crate::touched::Touched;
-use ak_base::{Head, List, Memory, Name, Row, Table};
-use ak_keep::{KeepFault, Keeper, Lookup, Numbers, Readable, Wanted};
+use ak_base::{Card, Head, List, Memory, Name, Row, Table};
+use ak_keep::{KeepFault, Keeper, Lookup, Numbers, Readable, Waiting, Wanted};
 use ak_memory::MemoryKeeper;
 use std::alloc::Global;
 use std::marker::Model;
@@ -204,6 +207,21 @@ impl<T: Tables> Readable for TableKeeper<T> {
         ensures cause { KeepCause (T.health self.old.tables) (T.health self.new.tables) result }
     {
         self.memory.page(table, past, limit)
+    }
+
+    fn waiting(&mut self, waiting: Waiting, limit: usize) -> Result<List<Card>, KeepFault>
+        requires low { 0 < limit }
+        requires high { limit ≤ 1000 }
+        ensures page { IfOk result (λ page. IsWaitingPage (IsOneOf (cards_in self.old.kept.current.rows)) waiting limit page) }
+        ensures fits { IfOk result (λ page. length page ≤ limit) }
+        ensures asked { IfOk result (λ page. AllByRecursion (λ c. waits waiting c ≡ true) page) }
+        ensures ascends { IfOk result (λ page. AscendsAfter waiting.past page) }
+        ensures checked { IfOk result (λ page. All IsCheckedCard page) }
+        ensures state { self.new ≡ self.old }
+        ensures unfailing { IsErrOf result Failed → ⊥ }
+        ensures cause { KeepCause (T.health self.old.tables) (T.health self.new.tables) result }
+    {
+        self.memory.waiting(waiting, limit)
     }
 
     fn count(&mut self, table: Table) -> Result<u64, KeepFault>

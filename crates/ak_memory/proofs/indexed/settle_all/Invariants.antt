@@ -8,7 +8,7 @@ use Rattle.ak_memory.proofs.indexed.settle_all.Given as goal
 -- to settle what is left makes of the places what it makes to settle all
 abbrev pub invariant-loop-name : goal.invariant-loop-name
 invariant-loop-name l = record {
-  keys : HaveAllKeys l.cards.keys l.places.entries;
+  keys : HaveAllKeys l.cards l.places.entries;
   rows : (each : Version) (q : Name)
       → cond (is_among (drop l.name-index l.names) q) (row_under l.version l.places.entries q) (row_under each l.places.entries q)
       ≡ cond (is_among l.names q) (row_under l.version l.fn.places.entries q) (row_under each l.fn.places.entries q);

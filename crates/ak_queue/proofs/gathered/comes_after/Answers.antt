@@ -1,4 +1,4 @@
-use Rattle.std.proofs.Common.{◌≡◌, ◌==◌, true, Ordering, Less, Equal, Greater, rules, arith, refl, sym, ◌∙◌, true≢false}
+use Rattle.std.proofs.Common.{◌≡◌, ◌==◌, true, Ordering, Less, Equal, Greater, arith, refl, sym, ◌∙◌, true≢false}
 use Rattle.std.specs.Ordering.{ordering_index}
 use Rattle.ak_queue.proofs.FirstKeys.{left_out}
 use Rattle.ak_queue.proofs.Sorting.{due_total}

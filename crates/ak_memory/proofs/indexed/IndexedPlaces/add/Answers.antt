@@ -1,17 +1,18 @@
-use Rattle.std.proofs.Common.{◌≡◌, ◌^◌, true, None, Some, List, refl, sym, ap, subst, ◌∙◌, arith}
+use Rattle.std.proofs.Common.{◌≡◌, ◌^◌, true, false, is_some, None, Option, Some, IfSome, List, refl, sym, ap, subst, ◌∙◌, arith}
 use Rattle.std.specs.BTreeMap.{BTreeMap}
 use Rattle.std.specs.FinMap.{insert}
 use Rattle.ak_base.specs.Rows.{name_of}
 use Rattle.ak_base.specs.declared.names.Name.{Name}
 use Rattle.ak_base.specs.declared.rows.Row.{Row}
+use Rattle.ak_memory.specs.CardKeys.{HasKeys}
 use Rattle.ak_memory.specs.HeldRows.{held_row}
 use Rattle.ak_memory.specs.Indexes.{AreNoted, HaveAllKeys, IsCounted, rows_of}
-use Rattle.ak_memory.specs.NoteKeys.{is_note}
 use Rattle.ak_memory.specs.Places.{AreFull, place_under, row_under, rows_at, unchanged_count}
 use Rattle.ak_memory.specs.TakenRuns.{AreRuns, is_used_under}
+use Rattle.ak_memory.specs.declared.held_rows.FoundBy.{FoundBy}
 use Rattle.ak_memory.specs.declared.places.Place.{Place}
 use Rattle.ak_memory.specs.declared.versions.Version.TheVariants.{Mark, Now}
-use Rattle.ak_memory.proofs.Counting.{counted-added, counts-fit, unchanged-few}
+use Rattle.ak_memory.proofs.Counting.{counted-after, counts-fit, unchanged-few}
 use Rattle.ak_memory.proofs.Keys.{keys-with}
 use Rattle.ak_memory.proofs.RowsUnder.{no_place, rows_at-with}
 use Rattle.ak_memory.proofs.Settling.{noted-added}
@@ -26,7 +27,7 @@ returns-in_err-add_same-clause-indexed c =
     record {
       current = subst (λ (es : List (Name × Place)). IsCounted now.counts (rows_at Now es)) same made.current;
       mark = subst (λ (es : List (Name × Place)). IsCounted now.mark_counts (rows_at Mark es)) same made.mark;
-      keys = subst (λ (es : List (Name × Place)). HaveAllKeys now.cards.keys es) same made.keys;
+      keys = subst (λ (es : List (Name × Place)). HaveAllKeys now.cards es) same made.keys;
       noted = subst (λ (es : List (Name × Place)). AreNoted now.noted.items es) same made.noted;
       full = subst AreFull same made.full;
       room = let count = ap unchanged_count same in omega (arith, count, made.room);
@@ -56,10 +57,10 @@ returns-clause-indexed c =
     ap (λ (places : BTreeMap Name Place). place_under places.entries name) c.make_room.ensures.places ∙ ap (place_under c.args.self.now.places.entries) c.name-name.ensures ∙ c.requires.free in
     let named : name_of row ≡ name = ap name_of c.in_ok-row.ensures ∙ sym c.name-name.ensures in
     record {
-      current = counted-added now.counts c.count_change.new.counts Now es fs name row (rows Now) (no_place Now es name none) named made.current c.count_change.array_long.0 c.count_change.ensures;
-      mark = counted-added now.mark_counts c.count_change-2.new.counts Mark es fs name row (rows Mark) (no_place Mark es name none) named made.mark c.count_change-2.array_long.1 c.count_change-2.ensures;
-      keys = λ v. keys-with now.cards.keys (row_under v es) (row_under v fs) name (Some row) (rows v)
-          (λ n is. c.in_ok-make_room.ensures.key n (ap (is_note n) c.note.ensures ∙ is)) (made.keys v);
+      current = counted-after now.counts c.count_change.new.counts Now es fs name (Some row) false true (rows Now) (sym (ap is_some (no_place Now es name none))) refl named made.current c.count_change.ensures;
+      mark = counted-after now.mark_counts c.count_change-2.new.counts Mark es fs name (Some row) false true (rows Mark) (sym (ap is_some (no_place Mark es name none))) refl named made.mark c.count_change-2.ensures;
+      keys = λ v. keys-with now.cards (row_under v es) (row_under v fs) name (Some row) (rows v)
+          (subst (λ (o : Option FoundBy). IfSome o (λ (card : FoundBy). HasKeys now.cards card name)) c.found_by.ensures c.in_ok-make_room.ensures.keys) (made.keys v);
       noted = noted-added now.noted.items es fs name c.in_ok-add_same.ensures.changed made.noted;
       full = c.in_ok-add_same.ensures.full made.full;
       room = omega (arith, c.in_ok-make_room.ensures.room, c.in_ok-add_same.ensures.len, unchanged-few fs);

@@ -1,13 +1,18 @@
-use Rattle.std.proofs.Common.{List, Option, is_some, ◌<◌, ◌^◌, length, sym, ap, subst, ◌∙◌, arith}
+use Rattle.std.proofs.Common.{List, Option, IfSome, is_some, ◌<◌, ◌^◌, length, sym, ap, subst, ◌∙◌, arith}
+use Rattle.std.specs.Option.{option_and_then}
 use Rattle.ak_base.specs.declared.names.Name.{Name}
 use Rattle.ak_base.specs.declared.rows.Row.{Row}
 use Rattle.ak_memory.specs.declared.places.Place.{Place}
 use Rattle.ak_memory.specs.declared.versions.Version.TheVariants.{Mark, Now}
+use Rattle.ak_memory.specs.CardKeys.{AreForgotten}
+use Rattle.ak_memory.specs.FoundBy.{found_by}
+use Rattle.ak_memory.specs.declared.card_keys.CardKeys.{CardKeys}
+use Rattle.ak_memory.specs.declared.held_rows.FoundBy.{FoundBy}
 use Rattle.ak_memory.specs.Indexes.{AreNoted, HaveAllKeys, IsCounted}
 use Rattle.ak_memory.specs.HeldRows.{row_in}
-use Rattle.ak_memory.specs.Places.{AreFull, row_under, rows_at, unchanged_count, with_under}
+use Rattle.ak_memory.specs.Places.{AreFull, found_under, row_under, rows_at, unchanged_count, with_under}
 use Rattle.ak_memory.specs.TakenRuns.{AreRuns, is_used_under}
-use Rattle.ak_memory.proofs.Counting.{counts-fit, counts-held, counts-with, named-with, some_in}
+use Rattle.ak_memory.proofs.Counting.{counted-after, counts-fit, counts-held, some_in}
 use Rattle.ak_memory.proofs.Keys.{keys-held}
 use Rattle.ak_memory.proofs.RowsUnder.{get-rows_at, no_place, rows_at-same, rows_at-with, with_none}
 use Rattle.ak_memory.proofs.Settling.{noted-change}
@@ -21,7 +26,7 @@ returns-in_default-clause-indexed c =
     record {
       current = subst (λ (es : List (Name × Place)). IsCounted c.args.self.now.counts (rows_at Now es)) same was.current;
       mark = subst (λ (es : List (Name × Place)). IsCounted c.args.self.now.mark_counts (rows_at Mark es)) same was.mark;
-      keys = subst (λ (es : List (Name × Place)). HaveAllKeys c.args.self.now.cards.keys es) same was.keys;
+      keys = subst (λ (es : List (Name × Place)). HaveAllKeys c.args.self.now.cards es) same was.keys;
       noted = subst (λ (es : List (Name × Place)). AreNoted c.args.self.now.noted.items es) same was.noted;
       full = subst AreFull same was.full;
       room = let count = ap unchanged_count same in omega (arith, count, was.room);
@@ -46,9 +51,9 @@ count_change-requires-clause-some c = λ held.
     counts-held c.args.self.now.counts (rows_at Now c.args.self.now.places.entries) c.args.name c.requires.indexed.current.counts
     (ap is_some (get-rows_at Now c.args.self.now.places.entries c.args.name) ∙ sym c.in-Some.ensures.held ∙ held)
 
-pub forget_key-requires : goal.forget_key-requires
-forget_key-requires c =
-    keys-held c.args.self.now.cards.keys c.args.self.now.places.entries c.hold_under.new.places.entries c.args.name (row_in c.args.row) c.in-Some.ensures.now c.in-Some.ensures.mark c.requires.key c.requires.indexed.keys
+pub forget-requires : goal.forget-requires
+forget-requires c =
+    keys-held c.args.self.now.cards c.args.self.now.places.entries c.hold_under.new.places.entries c.args.name (row_in c.args.row) c.in-Some.ensures.now c.in-Some.ensures.mark c.requires.keys c.requires.indexed.keys
 
 pub returns-clause-indexed : goal.returns-clause-indexed
 returns-clause-indexed c =
@@ -58,14 +63,10 @@ returns-clause-indexed c =
     let name = c.args.name in
     let o = row_in c.args.row in
     record {
-      current = subst (IsCounted c.count_change.new.counts) (sym (rows_at-with Now es fs name o c.in-Some.ensures.now))
-          (record {
-            counts = counts-with c.args.self.now.counts c.count_change.new.counts (rows_at Now es) name o c.in-Some.change.held c.is_some-holds.result was.current.counts
-                (c.in-Some.ensures.held ∙ ap is_some (sym (get-rows_at Now es name))) (c.is_some-holds.ensures ∙ some_in c.args.row) c.count_change.array_long.0 c.count_change.ensures;
-            named = named-with name o (rows_at Now es) was.current.named c.requires.named;
-          });
+      current = counted-after c.args.self.now.counts c.count_change.new.counts Now es fs name o c.in-Some.change.held c.is_some-holds.result c.in-Some.ensures.now c.in-Some.ensures.held
+          (c.is_some-holds.ensures ∙ some_in c.args.row) c.requires.named was.current c.count_change.ensures;
       mark = subst (IsCounted c.args.self.now.mark_counts) (sym (rows_at-same Mark Mark es fs c.in-Some.ensures.mark)) was.mark;
-      keys = c.forget_key.ensures.all;
+      keys = c.forget.ensures.all;
       noted = noted-change c.args.self.now.noted.items c.note_change.new.noted.items es fs name c.in-Some.change.first c.in-Some.ensures.changed was.noted c.in-Some.ensures.first c.note_change.ensures.names;
       full = c.in-Some.ensures.full was.full;
       room = omega (arith, was.room, c.in-Some.ensures.count, c.note_change.ensures.len, c.note_change.ensures.capacity);
@@ -78,3 +79,16 @@ returns-clause-now c = rows_at-with Now c.args.self.now.places.entries c.hold_un
 
 pub returns-clause-mark : goal.returns-clause-mark
 returns-clause-mark c = rows_at-same Mark Mark c.args.self.now.places.entries c.hold_under.new.places.entries c.in-Some.ensures.mark
+
+-- the keys of this card are gone, if there is a card
+abbrev KeysGone : CardKeys → List (Name × Place) → Name → Option FoundBy → Type 0
+KeysGone keys es name was = IfSome was (λ card. AreForgotten keys (found_under Now es name) (found_under Mark es name) card name)
+
+pub returns-in_default-clause-gone : goal.returns-in_default-clause-gone
+returns-in_default-clause-gone c =
+    let es = c.args.self.now.places.entries in
+    let none = ap (option_and_then found_by) (no_place Now es c.args.name (c.hold_under.ensures.none c.in_default.is)) in
+    subst (KeysGone c.args.self.now.cards c.hold_under.new.places.entries c.args.name) (sym none) tt
+
+pub returns-clause-gone : goal.returns-clause-gone
+returns-clause-gone c = subst (KeysGone c.forget.new.self c.hold_under.new.places.entries c.args.name) c.in-Some.ensures.card c.forget.ensures.gone

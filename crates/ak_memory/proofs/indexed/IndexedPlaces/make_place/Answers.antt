@@ -1,4 +1,4 @@
-use Rattle.std.proofs.Common.{List, sym, ap, subst, ◌∙◌, arith}
+use Rattle.std.proofs.Common.{List, sym, ap, subst, arith}
 use Rattle.ak_base.specs.declared.names.Name.{Name}
 use Rattle.ak_memory.specs.declared.places.Place.{Place}
 use Rattle.ak_memory.specs.declared.versions.Version.TheVariants.{Mark, Now}
@@ -18,7 +18,7 @@ returns-in_err-add_place-clause-indexed c =
     record {
       current = subst (λ (es : List (Name × Place)). IsCounted c.args.self.now.counts (rows_at Now es)) same c.requires.indexed.current;
       mark = subst (λ (es : List (Name × Place)). IsCounted c.args.self.now.mark_counts (rows_at Mark es)) same c.requires.indexed.mark;
-      keys = subst (λ (es : List (Name × Place)). HaveAllKeys c.args.self.now.cards.keys es) same c.requires.indexed.keys;
+      keys = subst (λ (es : List (Name × Place)). HaveAllKeys c.args.self.now.cards es) same c.requires.indexed.keys;
       noted = subst (λ (es : List (Name × Place)). AreNoted c.args.self.now.noted.items es) same c.requires.indexed.noted;
       full = subst AreFull same c.requires.indexed.full;
       room = let count = ap unchanged_count same in omega (arith, count, c.requires.indexed.room);
@@ -33,7 +33,7 @@ returns-clause-indexed c =
     record {
       current = subst (IsCounted c.args.self.now.counts) (sym (rows_at-same Now Now es fs (rows Now))) c.requires.indexed.current;
       mark = subst (IsCounted c.args.self.now.mark_counts) (sym (rows_at-same Mark Mark es fs (rows Mark))) c.requires.indexed.mark;
-      keys = keys-same c.args.self.now.cards.keys es fs rows c.requires.indexed.keys;
+      keys = keys-same c.args.self.now.cards es fs rows c.requires.indexed.keys;
       noted = subst (λ (ns : List Name). AreNoted ns fs) (sym c.push_reserved.ensures.items)
           (noted-more c.args.self.now.noted.items es fs c.args.name c.in_ok-add_place.ensures.changed c.requires.indexed.noted);
       full = c.in_ok-add_place.ensures.full c.requires.indexed.full;

@@ -8,6 +8,7 @@ use Rattle.ak_memory.specs.TakenRuns.{AreRuns, is_used_under}
 use Rattle.ak_memory.specs.declared.taken_runs.TakenRuns.{TakenRuns}
 use Rattle.ak_memory.proofs.Counting.{counted-none}
 use Rattle.ak_memory.proofs.TakenRuns.{no_runs-are}
+use Rattle.std.proofs.lemmas.Option.{none-some}
 use Rattle.ak_memory.proofs.indexed.IndexedPlaces.new.Goals as goal
 
 pub returns-clause-indexed : goal.returns-clause-indexed
@@ -16,7 +17,7 @@ returns-clause-indexed c =
     record {
       current = subst (λ (es : List (Name × Place)). IsCounted (0 ∷ 0 ∷ 0 ∷ 0 ∷ 0 ∷ 0 ∷ 0 ∷ 0 ∷ 0 ∷ []) (rows_at Now es)) none counted-none;
       mark = subst (λ (es : List (Name × Place)). IsCounted (0 ∷ 0 ∷ 0 ∷ 0 ∷ 0 ∷ 0 ∷ 0 ∷ 0 ∷ 0 ∷ []) (rows_at Mark es)) none counted-none;
-      keys = subst (λ (es : List (Name × Place)). HaveAllKeys c.new-2.result.keys es) none (λ version note q is. absurd (subst T (sym is) tt));
+      keys = subst (λ (es : List (Name × Place)). HaveAllKeys c.new-2.result es) none (λ version name card is. absurd (none-some card is));
       noted = subst (λ (es : List (Name × Place)). AreNoted c.new-3.result.items es) none (λ q is. absurd (subst T (sym is) tt));
       full = subst (λ (es : List (Name × Place)). AreFull es) none (λ q. refl);
       room = let few = ap unchanged_count c.new.ensures.empty in omega (arith, c.new-3.ensures.len, few);
