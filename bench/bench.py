@@ -40,7 +40,7 @@ IN_PYTHON = os.path.join(HERE, "in_python.py")
 PROGRAM, PYTHON, SHELL = "anki", "Python", "sqlite3"
 DAY = 192
 # How many times each work is done in a process, so that the noise of two openings is little beside it.
-DAYS, OF_FINDS, OF_LOOKS, OF_PAGES, OF_CHECKS = 10, 5, 1_000, 20_000, 5
+DAYS, OF_FINDS, OF_LOOKS, OF_PAGES, OF_CHECKS = 10, 5, 20_000, 20_000, 50
 A_DAY = "a day of answers, a commit each"
 PARTS = ("", "-wal", "-shm", "-journal")
 # What a process of one side took: processor time and time in seconds, and memory in MB at its peak.
