@@ -68,13 +68,13 @@ all_mapped : {X : Type 0} (P Q : X → Type 0) → ((x : X) → P x → Q x) →
 all_mapped P Q step [] h = tt
 all_mapped P Q step (x ∷ xs) h = (step x h.0, all_mapped P Q step xs h.1)
 
-not_full : (n : ℕ) → nat_lt n 100 ≡ true → n ≡ 100 → ⊥
-not_full n few full = true≢false (sym few ∙ ap (λ m. nat_lt m 100) full)
+not_full : (n limit : ℕ) → nat_lt n limit ≡ true → n ≡ limit → ⊥
+not_full n limit few full = absurd (grind (arith, few, full))
 
-pub next_page : (held : Card → Type 0) (was : QueueWalk) (page : List Card) → was.done ≡ false → IsWaitingPage held was.waiting 100 page → IsNextPage held was (passed page was) page
-next_page held was page going h =
+pub next_page : (held : Card → Type 0) (was : QueueWalk) (limit : ℕ) (page : List Card) → was.done ≡ false → IsWaitingPage held was.waiting limit page → IsNextPage held was (passed limit page was) page
+next_page held was limit page going h =
     let sound = all_mapped (λ c. held c × (waits was.waiting c ≡ true)) (λ c. held c × (is_to_come was c ≡ true)) (λ c one. (one.0, to_come was c going one.1)) page h.sound in
-    elim (nat_lt (length page) 100) as (λ b. nat_lt (length page) 100 ≡ b
+    elim (nat_lt (length page) limit) as (λ b. nat_lt (length page) limit ≡ b
     → IsNextPage held was (if b then record was { done = true } else record was { waiting = record was.waiting { past = last_place was.waiting.past page } }) page) [
       | true ↦ λ few. record {
         sound = sound;
@@ -88,12 +88,12 @@ next_page held was page going h =
       }
     ] refl
   where
-    short_page : (c : Card) → IsOneOf page c ⊎ ((length page ≡ 100) × (comes_after (last_place was.waiting.past page) (key_of c) ≡ true)) → nat_lt (length page) 100 ≡ true
+    short_page : (c : Card) → IsOneOf page c ⊎ ((length page ≡ limit) × (comes_after (last_place was.waiting.past page) (key_of c) ≡ true)) → nat_lt (length page) limit ≡ true
         → IsOneOf page c ⊎ (is_to_come (record was { done = true }) c ≡ true)
     short_page c (inl inside) few = inl inside
-    short_page c (inr after) few = absurd (not_full (length page) few after.0)
+    short_page c (inr after) few = absurd (not_full (length page) limit few after.0)
 
-    full_page : (c : Card) → waits was.waiting c ≡ true → IsOneOf page c ⊎ ((length page ≡ 100) × (comes_after (last_place was.waiting.past page) (key_of c) ≡ true))
+    full_page : (c : Card) → waits was.waiting c ≡ true → IsOneOf page c ⊎ ((length page ≡ limit) × (comes_after (last_place was.waiting.past page) (key_of c) ≡ true))
         → IsOneOf page c ⊎ (is_to_come (record was { waiting = record was.waiting { past = last_place was.waiting.past page } }) c ≡ true)
     full_page c is (inl inside) = inl inside
     full_page c is (inr after) = inr (to_come (record was { waiting = record was.waiting { past = last_place was.waiting.past page } }) c going

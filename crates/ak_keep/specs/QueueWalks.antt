@@ -9,10 +9,10 @@ use Rattle.ak_keep.specs.declared.queue_walks.QueueWalk.{QueueWalk}
 abbrev pub is_to_come : QueueWalk → Card → Bool
 is_to_come walk c = not walk.done && waits walk.waiting c
 
--- the walk past some cards: it ends with fewer of them than a page has room for
-abbrev pub passed : List Card → QueueWalk → QueueWalk
-passed cards walk =
-    if nat_lt (length cards) 100 then record walk { done = true }
+-- the walk past the cards of a page: it ends with fewer of them than the page has room for
+abbrev pub passed : ℕ → List Card → QueueWalk → QueueWalk
+passed limit cards walk =
+    if nat_lt (length cards) limit then record walk { done = true }
     else record walk { waiting = record walk.waiting { past = last_place walk.waiting.past cards } }
 
 -- at most this many places come after one

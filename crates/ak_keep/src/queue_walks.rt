@@ -10,9 +10,6 @@ use crate::keepers::KeepFault;
 use crate::readables::Readable;
 use ak_base::{Card, List};
 
-/// How many cards are read at a time.
-const CARDS: usize = 100;
-
 /// Which cards of a queue are asked for.
 #[derive(Clone, Copy, Debug)]
 pub struct Waiting {
@@ -61,29 +58,32 @@ impl QueueWalk {
         self.done
     }
 
-    /// The next page, of 100 cards; the last has fewer, and may be empty. A refused call leaves the walk as it was.
-    pub fn next<R: Readable>(&mut self, from: &mut R) -> Result<List<Card>, KeepFault>
-        requires { self.old.done ≡ false }
-        ensures reads { ReadsBy R.Lookup from.old from.new result (λ h page. IsWaitingPage (IsOneOf (cards_in h.rows)) self.old.waiting 100 page) }
-        ensures passed { IfOk result (λ page. self.new ≡ passed page self.old) }
-        ensures fits { IfOk result (λ page. length page ≤ 100) }
+    /// The next page, of `limit` cards; the last has fewer, and may be empty. A refused call leaves the walk as it was.
+    pub fn next<R: Readable>(&mut self, from: &mut R, limit: usize) -> Result<List<Card>, KeepFault>
+        requires going { self.old.done ≡ false }
+        requires low { 0 < limit }
+        requires high { limit ≤ 1000 }
+        ensures reads { ReadsBy R.Lookup from.old from.new result (λ h page. IsWaitingPage (IsOneOf (cards_in h.rows)) self.old.waiting limit page) }
+        ensures passed { IfOk result (λ page. self.new ≡ passed limit page self.old) }
+        ensures fits { IfOk result (λ page. length page ≤ limit) }
         ensures asked { IfOk result (λ page. AllByRecursion (λ c. waits self.old.waiting c ≡ true) page) }
         ensures ascends { IfOk result (λ page. AscendsAfter self.old.waiting.past page) }
         ensures checked { R.checks ≡ true → IfOk result (λ page. All IsCheckedCard page) }
         ensures shorter { OnOk result (most_pages self.new < most_pages self.old) }
         ensures err { OnErr result (self.new ≡ self.old) }
     {
-        let page = from.waiting(self.waiting, CARDS)?;
-        self.pass(page.as_slice());
+        let page = from.waiting(self.waiting, limit)?;
+        self.pass(page.as_slice(), limit);
         Ok(page)
     }
 
-    /// Goes past the cards of a page.
-    fn pass(&mut self, cards: &[Card])
-        ensures passed { self.new ≡ passed cards.now self.old }
+    /// Goes past the cards of a page that has room for `limit`.
+    fn pass(&mut self, cards: &[Card], limit: usize)
+        requires { 0 < limit }
+        ensures passed { self.new ≡ passed limit cards.now self.old }
         ensures shorter { self.old.done ≡ false → AscendsAfter self.old.waiting.past cards.now → most_pages self.new < most_pages self.old }
     {
-        if cards.len() < CARDS {
+        if cards.len() < limit {
             self.done = true;
         } else {
             self.go_past(cards);

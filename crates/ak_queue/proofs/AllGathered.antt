@@ -1,5 +1,6 @@
 -- What was gathered of the queues is all that the day asks for.
-use Rattle.std.proofs.Common.{◌≡◌, ◌≤◌, ◌⊎◌, ◌&&◌, ◌||◌, ◌+ℤ◌, ℕ, ℤ, zero, suc, pos, not, Bool, true, false, cond, int_lt, List, [], ◌∷◌, ◌++◌, length, take, filter_map, Option, Some, None, IfSome, Ordering, Less, Equal, Greater, refl, sym, ap, subst, ◌∙◌, arith, inl, inr, true≢false}
+use Rattle.std.proofs.Common.{◌≡◌, ◌≤◌, ◌⊎◌, ◌&&◌, ◌||◌, ◌+ℤ◌, ℕ, ℤ, zero, suc, pos, not, Bool, true, false, cond, int_lt, List, [], ◌∷◌, ◌++◌, length, take, filter_map, Option, Some, None, IfSome, Result, Ok, Err, IfOk, Ordering, Less, Equal, Greater, refl, sym, ap, subst, ◌∙◌, arith, inl, inr, true≢false}
+use Rattle.std.proofs.lemmas.List.{take-take}
 use Rattle.std.proofs.lemmas.Option.{none-some, same_Some}
 use Rattle.std.specs.BTreeMap.{is_at}
 use Rattle.std.specs.BTreeSet.{insert_key}
@@ -15,8 +16,9 @@ use Rattle.ak_keep.specs.Marks.{WithMark}
 use Rattle.ak_keep.specs.Collections.{Holding}
 use Rattle.ak_keep.specs.QueueWalks.{is_to_come}
 use Rattle.ak_keep.specs.WaitingCards.{IsOneOf, is_due_by, key_of}
+use Rattle.ak_keep.specs.declared.keepers.KeepFault.{KeepFault}
 use Rattle.ak_keep.specs.declared.queue_walks.QueueWalk.{QueueWalk}
-use Rattle.ak_queue.specs.Gathering.{ComesAfterEnough, Gathers, GathersOver, HasAllOf, HasNone, IsLastLearning}
+use Rattle.ak_queue.specs.Gathering.{AddsFirstReviews, ComesAfterEnough, Gathers, GathersOver, HasAllButReviews, HasNone, IsLastLearning}
 use Rattle.ak_queue.specs.Lists.{QueueView, due_key, has_come, is_day_learning, is_due_review, is_inside, is_learning, is_new, is_soon, key_under, new_key}
 use Rattle.ak_queue.specs.Homes.{path_of_card}
 use Rattle.ak_queue.specs.Orders.{DueKey, NewKey, due_cmp, new_cmp, put_among}
@@ -34,6 +36,11 @@ or_within : (a b : Bool) → (a ≡ true → b ≡ true) → (a || b) ≡ b
 or_within true b h = sym (h refl)
 or_within false b h = refl
 
+or_onto : (a b : Bool) → (b ≡ true → a ≡ true) → (a || b) ≡ a
+or_onto true b h = refl
+or_onto false true h = sym (h refl)
+or_onto false false h = refl
+
 or_second : (a b : Bool) → b ≡ true → (a || b) ≡ true
 or_second true b h = refl
 or_second false b h = h
@@ -46,7 +53,7 @@ and_first : (a b : Bool) → (a && b) ≡ true → a ≡ true
 and_first true b h = refl
 and_first false b h = h
 
-and_second : (a b : Bool) → (a && b) ≡ true → b ≡ true
+pub and_second : (a b : Bool) → (a && b) ≡ true → b ≡ true
 and_second true b h = h
 and_second false b h = absurd (true≢false (sym h))
 
@@ -83,6 +90,11 @@ module _ {K : Type 0} (cmp : K → K → Ordering) (total : IsTotalOrder cmp) (e
   put_onto xs ys within =
       same_keys cmp total exact (put_among cmp (put_among cmp [] xs) ys) (put_among cmp [] ys) (put_sorted cmp total (put_among cmp [] xs) ys (order_ascends cmp total xs)) (order_ascends cmp total ys)
       (λ q. has_put q (put_among cmp [] xs) ys ∙ ap (λ b. b || has_of cmp q ys) (has_put q [] xs) ∙ or_within _ _ (within q) ∙ sym (has_put q [] ys))
+
+  put_there : (xs ys : List K) → ((q : K) → has_of cmp q ys ≡ true → has_of cmp q xs ≡ true) → put_among cmp (put_among cmp [] xs) ys ≡ put_among cmp [] xs
+  put_there xs ys within =
+      same_keys cmp total exact (put_among cmp (put_among cmp [] xs) ys) (put_among cmp [] xs) (put_sorted cmp total (put_among cmp [] xs) ys (order_ascends cmp total xs)) (order_ascends cmp total xs)
+      (λ q. has_put q (put_among cmp [] xs) ys ∙ ap (λ b. b || has_of cmp q ys) (has_put q [] xs) ∙ or_onto _ _ (within q) ∙ sym (has_put q [] xs))
 
   -- a key that is there already changes nothing, and one that comes after as many as are looked for does not change the first
   none_later : (k x : K) (xs : List K) → cmp k x ≡ Less → AllByRecursion (λ y. cmp x y ≡ Less) xs → has_of cmp k xs ≡ false
@@ -153,6 +165,10 @@ module _ {K : Type 0} (cmp : K → K → Ordering) (total : IsTotalOrder cmp) (e
     full_keys xs ys sound whole = same_put (filter_map key xs) (filter_map key ys) (λ q. bool_same _ _ (keys_within xs ys sound q)
         (λ has. let found = key_found q ys has in has_key q xs found.0 found.2 (whole found.0 found.2 found.1 found.3) found.3 found.4))
 
+    -- keys of cards that are there already
+    keys_there : (xs ys : List Card) → AllByRecursion (IsOneOf xs) ys → put_among cmp (put_among cmp [] (filter_map key xs)) (filter_map key ys) ≡ put_among cmp [] (filter_map key xs)
+    keys_there xs ys sound = put_there (filter_map key xs) (filter_map key ys) (keys_within ys xs sound)
+
     with_key : (P : K → Type 0) (c : Card) (keys : List K) (o : Option K) → key c ≡ o → ((k : K) → key c ≡ Some k → P k) → AllByRecursion P keys → AllByRecursion P (cons_option o keys)
     with_key P c keys None is h rest = rest
     with_key P c keys (Some k) is h rest = (h k is, rest)
@@ -206,17 +222,13 @@ held_each : (held : Card → Type 0) (over : QueueWalk) (cards : List Card) → 
 held_each held over [] sound = tt
 held_each held over (c ∷ cards) sound = (sound.0.0, held_each held over cards sound.1)
 
-no_reviews : (held : Card → Type 0) (P : Card → Type 0) (queue : ℤ) (last : Option ℤ) (cards : List Card) → int_eq queue (pos 2) ≡ false → AllByRecursion (λ c. held c × (is_to_come (walk_over queue last) c ≡ true)) cards
-    → AllByRecursion (λ c. int_eq c.queue (pos 2) ≡ true → P c) cards
-no_reviews held P queue last [] other sound = tt
-no_reviews held P queue last (c ∷ cards) other sound = (
-  λ is. absurd (true≢false (sym is ∙ ap (λ (q : ℤ). int_eq q (pos 2)) (of_queue_it queue last c sound.0.1) ∙ other)),
-  no_reviews held P queue last cards other sound.1,
+no_reviews : (held : Card → Type 0) (queue : ℤ) (last : Option ℤ) (cards : List Card) → int_eq queue (pos 2) ≡ false → AllByRecursion (λ c. held c × (is_to_come (walk_over queue last) c ≡ true)) cards
+    → AllByRecursion (λ c. int_eq c.queue (pos 2) ≡ true → ⊥) cards
+no_reviews held queue last [] other sound = tt
+no_reviews held queue last (c ∷ cards) other sound = (
+  λ is. true≢false (sym is ∙ ap (λ (q : ℤ). int_eq q (pos 2)) (of_queue_it queue last c sound.0.1) ∙ other),
+  no_reviews held queue last cards other sound.1,
 )
-
-each_if : (P Q : Card → Type 0) (cards : List Card) → AllByRecursion P cards → AllByRecursion (λ c. Q c → P c) cards
-each_if P Q [] h = tt
-each_if P Q (c ∷ cards) h = (λ _. h.0, each_if P Q cards h.1)
 
 -- the key of a card tells that it passes
 due_some : (test : QueueView → Card → Bool) (s : QueueView) (c : Card) (k : DueKey) → due_key test s c ≡ Some k → (test s c ≡ true) × (key_of c ≡ k)
@@ -233,114 +245,142 @@ new_some s c k is =
       | false ↦ λ e. absurd (none-some k e)
     ] is
 
--- ---- all of them
--- the cards of the four walks
-abbrev joined : List Card → List Card → List Card → List Card → List Card
-joined learned over_days fresh reviewed = learned ++ (over_days ++ (fresh ++ reviewed))
+-- no card of another queue waits among the reviews
+no_key : (s : QueueView) (c : Card) → (int_eq c.queue (pos 2) ≡ true → ⊥) → due_key is_due_review s c ≡ None
+no_key s c other =
+    elim (is_inside s c && is_due_review s c) as (λ b. (is_inside s c && is_due_review s c) ≡ b → cond b (Some (key_of c)) None ≡ None) [
+      | true ↦ λ t. absurd (other (and_first (int_eq c.queue (pos 2)) (has_come s c.due) (and_second (is_inside s c) (is_due_review s c) t)))
+      | false ↦ λ _. refl
+    ] refl
 
+no_keys : (s : QueueView) (cards : List Card) → AllByRecursion (λ c. int_eq c.queue (pos 2) ≡ true → ⊥) cards → filter_map (due_key is_due_review s) cards ≡ []
+no_keys s [] other = refl
+no_keys s (c ∷ cards) other = ap (λ o. cons_option o (filter_map (due_key is_due_review s) cards)) (no_key s c other.0) ∙ no_keys s cards other.1
+
+-- ---- all but the reviews
+-- the cards of the three walks
+abbrev joined : List Card → List Card → List Card → List Card
+joined learned over_days fresh = learned ++ (over_days ++ fresh)
+
+gathered_but_reviews : (s : QueueView) (cards : List Card) (most : ℕ) (last : Option ℤ) (a b c d : Gathered) → HasNone most a → IsLastLearning s last
+    → GathersOver s (IsOneOf cards) (walk_over (pos 1) last) a b → GathersOver s (IsOneOf cards) (walk_over (pos 3) (Some s.day.number)) b c
+    → GathersOver s (IsOneOf cards) (walk_over (pos 0) None) c d → HasAllButReviews s cards d
+gathered_but_reviews s cards most last a b c d none learned g1 g3 g0 =
+    record {
+      learning = whole.learning ∙ ap (λ ks. put_among due_cmp ks (filter_map (due_key is_learning s) (joined g1.passed g3.passed g0.passed))) none.learning
+          ∙ full_keys due_cmp due_total due_exact (due_key is_learning s) (joined g1.passed g3.passed g0.passed) cards sound (λ x k one is.
+          let passes = (due_some is_learning s x k is).0 in
+          in_first x (all_passed s (IsOneOf cards) (pos 1) last a b refl g1 x one (and_first (int_eq x.queue (pos 1)) (int_lt x.due s.day.now) passes) (learned.now x.due (and_second (int_eq x.queue (pos 1)) (int_lt x.due s.day.now) passes))));
+      soon = whole.soon ∙ ap (λ ks. put_among due_cmp ks (filter_map (due_key is_soon s) (joined g1.passed g3.passed g0.passed))) none.soon
+          ∙ full_keys due_cmp due_total due_exact (due_key is_soon s) (joined g1.passed g3.passed g0.passed) cards sound (λ x k one is.
+          let passes = (due_some is_soon s x k is).0 in
+          in_first x (all_passed s (IsOneOf cards) (pos 1) last a b refl g1 x one (and_first (int_eq x.queue (pos 1)) (not (int_lt x.due s.day.now) && int_lt x.due (s.day.now +ℤ s.collapse)) passes) (learned.soon x.due (and_second (not (int_lt x.due s.day.now)) (int_lt x.due (s.day.now +ℤ s.collapse))
+          (and_second (int_eq x.queue (pos 1)) (not (int_lt x.due s.day.now) && int_lt x.due (s.day.now +ℤ s.collapse)) passes)))));
+      day_learning = whole.day_learning ∙ ap (λ ks. put_among due_cmp ks (filter_map (due_key is_day_learning s) (joined g1.passed g3.passed g0.passed))) none.day_learning
+          ∙ full_keys due_cmp due_total due_exact (due_key is_day_learning s) (joined g1.passed g3.passed g0.passed) cards sound (λ x k one is.
+          let passes = (due_some is_day_learning s x k is).0 in
+          in_second x (all_passed s (IsOneOf cards) (pos 3) (Some s.day.number) b c refl g3 x one (and_first (int_eq x.queue (pos 3)) (has_come s x.due) passes) (and_second (int_eq x.queue (pos 3)) (has_come s x.due) passes)));
+      reviews = subst (λ (n : ℕ). take n d.reviews.keys ≡ take n []) (sym whole.most) none_made;
+      new_cards = whole.new_cards ∙ ap (λ ks. put_among new_cmp ks (filter_map (new_key s) (joined g1.passed g3.passed g0.passed))) none.new_cards
+          ∙ full_keys new_cmp new_total new_exact (new_key s) (joined g1.passed g3.passed g0.passed) cards sound (λ x k one is.
+          in_third x (all_passed s (IsOneOf cards) (pos 0) None c d refl g0 x one (new_some s x k is) refl));
+    }
+  where
+    whole : Gathers s (joined g1.passed g3.passed g0.passed) a d
+    whole = both_parts s g1.passed (g3.passed ++ g0.passed) a b d g1.gathered (both_parts s g3.passed g0.passed b c d g3.gathered g0.gathered)
+
+    sound : AllByRecursion (IsOneOf cards) (joined g1.passed g3.passed g0.passed)
+    sound =
+        all_both (IsOneOf cards) g1.passed (g3.passed ++ g0.passed) (held_each (IsOneOf cards) (walk_over (pos 1) last) g1.passed g1.sound)
+        (all_both (IsOneOf cards) g3.passed g0.passed (held_each (IsOneOf cards) (walk_over (pos 3) (Some s.day.number)) g3.passed g3.sound) (held_each (IsOneOf cards) (walk_over (pos 0) None) g0.passed g0.sound))
+
+    in_first : (x : Card) → IsOneOf g1.passed x → IsOneOf (joined g1.passed g3.passed g0.passed) x
+    in_first x is = one_of_first g1.passed (g3.passed ++ g0.passed) x is
+
+    in_second : (x : Card) → IsOneOf g3.passed x → IsOneOf (joined g1.passed g3.passed g0.passed) x
+    in_second x is = one_of_second g1.passed (g3.passed ++ g0.passed) x (one_of_first g3.passed g0.passed x is)
+
+    in_third : (x : Card) → IsOneOf g0.passed x → IsOneOf (joined g1.passed g3.passed g0.passed) x
+    in_third x is = one_of_second g1.passed (g3.passed ++ g0.passed) x (one_of_second g3.passed g0.passed x is)
+
+    other : AllByRecursion (λ x. int_eq x.queue (pos 2) ≡ true → ⊥) (joined g1.passed g3.passed g0.passed)
+    other =
+        all_both (λ x. int_eq x.queue (pos 2) ≡ true → ⊥) g1.passed (g3.passed ++ g0.passed) (no_reviews (IsOneOf cards) (pos 1) last g1.passed refl g1.sound)
+        (all_both (λ x. int_eq x.queue (pos 2) ≡ true → ⊥) g3.passed g0.passed (no_reviews (IsOneOf cards) (pos 3) (Some s.day.number) g3.passed refl g3.sound) (no_reviews (IsOneOf cards) (pos 0) None g0.passed refl g0.sound))
+
+    none_made : take a.most d.reviews.keys ≡ take a.most []
+    none_made = whole.reviews ∙ ap (take a.most) (λ i. put_among due_cmp (none.reviews i) (no_keys s (joined g1.passed g3.passed g0.passed) other i))
+
+-- the same where fewer reviews are looked for
+pub fewer_needed : (s : QueueView) (cards : List Card) (g : Gathered) (n : ℕ) → n ≤ g.most → HasAllButReviews s cards g → HasAllButReviews s cards (record g { most = n })
+fewer_needed s cards g n fewer has = record {
+  learning = has.learning;
+  soon = has.soon;
+  day_learning = has.day_learning;
+  reviews = sym (take-take n g.most g.reviews.keys fewer) ∙ ap (take n) has.reviews ∙ take-take n g.most [] fewer;
+  new_cards = has.new_cards;
+}
+
+-- ---- and the reviews
 -- where the reviews among some cards wait
 abbrev reviews_of : QueueView → List Card → List DueKey
 reviews_of s cards = put_among due_cmp [] (filter_map (due_key is_due_review s) cards)
 
-gathered_all : (s : QueueView) (cards : List Card) (most : ℕ) (last : Option ℤ) (a b c d e : Gathered) → HasNone most a → IsLastLearning s last
-    → GathersOver s (IsOneOf cards) (walk_over (pos 1) last) a b → GathersOver s (IsOneOf cards) (walk_over (pos 3) (Some s.day.number)) b c
-    → GathersOver s (IsOneOf cards) (walk_over (pos 0) None) c d → GathersOver s (IsOneOf cards) (walk_over (pos 2) (Some s.day.number)) d e → HasAllOf s cards e
-gathered_all s cards most last a b c d e none learned g1 g3 g0 g2 =
+with_reviews : (s : QueueView) (cards : List Card) (d e : Gathered) → GathersOver s (IsOneOf cards) (walk_over (pos 2) (Some s.day.number)) d e → AddsFirstReviews s cards d e
+with_reviews s cards d e g has =
     record {
-      learning = whole.learning ∙ ap (λ ks. put_among due_cmp ks (filter_map (due_key is_learning s) (joined g1.passed g3.passed g0.passed g2.passed))) none.learning
-          ∙ full_keys due_cmp due_total due_exact (due_key is_learning s) (joined g1.passed g3.passed g0.passed g2.passed) cards sound (λ x k one is.
-          let passes = (due_some is_learning s x k is).0 in
-          in_first x (all_passed s (IsOneOf cards) (pos 1) last a b refl g1 x one (and_first (int_eq x.queue (pos 1)) (int_lt x.due s.day.now) passes) (learned.now x.due (and_second (int_eq x.queue (pos 1)) (int_lt x.due s.day.now) passes))));
-      soon = whole.soon ∙ ap (λ ks. put_among due_cmp ks (filter_map (due_key is_soon s) (joined g1.passed g3.passed g0.passed g2.passed))) none.soon
-          ∙ full_keys due_cmp due_total due_exact (due_key is_soon s) (joined g1.passed g3.passed g0.passed g2.passed) cards sound (λ x k one is.
-          let passes = (due_some is_soon s x k is).0 in
-          in_first x (all_passed s (IsOneOf cards) (pos 1) last a b refl g1 x one (and_first (int_eq x.queue (pos 1)) (not (int_lt x.due s.day.now) && int_lt x.due (s.day.now +ℤ s.collapse)) passes) (learned.soon x.due (and_second (not (int_lt x.due s.day.now)) (int_lt x.due (s.day.now +ℤ s.collapse))
-          (and_second (int_eq x.queue (pos 1)) (not (int_lt x.due s.day.now) && int_lt x.due (s.day.now +ℤ s.collapse)) passes)))));
-      day_learning = whole.day_learning ∙ ap (λ ks. put_among due_cmp ks (filter_map (due_key is_day_learning s) (joined g1.passed g3.passed g0.passed g2.passed))) none.day_learning
-          ∙ full_keys due_cmp due_total due_exact (due_key is_day_learning s) (joined g1.passed g3.passed g0.passed g2.passed) cards sound (λ x k one is.
-          let passes = (due_some is_day_learning s x k is).0 in
-          in_second x (all_passed s (IsOneOf cards) (pos 3) (Some s.day.number) b c refl g3 x one (and_first (int_eq x.queue (pos 3)) (has_come s x.due) passes) (and_second (int_eq x.queue (pos 3)) (has_come s x.due) passes)));
-      reviews = subst (λ (n : ℕ). take n e.reviews.keys ≡ take n (reviews_of s (joined g1.passed g3.passed g0.passed g2.passed))) (sym whole.most) reviews_made
-          ∙ first_keys due_cmp due_total due_exact (due_key is_due_review s) e.most (joined g1.passed g3.passed g0.passed g2.passed) cards sound out;
-      new_cards = whole.new_cards ∙ ap (λ ks. put_among new_cmp ks (filter_map (new_key s) (joined g1.passed g3.passed g0.passed g2.passed))) none.new_cards
-          ∙ full_keys new_cmp new_total new_exact (new_key s) (joined g1.passed g3.passed g0.passed g2.passed) cards sound (λ x k one is.
-          in_third x (all_passed s (IsOneOf cards) (pos 0) None c d refl g0 x one (new_some s x k is) refl));
+      learning = g.gathered.learning ∙ ap (λ ks. put_among due_cmp ks (filter_map (due_key is_learning s) g.passed)) has.learning ∙ keys_there due_cmp due_total due_exact (due_key is_learning s) cards g.passed sound;
+      soon = g.gathered.soon ∙ ap (λ ks. put_among due_cmp ks (filter_map (due_key is_soon s) g.passed)) has.soon ∙ keys_there due_cmp due_total due_exact (due_key is_soon s) cards g.passed sound;
+      day_learning = g.gathered.day_learning ∙ ap (λ ks. put_among due_cmp ks (filter_map (due_key is_day_learning s) g.passed)) has.day_learning ∙ keys_there due_cmp due_total due_exact (due_key is_day_learning s) cards g.passed sound;
+      reviews = subst (λ (n : ℕ). take n e.reviews.keys ≡ take n (reviews_of s cards)) (sym g.gathered.most)
+          (reviews_made ∙ first_keys due_cmp due_total due_exact (due_key is_due_review s) d.most g.passed cards sound out);
+      new_cards = g.gathered.new_cards ∙ ap (λ ks. put_among new_cmp ks (filter_map (new_key s) g.passed)) has.new_cards ∙ keys_there new_cmp new_total new_exact (new_key s) cards g.passed sound;
     }
   where
-    whole : Gathers s (joined g1.passed g3.passed g0.passed g2.passed) a e
-    whole =
-        both_parts s g1.passed (g3.passed ++ (g0.passed ++ g2.passed)) a b e g1.gathered
-        (both_parts s g3.passed (g0.passed ++ g2.passed) b c e g3.gathered (both_parts s g0.passed g2.passed c d e g0.gathered g2.gathered))
+    sound : AllByRecursion (IsOneOf cards) g.passed
+    sound = held_each (IsOneOf cards) (walk_over (pos 2) (Some s.day.number)) g.passed g.sound
 
-    sound : AllByRecursion (IsOneOf cards) (joined g1.passed g3.passed g0.passed g2.passed)
-    sound =
-        all_both (IsOneOf cards) g1.passed (g3.passed ++ (g0.passed ++ g2.passed)) (held_each (IsOneOf cards) (walk_over (pos 1) last) g1.passed g1.sound)
-        (all_both (IsOneOf cards) g3.passed (g0.passed ++ g2.passed) (held_each (IsOneOf cards) (walk_over (pos 3) (Some s.day.number)) g3.passed g3.sound)
-        (all_both (IsOneOf cards) g0.passed g2.passed (held_each (IsOneOf cards) (walk_over (pos 0) None) g0.passed g0.sound) (held_each (IsOneOf cards) (walk_over (pos 2) (Some s.day.number)) g2.passed g2.sound)))
+    reviews_made : take d.most e.reviews.keys ≡ take d.most (reviews_of s g.passed)
+    reviews_made = g.gathered.reviews ∙ same_first due_cmp d.most d.reviews.keys [] (filter_map (due_key is_due_review s) g.passed) has.reviews
 
-    in_first : (x : Card) → IsOneOf g1.passed x → IsOneOf (joined g1.passed g3.passed g0.passed g2.passed) x
-    in_first x is = one_of_first g1.passed (g3.passed ++ (g0.passed ++ g2.passed)) x is
-
-    in_second : (x : Card) → IsOneOf g3.passed x → IsOneOf (joined g1.passed g3.passed g0.passed g2.passed) x
-    in_second x is = one_of_second g1.passed (g3.passed ++ (g0.passed ++ g2.passed)) x (one_of_first g3.passed (g0.passed ++ g2.passed) x is)
-
-    in_third : (x : Card) → IsOneOf g0.passed x → IsOneOf (joined g1.passed g3.passed g0.passed g2.passed) x
-    in_third x is = one_of_second g1.passed (g3.passed ++ (g0.passed ++ g2.passed)) x (one_of_second g3.passed (g0.passed ++ g2.passed) x (one_of_first g0.passed g2.passed x is))
-
-    in_last : (x : Card) → IsOneOf g2.passed x → IsOneOf (joined g1.passed g3.passed g0.passed g2.passed) x
-    in_last x is = one_of_second g1.passed (g3.passed ++ (g0.passed ++ g2.passed)) x (one_of_second g3.passed (g0.passed ++ g2.passed) x (one_of_second g0.passed g2.passed x is))
-
-    reviews_made : take a.most e.reviews.keys ≡ take a.most (reviews_of s (joined g1.passed g3.passed g0.passed g2.passed))
-    reviews_made =
-        whole.reviews ∙ ap (λ ks. take a.most (put_among due_cmp ks (filter_map (due_key is_due_review s) (joined g1.passed g3.passed g0.passed g2.passed)))) none.reviews
-
-    -- the reviews that were passed come before one that comes after enough of them
-    before : (x : Card) → AllByRecursion (λ y. due_cmp (key_of y) (key_of x) ≡ Less) g2.passed
-        → AllByRecursion (λ y. int_eq y.queue (pos 2) ≡ true → due_cmp (key_of y) (key_of x) ≡ Less) (joined g1.passed g3.passed g0.passed g2.passed)
-    before x after =
-        let P = λ (y : Card). due_cmp (key_of y) (key_of x) ≡ Less in
-        all_both (λ (y : Card). int_eq y.queue (pos 2) ≡ true → due_cmp (key_of y) (key_of x) ≡ Less) g1.passed (g3.passed ++ (g0.passed ++ g2.passed)) (no_reviews (IsOneOf cards) P (pos 1) last g1.passed refl g1.sound)
-        (all_both (λ (y : Card). int_eq y.queue (pos 2) ≡ true → due_cmp (key_of y) (key_of x) ≡ Less) g3.passed (g0.passed ++ g2.passed) (no_reviews (IsOneOf cards) P (pos 3) (Some s.day.number) g3.passed refl g3.sound)
-        (all_both (λ (y : Card). int_eq y.queue (pos 2) ≡ true → due_cmp (key_of y) (key_of x) ≡ Less) g0.passed g2.passed (no_reviews (IsOneOf cards) P (pos 0) None g0.passed refl g0.sound) (each_if P (λ (y : Card). int_eq y.queue (pos 2) ≡ true) g2.passed after)))
-
-    later : (x : Card) → AllByRecursion (λ y. due_cmp (key_of y) (key_of x) ≡ Less) g2.passed
-        → AllByRecursion (λ key. due_cmp (key_of x) key ≡ Greater) (reviews_of s (joined g1.passed g3.passed g0.passed g2.passed))
+    later : (x : Card) → AllByRecursion (λ y. due_cmp (key_of y) (key_of x) ≡ Less) g.passed → AllByRecursion (λ key. due_cmp (key_of x) key ≡ Greater) (reviews_of s g.passed)
     later x after =
         let P = λ (key : DueKey). due_cmp (key_of x) key ≡ Greater in
-        all_put due_cmp due_total due_exact P [] (filter_map (due_key is_due_review s) (joined g1.passed g3.passed g0.passed g2.passed)) tt
-        (each_key due_cmp due_total due_exact (due_key is_due_review s) P (joined g1.passed g3.passed g0.passed g2.passed) (λ y k inside is.
-        let some = due_some is_due_review s y k is in
-        let less = all_one (λ z. int_eq z.queue (pos 2) ≡ true → due_cmp (key_of z) (key_of x) ≡ Less) (joined g1.passed g3.passed g0.passed g2.passed) y (before x after) inside (and_first (int_eq y.queue (pos 2)) (has_come s y.due) some.0) in
-        subst P some.1 (due_total.antisymm (key_of x) (key_of y) ∙ ap ordering_reverse less)))
+        all_put due_cmp due_total due_exact P [] (filter_map (due_key is_due_review s) g.passed) tt
+        (each_key due_cmp due_total due_exact (due_key is_due_review s) P g.passed (λ y k inside is.
+        let less = all_one (λ z. due_cmp (key_of z) (key_of x) ≡ Less) g.passed y after inside in
+        subst P (due_some is_due_review s y k is).1 (due_total.antisymm (key_of x) (key_of y) ∙ ap ordering_reverse less)))
 
     out : (x : Card) (k : DueKey) → IsOneOf cards x → due_key is_due_review s x ≡ Some k
-        → (has_of due_cmp k (reviews_of s (joined g1.passed g3.passed g0.passed g2.passed)) ≡ true)
-        ⊎ ((e.most ≤ length (reviews_of s (joined g1.passed g3.passed g0.passed g2.passed)))
-        × AllByRecursion (λ key. due_cmp k key ≡ Greater) (reviews_of s (joined g1.passed g3.passed g0.passed g2.passed)))
-    out x k one is = either (g2.whole x one (over_it (pos 2) (Some s.day.number) x (and_first (int_eq x.queue (pos 2)) (has_come s x.due) some.0) (and_second (int_eq x.queue (pos 2)) (has_come s x.due) some.0)))
+        → (has_of due_cmp k (reviews_of s g.passed) ≡ true) ⊎ ((d.most ≤ length (reviews_of s g.passed)) × AllByRecursion (λ key. due_cmp k key ≡ Greater) (reviews_of s g.passed))
+    out x k one is = either (g.whole x one (over_it (pos 2) (Some s.day.number) x (and_first (int_eq x.queue (pos 2)) (has_come s x.due) some.0) (and_second (int_eq x.queue (pos 2)) (has_come s x.due) some.0)))
       where
         some : (is_due_review s x ≡ true) × (key_of x ≡ k)
         some = due_some is_due_review s x k is
 
-        either : IsOneOf g2.passed x ⊎ ComesAfterEnough (walk_over (pos 2) (Some s.day.number)) e g2.passed x
-            → (has_of due_cmp k (reviews_of s (joined g1.passed g3.passed g0.passed g2.passed)) ≡ true)
-            ⊎ ((e.most ≤ length (reviews_of s (joined g1.passed g3.passed g0.passed g2.passed)))
-            × AllByRecursion (λ key. due_cmp k key ≡ Greater) (reviews_of s (joined g1.passed g3.passed g0.passed g2.passed)))
-        either (inl inside) = inl (has_put due_cmp due_total due_exact k [] (filter_map (due_key is_due_review s) (joined g1.passed g3.passed g0.passed g2.passed))
-            ∙ has_key due_cmp due_total due_exact (due_key is_due_review s) k (joined g1.passed g3.passed g0.passed g2.passed) x k (in_last x inside) is (ap is_eq (tied_itself due_total k)))
+        either : IsOneOf g.passed x ⊎ ComesAfterEnough (walk_over (pos 2) (Some s.day.number)) e g.passed x
+            → (has_of due_cmp k (reviews_of s g.passed) ≡ true) ⊎ ((d.most ≤ length (reviews_of s g.passed)) × AllByRecursion (λ key. due_cmp k key ≡ Greater) (reviews_of s g.passed))
+        either (inl inside) = inl (has_put due_cmp due_total due_exact k [] (filter_map (due_key is_due_review s) g.passed)
+            ∙ has_key due_cmp due_total due_exact (due_key is_due_review s) k g.passed x k inside is (ap is_eq (tied_itself due_total k)))
         either (inr enough) = inr (
-          subst (λ (n : ℕ). n ≤ length (reviews_of s (joined g1.passed g3.passed g0.passed g2.passed))) (sym whole.most)
-              (as_long a.most e.reviews.keys (reviews_of s (joined g1.passed g3.passed g0.passed g2.passed)) reviews_made (subst (λ (n : ℕ). n ≤ length e.reviews.keys) whole.most enough.most)),
-          subst (λ (key : DueKey). AllByRecursion (λ other. due_cmp key other ≡ Greater) (reviews_of s (joined g1.passed g3.passed g0.passed g2.passed))) some.1 (later x enough.after),
+          as_long d.most e.reviews.keys (reviews_of s g.passed) reviews_made (subst (λ (n : ℕ). n ≤ length e.reviews.keys) g.gathered.most enough.most),
+          subst (λ (key : DueKey). AllByRecursion (λ other. due_cmp key other ≡ Greater) (reviews_of s g.passed)) some.1 (later x enough.after),
         )
 
--- the same where it is told what is held, and the day as it was read
-pub gathered_told : (told : Option (WithMark Holding)) (s : QueueView) (most : ℕ) (last : Option ℤ) (today : ℤ) (a b c d e : Gathered) → today ≡ s.day.number → HasNone most a → IsLastLearning s last
+-- ---- the same where it is told what is held, and the day as it was read
+pub but_reviews_told : (told : Option (WithMark Holding)) (s : QueueView) (most : ℕ) (last : Option ℤ) (today : ℤ) (a b c d : Gathered) → today ≡ s.day.number → HasNone most a → IsLastLearning s last
     → IfSome told (λ w. GathersOver s (IsOneOf (cards_in w.current.rows)) (walk_over (pos 1) last) a b)
     → IfSome told (λ w. GathersOver s (IsOneOf (cards_in w.current.rows)) (walk_over (pos 3) (Some today)) b c)
-    → IfSome told (λ w. GathersOver s (IsOneOf (cards_in w.current.rows)) (walk_over (pos 0) None) c d)
-    → IfSome told (λ w. GathersOver s (IsOneOf (cards_in w.current.rows)) (walk_over (pos 2) (Some today)) d e) → IfSome told (λ w. HasAllOf s (cards_in w.current.rows) e)
-gathered_told None s most last today a b c d e read none learned g1 g3 g0 g2 = tt
-gathered_told (Some w) s most last today a b c d e read none learned g1 g3 g0 g2 =
-    let of_day : ℤ → Gathered → Gathered → ℤ → Type 0 = λ queue x y day. GathersOver s (IsOneOf (cards_in w.current.rows)) (walk_over queue (Some day)) x y in
-    gathered_all s (cards_in w.current.rows) most last a b c d e none learned g1 (subst (of_day (pos 3) b c) read g3) g0 (subst (of_day (pos 2) d e) read g2)
+    → IfSome told (λ w. GathersOver s (IsOneOf (cards_in w.current.rows)) (walk_over (pos 0) None) c d) → IfSome told (λ w. HasAllButReviews s (cards_in w.current.rows) d)
+but_reviews_told None s most last today a b c d read none learned g1 g3 g0 = tt
+but_reviews_told (Some w) s most last today a b c d read none learned g1 g3 g0 =
+    let of_day : ℤ → Type 0 = λ day. GathersOver s (IsOneOf (cards_in w.current.rows)) (walk_over (pos 3) (Some day)) b c in
+    gathered_but_reviews s (cards_in w.current.rows) most last a b c d none learned g1 (subst of_day read g3) g0
+
+pub with_reviews_told : (told : Option (WithMark Holding)) (result : Result Unit KeepFault) (s : QueueView) (today : ℤ) (d e : Gathered) → today ≡ s.day.number
+    → IfOk result (λ _. IfSome told (λ w. GathersOver s (IsOneOf (cards_in w.current.rows)) (walk_over (pos 2) (Some today)) d e)) → IfOk result (λ _. IfSome told (λ w. AddsFirstReviews s (cards_in w.current.rows) d e))
+with_reviews_told told (Err fault) s today d e read g = tt
+with_reviews_told None (Ok done) s today d e read g = tt
+with_reviews_told (Some w) (Ok done) s today d e read g =
+    let of_day : ℤ → Type 0 = λ day. GathersOver s (IsOneOf (cards_in w.current.rows)) (walk_over (pos 2) (Some day)) d e in
+    with_reviews s (cards_in w.current.rows) d e (subst of_day read g)

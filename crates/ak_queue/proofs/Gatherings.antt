@@ -141,12 +141,12 @@ next_told None s over walk next a b c page so_far is step = tt
 next_told (Some w) s over walk next a b c page so_far is step = page_passed s (IsOneOf (cards_in w.current.rows)) over walk next a b c page so_far is step
 
 -- the page that a walk gives, as what is to come before and after it
-pub page_told : (told : Option (WithMark Holding)) (walk next : QueueWalk) (page : List Card) → walk.done ≡ false → next ≡ passed page walk → Told told (λ held. IsWaitingPage held walk.waiting 100 page)
+pub page_told : (told : Option (WithMark Holding)) (walk next : QueueWalk) (limit : ℕ) (page : List Card) → walk.done ≡ false → next ≡ passed limit page walk → Told told (λ held. IsWaitingPage held walk.waiting limit page)
     → Told told (λ held. IsNextPage held walk next page)
-page_told None walk next page going is one = tt
-page_told (Some w) walk next page going is one =
+page_told None walk next limit page going is one = tt
+page_told (Some w) walk next limit page going is one =
     let held = IsOneOf (cards_in w.current.rows) in
-    subst (λ (now : QueueWalk). IsNextPage held walk now page) (sym is) (next_page held walk page going one)
+    subst (λ (now : QueueWalk). IsNextPage held walk now page) (sym is) (next_page held walk limit page going one)
 
 pub all_told : (told : Option (WithMark Holding)) (s : QueueView) (over walk : QueueWalk) (a b : Gathered) → walk.done ≡ true → Told told (λ held. PassedSoFar s held over walk a b) → Told told (λ held. GathersOver s held over a b)
 all_told None s over walk a b done so_far = tt

@@ -5,6 +5,7 @@ pub mod Assembled
 pub mod Burying
 pub mod Examples
 pub mod FirstKeys
+pub mod FirstOfNext
 pub mod Gatherings
 pub mod Greedy
 pub mod LawfulSets

@@ -13,7 +13,7 @@ no_first : (ids : List ℤ) → slice_get ids 0 ≡ None → ids ≡ []
 no_first [] h = refl
 no_first (id ∷ ids) h = absurd (cc)
 
-none_first : (comes : Bool) → first_if comes [] ≡ None
+pub none_first : (comes : Bool) → first_if comes [] ≡ None
 none_first true = refl
 none_first false = refl
 

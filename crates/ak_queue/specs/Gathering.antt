@@ -47,13 +47,25 @@ pub record HasNone (looked_for : ℕ) (g : Gathered) : Type 0 where
   pub reviews : g.reviews.keys ≡ []
   pub new_cards : g.new_cards.keys ≡ []
 
--- those of the cards that pass, in their order, and of the reviews the first
-pub record HasAllOf (s : QueueView) (cards : List Card) (g : Gathered) : Type 0 where
+-- those of the cards that pass, in their order, and of the reviews the first of these
+pub record HasAllWith (s : QueueView) (cards : List Card) (found : List DueKey) (g : Gathered) : Type 0 where
   pub learning : g.learning.keys ≡ put_among due_cmp [] (filter_map (due_key is_learning s) cards)
   pub soon : g.soon.keys ≡ put_among due_cmp [] (filter_map (due_key is_soon s) cards)
   pub day_learning : g.day_learning.keys ≡ put_among due_cmp [] (filter_map (due_key is_day_learning s) cards)
-  pub reviews : take g.most g.reviews.keys ≡ take g.most (put_among due_cmp [] (filter_map (due_key is_due_review s) cards))
+  pub reviews : take g.most g.reviews.keys ≡ take g.most found
   pub new_cards : g.new_cards.keys ≡ put_among new_cmp [] (filter_map (new_key s) cards)
+
+-- those of the cards that pass, in their order, but no review is among the first yet
+abbrev pub HasAllButReviews : QueueView → List Card → Gathered → Type 0
+HasAllButReviews s cards g = HasAllWith s cards [] g
+
+-- those of the cards that pass, in their order, and of the reviews the first
+abbrev pub HasAllOf : QueueView → List Card → Gathered → Type 0
+HasAllOf s cards g = HasAllWith s cards (put_among due_cmp [] (filter_map (due_key is_due_review s) cards)) g
+
+-- the first of the reviews were added, if all else of the cards was there
+abbrev pub AddsFirstReviews : QueueView → List Card → Gathered → Gathered → Type 0
+AddsFirstReviews s cards old new = HasAllButReviews s cards old → HasAllOf s cards new
 
 -- a card was put in by when it is due, if it passes
 abbrev pub PutsDue : Bool → Card → List DueKey → List DueKey → Type 0

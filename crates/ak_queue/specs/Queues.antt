@@ -1,5 +1,5 @@
 -- The queue of a deck on a day.
-use Rattle.std.specs.Prelude.{ℤ, pos, ◌+◌, List, map, length, take, Option, Some, None}
+use Rattle.std.specs.Prelude.{ℕ, ℤ, pos, ◌+◌, Bool, ◌&&◌, ◌==◌, min, if◌then◌else◌, List, map, length, take, Option, Some, None}
 use Rattle.std.specs.Option.{option_map}
 use Rattle.ak_base.specs.Paths.{parts_of}
 use Rattle.ak_base.specs.declared.cards.Card.{Card}
@@ -60,24 +60,40 @@ abbrev pub counts_in : Holding → Day → ℤ → Option Counts
 counts_in h day id = option_map counts_of (queue_of h day id)
 
 -- ---- what was read
--- the moment, and how many seconds ahead a learning card may come
-abbrev pub ahead_in : Day → Option Head → LookAhead
-ahead_in day head = record { day = day; collapse = collapse_in head }
+-- the moment, and how far a queue of it is asked for
+abbrev pub ahead_in : Day → Option Head → Bool → LookAhead
+ahead_in day head for_next = record { day = day; collapse = collapse_in head; for_next = for_next }
 
 -- what the lists look at, by the decks that were read
 abbrev pub scope_at : LookAhead → Deck → List Deck → QueueView
 scope_at m deck decks = record { day = m.day; collapse = m.collapse; root = parts_of deck.name; path_of_deck = parts_at decks }
 
+-- how many of at most so many reviews are looked for: for the next card only one, if no new card is taken
+abbrev pub needed_reviews : Bool → ℕ → List ℤ → ℕ
+needed_reviews for_next most new_cards = if for_next && (length new_cards == 0) then min most 1 else most
+
+-- the queue, as far as it is asked for: for the next card only with its first review, if it has no new cards
+abbrev pub queue_asked : Bool → DayQueue → DayQueue
+queue_asked for_next q = if for_next && (length q.new_cards == 0) then record q { reviews = take 1 q.reviews } else q
+
 -- the queue of a deck, by what it looks at and by the decks that are held
 abbrev pub queue_within : Holding → QueueView → Deck → List Deck → DayQueue
 queue_within h s deck decks = queue_under s (limits_of h.rows s.day deck) (all_limits h.rows s.day s.root decks) (cards_in h.rows)
 
--- the queue of what was gathered, under these limits
-abbrev pub queue_by : Gathered → List DeckLimits → DayQueue
-queue_by g limits = record {
+-- the queue of a deck that is held, as far as it is asked for
+abbrev pub queue_ahead : Holding → LookAhead → Deck → DayQueue
+queue_ahead h ahead deck = queue_asked ahead.for_next (queue_within h (scope_at ahead deck (decks_in h.rows)) deck (decks_in h.rows))
+
+-- the queue of the deck of an id, as far as it is asked for; None if it is not held
+abbrev pub queue_ahead_of : Holding → LookAhead → ℤ → Option DayQueue
+queue_ahead_of h ahead id = option_map (queue_ahead h ahead) (deck_at h.rows id)
+
+-- the queue of what was gathered, with these new cards
+abbrev pub queue_by : Gathered → List ℤ → DayQueue
+queue_by g new_cards = record {
   learning = map (λ (key : DueKey). key.1) g.learning.keys;
   soon = map (λ (key : DueKey). key.1) g.soon.keys;
-  new_cards = map (λ (key : NewKey). key.2) (first_choice limits g.new_cards.keys);
+  new_cards = new_cards;
   day_learning = map (λ (key : DueKey). key.1) g.day_learning.keys;
   reviews = take g.most (map (λ (key : DueKey). key.1) g.reviews.keys);
 }

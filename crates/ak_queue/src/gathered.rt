@@ -1,9 +1,9 @@
 // The cards that a day asks for, gathered from the queues in which they wait.
-ghost use Rattle.std.specs.Prelude.{◌≡◌, ◌≤◌, ◌∷◌, [], pos, map, length, take, true, IfOk, OnOk};
+ghost use Rattle.std.specs.Prelude.{◌≡◌, ◌<◌, ◌≤◌, ◌∷◌, [], pos, map, length, take, true, IfOk, OnOk};
 ghost use Rattle.std.specs.BTreeSet.{insert_key};
 ghost use Rattle.ak_keep.specs.Readings.{ReadsBy};
 ghost use Rattle.ak_keep.specs.WaitingCards.{IsOneOf};
-ghost use Rattle.ak_queue.specs.Gathering.{Gathers, GathersOver, HasAllOf, HasNone, PutsDue, PutsFirst, PutsNew, PutsUnder};
+ghost use Rattle.ak_queue.specs.Gathering.{AddsFirstReviews, Gathers, GathersOver, HasAllButReviews, HasNone, PutsDue, PutsFirst, PutsNew, PutsUnder};
 ghost use Rattle.ak_queue.specs.Homes.{cards_in};
 ghost use Rattle.ak_queue.specs.Orders.{due_cmp};
 ghost use Rattle.ak_queue.specs.Scopes.{scope_seen};
@@ -15,6 +15,12 @@ use ak_keep::{KeepFault, QueueWalk, Readable};
 use std::alloc::Global;
 use std::cmp::Ordering;
 use std::collections::BTreeSet;
+
+/// How many cards are read at a time.
+const PAGE: usize = 100;
+
+/// At least so many reviews are read at first: some may lie outside of the deck.
+const FEW: u64 = 10;
 
 /// What waits, in order: when it is due, and the card's id.
 type DueKeys = BTreeSet<(i64, i64)>;
@@ -33,27 +39,35 @@ pub(crate) struct Gathered {
     pub(crate) new_cards: BTreeSet<(Path, i64, i64)>,
 }
 
-/// The cards that the day asks for, queue by queue; of the reviews the first `most`.
+/// The cards that the day asks for, queue by queue, but no reviews yet; of these at most `most` are looked for.
 pub(crate) fn gather<R: Readable>(
     scope: &Scope,
     most: u64,
     from: &mut R,
 ) -> Result<Gathered, KeepFault>
     ensures most { IfOk result (λ gathered. gathered.most ≡ most) }
-    ensures reads { ReadsBy R.Lookup from.old from.new result (λ h gathered. HasAllOf (scope_seen scope.now) (cards_in h.rows) gathered) }
+    ensures reads { ReadsBy R.Lookup from.old from.new result (λ h gathered. HasAllButReviews (scope_seen scope.now) (cards_in h.rows) gathered) }
 {
     let mut gathered = Gathered::new(scope.alloc, most);
-    let today = Some(scope.day.number);
-    gather_over(
-        &mut gathered,
-        scope,
-        QueueWalk::over(1, scope.last_learning()),
-        from,
-    )?;
-    gather_over(&mut gathered, scope, QueueWalk::over(3, today), from)?;
+    let learning = QueueWalk::over(1, scope.last_learning());
+    let over_days = QueueWalk::over(3, Some(scope.day.number));
+    gather_over(&mut gathered, scope, learning, from)?;
+    gather_over(&mut gathered, scope, over_days, from)?;
     gather_over(&mut gathered, scope, QueueWalk::over(0, None), from)?;
-    gather_over(&mut gathered, scope, QueueWalk::over(2, today), from)?;
     Ok(gathered)
+}
+
+/// Adds the first of the reviews, as many as are looked for.
+pub(crate) fn gather_reviews<R: Readable>(
+    gathered: &mut Gathered,
+    scope: &Scope,
+    from: &mut R,
+) -> Result<(), KeepFault>
+    ensures most { OnOk result (gathered.new.most ≡ gathered.old.most) }
+    ensures reads { ReadsBy R.Lookup from.old from.new result (λ h _. AddsFirstReviews (scope_seen scope.now) (cards_in h.rows) gathered.old gathered.new) }
+{
+    let reviews = QueueWalk::over(2, Some(scope.day.number));
+    gather_over(gathered, scope, reviews, from)
 }
 
 /// Adds the cards that the walk goes over, a page at a time; of reviews no more pages than are looked for.
@@ -66,13 +80,17 @@ fn gather_over<R: Readable>(
     ensures most { OnOk result (gathered.new.most ≡ gathered.old.most) }
     ensures reads { ReadsBy R.Lookup from.old from.new result (λ h _. GathersOver (scope_seen scope.now) (IsOneOf (cards_in h.rows)) over gathered.old gathered.new) }
 {
+    let queue = over.queue();
+    let mut limit = gathered.first_limit(queue);
     let mut walk = over;
     'pages: while !walk.is_done() {
-        if gathered.has_enough(over.queue()) {
+        if gathered.has_enough(queue) {
             return Ok(());
         }
-        let page = walk.next(from)?;
+        let page = walk.next(from, limit)?;
         gathered.add_cards(scope, page.as_slice())?;
+        // What is looked for may come far on, if few of the cards lie in the deck.
+        limit = PAGE;
     }
     Ok(())
 }
@@ -110,6 +128,18 @@ impl Gathered {
         ensures most { result ≡ true → self.now.most ≤ length self.now.reviews.keys }
     {
         queue == 2 && self.most <= self.reviews.len() as u64
+    }
+
+    /// How many cards of the queue the first page has room for: of reviews about as many as are looked for.
+    fn first_limit(&self, queue: i64) -> usize
+        ensures low { 0 < result }
+        ensures high { result ≤ 1000 }
+    {
+        if queue == 2 {
+            self.most.clamp(FEW, PAGE as u64) as usize
+        } else {
+            PAGE
+        }
     }
 
     /// Adds the card, if the day asks for it.

@@ -5,7 +5,7 @@ ghost use Rattle.ak_queue.specs.Readings.{AsksFor};
 
 use crate::day_queues::DayQueue;
 use crate::faults::QueueFault;
-use crate::queues::queue_of;
+use crate::queues::{ahead_in, queue_ahead_of};
 use ak_base::{Day, Head, List};
 use ak_keep::Readable;
 use std::alloc::Global;
@@ -36,8 +36,9 @@ pub fn next<R: Readable>(
 ) -> Result<Option<i64>, QueueFault>
     ensures { AsksFor R.Lookup deck from.old from.new result (λ h card. next_in h progress deck ≡ Some card) }
 {
-    let queue = queue_of(alloc, from, deck, progress.day)?;
     let head = from.head()?;
+    let ahead = ahead_in(progress.day, &head, true);
+    let queue = queue_ahead_of(alloc, from, deck, ahead)?;
     Ok(next_of(mixing_in(&head), progress.done, &queue))
 }
 

@@ -19,6 +19,8 @@ pub(crate) struct Scope {
     pub(crate) day: Day,
     /// How many seconds ahead a learning card may come.
     pub(crate) collapse: i64,
+    /// Whether only the next card is asked for.
+    pub(crate) for_next: bool,
     /// The path of the chosen deck.
     pub(crate) root: Path,
     /// The paths of the decks that are held, by their ids.

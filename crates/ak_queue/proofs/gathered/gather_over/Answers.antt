@@ -1,4 +1,4 @@
-use Rattle.std.proofs.Common.{◌∙◌, rules, w64, refl, sym, subst}
+use Rattle.std.proofs.Common.{◌∙◌, arith, rules, w64, refl, sym, subst}
 use Rattle.std.proofs.lemmas.Int.{to_z-of_z}
 use mir.Val.{SFits}
 use Rattle.ak_faults.proofs.Healths.{goes_nowhere, goes_further}
@@ -12,6 +12,8 @@ pages-init g c = record {
   kept = refl;
   same = refl;
   goes = goes_nowhere (g.R.Lookup.health c.args.from.now);
+  low = c.first_limit-limit.ensures.low;
+  high = c.first_limit-limit.ensures.high;
   most = refl;
   found = first_told (g.R.Lookup.keeping c.args.from.now).told (scope_seen c.args.scope.now) c.args.over c.args.gathered.now;
 }
@@ -24,9 +26,11 @@ pages-preserved g c =
       kept = c.next.ensures.reads.kept ∙ c.pages.invariant.kept;
       same = c.next.ensures.reads.same ∙ c.pages.invariant.same;
       goes = goes_further c.pages.invariant.goes c.next.ensures.reads.cause.goes;
+      low = omega arith;
+      high = omega arith;
       most = c.in_ok-add_cards.ensures.most ∙ c.pages.invariant.most;
       found = next_told told (scope_seen c.args.scope.now) c.args.over c.pages.walk c.next.new.self c.args.gathered.now c.pages.gathered c.add_cards.new.self c.in_ok-page.page
-          c.pages.invariant.found (page_told told c.pages.walk c.next.new.self c.in_ok-page.page going c.in_ok-page.ensures.passed (rw c.pages.invariant.same at c.in_ok-page.ensures.reads.told))
+          c.pages.invariant.found (page_told told c.pages.walk c.next.new.self c.pages.limit c.in_ok-page.page going c.in_ok-page.ensures.passed (rw c.pages.invariant.same at c.in_ok-page.ensures.reads.told))
           (rw c.as_slice.ensures at c.in_ok-add_cards.ensures);
     }
 
@@ -40,7 +44,7 @@ returns-then-has_enough g c =
         same = c.pages.invariant.same;
         cause = cause-ok tt c.pages.invariant.goes;
         told = enough_told (g.R.Lookup.keeping c.args.from.now).told (scope_seen c.args.scope.now) c.args.over c.pages.walk c.args.gathered.now c.pages.gathered
-            (sym c.queue.ensures ∙ sym (to_z-of_z w64 c.queue.result (subst (SFits w64) (sym c.queue.ensures) fits)) ∙ c.has_enough.ensures.queue c.if-has_enough.true) (c.has_enough.ensures.most c.if-has_enough.true)
+            (sym c.queue-queue.ensures ∙ sym (to_z-of_z w64 c.queue-queue.result (subst (SFits w64) (sym c.queue-queue.ensures) fits)) ∙ c.has_enough.ensures.queue c.if-has_enough.true) (c.has_enough.ensures.most c.if-has_enough.true)
             c.pages.invariant.found;
       };
     }

@@ -16,6 +16,6 @@ returns-in_ok-queue-in-Some g c =
         kept = then.kept ∙ first.kept;
         same = then.same ∙ first.same;
         cause = cause-ok _ (goes_further first.cause.goes then.cause.goes);
-        told = found_told (g.R.Lookup.keeping c.args.from.now).told c.args.day c.args.deck c.in_ok-found.found c.in-Some.deck c.in_ok-queue-in-Some.queue c.in-Some.is (rw (to_z-of_z w64 c.args.deck fits) at first.told) (rw first.same at then.told);
+        told = found_told (g.R.Lookup.keeping c.args.from.now).told c.args.ahead c.args.deck c.in_ok-found.found c.in-Some.deck c.in_ok-queue-in-Some.queue c.in-Some.is (rw (to_z-of_z w64 c.args.deck fits) at first.told) (rw first.same at then.told);
       };
     }
