@@ -1,9 +1,9 @@
 -- What is left of a text that was stripped.
-use Rattle.std.proofs.Common.{◌≡◌, ℕ, zero, suc, ◌≤◌, Bool, true, false, ◌&&◌, ◌||◌, ◌==◌, cond, List, [], ◌∷◌, length, refl, ap, sym, ◌∙◌, arith}
+use Rattle.std.proofs.Common.{◌≡◌, ℕ, zero, suc, ◌≤◌, Bool, true, false, not, ◌&&◌, ◌||◌, ◌==◌, cond, List, [], ◌∷◌, length, refl, ap, sym, ◌∙◌, arith}
 use Rattle.std.specs.Prelude.{⊤, codes}
 use Rattle.std.proofs.lemmas.Bool.{or_parts}
 use Rattle.ak_base.specs.Cuts.{begins, has}
-use Rattle.ak_filters.specs.Strips.{removed, spaced, stripped}
+use Rattle.ak_filters.specs.Strips.{is_plain, removed, spaced, stripped}
 use Rattle.ak_filters.proofs.Stripping.{plain_stays, unmarked_stays}
 
 -- ---- no `<` is left with a `>` after it
@@ -102,6 +102,20 @@ stripped_again text = ap (spaced 0) (whole_stays (stripped text) (spaced_whole 0
 
 pub plain_kept : (text : List ℕ) → has (codes "<") text ≡ false → has (codes "&nbsp;") text ≡ false → stripped text ≡ text
 plain_kept text h k = ap (spaced 0) (plain_stays text h) ∙ unmarked_stays text k
+
+-- the first byte begins neither a piece nor a mark, and the rest is plain too
+plain_parts : (b : ℕ) (mark rest : Bool) → (not ((b == 60) || (b == 38)) && rest) ≡ true → (((60 == b) && true) ≡ false) × ((((38 == b) && mark) ≡ false) × (rest ≡ true))
+plain_parts b mark rest h = (grind (arith, h), (grind (arith, h), grind (arith, h)))
+
+has_none : (text : List ℕ) → is_plain text ≡ true → (has (codes "<") text ≡ false) × (has (codes "&nbsp;") text ≡ false)
+has_none [] h = (refl, refl)
+has_none (b ∷ bs) h =
+    let parts = plain_parts b (begins (codes "nbsp;") bs) (is_plain bs) h in
+    let later = has_none bs parts.1.1 in
+    (ap (λ v. v || has (codes "<") bs) parts.0 ∙ later.0, ap (λ v. v || has (codes "&nbsp;") bs) parts.1.0 ∙ later.1)
+
+pub plain_stripped : (text : List ℕ) → is_plain text ≡ true → stripped text ≡ text
+plain_stripped text h = plain_kept text (has_none text h).0 (has_none text h).1
 
 -- ---- nothing grows
 

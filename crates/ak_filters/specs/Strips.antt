@@ -1,5 +1,5 @@
 -- A text without its marks of HTML, and when a field is empty.
-use Rattle.std.specs.Prelude.{ℕ, zero, suc, Bool, true, false, ◌&&◌, ◌||◌, ◌==◌, if◌then◌else◌, List, [], ◌∷◌, codes}
+use Rattle.std.specs.Prelude.{ℕ, zero, suc, Bool, true, false, not, ◌&&◌, ◌||◌, ◌==◌, if◌then◌else◌, List, [], ◌∷◌, codes}
 use Rattle.ak_base.specs.Cuts.{begins, has}
 
 -- without each piece from `<` to the next `>`: a `<` with no `>` after it stays. The truth value says if the bytes begin inside a piece
@@ -17,6 +17,11 @@ spaced zero (byte ∷ bytes) = if begins (codes "&nbsp;") (byte ∷ bytes) then 
 -- the text without its pieces, and then with a space for each `&nbsp;`
 abbrev pub stripped : List ℕ → List ℕ
 stripped text = spaced 0 (removed false text)
+
+-- whether no `<` and no `&` is among the bytes
+abbrev pub is_plain : List ℕ → Bool
+is_plain [] = true
+is_plain (byte ∷ bytes) = not ((byte == 60) || (byte == 38)) && is_plain bytes
 
 -- space, tab, line feed, form feed, carriage return
 abbrev pub is_white : ℕ → Bool

@@ -1,5 +1,5 @@
 ghost use Rattle.std.specs.Prelude.{◌≡◌, ◌++◌, ◌∷◌, ◌<◌, ◌≤◌, length, true, false, IfSome, IfNone, IfOk, string_bytes, codes};
-ghost use Rattle.ak_filters.specs.Strips.{removed, spaced, stripped, blank, empty_value};
+ghost use Rattle.ak_filters.specs.Strips.{removed, spaced, stripped, is_plain, blank, empty_value};
 ghost use Rattle.ak_filters.specs.Meanings.{Strip};
 
 use crate::FieldFilter;
@@ -7,16 +7,33 @@ use ak_base::{Memory, Text, cut};
 use std::alloc::{AllocError, Global};
 
 /// The text without its pieces from `<` to the next `>`, and then with a space for each `&nbsp;`.
-#[tactic(auto, using(crate::proofs::Stripped::stripped_length))]
+#[tactic(auto, using(crate::proofs::Stripped::plain_stripped, crate::proofs::Stripped::stripped_length))]
 pub fn strip(alloc: Global, text: &str) -> Result<Text, Memory>
     ensures text { IfOk result (λ made. made ≡ stripped text.now) }
 
     // It is never longer than the text.
     ensures length { IfOk result (λ made. length made ≤ length text.now) }
 {
+    // Most texts are plain, and are copied at once.
+    if is_plain(text) {
+        return Text::of(alloc, text);
+    }
     let kept = remove_pieces(alloc, text)?;
     let made = put_spaces(alloc, kept)?;
     Ok(Text::from(made))
+}
+
+/// Whether neither a `<` nor a `&` is in the text.
+fn is_plain(text: &str) -> bool
+    ensures { result ≡ is_plain text.now }
+{
+    let bytes = text.as_bytes();
+    for byte in bytes {
+        if matches!(*byte, b'<' | b'&') {
+            return false;
+        }
+    }
+    true
 }
 
 /// The text before its first piece, and the text after it. A `<` with no `>` after it begins no piece.
