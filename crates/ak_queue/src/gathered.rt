@@ -70,7 +70,7 @@ pub(crate) fn gather_reviews<R: Readable>(
     gather_over(gathered, scope, reviews, from)
 }
 
-/// Adds the cards that the walk goes over, a page at a time; of reviews no more pages than are looked for.
+/// Adds the cards that the walk goes over, a page at a time. Once as many reviews are found as are looked for, no further page is read.
 fn gather_over<R: Readable>(
     gathered: &mut Gathered,
     scope: &Scope,
