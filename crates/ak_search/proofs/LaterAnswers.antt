@@ -1,6 +1,6 @@
 -- Reviews before an id make no answers from it on.
-use Rattle.std.specs.Prelude.{◌≡◌, ◌==◌, ℤ, pos, ◌<ℤ◌, ◌≤ℤ◌, ◌⊎◌, int_lt, Bool, true, false, not, ◌&&◌, ◌||◌, cond, List, [], ◌∷◌, map, filter}
-use Rattle.std.proofs.Common.{refl, sym, ap, subst, ◌∙◌, arith, inl, inr}
+use Rattle.std.specs.Prelude.{◌≡◌, ◌==◌, ℤ, pos, ◌<ℤ◌, ◌≤ℤ◌, ◌⊎◌, int_lt, true, false, ◌&&◌, ◌||◌, cond, List, [], ◌∷◌, map, filter}
+use Rattle.std.proofs.Common.{refl, sym, ap, ◌∙◌, arith, inl, inr}
 use Rattle.std.proofs.lemmas.Int.{ints}
 use Rattle.std.specs.Cmp.{first_so, second_so}
 use Rattle.std.specs.FinMap.{entries}
@@ -12,7 +12,7 @@ use Rattle.ak_base.specs.declared.names.Table.TheVariants as tables
 use Rattle.ak_base.specs.declared.rows.Row.{Row}
 use Rattle.ak_base.specs.declared.rows.Row.TheVariants as rows
 use Rattle.ak_keep.specs.Collections.{Rows, StandsUnderNames, is_past, rows_past}
-use Rattle.ak_search.specs.CardFacts.{is_answer, is_answer_in, is_answered, is_since}
+use Rattle.ak_search.specs.CardFacts.{is_answer, is_answer_in, is_answered}
 
 -- the reviews past an id among entries
 past_among : ℤ → List (Name × Row) → List Row

@@ -1,4 +1,5 @@
 pub mod Answering
+pub mod Apart
 pub mod Earlier
 pub mod Faulting
 pub mod Grammars

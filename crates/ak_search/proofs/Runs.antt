@@ -2,12 +2,12 @@
 use Rattle.std.proofs.Common.{◌≡◌, ◌==◌, ℕ, zero, suc, ◌+◌, ◌<◌, ◌≤◌, Bool, true, false, ◌&&◌, ◌||◌, cond, List, [], ◌∷◌, length, drop, Option, Some, None, refl, sym, ap, subst, ◌∙◌, arith}
 use Rattle.std.proofs.lemmas.Bool.{ne_eqb}
 use Rattle.std.proofs.lemmas.List.{drop-drop}
-use Rattle.std.specs.Cmp.{first_so, second_so}
+use Rattle.std.specs.Cmp.{second_so}
 use Rattle.std.specs.Option.{option_and_then}
 use Rattle.ak_search.specs.declared.patterns.PatternItem.{PatternItem}
 use Rattle.ak_search.specs.declared.patterns.PatternItem.TheVariants.{Any, One, Apart, Is}
-use Rattle.ak_search.specs.Patterns.{fits, is_any, takes}
-use Rattle.ak_search.specs.Runs.{behind_letter, run_behind}
+use Rattle.ak_search.specs.Patterns.{fits, takes}
+use Rattle.ak_search.specs.Runs.{run_behind}
 
 -- ---- truth values
 by_cases : (a b : Bool) → (a ≡ true → b ≡ true) → (b ≡ true → a ≡ true) → a ≡ b

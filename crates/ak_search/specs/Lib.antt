@@ -1,4 +1,5 @@
 pub mod AllFaults
+pub mod Alone
 pub mod CardFacts
 pub mod Earliest
 pub mod Grammar

@@ -1,5 +1,5 @@
 -- How a pattern is matched run by run: the items up to an `Any` each take one character.
-use Rattle.std.specs.Prelude.{◌≡◌, ℕ, ◌+◌, ◌<◌, Bool, if◌then◌else◌, List, [], ◌∷◌, length, Option, Some, None}
+use Rattle.std.specs.Prelude.{◌≡◌, ℕ, ◌+◌, ◌<◌, if◌then◌else◌, List, [], ◌∷◌, length, Option, Some, None}
 use Rattle.std.specs.Option.{option_and_then}
 use Rattle.ak_search.specs.declared.matching.Tried.{Tried}
 use Rattle.ak_search.specs.declared.matching.Tried.TheVariants.{Done, Next}

@@ -132,7 +132,7 @@ impl Evaluator {
 }
 
 /// Whether a term or group is met, by its sign.
-fn negated_by(negated: bool, holds: bool) -> bool
+pub(crate) fn negated_by(negated: bool, holds: bool) -> bool
     ensures { result ≡ negated_by negated holds }
 {
     if negated { !holds } else { holds }

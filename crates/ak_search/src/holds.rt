@@ -31,7 +31,7 @@ pub(crate) struct SearchContext {
 
 impl SearchContext {
     /// Whether the card was answered with the ease in the last so many days.
-    fn is_answered(&self, card: &Card, days: &i64, ease: &i64) -> bool
+    pub(crate) fn is_answered(&self, card: &Card, days: &i64, ease: &i64) -> bool
         ensures { result ≡ is_shown self.now.answers card.now.id ease.now (id_back self.now.day days.now) }
     {
         self.answers
@@ -39,7 +39,7 @@ impl SearchContext {
     }
 
     /// Whether it was answered with any ease but 0, which is that of a change by hand.
-    fn is_rated(&self, card: &Card, days: &i64) -> bool
+    pub(crate) fn is_rated(&self, card: &Card, days: &i64) -> bool
         ensures { result ≡ answered_since (is_shown self.now.answers card.now.id) (id_back self.now.day days.now) (pos 1 ∷ pos 2 ∷ pos 3 ∷ pos 4 ∷ []) }
     {
         self.is_answered(card, days, &1)
@@ -84,21 +84,12 @@ impl SearchContext {
                 &related.note_type,
                 card,
             ),
-            Term::InState(state) => Ok(is_in_state(self.day, *state, card)),
-            Term::Prop(what, comparison, bound) => Ok(meets_bound(
-                self.day,
-                *what,
-                *comparison,
-                bound,
-                card,
-            )),
-            Term::Flag(number) => Ok(has_flag(card, number)),
-            Term::Rated(days) => Ok(self.is_rated(card, days)),
-            Term::RatedWith(days, ease) => Ok(self.is_answered(card, days, ease)),
-            Term::Added(days) => Ok(is_since(&card.id, &id_back(self.day, days))),
             Term::Edited(days) => Ok(was_edited(self.day, days, &related.note)),
-            Term::NoteIds(ids) => Ok(is_listed(&card.nid, ids.as_slice())),
-            Term::CardIds(ids) => Ok(is_listed(&card.id, ids.as_slice())),
+            Term::InState(_) | Term::Prop(_, _, _) | Term::Flag(_) | Term::Added(_) => Ok(
+                self.holds_alone(card, term),
+            ),
+            Term::Rated(_) | Term::RatedWith(_, _) => Ok(self.holds_alone(card, term)),
+            Term::NoteIds(_) | Term::CardIds(_) => Ok(self.holds_alone(card, term)),
         }
     }
 }

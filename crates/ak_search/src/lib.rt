@@ -1,6 +1,7 @@
 // Searches: patterns of texts, and the expression that a search text stands for.
 #![tactic(auto)]
 
+mod alone;
 mod answers;
 mod boxed_types;
 mod checks;

@@ -243,7 +243,7 @@ fn needs_texts(term: &Term) -> bool
 }
 
 /// Whether a term asks for the note of a card, and for its type.
-fn needs_note(term: &Term) -> bool
+pub(crate) fn needs_note(term: &Term) -> bool
     ensures { result ≡ needs_note term.now }
 {
     match term {
@@ -260,7 +260,7 @@ fn needs_note(term: &Term) -> bool
 }
 
 /// Whether a term asks for the deck of a card.
-fn needs_deck(term: &Term) -> bool
+pub(crate) fn needs_deck(term: &Term) -> bool
     ensures { result ≡ needs_deck term.now }
 {
     match term {

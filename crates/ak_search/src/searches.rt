@@ -15,6 +15,7 @@ ghost use Rattle.ak_search.specs.Passes.{AreAnswersFor, Stays, Tells, TakesFrom,
 ghost use Rattle.ak_search.specs.Searching.{SearchStays, SearchesBy, StillSearches};
 ghost use Rattle.ak_search.specs.Trees.{Tree, pieces_of};
 
+use crate::alone::fails_by_card;
 use crate::answers::{Answers, read_answers};
 use crate::earliest::earliest_asked;
 use crate::evaluator::Evaluator;
@@ -161,8 +162,24 @@ fn is_hit<R: Lookup>(search: &mut Search<'_>, from: &mut R, row: &Row) -> Result
     }
 }
 
-/// Whether the card meets the tokens. What no longer matters is not asked, and not looked up.
+/// Whether the card meets the tokens. What the card alone tells comes first.
 fn meets<R: Lookup>(
+    context: &SearchContext,
+    tokens: &[Token],
+    from: &mut R,
+    latest: &mut Latest,
+    card: &Card,
+) -> Result<bool, KeepFault>
+    ensures reads { ReadsBy R.Lookup from.old from.new result (λ h does. Stays latest.old latest.new h.rows (does ≡ asked (pieces_in tokens.now) (tested context.now h.rows card.now))) }
+{
+    if fails_by_card(context, tokens, card) {
+        return Ok(false);
+    }
+    meets_by_pieces(context, tokens, from, latest, card)
+}
+
+/// The same, piece by piece. What no longer matters is not asked, and not looked up.
+fn meets_by_pieces<R: Lookup>(
     context: &SearchContext,
     tokens: &[Token],
     from: &mut R,

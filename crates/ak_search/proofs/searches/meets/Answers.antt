@@ -1,14 +1,16 @@
-use Rattle.std.proofs.Common.{refl}
+use Rattle.std.proofs.Common.{false, refl}
 use Rattle.ak_faults.proofs.Healths.{goes_nowhere}
+use Rattle.ak_keep.proofs.Causing.{cause-ok}
 use Rattle.ak_search.specs.Grammar.{pieces_in}
-use Rattle.ak_search.proofs.Telling.{no_piece_told}
+use Rattle.ak_search.proofs.Apart.{fails_stays}
 use Rattle.ak_search.proofs.searches.meets.Goals as goal
 
-pub loop-token-init : goal.loop-token-init
-loop-token-init g c = record {
-  kept = refl;
-  same = refl;
-  goes = goes_nowhere (g.R.Lookup.health c.args.from.now);
-  told = no_piece_told (g.R.Lookup.keeping c.args.from.now).told c.args.context.now c.args.card.now c.args.latest.now c.new-evaluator.result (pieces_in c.args.tokens.now)
-      c.new-evaluator.ensures.outer c.new-evaluator.ensures.either c.new-evaluator.ensures.all;
+pub returns-then-fails_by_card : goal.returns-then-fails_by_card
+returns-then-fails_by_card g c = record {
+  reads = record {
+    kept = refl;
+    same = refl;
+    cause = cause-ok false (goes_nowhere (g.R.Lookup.health c.args.from.now));
+    told = fails_stays (g.R.Lookup.keeping c.args.from.now).told c.args.context.now c.args.card.now c.args.latest.now (pieces_in c.args.tokens.now) (c.fails_by_card.ensures c.if-fails_by_card.true);
+  };
 }

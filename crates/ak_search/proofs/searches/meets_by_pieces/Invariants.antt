@@ -3,7 +3,7 @@ use Rattle.ak_faults.specs.Causes.{GoesOn}
 use Rattle.ak_keep.specs.Keepers.{WhereTold}
 use Rattle.ak_search.specs.Grammar.{pieces_in}
 use Rattle.ak_search.specs.Passes.{Stays, asked, evaluated_from, tested}
-use Rattle.ak_search.proofs.searches.meets.Given as goal
+use Rattle.ak_search.proofs.searches.meets_by_pieces.Given as goal
 
 -- the pieces that are left decide
 abbrev pub invariant-loop-token : goal.invariant-loop-token
