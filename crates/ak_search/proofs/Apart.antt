@@ -57,7 +57,7 @@ unmet holds fails agree zero failed [] either all (Test negated term ∷ ps) h e
     unmet holds fails agree zero (failed || fails negated term) [] either (all && negated_by negated (holds term)) ps (h.0, one_fails failed (fails negated term) all (negated_by negated (holds term)) h.1 (agree negated term)) e
 unmet holds fails agree (suc depth) failed (group ∷ outer) either all (Test negated term ∷ ps) h e =
     unmet holds fails agree (suc depth) failed (group ∷ outer) either (all && negated_by negated (holds term)) ps h
-        (sym (ap (λ v. cond v (some_part_fails fails (suc depth) (failed || fails negated term) ps) (some_part_fails fails (suc depth) failed ps)) (apart_from_zero depth)) ∙ e)
+    (sym (ap (λ v. cond v (some_part_fails fails (suc depth) (failed || fails negated term) ps) (some_part_fails fails (suc depth) failed ps)) (apart_from_zero depth)) ∙ e)
 unmet holds fails agree zero failed [] either all (BadValue ∷ ps) h e = unmet holds fails agree zero failed [] either all ps h e
 unmet holds fails agree (suc depth) failed (group ∷ outer) either all (BadValue ∷ ps) h e = unmet holds fails agree (suc depth) failed (group ∷ outer) either all ps h e
 unmet holds fails agree zero failed [] either all (Open negated ∷ ps) h e = unmet holds fails agree (suc zero) failed (record { negated = negated; either = either; all = all } ∷ []) false true ps h e
@@ -66,7 +66,7 @@ unmet holds fails agree (suc depth) failed (group ∷ outer) either all (Open ne
 unmet holds fails agree zero failed [] either all (Close ∷ ps) h e = unmet holds fails agree zero failed [] either all ps h e
 unmet holds fails agree (suc depth) failed (group ∷ outer) either all (Close ∷ ps) h e =
     unmet holds fails agree depth failed outer group.either (group.all && negated_by group.negated (either || all)) ps (one_part_more depth failed outer group.either group.all (negated_by group.negated (either || all)) h)
-        (sym (ap (λ d. some_part_fails fails d failed ps) (one_less depth)) ∙ e)
+    (sym (ap (λ d. some_part_fails fails d failed ps) (one_less depth)) ∙ e)
 unmet holds fails agree zero failed [] either all (Or ∷ ps) h e = absurd (grind (arith, e))
 unmet holds fails agree (suc depth) failed (group ∷ outer) either all (Or ∷ ps) h e = unmet holds fails agree (suc depth) failed (group ∷ outer) (either || all) true ps h (second_so _ _ e)
 unmet holds fails agree zero failed [] either all (And ∷ ps) h e = unmet holds fails agree zero failed [] either all ps h e
