@@ -47,7 +47,7 @@ pub record HasNone (looked_for : ℕ) (g : Gathered) : Type 0 where
   pub reviews : g.reviews.keys ≡ []
   pub new_cards : g.new_cards.keys ≡ []
 
--- those of the cards that pass, in their order, and of the reviews the first of these
+-- those of the cards that pass, in their order, and of the reviews the first of those found
 pub record HasAllWith (s : QueueView) (cards : List Card) (found : List DueKey) (g : Gathered) : Type 0 where
   pub learning : g.learning.keys ≡ put_among due_cmp [] (filter_map (due_key is_learning s) cards)
   pub soon : g.soon.keys ≡ put_among due_cmp [] (filter_map (due_key is_soon s) cards)
@@ -55,7 +55,7 @@ pub record HasAllWith (s : QueueView) (cards : List Card) (found : List DueKey) 
   pub reviews : take g.most g.reviews.keys ≡ take g.most found
   pub new_cards : g.new_cards.keys ≡ put_among new_cmp [] (filter_map (new_key s) cards)
 
--- those of the cards that pass, in their order, but no review is among the first yet
+-- those of the cards that pass, in their order, but no review yet, if any is looked for
 abbrev pub HasAllButReviews : QueueView → List Card → Gathered → Type 0
 HasAllButReviews s cards g = HasAllWith s cards [] g
 
@@ -63,7 +63,7 @@ HasAllButReviews s cards g = HasAllWith s cards [] g
 abbrev pub HasAllOf : QueueView → List Card → Gathered → Type 0
 HasAllOf s cards g = HasAllWith s cards (put_among due_cmp [] (filter_map (due_key is_due_review s) cards)) g
 
--- the first of the reviews were added, if all else of the cards was there
+-- the first of the reviews were added, if all else of the cards was there and no review yet
 abbrev pub AddsFirstReviews : QueueView → List Card → Gathered → Gathered → Type 0
 AddsFirstReviews s cards old new = HasAllButReviews s cards old → HasAllOf s cards new
 

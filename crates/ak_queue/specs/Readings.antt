@@ -15,7 +15,7 @@ abbrev pub fault_of : KeepFault → QueueFault
 fault_of reading.Failed = faults.Failed
 fault_of reading.Memory = faults.Memory
 
--- a call that asks for the queue of a deck: it leaves all as it was, fails only if a fault was counted in it, and this is true
+-- a call that asks for the queue of a deck: it leaves all as it was, answers `Failed` only if a fault was counted in it, and this is true
 -- of its answer and of what is held, if that is told
 pub record AsksFor {Self T : Type 0} (R : Ghosts Self) (deck : ℤ) (was now : Self) (result : Result T QueueFault) (P : Holding → T → Type 0) : Type 0 where
   pub kept : R.kept now ≡ R.kept was

@@ -33,7 +33,7 @@ pub(crate) struct Gathered {
     pub(crate) learning: DueKeys,
     pub(crate) soon: DueKeys,
     pub(crate) day_learning: DueKeys,
-    /// The first of the reviews; more than `most` of them may be among these.
+    /// The first `most` of the reviews. That there are no others is promised by no contract.
     pub(crate) reviews: DueKeys,
     /// New cards, by the path of their deck, their place among new cards, and their id.
     pub(crate) new_cards: BTreeSet<(Path, i64, i64)>,
@@ -196,7 +196,7 @@ fn put_first(keys: &mut DueKeys, most: u64, key: (i64, i64)) -> Result<(), Memor
     Ok(())
 }
 
-/// Whether there are `most` of them that come before the key.
+/// True only if `most` of them come before the key.
 fn comes_after(keys: &DueKeys, most: u64, key: &(i64, i64)) -> bool
     ensures { result ≡ true → take most keys.now.keys ≡ take most (insert_key due_cmp keys.now.keys key.now) }
 {

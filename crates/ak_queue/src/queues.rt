@@ -30,8 +30,8 @@ pub fn counts<R: Readable>(
     Ok(queue.counts())
 }
 
-/// The cards of the deck and its subtree that the day asks for, in one pass over the decks and one over the cards
-/// of every deck that wait in the queues of a day.
+/// The cards of the deck and its subtree that the day asks for: one pass over the decks, and one over the cards that wait in each
+/// queue, those of every deck, by when they are due and no further than the day asks.
 pub fn queue_of<R: Readable>(
     alloc: Global,
     from: &mut R,

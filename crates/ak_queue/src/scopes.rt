@@ -111,7 +111,7 @@ fn is_before_sum(number: i64, one: i64, other: i64) -> bool
     }
 }
 
-/// At least each number that is below the first or below the sum; None if the sum is out of range.
+/// At least each number that is below the first or below the sum; None if the sum is over the last number.
 fn last_of_sum(one: i64, other: i64) -> Option<i64>
     ensures one { (number : ℤ) → int_lt number one ≡ true → is_due_by result number ≡ true }
     ensures sum { (number : ℤ) → int_lt number (one +ℤ other) ≡ true → is_due_by result number ≡ true }
