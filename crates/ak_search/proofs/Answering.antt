@@ -94,7 +94,7 @@ pub tests_as : (context : SearchContext) (held : Rows) (c : Card) (one : Latest)
 tests_as context held c one term does is suits = is ∙ by_texts context.day context.answers c one term suits.texts ∙ suited context.day context.answers held c one term suits
 
 -- two tests that agree on all terms but some lead to the same where none of those is asked
-same_walk : (apart f g : Term → Bool) → ((term : Term) → apart term ≡ false → f term ≡ g term) → (outer : List Outer) (either all : Bool) (ps : List Piece) → some_term apart ps ≡ false → walk f outer either all ps ≡ walk g outer either all ps
+pub same_walk : (apart f g : Term → Bool) → ((term : Term) → apart term ≡ false → f term ≡ g term) → (outer : List Outer) (either all : Bool) (ps : List Piece) → some_term apart ps ≡ false → walk f outer either all ps ≡ walk g outer either all ps
 same_walk apart f g same outer either all [] h = refl
 same_walk apart f g same outer either all (Test negated term ∷ ps) h =
     let both = or_parts (apart term) (some_term apart ps) h in

@@ -1,5 +1,6 @@
 pub mod Answering
-pub mod Apart
+pub mod AtOnce
+pub mod ByNote
 pub mod Earlier
 pub mod Faulting
 pub mod Grammars

@@ -22,6 +22,7 @@ use Rattle.ak_keep.specs.Marks.{WithMark}
 use Rattle.ak_keep.specs.Walks.{ahead}
 use Rattle.ak_keep.specs.declared.keepers.KeepFault.{KeepFault}
 use Rattle.ak_keep.specs.declared.walks.Walk.{Walk}
+use Rattle.ak_search.specs.ByNote.{ask_notes_alone, verdict_of}
 use Rattle.ak_search.specs.CardFacts.{Seen, is_answer_in, is_answered, seen, type_of}
 use Rattle.ak_search.specs.Grammar.{pieces_in}
 use Rattle.ak_search.specs.Holds.{asked_by, holds, is_hit, ids_of_hits, hits}
@@ -36,11 +37,13 @@ use Rattle.ak_search.specs.declared.holds.SearchContext.{SearchContext}
 use Rattle.ak_search.specs.declared.kept_types.KeptTypes.{KeptTypes}
 use Rattle.ak_search.specs.declared.related.Latest.{Latest}
 use Rattle.ak_search.specs.declared.searches.Search.{Search}
+use Rattle.ak_search.specs.declared.searches.Verdict.{Verdict}
 use Rattle.ak_search.specs.declared.terms.Term.TheVariants as terms
 use Rattle.ak_search.specs.declared.terms.Term.{Term}
 use Rattle.ak_search.specs.declared.tokens.Piece.TheVariants.{Test}
 use Rattle.ak_search.specs.declared.tokens.Piece.{Piece}
 use Rattle.ak_search.proofs.Answering.{page_added, serves, tests_as}
+use Rattle.ak_search.proofs.ByNote.{verdict_kept}
 use Rattle.ak_search.proofs.LaterAnswers.{later_answers}
 use Rattle.ak_search.proofs.Passing.{page_taken, row_taken}
 use Rattle.ak_search.proofs.Walking.{walked}
@@ -273,36 +276,53 @@ none_suits (Some held) latest c term no_texts no_note no_deck = λ is.
 -- ---- a search under way
 -- the answers that it was made with serve it, and nothing was looked up yet
 pub search_made : (told : Option (WithMark Holding)) (search : Search) (ps : List Piece) → pieces_in search.tokens.now ≡ ps → ((held : Rows) → AreLatest search.latest held)
-    → IfSome told (λ held. Serves search.context ps held.current.rows)
+    → (search.by_note ≡ true → ask_notes_alone (pieces_in search.tokens.now) ≡ true) → search.verdict ≡ None → IfSome told (λ held. Serves search.context ps held.current.rows)
     → IfSome told (λ held. (tree : Tree) → ps ≡ pieces_of tree → SearchesBy search held.current.rows search.context.day tree)
-search_made None search ps are latest answered = tt
-search_made (Some held) search ps are latest answered = λ tree is. record {
+search_made None search ps are latest by_note none answered = tt
+search_made (Some held) search ps are latest by_note none answered = λ tree is. record {
   pieces = are ∙ is;
   on = refl;
   serves = subst (λ (qs : List Piece). Serves search.context qs held.current.rows) (sym are) answered;
   latest = latest held.current.rows;
+  by_note = by_note;
+  verdict = subst (λ (verdict : Option Verdict). IfSome verdict (λ v. (c : Card) → c.nid ≡ v.note → asked (pieces_in search.tokens.now) (tested search.context held.current.rows c) ≡ v.does)) (sym none) tt;
 }
 
+-- what the pieces ask of a card is what the tree asks
+asks_tree : (search : Search) (held : Rows) (day : Day) (tree : Tree) (c : Card) → SearchesBy search held day tree → asked (pieces_in search.tokens.now) (tested search.context held c) ≡ meets (holds day (seen held c)) tree
+asks_tree search held day tree c by =
+    let seen_now : Seen = seen held c in
+    serves search.context held c (pieces_in search.tokens.now) by.serves
+    ∙ ap (λ (ps : List Piece). asked ps (holds search.context.day seen_now)) by.pieces
+    ∙ walked (holds search.context.day seen_now) tree
+    ∙ ap (λ (d : Day). meets (holds d seen_now) tree) by.on
+
+-- it was found of the card's note before
+pub known_told : (told : Option (WithMark Holding)) (search : Search) (c : Card) (does : Bool) → search.verdict ≡ Some (verdict_of c.nid does)
+    → IfSome told (λ held. SearchStays search search held.current.rows (λ day tree. does ≡ meets (holds day (seen held.current.rows c)) tree))
+known_told None search c does known = tt
+known_told (Some held) search c does known = λ day tree by.
+    let found = subst (λ (verdict : Option Verdict). IfSome verdict (λ v. (other : Card) → other.nid ≡ v.note → asked (pieces_in search.tokens.now) (tested search.context held.current.rows other) ≡ v.does)) known by.verdict in
+    (by, sym (found c refl) ∙ asks_tree search held.current.rows day tree c by)
+
 -- one more card was asked
-pub card_told : (told : Option (WithMark Holding)) (search : Search) (c : Card) (latest : Latest) (does : Bool)
+pub card_told : (told : Option (WithMark Holding)) (search new : Search) (c : Card) (latest : Latest) (does : Bool)
+    → new ≡ record search { latest = latest; verdict = cond search.by_note (Some (verdict_of c.nid does)) None }
     → IfSome told (λ held. Stays search.latest latest held.current.rows (does ≡ asked (pieces_in search.tokens.now) (tested search.context held.current.rows c)))
-    → IfSome told (λ held. SearchStays search (record search { latest = latest }) held.current.rows (λ day tree. does ≡ meets (holds day (seen held.current.rows c)) tree))
-card_told None search c latest does asks = tt
-card_told (Some held) search c latest does asks = λ day tree by.
+    → IfSome told (λ held. SearchStays search new held.current.rows (λ day tree. does ≡ meets (holds day (seen held.current.rows c)) tree))
+card_told None search new c latest does is asks = tt
+card_told (Some held) search new c latest does is asks = λ day tree by.
     let one = asks by.latest in
-    let seen_now : Seen = seen held.current.rows c in (
-      record { pieces = by.pieces; on = by.on; serves = by.serves; latest = one.0 },
-      one.1 ∙ serves search.context held.current.rows c (pieces_in search.tokens.now) by.serves
-          ∙ ap (λ (ps : List Piece). asked ps (holds search.context.day seen_now)) by.pieces
-          ∙ walked (holds search.context.day seen_now) tree
-          ∙ ap (λ (d : Day). meets (holds d seen_now) tree) by.on,
+    let kept = verdict_kept search.context held.current.rows c (pieces_in search.tokens.now) search.by_note does by.by_note one.1 in (
+      subst (λ (s : Search). SearchesBy s held.current.rows day tree) (sym is) (record { pieces = by.pieces; on = by.on; serves = by.serves; latest = one.0; by_note = by.by_note; verdict = kept }),
+      one.1 ∙ asks_tree search held.current.rows day tree c by,
     )
 
 -- what was looked up last was forgotten
 pub forgotten : (told : Option (WithMark Holding)) (search : Search) (latest : Latest) → ((held : Rows) → AreLatest latest held)
     → IfSome told (λ held. (day : Day) (tree : Tree) → SearchesBy search held.current.rows day tree → SearchesBy (record search { latest = latest }) held.current.rows day tree)
 forgotten None search latest are = tt
-forgotten (Some held) search latest are = λ day tree by. record { pieces = by.pieces; on = by.on; serves = by.serves; latest = are held.current.rows }
+forgotten (Some held) search latest are = λ day tree by. record { pieces = by.pieces; on = by.on; serves = by.serves; latest = are held.current.rows; by_note = by.by_note; verdict = by.verdict }
 
 -- a row that is no card is no hit
 no_card_hits : (asks : (Term → Bool) → Bool) (held : Rows) (day : Day) (row : Row) → ((c : Card) → row ≡ rows.Card c → ⊥) → false ≡ is_hit asks held day row

@@ -1,5 +1,6 @@
 pub mod AllFaults
-pub mod Alone
+pub mod AtOnce
+pub mod ByNote
 pub mod CardFacts
 pub mod Earliest
 pub mod Grammar

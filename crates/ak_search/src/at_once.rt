@@ -1,7 +1,8 @@
-// What a card alone tells of an expression. A part that fails by it settles an expression without `or`, and nothing is looked up.
+// What is known of a card before its note or its deck is looked up. Where no `or` stands outside groups, a term there that fails by that
+// settles the whole expression.
 ghost use Rattle.std.specs.Prelude.{◌≡◌, true, false};
 ghost use Rattle.ak_keep.specs.Collections.{Rows};
-ghost use Rattle.ak_search.specs.Alone.{asks_card_alone, fails_alone, holds_alone, some_part_fails};
+ghost use Rattle.ak_search.specs.AtOnce.{is_known_at_once, fails_at_once, holds_at_once, some_term_fails};
 ghost use Rattle.ak_search.specs.Grammar.{pieces_in};
 ghost use Rattle.ak_search.specs.Passes.{asked, tested};
 
@@ -13,16 +14,16 @@ use crate::states::{has_flag, id_back, is_in_state, is_listed, is_since, meets_b
 use crate::tokens::{Piece, Token};
 use ak_base::Card;
 
-/// Whether the card alone tells that it does not meet the tokens. One token is better asked at once.
-pub(crate) fn fails_by_card(context: &SearchContext, tokens: &[Token], card: &Card) -> bool
+/// True only if it is known at once that the card does not meet the tokens. A single token is not tried: it is asked anyway.
+pub(crate) fn fails_unseen(context: &SearchContext, tokens: &[Token], card: &Card) -> bool
     ensures { result ≡ true → (held : Rows) → asked (pieces_in tokens.now) (tested context.now held card.now) ≡ false }
 {
-    tokens.len() > 1 && some_part_fails(context, tokens, card)
+    tokens.len() > 1 && some_term_fails(context, tokens, card)
 }
 
-/// Whether some term outside all groups fails by the card alone, where no `or` stands there.
-fn some_part_fails(context: &SearchContext, tokens: &[Token], card: &Card) -> bool
-    ensures { result ≡ some_part_fails (fails_alone context.now.day context.now.answers card.now) 0 false (pieces_in tokens.now) }
+/// Whether no `or` stands outside all groups, some term there fails at once, and each group is closed.
+fn some_term_fails(context: &SearchContext, tokens: &[Token], card: &Card) -> bool
+    ensures { result ≡ some_term_fails (fails_at_once context.now.day context.now.answers card.now) 0 false (pieces_in tokens.now) }
 {
     let mut depth = 0usize;
     let mut failed = false;
@@ -31,7 +32,7 @@ fn some_part_fails(context: &SearchContext, tokens: &[Token], card: &Card) -> bo
         match &token.piece {
             Piece::Test(negated, term) => {
                 if depth == 0 {
-                    failed = failed || context.fails_alone(card, *negated, term);
+                    failed = failed || context.fails_at_once(card, *negated, term);
                 }
             }
             Piece::Open(_) => depth += 1,
@@ -51,16 +52,16 @@ fn some_part_fails(context: &SearchContext, tokens: &[Token], card: &Card) -> bo
 }
 
 impl SearchContext {
-    /// Whether the term, which may be negated, asks for the card alone and fails.
-    fn fails_alone(&self, card: &Card, negated: bool, term: &Term) -> bool
-        ensures { result ≡ fails_alone self.now.day self.now.answers card.now negated term.now }
+    /// Whether the term, which may be negated, needs neither note nor deck and fails.
+    fn fails_at_once(&self, card: &Card, negated: bool, term: &Term) -> bool
+        ensures { result ≡ fails_at_once self.now.day self.now.answers card.now negated term.now }
     {
-        asks_card_alone(term) && !negated_by(negated, self.holds_alone(card, term))
+        is_known_at_once(term) && !negated_by(negated, self.holds_at_once(card, term))
     }
 
-    /// Whether the term holds of the card by itself. No term does that asks for more.
-    pub(crate) fn holds_alone(&self, card: &Card, term: &Term) -> bool
-        ensures { result ≡ holds_alone self.now.day self.now.answers card.now term.now }
+    /// Whether the term holds of the card, if it needs neither its note nor its deck. No other term does.
+    pub(crate) fn holds_at_once(&self, card: &Card, term: &Term) -> bool
+        ensures { result ≡ holds_at_once self.now.day self.now.answers card.now term.now }
     {
         match term {
             Term::InState(state) => is_in_state(self.day, *state, card),
@@ -84,9 +85,9 @@ impl SearchContext {
     }
 }
 
-/// Whether a term asks for the card alone.
-fn asks_card_alone(term: &Term) -> bool
-    ensures { result ≡ asks_card_alone term.now }
+/// Whether a term needs neither the note nor the deck of a card.
+fn is_known_at_once(term: &Term) -> bool
+    ensures { result ≡ is_known_at_once term.now }
 {
     !needs_note(term) && !needs_deck(term)
 }

@@ -1,5 +1,5 @@
 // Whether a term holds of a card and what it belongs to.
-ghost use Rattle.std.specs.Prelude.{◌≡◌, ◌||◌, [], ◌∷◌, ℤ, pos, slice_get, Some, None, IfOk, IfSome, IfNone};
+ghost use Rattle.std.specs.Prelude.{◌≡◌, ◌||◌, [], ◌∷◌, pos, slice_get, Some, None, IfOk, IfSome, IfNone};
 ghost use Rattle.std.specs.List.{list_any};
 ghost use Rattle.ak_base.specs.declared.decks.Deck.{Deck as Kept};
 ghost use Rattle.ak_search.specs.Holds.{held_and, passes, path_matches, has_tag, is_untagged, is_type, is_edited, is_place, is_template, answered_since, id_back};
@@ -11,9 +11,7 @@ use crate::answers::Answers;
 use crate::boxed_types::BoxedType;
 use crate::patterns::are_letters;
 use crate::related::Latest;
-use crate::states::{
-    has_flag, id_back, is_in_state, is_listed, is_since, meets_bound, second_back,
-};
+use crate::states::{id_back, is_since, second_back};
 use crate::texts::{
     MatchMode, is_untagged, named_text_matches, path_matches, some_tag_matches, some_text_passes,
 };
@@ -86,10 +84,10 @@ impl SearchContext {
             ),
             Term::Edited(days) => Ok(was_edited(self.day, days, &related.note)),
             Term::InState(_) | Term::Prop(_, _, _) | Term::Flag(_) | Term::Added(_) => Ok(
-                self.holds_alone(card, term),
+                self.holds_at_once(card, term),
             ),
-            Term::Rated(_) | Term::RatedWith(_, _) => Ok(self.holds_alone(card, term)),
-            Term::NoteIds(_) | Term::CardIds(_) => Ok(self.holds_alone(card, term)),
+            Term::Rated(_) | Term::RatedWith(_, _) => Ok(self.holds_at_once(card, term)),
+            Term::NoteIds(_) | Term::CardIds(_) => Ok(self.holds_at_once(card, term)),
         }
     }
 }

@@ -1,9 +1,10 @@
 // Searches: patterns of texts, and the expression that a search text stands for.
 #![tactic(auto)]
 
-mod alone;
 mod answers;
+mod at_once;
 mod boxed_types;
+mod by_note;
 mod checks;
 mod earliest;
 mod evaluator;

@@ -1,5 +1,5 @@
 // Which cards meet an expression: a search that is asked card by card, and one pass over the cards of a keeper.
-ghost use Rattle.std.specs.Prelude.{◌≡◌, ◌++◌, [], ◌∷◌, ℤ, IfOk, OnErr, OnOk, IsTrue};
+ghost use Rattle.std.specs.Prelude.{◌≡◌, ◌++◌, [], ◌∷◌, if◌then◌else◌, ℤ, Some, None, IfOk, IfSome, OnErr, OnOk, IsTrue};
 ghost use Rattle.std.specs.List.Sorted.{IsStrictlySortedBy};
 ghost use Rattle.std.specs.Ordering.{int_cmp};
 ghost use Rattle.ak_base.specs.Rows.{name_of};
@@ -7,6 +7,7 @@ ghost use Rattle.ak_base.specs.declared.names.Table.TheVariants as tables;
 ghost use Rattle.ak_keep.specs.Collections.{AscendsPast, is_past, last_id};
 ghost use Rattle.ak_keep.specs.Keepers.{WhereTold};
 ghost use Rattle.ak_keep.specs.Readings.{ReadsBy};
+ghost use Rattle.ak_search.specs.ByNote.{verdict_of};
 ghost use Rattle.ak_search.specs.CardFacts.{seen};
 ghost use Rattle.ak_search.specs.Grammar.{pieces_in};
 ghost use Rattle.ak_search.specs.Holds.{asked_by, holds, hits, is_hit, ids_of_hits};
@@ -15,8 +16,9 @@ ghost use Rattle.ak_search.specs.Passes.{AreAnswersFor, Stays, Tells, TakesFrom,
 ghost use Rattle.ak_search.specs.Searching.{SearchStays, SearchesBy, StillSearches};
 ghost use Rattle.ak_search.specs.Trees.{Tree, pieces_of};
 
-use crate::alone::fails_by_card;
 use crate::answers::{Answers, read_answers};
+use crate::at_once::fails_unseen;
+use crate::by_note::ask_notes_alone;
 use crate::earliest::earliest_asked;
 use crate::evaluator::Evaluator;
 use crate::holds::SearchContext;
@@ -50,12 +52,24 @@ pub fn find<R: Readable>(
 }
 
 /// A search that is asked card by card: an expression, and the answers that it asks for. It keeps what it looked up
-/// last, so cards of one note, type or deck are best asked one after the other. The collection must stay as it was.
+/// last, so cards of one note, type or deck are best asked one after the other, and an expression that asks for notes alone is
+/// asked once a note. The collection must stay as it was.
 #[derive(Debug, Drop)]
 pub struct Search<'a> {
     pub(crate) tokens: &'a [Token],
     pub(crate) context: SearchContext,
     pub(crate) latest: Latest,
+    /// Whether the expression asks for notes alone.
+    pub(crate) by_note: bool,
+    /// What was found last of a note, if the expression asks for notes alone.
+    pub(crate) verdict: Option<Verdict>,
+}
+
+/// Whether the cards of a note meet an expression that asks for notes alone.
+#[derive(Clone, Copy, Debug)]
+pub(crate) struct Verdict {
+    pub(crate) note: i64,
+    pub(crate) does: bool,
 }
 
 impl<'a> Search<'a> {
@@ -70,15 +84,18 @@ impl<'a> Search<'a> {
         ensures reads { ReadsBy R.Lookup from.old from.new result
             (λ h search. (tree : Tree) → pieces_in expr.now.tokens.items ≡ pieces_of tree → SearchesBy search h.rows day tree) }
     {
-        let answers = answers_for(alloc, &expr.tokens, from, day)?;
+        let tokens: &'a [Token] = &expr.tokens;
+        let answers = answers_for(alloc, tokens, from, day)?;
         Ok(Search {
-            tokens: &expr.tokens,
+            tokens,
             context: SearchContext {
                 alloc,
                 day,
                 answers,
             },
             latest: Latest::nothing(alloc),
+            by_note: ask_notes_alone(tokens),
+            verdict: None,
         })
     }
 
@@ -91,13 +108,51 @@ impl<'a> Search<'a> {
         // After a refusal it can be asked again.
         ensures err { OnErr result (WhereTold (R.keeping from.old) (λ h. StillSearches self.old self.new h.rows)) }
     {
+        if let Some(does) = self.known(card) {
+            return Ok(does);
+        }
         match meets(&self.context, self.tokens, from, &mut self.latest, card) {
-            Ok(does) => Ok(does),
+            Ok(does) => {
+                self.keep_verdict(card, does);
+                Ok(does)
+            }
             Err(fault) => {
                 self.latest = Latest::nothing(self.context.alloc);
                 Err(fault)
             }
         }
+    }
+}
+
+impl Search<'_> {
+    /// Whether the card meets the expression, if that was found last of its note.
+    fn known(&self, card: &Card) -> Option<bool>
+        ensures { IfSome result (λ does. self.now.verdict ≡ Some (verdict_of card.now.nid does)) }
+    {
+        match self.verdict {
+            Some(verdict) => {
+                if verdict.note == card.nid {
+                    Some(verdict.does)
+                } else {
+                    None
+                }
+            }
+            None => None,
+        }
+    }
+
+    /// Keeps what was found of the card, if the expression asks for notes alone.
+    fn keep_verdict(&mut self, card: &Card, does: bool)
+        ensures { self.new ≡ record self.old { verdict = if self.old.by_note then Some (verdict_of card.now.nid does) else None } }
+    {
+        self.verdict = if self.by_note {
+            Some(Verdict {
+                note: card.nid,
+                does,
+            })
+        } else {
+            None
+        };
     }
 }
 
@@ -162,7 +217,7 @@ fn is_hit<R: Lookup>(search: &mut Search<'_>, from: &mut R, row: &Row) -> Result
     }
 }
 
-/// Whether the card meets the tokens. What the card alone tells comes first.
+/// Whether the card meets the tokens. What is known at once comes first.
 fn meets<R: Lookup>(
     context: &SearchContext,
     tokens: &[Token],
@@ -172,7 +227,7 @@ fn meets<R: Lookup>(
 ) -> Result<bool, KeepFault>
     ensures reads { ReadsBy R.Lookup from.old from.new result (λ h does. Stays latest.old latest.new h.rows (does ≡ asked (pieces_in tokens.now) (tested context.now h.rows card.now))) }
 {
-    if fails_by_card(context, tokens, card) {
+    if fails_unseen(context, tokens, card) {
         return Ok(false);
     }
     meets_by_pieces(context, tokens, from, latest, card)

@@ -1,5 +1,16 @@
-use Rattle.ak_search.proofs.Telling.{card_told, forgotten}
+use Rattle.std.proofs.Common.{refl}
+use Rattle.ak_faults.proofs.Healths.{goes_nowhere}
+use Rattle.ak_keep.proofs.Causing.{cause-ok}
+use Rattle.ak_search.proofs.Telling.{card_told, forgotten, known_told}
 use Rattle.ak_search.proofs.searches.Search.meets.Goals as goal
+
+pub returns-in-Some-clause-reads : goal.returns-in-Some-clause-reads
+returns-in-Some-clause-reads g c = record {
+  kept = refl;
+  same = refl;
+  cause = cause-ok c.in-Some.does (goes_nowhere (g.R.Lookup.health c.args.from.now));
+  told = known_told (g.R.Lookup.keeping c.args.from.now).told c.args.self.now c.args.card.now c.in-Some.does c.in-Some.ensures;
+}
 
 pub returns-in-Ok-clause-reads : goal.returns-in-Ok-clause-reads
 returns-in-Ok-clause-reads g c =
@@ -8,7 +19,7 @@ returns-in-Ok-clause-reads g c =
       kept = asked.kept;
       same = asked.same;
       cause = asked.cause;
-      told = card_told (g.R.Lookup.keeping c.args.from.now).told c.args.self.now c.args.card.now c.meets.new.latest c.in-Ok.does asked.told;
+      told = card_told (g.R.Lookup.keeping c.args.from.now).told c.args.self.now c.keep_verdict.new.self c.args.card.now c.meets.new.latest c.in-Ok.does c.keep_verdict.ensures asked.told;
     }
 
 pub returns-in-Err-clause-err : goal.returns-in-Err-clause-err

@@ -1,4 +1,5 @@
-use Rattle.std.proofs.Common.{ap}
+use Rattle.std.proofs.Common.{ap, refl, sym, ◌∙◌}
+use Rattle.std.specs.Prelude.{None}
 use Rattle.ak_keep.proofs.Causing.{cause-ok}
 use Rattle.ak_search.specs.Grammar.{pieces_in}
 use Rattle.ak_search.specs.declared.searches.Search.{Search}
@@ -8,12 +9,18 @@ use Rattle.ak_search.proofs.searches.Search.over.Goals as goal
 pub returns : goal.returns
 returns g c =
     let read = c.in_ok-answers.ensures.reads in
-    let search : Search = record { tokens = c.deref-2.result; context = record { alloc = c.args.alloc; day = c.args.day; answers = c.in_ok-answers.answers }; latest = c.nothing.result } in
+    let search : Search = record {
+      tokens = c.deref-tokens.result;
+      context = record { alloc = c.args.alloc; day = c.args.day; answers = c.in_ok-answers.answers };
+      latest = c.nothing.result;
+      by_note = c.ask_notes_alone.result;
+      verdict = None;
+    } in
     record {
       reads = record {
         kept = read.kept;
         same = read.same;
         cause = cause-ok search read.cause.goes;
-        told = search_made (g.R.Lookup.keeping c.args.from.now).told search (pieces_in c.args.expr.now.tokens.items) (ap pieces_in c.deref-2.ensures.value) c.nothing.ensures (rw c.deref.ensures.value at read.told);
+        told = search_made (g.R.Lookup.keeping c.args.from.now).told search (pieces_in c.args.expr.now.tokens.items) (ap pieces_in c.deref-tokens.ensures.value) c.nothing.ensures (λ by. sym c.ask_notes_alone.ensures ∙ by) refl (rw c.deref-tokens.ensures.value at read.told);
       };
     }
