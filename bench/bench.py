@@ -7,16 +7,19 @@ Each size is a collection of so many notes, as `anki - - make` makes it. Each nu
 and the sides take turns. The first table is the work after the opening: what a process takes that does it, less one that only opens the file. The second is
 whole processes, from their start to their end. Processor time is of both kinds, user and system. What is printed is compared first: the program and
 Python must print the same for each line whose answer is not a matter of chance. A work that takes little beside an opening is done many times in a process, and told for one: a day of answers
-over other cards each time. Rows of what is not there are left out, and named. The files lie in a folder
+over other cards each time. Rows of what is not there are left out, and named. A row of the program whose time grows by more than 1.25 times the data is
+measured again in instructions, where valgrind is there: time also grows as less of a collection fits the processor's caches. The files lie in a folder
 in FOLDER, which is to be on the disk that is measured, and goes at the end. With --page the tables are written to a page as well. With --transfers
 only the third table is made, of what uploads, syncs and downloads take on both sides.
 """
 import argparse
 import collections
+import contextlib
 import csv
 import datetime
 import os
 import platform
+import re
 import shutil
 import sqlite3
 import statistics
@@ -37,11 +40,12 @@ import transfers  # noqa: E402
 import try_server  # noqa: E402
 
 IN_PYTHON = os.path.join(HERE, "in_python.py")
-PROGRAM, PYTHON, SHELL = "anki", "Python", "sqlite3"
+PROGRAM, PYTHON, SHELL, VALGRIND = "anki", "Python", "sqlite3", "valgrind"
 DAY = 192
 # How many times each work is done in a process, so that the noise of two openings is little beside it.
 DAYS, OF_FINDS, OF_LOOKS, OF_PAGES, OF_CHECKS = 10, 5, 20_000, 20_000, 50
 A_DAY = "a day of answers, a commit each"
+OVER_LOOPBACK = " over the loopback"
 PARTS = ("", "-wal", "-shm", "-journal")
 # What a process of one side took: processor time and time in seconds, and memory in MB at its peak.
 Taken = collections.namedtuple("Taken", "processor elapsed memory")
@@ -78,6 +82,21 @@ def run(words, given=b"", status=0):
     if ended != status:
         raise Wrong("%s ended with %d: %s" % (" ".join(words), ended, printed[-200:].decode(errors="replace")))
     return Taken(float(processor), float(elapsed), int(memory) / 1024), printed
+
+
+# No model of the caches, which would take longer and tell nothing more here, and no file of where each instruction is.
+COUNTING = ["--tool=cachegrind", "--cache-sim=no", "--cachegrind-out-file=/dev/null"]
+# Versions of valgrind differ in the blanks.
+I_REFS = re.compile(rb"^==\d+== I +refs: +([\d,]+)$", re.MULTILINE)
+
+
+def instructions(words, given=b""):
+    """Runs a process under valgrind to its end. It gives how many instructions it executed, and what it printed."""
+    ran = subprocess.run([path_of(VALGRIND), *COUNTING, *words], input=given, capture_output=True, check=False)
+    count = I_REFS.search(ran.stderr)
+    if ran.returncode != 0 or not count:
+        raise Wrong("%s ended with %d under valgrind: %s" % (" ".join(words), ran.returncode, ran.stderr[-200:].decode(errors="replace")))
+    return int(count[1].replace(b",", b"")), ran.stdout
 
 
 def median(taken):
@@ -160,9 +179,9 @@ def file_of(side, files):
     return files.whole if side == PROGRAM else files.indexed
 
 
-def desk(side, files, said):
-    """A desk's lines over a copy of the collection."""
-    return run(words_of(side, files.copy(file_of(side, files)), "desk"), lines(*said))
+def desk(side, files, said, runner=run):
+    """A desk's lines over a copy of the collection. Its process is run by `runner`."""
+    return runner(words_of(side, files.copy(file_of(side, files)), "desk"), lines(*said))
 
 
 FINDS = ["find " + expression for expression in in_python.FINDS]
@@ -223,10 +242,10 @@ def shell(files, given):
 
 # ---- the measurement
 class Table:
-    """What was measured: of each work and each side, by size."""
+    """What was measured: of each work and each side, by size. And of the works whose instructions were counted, how many times those at the first size are at the last."""
 
     def __init__(self):
-        self.rows = {}
+        self.rows, self.instructions = {}, {}
 
     def put(self, work, side, size, taken):
         self.rows.setdefault(work, {}).setdefault(side, {})[size] = taken
@@ -291,11 +310,38 @@ def targets(after, whole, sizes):
     if last == 20_000:
         told.append(within("`next`", after.rows["`next`"][PROGRAM][last].elapsed * 1000, 5, " ms"))
     if first != last:
-        most = SLACK * last / first
-        fast = [work for table in (after, whole) for work, sides in table.rows.items()
-                if sides[PROGRAM][first].processor >= 0.0001 and sides[PROGRAM][last].processor / sides[PROGRAM][first].processor > most]
-        told.append("no row grows faster than its data: %s" % ("missed in " + ", ".join(fast) if fast else "met"))
+        told.append("no row grows faster than its data: %s" % growth_told((after, whole), sizes))
     return told
+
+
+def most_growth(sizes):
+    return SLACK * sizes[-1] / sizes[0]
+
+
+def fast_in_time(table, sizes):
+    """The works in which the program's time grows too fast, and how many times the first the last one is. A time too short to be divided by tells nothing."""
+    taken = {work: [sides[PROGRAM][size].processor for size in (sizes[0], sizes[-1])] for work, sides in table.rows.items()}
+    return {work: last / first for work, (first, last) in taken.items() if first >= 0.0001 and last / first > most_growth(sizes)}
+
+
+def growth_told(tables, sizes):
+    """Whether no row grows too fast: those that do in time are judged by their instructions, and are missed where these could not be counted."""
+    met, missed, uncounted = [], [], {}
+    for table in tables:
+        for work, in_time in fast_in_time(table, sizes).items():
+            grown = table.instructions.get(work)
+            if grown is None:
+                uncounted.setdefault(why_uncounted(work), []).append("%s (%.1f)" % (work, in_time))
+            else:
+                (met if grown <= most_growth(sizes) else missed).append("%s: %.1f in time, %.2f in instructions" % (work, in_time, grown))
+    said = ["missed in time and in instructions (%s)" % "; ".join(missed)] if missed else []
+    said += ["missed in time in %s, instructions not counted: %s" % (", ".join(works), why) for why, works in uncounted.items()]
+    said += ["met in instructions (%s)" % "; ".join(met)] if met else []
+    return "; ".join(said) or "met"
+
+
+def why_uncounted(work):
+    return "no valgrind" if VALGRIND not in PLACES else "a server is beside it" if work.endswith(OVER_LOOPBACK) else "valgrind gave no count"
 
 
 def growth_text(first, last):
@@ -336,20 +382,20 @@ def measure_after(files, runs, table):
                 table.put(name, side, files.size, Taken(beside.processor / times, beside.elapsed / times, beside.memory))
 
 
-def whole_jobs(files):
-    """Whole processes: the name of each work, its side, and what does it."""
+def whole_jobs(files, runner=run):
+    """Whole processes: the name of each work, its side, and what does it. The processes of the program and of Python are run by `runner`."""
     table, day = files.table_bytes(), files.day()
-    yield "opening", PROGRAM, lambda: desk(PROGRAM, files, [])
-    yield "opening", PYTHON, lambda: run(words_of(PYTHON, files.copy(files.indexed), "rows"))
+    yield "opening", PROGRAM, lambda: desk(PROGRAM, files, [], runner)
+    yield "opening", PYTHON, lambda: runner(words_of(PYTHON, files.copy(files.indexed), "rows"))
     if SHELL in PLACES:
         yield "opening", SHELL, lambda: shell(files, rows_in_sql())
     for side in (PROGRAM, PYTHON):
-        yield A_DAY, side, lambda side=side: desk(side, files, day)
-        yield "check", side, lambda side=side: desk(side, files, ["check"])
-        yield "import of as many new notes", side, lambda side=side: run(words_of(side, files.copy(files.new), "import", "1", "1"), table)
-        yield "export of the notes of type 3", side, lambda side=side: run(words_of(side, files.copy(file_of(side, files)), "export", "3"))
+        yield A_DAY, side, lambda side=side: desk(side, files, day, runner)
+        yield "check", side, lambda side=side: desk(side, files, ["check"], runner)
+        yield "import of as many new notes", side, lambda side=side: runner(words_of(side, files.copy(files.new), "import", "1", "1"), table)
+        yield "export of the notes of type 3", side, lambda side=side: runner(words_of(side, files.copy(file_of(side, files)), "export", "3"))
         if has_make():
-            yield "`make`", side, lambda side=side: run(words_of(side, "-", "make", "7", str(files.size)))
+            yield "`make`", side, lambda side=side: runner(words_of(side, "-", "make", "7", str(files.size)))
 
 
 def has_make():
@@ -381,7 +427,7 @@ def measure_transfers(files, runs, table, sides):
         for work, (path, word) in works.items():
             file = path()
             both = transfers.bytes_of(server, lambda where: run(words(file, where, word)))
-            table.put(work + " over the loopback", PROGRAM, files.size, median([device for device, *_ in taken[work]]))
+            table.put(work + OVER_LOOPBACK, PROGRAM, files.size, median([device for device, *_ in taken[work]]))
             sides.append((work, files.size, transfers.median_of(taken[work], *both)))
     finally:
         tools.end_all()
@@ -396,6 +442,35 @@ def answered(path, files):
 
 def desk_on(path, said):
     return run(words_of(PROGRAM, path, "desk"), lines(*said))
+
+
+# ---- instructions
+def count_after(files, works):
+    """How many instructions one round of each of these works executes after the opening."""
+    opening, _ = desk(PROGRAM, files, OPENING, instructions)
+    return {name: desk(PROGRAM, files, OPENING + said[:len(said) // rounds], instructions)[0] - opening for name, said, rounds in works_of(files) if name in works}
+
+
+def count_whole(files, works):
+    """How many instructions a whole process of each of these works executes."""
+    return {work: job()[0] for work, side, job in whole_jobs(files, instructions) if side == PROGRAM and work in works}
+
+
+def count_fast(given, table, count):
+    """Puts into a table how the instructions of the works whose time grows too fast grow from the first size to the last. What can't be counted is left out."""
+    works, counts = fast_in_time(table, given.sizes), []
+    if not works or VALGRIND not in PLACES:
+        return
+    try:
+        for size in (given.sizes[0], given.sizes[-1]):
+            with files_of(given, size) as files:
+                counts.append(count(files, works))
+    except Wrong as fault:
+        print("bench.py: %s" % fault, file=sys.stderr)
+        return
+    first, last = counts
+    # A difference that is none can't be divided by, and would hide a growth.
+    table.instructions.update({work: last[work] / first[work] for work in first if min(first[work], last[work]) > 0})
 
 
 # ---- the whole
@@ -413,6 +488,8 @@ def places(given):
         PLACES[SHELL] = shutil.which(SHELL)
     else:
         out.append("the shell `sqlite3` (it is not there)")
+    if shutil.which(VALGRIND):
+        PLACES[VALGRIND] = shutil.which(VALGRIND)
     if not has_make():
         out.append("`make` (this program has no such command)")
     return out
@@ -452,10 +529,16 @@ def page_text(after, whole, sides, sizes, runs, left_out):
              "## Whole processes", "", whole.text(sizes), behind_text(whole, sizes[-1])]
     if sides:
         parts += [sides_text(sides)]
-    parts += ["## Targets", ""] + ["- %s" % line for line in targets(after, whole, sizes)] + [""]
+    parts += ["## Targets", ""] + ["- %s" % line for line in targets(after, whole, sizes)] + ["", INSTRUCTIONS_TEXT, ""]
     if left_out:
         parts += ["Left out: %s." % "; ".join(left_out), ""]
     return "\n".join(parts)
+
+
+INSTRUCTIONS_TEXT = (
+    "A row of the program whose processor time grows by more than %g times the data is measured again, at the first and at the last size, in instructions, counted by "
+    "valgrind's cachegrind (`I refs`); those over the loopback are not, since a server is beside them. Time also grows as less of the collection fits the processor's "
+    "caches, at Python's side too; what a row executes tells whether the work itself grows faster." % SLACK)
 
 
 def sides_text(sides):
@@ -464,24 +547,29 @@ def sides_text(sides):
                       transfers.text_of(sides)])
 
 
+@contextlib.contextmanager
+def files_of(given, size):
+    """A collection of a size, in a folder that goes at the end."""
+    with tempfile.TemporaryDirectory(prefix="anki-bench-", dir=given.room) as room:
+        yield Files(room, path_of(PROGRAM), given.seed, size)
+
+
 def measure(given):
     """Measures all sizes, and gives the page."""
     left_out = places(given)
     after, whole, sides = Table(), Table(), []
     for size in given.sizes:
-        room = tempfile.mkdtemp(prefix="anki-bench-", dir=given.room)
-        try:
-            files = Files(room, path_of(PROGRAM), given.seed, size)
+        with files_of(given, size) as files:
             if not given.transfers:
                 compare(files)
                 measure_after(files, given.runs, after)
                 measure_whole(files, given.runs, whole)
             if "ankid" in PLACES:
                 measure_transfers(files, given.runs, whole, sides)
-        finally:
-            shutil.rmtree(room)
     if given.transfers:
         return "%s.\n\n%s" % (machine(), sides_text(sides))
+    count_fast(given, after, count_after)
+    count_fast(given, whole, count_whole)
     return page_text(after, whole, sides, given.sizes, given.runs, left_out)
 
 

@@ -34,12 +34,12 @@ class Rooms(unittest.TestCase):
     def path(self, *names):
         return os.path.join(self.room, *names)
 
-    def stand_in(self, text):
+    def stand_in(self, text, name="stand-in"):
         """A program that is this shell script."""
-        with open(self.path("stand-in"), "w", encoding="utf-8") as file:
+        with open(self.path(name), "w", encoding="utf-8") as file:
             file.write("#!/bin/sh\n" + text)
-        os.chmod(self.path("stand-in"), 0o755)
-        return self.path("stand-in")
+        os.chmod(self.path(name), 0o755)
+        return self.path(name)
 
     def files(self, size=SIZE):
         """A collection of so many notes, over the program in dist/."""
@@ -196,6 +196,99 @@ class Processes(Rooms):
         self.assertEqual([text for text in bench.places(bench.arguments(["--anki", newer, "--ankid", newer])) if "shell" not in text], [])
 
 
+# It runs the program over its input, and says that it executed 1,000,000 instructions, and 10 for each line of the input.
+VALGRIND = '''[ "$1 $2 $3" = "--tool=cachegrind --cache-sim=no --cachegrind-out-file=/dev/null" ] && shift 3 && cat > "$0.given" && "$@" < "$0.given" || exit 1
+echo "==77== I   refs:      $((1000000 + 10 * $(wc -l < "$0.given")))" >&2
+'''
+
+
+class Instructions(Rooms):
+    def stand_in_for_valgrind(self, text=VALGRIND):
+        bench.PLACES[bench.VALGRIND] = self.stand_in(text)
+
+    def grown(self, *works):
+        """A table in which these works take a second at the first size and 9 at the last, and another one grows as the data."""
+        table = bench.Table()
+        for size in (SIZE, 2 * SIZE):
+            for work in (*works, "other"):
+                seconds = 9.0 if size > SIZE and work != "other" else 1.0
+                table.put(work, bench.PROGRAM, size, bench.Taken(seconds, seconds, 20.0))
+        return table
+
+    def counted(self, table, count):
+        """What of a table is counted, and what is said."""
+        given = bench.arguments(["--sizes", "%d,%d" % (SIZE, 2 * SIZE), "--room", self.room])
+        with contextlib.redirect_stderr(io.StringIO()) as said:
+            bench.count_fast(given, table, count)
+        return table.instructions, said.getvalue()
+
+    def test_the_count_is_read_from_what_valgrind_says(self):
+        for said, count in (("==7== I   refs:      6,081,475\n", 6081475), ("==1234567== Cachegrind\n==1234567== \n==1234567== I refs:        999\n", 999)):
+            self.stand_in_for_valgrind("printf '%%s' '%s' >&2; echo I refs: 5\n" % said)
+            self.assertEqual(bench.instructions(["anki"]), (count, b"I refs: 5\n"))
+
+    def test_the_program_gets_its_words_and_its_input_under_valgrind(self):
+        self.stand_in_for_valgrind()
+        self.assertEqual(bench.instructions(["/bin/sh", "-c", 'echo "$0"; cat', "a b"], b"c\nd\n"), (1_000_020, b"a b\nc\nd\n"))
+
+    def test_what_gives_no_count_or_fails_is_wrong(self):
+        for text in ("echo '==7== D refs: 5' >&2\n", "echo 'I refs: 5' >&2\n", "echo '==7== I refs: 5' >&2; exit 3\n", "kill -9 $$\n"):
+            self.stand_in_for_valgrind(text)
+            with self.assertRaises(bench.Wrong):
+                bench.instructions(["anki"])
+
+    def test_an_opening_is_subtracted_from_one_round_of_a_work(self):
+        files = self.files(300)
+        self.stand_in_for_valgrind()
+        works = [work for work, _, _ in bench.works_of(files)]
+        self.assertEqual(bench.count_after(files, works), dict(zip(works, (10 * bench.DAY, 10 * len(bench.FINDS), 10, 10, 10, 10))))
+        self.assertEqual(bench.count_after(files, works[-1:]), {"`check`": 10})
+
+    def test_nothing_is_subtracted_from_a_whole_process(self):
+        files = self.files()
+        self.stand_in_for_valgrind()
+        works = ("opening", bench.A_DAY, "check", "import of as many new notes", "export of the notes of type 3", "`make`", "upload" + bench.OVER_LOOPBACK)
+        self.assertEqual(bench.count_whole(files, works), dict(zip(works[:6], (1_000_000, 1_000_500, 1_000_010, 1_000_300, 1_000_000, 1_000_000))))
+        self.assertEqual(bench.count_whole(files, ["opening"]), {"opening": 1_000_000})
+
+    def test_what_grows_too_fast_in_time_is_counted_at_the_first_and_the_last_size(self):
+        self.files()
+        self.stand_in_for_valgrind()
+        self.assertEqual(self.counted(self.grown("`check`", bench.A_DAY), bench.count_after), ({"`check`": 1.0, bench.A_DAY: 100 / 50}, ""))
+        self.assertEqual(self.counted(self.grown("import of as many new notes"), bench.count_whole), ({"import of as many new notes": 1_000_600 / 1_000_300}, ""))
+        self.assertEqual([name for name in os.listdir(self.room) if name.startswith("anki-bench-")], [])
+
+    def test_nothing_is_counted_where_no_time_grows_too_fast(self):
+        self.files()
+        self.stand_in_for_valgrind("exit 1\n")
+        self.assertEqual(self.counted(self.grown(), bench.count_after), ({}, ""))
+
+    def test_nothing_is_counted_without_valgrind(self):
+        with mock.patch.object(shutil, "which", lambda name: None):
+            self.files()
+        self.assertEqual(self.counted(self.grown("`check`"), bench.count_after), ({}, ""))
+
+    def test_what_valgrind_fails_at_is_not_counted_and_told(self):
+        self.files()
+        self.stand_in_for_valgrind("echo '==7== no such instruction' >&2; exit 1\n")
+        instructions, said = self.counted(self.grown("`check`"), bench.count_after)
+        self.assertEqual(instructions, {})
+        self.assertIn("ended with 1 under valgrind: ==7== no such instruction", said)
+
+    def test_a_difference_that_is_none_is_not_counted(self):
+        for first, last in ((0, 5), (5, 0), (5, -5), (-5, -50)):
+            found = iter((first, last))
+            with mock.patch.dict(bench.PLACES, {bench.VALGRIND: "valgrind"}), mock.patch.object(bench, "files_of", lambda given, size: contextlib.nullcontext()):
+                self.assertEqual(self.counted(self.grown("`check`"), lambda files, works: {"`check`": next(found)}), ({}, ""))
+
+    @unittest.skipUnless(shutil.which("valgrind"), "valgrind is not there")
+    def test_the_program_executes_more_over_more_cards(self):
+        self.files()
+        instructions, said = self.counted(self.grown("`check`"), bench.count_after)
+        self.assertEqual((list(instructions), said), (["`check`"], ""))
+        self.assertTrue(1.2 < instructions["`check`"] < 2.5, instructions)
+
+
 class Tables(unittest.TestCase):
     def test_a_median_is_of_each_number(self):
         taken = [bench.Taken(3.0, 1.0, 5.0), bench.Taken(1.0, 2.0, 9.0), bench.Taken(2.0, 9.0, 7.0)]
@@ -254,10 +347,51 @@ class Targets(unittest.TestCase):
     def told(self, *given):
         return [line.rsplit(": ", 1)[1] for line in bench.targets(*self.tables(*given), [3_000, 20_000])]
 
+    def growth(self, after=(), whole=(), **places):
+        """What is told of growth, where the rows of both tables take 9.5 times as long, and the instructions of these grow so many times."""
+        tables = self.tables(9.5)
+        for table, grown in zip(tables, (after, whole)):
+            table.instructions.update(grown)
+        with mock.patch.dict(bench.PLACES, places, clear=True):
+            line = bench.targets(*tables, [3_000, 20_000])[-1]
+        self.assertTrue(line.startswith("no row grows faster than its data: "), line)
+        return line.split(": ", 1)[1]
+
     def test_targets_are_met_or_missed(self):
         self.assertEqual(self.told(), ["met"] * 7)
         self.assertEqual(self.told(6.0), ["met"] * 4 + ["missed", "missed", "met"])
-        self.assertEqual(self.told(9.5), ["met"] * 2 + ["missed"] * 4 + ["missed in %s, `next`, opening, `make`" % bench.A_DAY])
+        self.assertEqual(self.told(9.5)[:6], ["met"] * 2 + ["missed"] * 4)
+
+    def test_rows_that_grow_in_time_alone_are_met_in_instructions_and_named(self):
+        told = self.growth({bench.A_DAY: 6.748, "`next`": 8.333}, {"opening": 6.1, "`make`": 1.0}, valgrind="valgrind")
+        self.assertEqual(told, "met in instructions (%s: 9.5 in time, 6.75 in instructions; `next`: 9.5 in time, 8.33 in instructions; "
+                         "opening: 9.5 in time, 6.10 in instructions; `make`: 9.5 in time, 1.00 in instructions)" % bench.A_DAY)
+
+    def test_rows_that_grow_in_instructions_too_are_missed(self):
+        told = self.growth({bench.A_DAY: 8.34, "`next`": 6.0}, {"opening": 6.1, "`make`": 12.0}, valgrind="valgrind")
+        self.assertEqual(told, "missed in time and in instructions (%s: 9.5 in time, 8.34 in instructions; `make`: 9.5 in time, 12.00 in instructions); "
+                         "met in instructions (`next`: 9.5 in time, 6.00 in instructions; opening: 9.5 in time, 6.10 in instructions)" % bench.A_DAY)
+
+    def test_rows_that_are_not_counted_are_missed(self):
+        self.assertEqual(self.growth(), "missed in time in %s (9.5), `next` (9.5), opening (9.5), `make` (9.5), instructions not counted: no valgrind" % bench.A_DAY)
+        told = self.growth({bench.A_DAY: 6.0}, {"opening": 9.0, "`make`": 6.0}, valgrind="valgrind")
+        self.assertEqual(told, "missed in time and in instructions (opening: 9.5 in time, 9.00 in instructions); missed in time in `next` (9.5), instructions not counted: "
+                         "valgrind gave no count; met in instructions (%s: 9.5 in time, 6.00 in instructions; `make`: 9.5 in time, 6.00 in instructions)" % bench.A_DAY)
+
+    def test_a_row_beside_a_server_is_missed_in_time(self):
+        after, whole = self.tables()
+        for size, seconds in ((3_000, 1.0), (20_000, 9.0)):
+            whole.put("upload" + bench.OVER_LOOPBACK, "anki", size, bench.Taken(seconds, seconds, 20.0))
+        with mock.patch.dict(bench.PLACES, valgrind="valgrind"):
+            self.assertEqual(bench.growth_told((after, whole), [3_000, 20_000]),
+                             "missed in time in upload over the loopback (9.0), instructions not counted: a server is beside it")
+
+    def test_a_time_too_short_to_be_divided_by_is_not_judged(self):
+        table = bench.Table()
+        for work, first in (("short", 0.00009), ("long", 0.0001), ("as the data", 0.12)):
+            for size, seconds in ((3_000, first), (20_000, 1.0)):
+                table.put(work, "anki", size, bench.Taken(seconds, seconds, 20.0))
+        self.assertEqual(list(bench.fast_in_time(table, [3_000, 20_000])), ["long"])
 
     def test_a_time_too_short_to_be_measured_tells_nothing(self):
         self.assertEqual(bench.within("work", bench.times(1.0, 0.0), 3), "work: nan, at most 3: not told")
@@ -330,7 +464,18 @@ class Whole(Rooms):
         sides = page.split("## Both sides of a transfer")[1].split("## Targets")[0]
         self.assertEqual([line.split("|")[1:3] for line in sides.splitlines()[6:9]], [[" upload ", " 30 "], [" sync after a day of answers ", " 30 "], [" download ", " 30 "]])
         self.assertIn("- opening ahead of Python's at each size: ", page.split("## Targets")[1])
+        self.assertIn("grows by more than 1.25 times the data is measured again, at the first and at the last size, in instructions, ", page.split("## Targets")[1])
         self.assertEqual(os.listdir(self.room), ["page.md"])
+
+    def test_rows_that_grow_too_fast_in_time_are_told_in_instructions(self):
+        self.stand_in(VALGRIND, "valgrind")
+        measured = lambda work: lambda files, runs, table: table.put(work, bench.PROGRAM, files.size, bench.Taken(9.0 if files.size > SIZE else 1.0, 1.0, 20.0))
+        stubs = {"compare": mock.DEFAULT, "measure_after": measured("`check`"), "measure_whole": measured("opening"), "measure_transfers": mock.DEFAULT}
+        with contextlib.redirect_stdout(io.StringIO()) as printed, mock.patch.multiple(bench, **stubs), mock.patch.dict(os.environ, PATH=self.room + ":" + os.environ["PATH"]):
+            self.assertEqual(bench.main(["--sizes", "%d,%d,%d" % (SIZE - 1, SIZE, SIZE + 1), "--room", self.room]), 0)
+        told = "met in instructions (`check`: 9.0 in time, 1.00 in instructions; opening: 9.0 in time, 1.00 in instructions)"
+        self.assertIn("\n- no row grows faster than its data: %s\n" % told, printed.getvalue())
+        self.assertEqual(sorted(os.listdir(self.room)), ["valgrind", "valgrind.given"])
 
 
 if __name__ == "__main__":
