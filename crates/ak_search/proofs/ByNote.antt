@@ -1,13 +1,17 @@
 -- A search that asks for notes alone does the same of all cards of a note.
-use Rattle.std.proofs.Common.{◌≡◌, Bool, true, false, not, ℤ, List, [], Some, None, IfSome, cond, refl, ap, sym, ◌∙◌, arith}
+use Rattle.std.proofs.Common.{◌≡◌, Bool, true, false, not, ℤ, List, [], Option, Some, None, IfSome, cond, refl, ap, sym, ◌∙◌, arith}
+use Rattle.std.proofs.lemmas.Option.{none-some, same_Some}
+use Rattle.std.specs.Cmp.{signed_Decides}
+use Rattle.std.specs.Ordering.{int_eq}
 use Rattle.ak_base.specs.declared.cards.Card.{Card}
 use Rattle.ak_keep.specs.Collections.{Rows}
 use Rattle.ak_keep.specs.Lookups.{note_at, deck_of_card}
-use Rattle.ak_search.specs.ByNote.{ask_notes_alone, asks_note_alone, verdict_of}
+use Rattle.ak_search.specs.ByNote.{ask_notes_alone, asks_note_alone, known_of, verdict_of}
 use Rattle.ak_search.specs.CardFacts.{Seen, type_of}
 use Rattle.ak_search.specs.Holds.{holds}
 use Rattle.ak_search.specs.Passes.{asked, is_shown, tested}
 use Rattle.ak_search.specs.declared.holds.SearchContext.{SearchContext}
+use Rattle.ak_search.specs.declared.searches.Verdict.{Verdict}
 use Rattle.ak_search.specs.declared.terms.Term.TheVariants as terms
 use Rattle.ak_search.specs.declared.terms.Term.{Term}
 use Rattle.ak_search.specs.declared.tokens.Piece.{Piece}
@@ -49,7 +53,16 @@ asked_alike context held one other ps e h =
     same_walk (λ (term : Term). not (asks_note_alone term)) (tested context held one) (tested context held other) (λ term apart. same_of_note context held one other term e (not_false _ apart)) [] false true ps (not_true _ h)
 
 -- what is kept of a note is so of all its cards
-pub verdict_kept : (context : SearchContext) (held : Rows) (c : Card) (ps : List Piece) (by_note does : Bool) → (by_note ≡ true → ask_notes_alone ps ≡ true) → does ≡ asked ps (tested context held c)
+pub verdict_kept : (context : SearchContext) (held : Rows) (c : Card) (ps : List Piece) (by_note does : Bool) → by_note ≡ ask_notes_alone ps → does ≡ asked ps (tested context held c)
     → IfSome (cond by_note (Some (verdict_of c.nid does)) None) (λ v. (other : Card) → other.nid ≡ v.note → asked ps (tested context held other) ≡ v.does)
-verdict_kept context held c ps true does by is = λ other e. asked_alike context held other c ps e (by refl) ∙ sym is
+verdict_kept context held c ps true does by is = λ other e. asked_alike context held other c ps e (sym by) ∙ sym is
 verdict_kept context held c ps false does by is = tt
+
+-- what is known was found of the note
+pub known_so : (verdict : Option Verdict) (note : ℤ) (does : Bool) → known_of verdict note ≡ Some does → verdict ≡ Some (verdict_of note does)
+known_so None note does h = absurd (none-some does h)
+known_so (Some verdict) note does h =
+    elim (int_eq verdict.note note) as (λ b. int_eq verdict.note note ≡ b → cond b (Some verdict.does) None ≡ Some does → Some verdict ≡ Some (verdict_of note does)) [
+      | true ↦ λ own e. ap (λ n. Some (verdict_of n verdict.does)) ((signed_Decides verdict.note note).0 own) ∙ ap (λ d. Some (verdict_of note d)) (same_Some verdict.does does e)
+      | false ↦ λ _ e. absurd (none-some does e)
+    ] refl h

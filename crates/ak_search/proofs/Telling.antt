@@ -22,7 +22,7 @@ use Rattle.ak_keep.specs.Marks.{WithMark}
 use Rattle.ak_keep.specs.Walks.{ahead}
 use Rattle.ak_keep.specs.declared.keepers.KeepFault.{KeepFault}
 use Rattle.ak_keep.specs.declared.walks.Walk.{Walk}
-use Rattle.ak_search.specs.ByNote.{ask_notes_alone, verdict_of}
+use Rattle.ak_search.specs.ByNote.{ask_notes_alone, known_of, verdict_of}
 use Rattle.ak_search.specs.CardFacts.{Seen, is_answer_in, is_answered, seen, type_of}
 use Rattle.ak_search.specs.Grammar.{pieces_in}
 use Rattle.ak_search.specs.Holds.{asked_by, holds, is_hit, ids_of_hits, hits}
@@ -43,7 +43,7 @@ use Rattle.ak_search.specs.declared.terms.Term.{Term}
 use Rattle.ak_search.specs.declared.tokens.Piece.TheVariants.{Test}
 use Rattle.ak_search.specs.declared.tokens.Piece.{Piece}
 use Rattle.ak_search.proofs.Answering.{page_added, serves, tests_as}
-use Rattle.ak_search.proofs.ByNote.{verdict_kept}
+use Rattle.ak_search.proofs.ByNote.{known_so, verdict_kept}
 use Rattle.ak_search.proofs.LaterAnswers.{later_answers}
 use Rattle.ak_search.proofs.Passing.{page_taken, row_taken}
 use Rattle.ak_search.proofs.Walking.{walked}
@@ -276,7 +276,7 @@ none_suits (Some held) latest c term no_texts no_note no_deck = λ is.
 -- ---- a search under way
 -- the answers that it was made with serve it, and nothing was looked up yet
 pub search_made : (told : Option (WithMark Holding)) (search : Search) (ps : List Piece) → pieces_in search.tokens.now ≡ ps → ((held : Rows) → AreLatest search.latest held)
-    → (search.by_note ≡ true → ask_notes_alone (pieces_in search.tokens.now) ≡ true) → search.verdict ≡ None → IfSome told (λ held. Serves search.context ps held.current.rows)
+    → search.by_note ≡ ask_notes_alone (pieces_in search.tokens.now) → search.verdict ≡ None → IfSome told (λ held. Serves search.context ps held.current.rows)
     → IfSome told (λ held. (tree : Tree) → ps ≡ pieces_of tree → SearchesBy search held.current.rows search.context.day tree)
 search_made None search ps are latest by_note none answered = tt
 search_made (Some held) search ps are latest by_note none answered = λ tree is. record {
@@ -298,11 +298,11 @@ asks_tree search held day tree c by =
     ∙ ap (λ (d : Day). meets (holds d seen_now) tree) by.on
 
 -- it was found of the card's note before
-pub known_told : (told : Option (WithMark Holding)) (search : Search) (c : Card) (does : Bool) → search.verdict ≡ Some (verdict_of c.nid does)
+pub known_told : (told : Option (WithMark Holding)) (search : Search) (c : Card) (does : Bool) → known_of search.verdict c.nid ≡ Some does
     → IfSome told (λ held. SearchStays search search held.current.rows (λ day tree. does ≡ meets (holds day (seen held.current.rows c)) tree))
 known_told None search c does known = tt
 known_told (Some held) search c does known = λ day tree by.
-    let found = subst (λ (verdict : Option Verdict). IfSome verdict (λ v. (other : Card) → other.nid ≡ v.note → asked (pieces_in search.tokens.now) (tested search.context held.current.rows other) ≡ v.does)) known by.verdict in
+    let found = subst (λ (verdict : Option Verdict). IfSome verdict (λ v. (other : Card) → other.nid ≡ v.note → asked (pieces_in search.tokens.now) (tested search.context held.current.rows other) ≡ v.does)) (known_so search.verdict c.nid does known) by.verdict in
     (by, sym (found c refl) ∙ asks_tree search held.current.rows day tree c by)
 
 -- one more card was asked

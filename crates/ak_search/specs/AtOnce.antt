@@ -19,7 +19,7 @@ unseen = record { note = None; note_type = None; deck = None }
 abbrev pub is_known_at_once : Term → Bool
 is_known_at_once term = not (needs_note term) && not (needs_deck term)
 
--- whether a term holds of a card by that: no term does that needs more
+-- whether a term holds of a card by its own numbers and the answers: no term does that needs more
 abbrev pub holds_at_once : Day → Answers → Card → Term → Bool
 holds_at_once day answers c term = holds day (seen_by answers c unseen) term
 

@@ -1,5 +1,5 @@
 -- What a search that is asked card by card keeps true.
-use Rattle.std.specs.Prelude.{◌≡◌, true, IfSome}
+use Rattle.std.specs.Prelude.{◌≡◌, IfSome}
 use Rattle.ak_base.specs.declared.cards.Card.{Card}
 use Rattle.ak_base.specs.declared.days.Day.{Day}
 use Rattle.ak_keep.specs.Collections.{Rows}
@@ -9,13 +9,14 @@ use Rattle.ak_search.specs.Passes.{AreLatest, Serves, asked, tested}
 use Rattle.ak_search.specs.Trees.{Tree, pieces_of}
 use Rattle.ak_search.specs.declared.searches.Search.{Search}
 
--- it asks what the tree asks on that day, its answers serve this collection, and what it looked up last and found of a note is of it
+-- it asks what the tree asks on that day, for notes alone if it says so; its answers serve this collection, and what it looked up last
+-- and found of a note is of it
 pub record SearchesBy (search : Search) (held : Rows) (day : Day) (tree : Tree) : Type 0 where
   pub pieces : pieces_in search.tokens.now ≡ pieces_of tree
   pub on : search.context.day ≡ day
   pub serves : Serves search.context (pieces_in search.tokens.now) held
   pub latest : AreLatest search.latest held
-  pub by_note : search.by_note ≡ true → ask_notes_alone (pieces_in search.tokens.now) ≡ true
+  pub by_note : search.by_note ≡ ask_notes_alone (pieces_in search.tokens.now)
   pub verdict : IfSome search.verdict (λ verdict. (c : Card) → c.nid ≡ verdict.note → asked (pieces_in search.tokens.now) (tested search.context held c) ≡ verdict.does)
 
 -- by whatever it searched, it still does

@@ -59,7 +59,7 @@ impl SearchContext {
         is_known_at_once(term) && !negated_by(negated, self.holds_at_once(card, term))
     }
 
-    /// Whether the term holds of the card, if it needs neither its note nor its deck. No other term does.
+    /// Whether the term holds of the card by its own numbers and the answers. No term does that needs its note or its deck.
     pub(crate) fn holds_at_once(&self, card: &Card, term: &Term) -> bool
         ensures { result ≡ holds_at_once self.now.day self.now.answers card.now term.now }
     {

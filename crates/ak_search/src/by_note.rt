@@ -1,4 +1,4 @@
-// Whether an expression asks for notes alone.
+// Whether an expression asks for notes alone, so that it does the same of all cards of a note.
 ghost use Rattle.std.specs.Prelude.{◌≡◌};
 ghost use Rattle.ak_search.specs.ByNote.{ask_notes_alone, asks_note_alone};
 ghost use Rattle.ak_search.specs.Grammar.{pieces_in};
@@ -6,7 +6,7 @@ ghost use Rattle.ak_search.specs.Grammar.{pieces_in};
 use crate::Term;
 use crate::tokens::{Piece, Token};
 
-/// Whether each term of the tokens does the same of all cards of a note.
+/// Whether each term of the tokens asks of a card for its note, the type of that and its id, and for nothing else.
 pub(crate) fn ask_notes_alone(tokens: &[Token]) -> bool
     ensures { result ≡ ask_notes_alone (pieces_in tokens.now) }
 {
@@ -30,7 +30,7 @@ pub(crate) fn ask_notes_alone(tokens: &[Token]) -> bool
     true
 }
 
-/// Whether the term does the same of all cards of a note.
+/// Whether the term asks for no more.
 fn asks_note_alone(term: &Term) -> bool
     ensures { result ≡ asks_note_alone term.now }
 {

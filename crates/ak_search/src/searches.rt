@@ -1,5 +1,5 @@
 // Which cards meet an expression: a search that is asked card by card, and one pass over the cards of a keeper.
-ghost use Rattle.std.specs.Prelude.{◌≡◌, ◌++◌, [], ◌∷◌, if◌then◌else◌, ℤ, Some, None, IfOk, IfSome, OnErr, OnOk, IsTrue};
+ghost use Rattle.std.specs.Prelude.{◌≡◌, ◌++◌, [], ◌∷◌, if◌then◌else◌, ℤ, Some, None, IfOk, OnErr, OnOk, IsTrue};
 ghost use Rattle.std.specs.List.Sorted.{IsStrictlySortedBy};
 ghost use Rattle.std.specs.Ordering.{int_cmp};
 ghost use Rattle.ak_base.specs.Rows.{name_of};
@@ -7,7 +7,7 @@ ghost use Rattle.ak_base.specs.declared.names.Table.TheVariants as tables;
 ghost use Rattle.ak_keep.specs.Collections.{AscendsPast, is_past, last_id};
 ghost use Rattle.ak_keep.specs.Keepers.{WhereTold};
 ghost use Rattle.ak_keep.specs.Readings.{ReadsBy};
-ghost use Rattle.ak_search.specs.ByNote.{verdict_of};
+ghost use Rattle.ak_search.specs.ByNote.{known_of, verdict_of};
 ghost use Rattle.ak_search.specs.CardFacts.{seen};
 ghost use Rattle.ak_search.specs.Grammar.{pieces_in};
 ghost use Rattle.ak_search.specs.Holds.{asked_by, holds, hits, is_hit, ids_of_hits};
@@ -52,8 +52,8 @@ pub fn find<R: Readable>(
 }
 
 /// A search that is asked card by card: an expression, and the answers that it asks for. It keeps what it looked up
-/// last, so cards of one note, type or deck are best asked one after the other, and an expression that asks for notes alone is
-/// asked once a note. The collection must stay as it was.
+/// last, so cards of one note, type or deck are best asked one after the other: an expression that asks for notes alone is asked
+/// once then for all cards of a note. The collection must stay as it was.
 #[derive(Debug, Drop)]
 pub struct Search<'a> {
     pub(crate) tokens: &'a [Token],
@@ -127,7 +127,7 @@ impl<'a> Search<'a> {
 impl Search<'_> {
     /// Whether the card meets the expression, if that was found last of its note.
     fn known(&self, card: &Card) -> Option<bool>
-        ensures { IfSome result (λ does. self.now.verdict ≡ Some (verdict_of card.now.nid does)) }
+        ensures { result ≡ known_of self.now.verdict card.now.nid }
     {
         match self.verdict {
             Some(verdict) => {

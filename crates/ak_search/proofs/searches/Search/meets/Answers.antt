@@ -1,4 +1,4 @@
-use Rattle.std.proofs.Common.{refl}
+use Rattle.std.proofs.Common.{refl, sym, ◌∙◌}
 use Rattle.ak_faults.proofs.Healths.{goes_nowhere}
 use Rattle.ak_keep.proofs.Causing.{cause-ok}
 use Rattle.ak_search.proofs.Telling.{card_told, forgotten, known_told}
@@ -9,7 +9,7 @@ returns-in-Some-clause-reads g c = record {
   kept = refl;
   same = refl;
   cause = cause-ok c.in-Some.does (goes_nowhere (g.R.Lookup.health c.args.from.now));
-  told = known_told (g.R.Lookup.keeping c.args.from.now).told c.args.self.now c.args.card.now c.in-Some.does c.in-Some.ensures;
+  told = known_told (g.R.Lookup.keeping c.args.from.now).told c.args.self.now c.args.card.now c.in-Some.does (sym c.known.ensures ∙ c.in-Some.is);
 }
 
 pub returns-in-Ok-clause-reads : goal.returns-in-Ok-clause-reads

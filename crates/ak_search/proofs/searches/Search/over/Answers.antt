@@ -1,4 +1,4 @@
-use Rattle.std.proofs.Common.{ap, refl, sym, ◌∙◌}
+use Rattle.std.proofs.Common.{ap, refl}
 use Rattle.std.specs.Prelude.{None}
 use Rattle.ak_keep.proofs.Causing.{cause-ok}
 use Rattle.ak_search.specs.Grammar.{pieces_in}
@@ -21,6 +21,6 @@ returns g c =
         kept = read.kept;
         same = read.same;
         cause = cause-ok search read.cause.goes;
-        told = search_made (g.R.Lookup.keeping c.args.from.now).told search (pieces_in c.args.expr.now.tokens.items) (ap pieces_in c.deref-tokens.ensures.value) c.nothing.ensures (λ by. sym c.ask_notes_alone.ensures ∙ by) refl (rw c.deref-tokens.ensures.value at read.told);
+        told = search_made (g.R.Lookup.keeping c.args.from.now).told search (pieces_in c.args.expr.now.tokens.items) (ap pieces_in c.deref-tokens.ensures.value) c.nothing.ensures c.ask_notes_alone.ensures refl (rw c.deref-tokens.ensures.value at read.told);
       };
     }
