@@ -46,6 +46,8 @@ DAY = 192
 DAYS, OF_FINDS, OF_LOOKS, OF_PAGES, OF_CHECKS = 10, 5, 20_000, 20_000, 50
 A_DAY = "a day of answers, a commit each"
 OVER_LOOPBACK = " over the loopback"
+# Memory in pages of 2 MB where the system has them, as `bin/anki` sets it for the program.
+LARGE_PAGES = "glibc.malloc.hugetlb=1"
 PARTS = ("", "-wal", "-shm", "-journal")
 # What a process of one side took: processor time and time in seconds, and memory in MB at its peak.
 Taken = collections.namedtuple("Taken", "processor elapsed memory")
@@ -521,7 +523,8 @@ def page_text(after, whole, sides, sizes, runs, left_out):
                  "The median of %d runs" % runs if runs > 1 else "One run", datetime.date.today().isoformat()),
              machine() + ".", "",
              "Milliseconds of processor time, user and system, at collections of so many notes; `growth` is the last of them divided by the first. The time that went by and "
-             "the memory at its peak are those at the largest. A day is %d answers, or as many as there are cards; less than 9 MB of memory can't be told." % DAY, "",
+             "the memory at its peak are those at the largest. A day is %d answers, or as many as there are cards; less than 9 MB of memory can't be told. "
+             "All sides run with GLIBC_TUNABLES=%s, as `bin/anki` runs the program: memory in pages of 2 MB where the system has them." % (DAY, os.environ.get("GLIBC_TUNABLES", "")), "",
              "## The work after the opening", "",
              "Each is told for one, but done often in a process: %d days, each over other cards, or as many as there are cards for; %d times all expressions of `find`; " % (DAYS, OF_FINDS)
              + "{:,} times `next` and `counts`; {:,} pages; {} times `check`.".format(OF_LOOKS, OF_PAGES, OF_CHECKS), "",
@@ -591,6 +594,7 @@ def arguments(words):
 
 def main(words):
     given = arguments(words)
+    os.environ.setdefault("GLIBC_TUNABLES", LARGE_PAGES)
     try:
         page = measure(given)
     except Wrong as fault:

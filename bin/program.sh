@@ -4,6 +4,9 @@
 out=$root/out
 log=$out/build.log
 
+# The program takes its memory in pages of 2 MB where the system has them: glibc does from 2.35 on, and else looks past it. Another setting of the caller's stays.
+export GLIBC_TUNABLES="${GLIBC_TUNABLES-glibc.malloc.hugetlb=1}"
+
 # Says something on standard error, unless ANKI_QUIET is 1.
 say() {
     [ "$ANKI_QUIET" = 1 ] || echo "$program: $*" >&2

@@ -13,6 +13,7 @@ INPUT_FAILED = 4
 OUTPUT_FAILED = 5
 KEEPER_FAILED = 6
 NO_MEMORY = 8
+LARGE_PAGES = "glibc.malloc.hugetlb=1"
 
 
 class NoProgram(Exception):
@@ -25,6 +26,8 @@ def find_program():
     The environment variable ANKI_PROGRAM names it, for tests and development. Else `bin/anki --program` does, which
     builds it first if need be. That takes a second, so callers find it once.
     """
+    # What is started from here takes its memory in pages of 2 MB, as it does from `bin/anki`.
+    os.environ.setdefault("GLIBC_TUNABLES", LARGE_PAGES)
     named = os.environ.get("ANKI_PROGRAM")
     if named:
         if not os.access(named, os.X_OK) or os.path.isdir(named):

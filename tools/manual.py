@@ -55,6 +55,13 @@ def code(lines):
     return [".RS 4", ".nf", *[escaped(line) for line in lines], ".fi", ".RE"]
 
 
+def about_pages():
+    """The variable by which the scripts ask for pages of 2 MB."""
+    yield ".TP"
+    yield ".B GLIBC_TUNABLES"
+    yield from paragraph("How the C library takes memory. Where it is not set, it is set to glibc.malloc.hugetlb=1: pages of 2 MB, where the system has them.")
+
+
 def listed(entries):
     """Entries of help: each form in bold, what it does, and its examples."""
     for entry in entries:
@@ -106,6 +113,7 @@ def of_anki():
     yield ".TP"
     yield ".B ANKI_PROGRAM"
     yield from paragraph("The path of the program, for the words beside it, in place of the one that is found.")
+    yield from about_pages()
     yield ".SH FILES"
     yield ".TP"
     yield ".IR FILE ,"
@@ -192,6 +200,7 @@ def of_ankid():
     yield ".TP"
     yield ".B ANKI_QUIET"
     yield from paragraph("With the value 1 nothing is said on standard error when it ends. Else one sentence is left there.")
+    yield from about_pages()
     yield ".SH EXAMPLES"
     yield from code(map(installed, helps.server_start()))
     yield ".SH SEE ALSO"

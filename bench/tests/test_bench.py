@@ -455,6 +455,7 @@ class Whole(Rooms):
         with open(self.path("page.md"), encoding="utf-8") as file:
             page = file.read()
         self.assertEqual(printed.getvalue(), page)
+        self.assertIn("All sides run with GLIBC_TUNABLES=%s, as `bin/anki` runs the program" % os.environ["GLIBC_TUNABLES"], page)
         after, whole = page.split("## Both sides of a transfer")[0].split("## The work after the opening")[1].split("## Whole processes")
         for part, works in ((after, (bench.A_DAY, "`find`", "`next`", "`counts`", "a page", "`check`")), (whole, ("opening", bench.A_DAY, "check", "import", "export"))):
             for work in works:

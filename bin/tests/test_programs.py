@@ -8,6 +8,7 @@ import shutil
 import subprocess
 import tempfile
 import unittest
+import unittest.mock
 
 TOP = os.path.dirname(os.path.dirname(os.path.dirname(os.path.realpath(__file__))))
 FIRST_SYNC = """sync A: finished
@@ -59,6 +60,16 @@ class Programs(unittest.TestCase):
 
     def test_bin_anki_tells_which_program_runs(self):
         self.assertEqual(self.run_in_copy("bin/anki", "--program").stdout, f"{self.top}/dist/anki\n")
+
+    def test_the_program_takes_memory_in_pages_of_2_mb_unless_told_otherwise(self):
+        with open(f"{self.top}/tools/run", "w", encoding="utf-8") as file:
+            file.write('#!/bin/sh\necho "$GLIBC_TUNABLES"\n')
+        for given, seen in ((None, "glibc.malloc.hugetlb=1\n"), ("glibc.malloc.arena_max=1", "glibc.malloc.arena_max=1\n"), ("", "\n")):
+            with unittest.mock.patch.dict(os.environ):
+                os.environ.pop("GLIBC_TUNABLES", None)
+                if given is not None:
+                    os.environ["GLIBC_TUNABLES"] = given
+                self.assertEqual(self.run_in_copy("bin/anki", "-", "-", "lab").stdout, seen)
 
     def test_a_program_in_dist_with_another_byte_is_not_run(self):
         self.change("dist/anki", 100_000, b"\x7f\x00\x7f")
