@@ -328,22 +328,22 @@ def fast_in_time(table, sizes):
 
 def growth_told(tables, sizes):
     """Whether no row grows too fast: those that do in time are judged by their instructions, and are missed where these could not be counted."""
-    met, missed, uncounted = [], [], {}
+    met, missed, uncounted = [], [], []
     for table in tables:
         for work, in_time in fast_in_time(table, sizes).items():
             grown = table.instructions.get(work)
             if grown is None:
-                uncounted.setdefault(why_uncounted(work), []).append("%s (%.1f)" % (work, in_time))
+                uncounted.append("%s (%.1f)" % (work, in_time))
             else:
                 (met if grown <= most_growth(sizes) else missed).append("%s: %.1f in time, %.2f in instructions" % (work, in_time, grown))
     said = ["missed in time and in instructions (%s)" % "; ".join(missed)] if missed else []
-    said += ["missed in time in %s, instructions not counted: %s" % (", ".join(works), why) for why, works in uncounted.items()]
+    said += ["missed in time in %s, instructions not counted: %s" % (", ".join(uncounted), why_uncounted())] if uncounted else []
     said += ["met in instructions (%s)" % "; ".join(met)] if met else []
     return "; ".join(said) or "met"
 
 
-def why_uncounted(work):
-    return "no valgrind" if VALGRIND not in PLACES else "a server is beside it" if work.endswith(OVER_LOOPBACK) else "valgrind gave no count"
+def why_uncounted():
+    return "no valgrind" if VALGRIND not in PLACES else "valgrind gave no count"
 
 
 def growth_text(first, last):
@@ -411,8 +411,9 @@ def measure_whole(files, runs, table):
         table.put(work, side, files.size, taken)
 
 
-def measure_transfers(files, runs, table, sides):
-    """Uploads, syncs after a day of answers, and downloads, over the loopback: what both sides take, and the bytes between them."""
+@contextlib.contextmanager
+def served(files):
+    """A server, the words of a command over it, and an upload, a sync after a day of answers and a download: the file of each, and its word. Each goes on from the one before."""
     tools = try_server.Tools(mock.Mock(anki=path_of(PROGRAM), ankid=path_of("ankid")))
     room = os.path.join(files.room, "server")
     server = try_server.Server(tools, room)
@@ -420,8 +421,17 @@ def measure_transfers(files, runs, table, sides):
     words = lambda path, where, word: [path_of(PROGRAM), path, where, word, server.key()]
     works = {"upload": (lambda: device, "upload"), "sync after a day of answers": (lambda: answered(device, files), "sync"),
              "download": (lambda: files.copy(files.new), "download")}
-    taken = collections.defaultdict(list)
     try:
+        yield server, words, works
+    finally:
+        tools.end_all()
+        shutil.rmtree(room)
+
+
+def measure_transfers(files, runs, table, sides):
+    """Uploads, syncs after a day of answers, and downloads, over the loopback: what both sides take, and the bytes between them."""
+    taken = collections.defaultdict(list)
+    with served(files) as (server, words, works):
         for _ in range(runs):
             for work, (path, word) in works.items():
                 file = path()
@@ -431,9 +441,6 @@ def measure_transfers(files, runs, table, sides):
             both = transfers.bytes_of(server, lambda where: run(words(file, where, word)))
             table.put(work + OVER_LOOPBACK, PROGRAM, files.size, median([device for device, *_ in taken[work]]))
             sides.append((work, files.size, transfers.median_of(taken[work], *both)))
-    finally:
-        tools.end_all()
-        shutil.rmtree(room)
 
 
 def answered(path, files):
@@ -455,7 +462,20 @@ def count_after(files, works):
 
 def count_whole(files, works):
     """How many instructions a whole process of each of these works executes."""
-    return {work: job()[0] for work, side, job in whole_jobs(files, instructions) if side == PROGRAM and work in works}
+    counts = {work: job()[0] for work, side, job in whole_jobs(files, instructions) if side == PROGRAM and work in works}
+    return {**counts, **count_transfers(files, {work for work in works if work.endswith(OVER_LOOPBACK)})}
+
+
+def count_transfers(files, wanted):
+    """How many instructions the device's process of each of these transfers executes."""
+    counts = {}
+    if not wanted:
+        return counts
+    with served(files) as (server, words, works):
+        for work, (path, word) in works.items():
+            file, runner = path(), instructions if work + OVER_LOOPBACK in wanted else run
+            counts[work + OVER_LOOPBACK], *_ = transfers.over_fresh_server(server, lambda where: runner(words(file, where, word))[0])
+    return {work: counts[work] for work in wanted}
 
 
 def count_fast(given, table, count):
@@ -540,7 +560,7 @@ def page_text(after, whole, sides, sizes, runs, left_out):
 
 INSTRUCTIONS_TEXT = (
     "A row of the program whose processor time grows by more than %g times the data is measured again, at the first and at the last size, in instructions, counted by "
-    "valgrind's cachegrind (`I refs`); those over the loopback are not, since a server is beside them. Time also grows as less of the collection fits the processor's "
+    "valgrind's cachegrind (`I refs`); of a transfer, those of the device. Time also grows as less of the collection fits the processor's "
     "caches, at Python's side too; what a row executes tells whether the work itself grows faster." % SLACK)
 
 

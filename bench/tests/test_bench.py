@@ -247,9 +247,23 @@ class Instructions(Rooms):
     def test_nothing_is_subtracted_from_a_whole_process(self):
         files = self.files()
         self.stand_in_for_valgrind()
-        works = ("opening", bench.A_DAY, "check", "import of as many new notes", "export of the notes of type 3", "`make`", "upload" + bench.OVER_LOOPBACK)
-        self.assertEqual(bench.count_whole(files, works), dict(zip(works[:6], (1_000_000, 1_000_500, 1_000_010, 1_000_300, 1_000_000, 1_000_000))))
+        works = ("opening", bench.A_DAY, "check", "import of as many new notes", "export of the notes of type 3", "`make`")
+        self.assertEqual(bench.count_whole(files, works), dict(zip(works, (1_000_000, 1_000_500, 1_000_010, 1_000_300, 1_000_000, 1_000_000))))
         self.assertEqual(bench.count_whole(files, ["opening"]), {"opening": 1_000_000})
+
+    def test_of_a_transfer_the_device_is_counted_and_what_it_goes_on_from_is_done(self):
+        ran = []
+
+        @contextlib.contextmanager
+        def served(files):
+            yield None, lambda path, where, word: [path, where, word], {work: (lambda work=work: work + ".anki", work) for work in ("upload", "sync", "download")}
+
+        counted = lambda words: (ran.append(["counted", *words]) or len(ran) * 1000, b"")
+        done = lambda words: (ran.append(["done", *words]), b"")
+        over = lambda server, transfer: (transfer("there"), 0.5, 20.0)
+        with mock.patch.multiple(bench, served=served, instructions=counted, run=done), mock.patch.object(bench.transfers, "over_fresh_server", over):
+            self.assertEqual(bench.count_whole(mock.Mock(**{"table_bytes.return_value": b"", "day.return_value": []}), {"sync" + bench.OVER_LOOPBACK}), {"sync" + bench.OVER_LOOPBACK: 2000})
+        self.assertEqual(ran, [["done", "upload.anki", "there", "upload"], ["counted", "sync.anki", "there", "sync"], ["done", "download.anki", "there", "download"]])
 
     def test_what_grows_too_fast_in_time_is_counted_at_the_first_and_the_last_size(self):
         self.files()
@@ -378,13 +392,13 @@ class Targets(unittest.TestCase):
         self.assertEqual(told, "missed in time and in instructions (opening: 9.5 in time, 9.00 in instructions); missed in time in `next` (9.5), instructions not counted: "
                          "valgrind gave no count; met in instructions (%s: 9.5 in time, 6.00 in instructions; `make`: 9.5 in time, 6.00 in instructions)" % bench.A_DAY)
 
-    def test_a_row_beside_a_server_is_missed_in_time(self):
+    def test_a_transfer_is_judged_by_the_instructions_of_the_device(self):
         after, whole = self.tables()
+        work = "upload" + bench.OVER_LOOPBACK
         for size, seconds in ((3_000, 1.0), (20_000, 9.0)):
-            whole.put("upload" + bench.OVER_LOOPBACK, "anki", size, bench.Taken(seconds, seconds, 20.0))
-        with mock.patch.dict(bench.PLACES, valgrind="valgrind"):
-            self.assertEqual(bench.growth_told((after, whole), [3_000, 20_000]),
-                             "missed in time in upload over the loopback (9.0), instructions not counted: a server is beside it")
+            whole.put(work, "anki", size, bench.Taken(seconds, seconds, 20.0))
+        whole.instructions[work] = 6.878
+        self.assertEqual(bench.growth_told((after, whole), [3_000, 20_000]), "met in instructions (upload over the loopback: 9.0 in time, 6.88 in instructions)")
 
     def test_a_time_too_short_to_be_divided_by_is_not_judged(self):
         table = bench.Table()
