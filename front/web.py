@@ -667,8 +667,8 @@ def main(words):
         sys.stderr.write(USAGE)
         return 0 if words in (["-h"], ["--help"]) else 2
     opens, port = read[1], read[2]
-    signal.signal(signal.SIGTERM, lambda *_: sys.exit(143))
-    signal.signal(signal.SIGHUP, lambda *_: sys.exit(129))
+    for number in (signal.SIGTERM, signal.SIGHUP):
+        signal.signal(number, ends_with(128 + number))
     session, entrance, ended = None, None, threading.Event()
     try:
         path = file_named(read[0])
@@ -693,12 +693,24 @@ def main(words):
         sys.stderr.write("anki-web: %s\n" % clean(str(fault)))
         return 1
     finally:
+        signal.setitimer(signal.ITIMER_REAL, 0)
         ended.set()
         if entrance is not None:
             entrance.remove()
         if session is not None:
             session.rest("")
     return 0
+
+
+def ends_with(status):
+    """What ends the program at a signal. Python drops what is raised while it frees a thread, so it comes again until the end has begun."""
+
+    def end(*_):
+        signal.signal(signal.SIGALRM, end)
+        signal.setitimer(signal.ITIMER_REAL, 0.2)
+        sys.exit(status)
+
+    return end
 
 
 def ask(question):

@@ -552,10 +552,29 @@ class Safety(WebCase):
         self.assertEqual(browser.see("/").count("Nothing to undo"), 1)
 
 
+# The signal comes while a callback of a weak reference runs, as when a thread is freed: Python drops what is raised there.
+DROPPED = """
+import os, signal, time, weakref
+from front.web import ends_with
+signal.signal(signal.SIGTERM, ends_with(143))
+class Thing:
+    pass
+thing = Thing()
+seen = weakref.ref(thing, lambda _: (os.kill(os.getpid(), signal.SIGTERM), time.sleep(0.01)))
+del thing
+time.sleep(20)
+"""
+
+
 class Words(FileCase):
     @classmethod
     def setUpClass(cls):
         pass
+
+    def test_a_signal_ends_it_also_where_what_is_raised_is_dropped(self):
+        ran = subprocess.run([sys.executable, "-B", "-c", DROPPED], cwd=ROOT, stderr=subprocess.PIPE, text=True, timeout=15)
+        self.assertIn("Exception ignored in", ran.stderr)
+        self.assertEqual(ran.returncode, 143, ran.stderr)
 
     def test_a_way_back_stays_here(self):
         for path in ("//evil", "http://evil", "/\\evil", "", None, "evil", "/a\nb", "/é"):
